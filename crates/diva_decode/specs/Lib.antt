@@ -1,0 +1,4 @@
+-- the parts of a word and its immediates
+pub mod Fields
+-- the instruction table
+pub mod Table

@@ -1,0 +1,185 @@
+-- The 48 instructions of RV32IM as rows, what a word of a row says, and which instructions have a word.
+-- (RISC-V Unprivileged ISA, "RV32/64G Instruction Set Listings": RV32I 2.1 and M 2.0.)
+use Rattle.std.specs.Prelude.{◌≡◌, ℕ, ◌-◌, ◌%◌, ◌^◌, ◌<◌, ◌==◌, ◌&&◌, Bool, true, false, List, [], ◌∷◌, Option, Some, ℤ, pos, neg_ℤ, ◌≤ℤ◌, ◌<ℤ◌, find, option_map}
+use Rattle.std.specs.Int.{cast_unsigned, w32}
+use Rattle.diva_decode.specs.Fields.{opcode, rd, funct3, rs1, rs2, funct7, imm_i, imm_s, imm_b, imm_u, imm_j}
+use Rattle.diva_decode.specs.declared.op.Op.{Op}
+use Rattle.diva_decode.specs.declared.op.Op.TheVariants.{Lui, Auipc, Jal, Jalr, Beq, Bne, Blt, Bge, Bltu, Bgeu, Lb, Lh, Lw, Lbu, Lhu, Sb, Sh, Sw, Addi, Slti, Sltiu, Xori, Ori, Andi, Slli, Srli, Srai, Add, Sub, Sll, Slt, Sltu, Xor, Srl, Sra, Or, And, Fence, Ecall, Ebreak, Mul, Mulh, Mulhsu, Mulhu, Div, Divu, Rem, Remu}
+use Rattle.diva_decode.specs.declared.instr.Instr.{Instr}
+
+-- ---- the rows
+
+-- What the words of an operation have in common: their format and, where the format has them,
+-- funct7, funct3 and the opcode, in the order in which the manual lists them.
+pub data Shape : Type 0 where
+  U : ℕ → Shape
+  J : ℕ → Shape
+  I : ℕ → ℕ → Shape
+  B : ℕ → ℕ → Shape
+  S : ℕ → ℕ → Shape
+  R : ℕ → ℕ → ℕ → Shape
+  -- a shift by an immediate, which stands in the place of rs2
+  Shift : ℕ → ℕ → ℕ → Shape
+  -- the word's other fields are ignored
+  Open : ℕ → ℕ → Shape
+  -- this one word
+  Exact : ℕ → Shape
+
+abbrev pub shape : Op → Shape
+-- RV32I 2.1
+shape Lui = U 0b0110111
+shape Auipc = U 0b0010111
+shape Jal = J 0b1101111
+shape Jalr = I 0b000 0b1100111
+-- branches
+shape Beq = B 0b000 0b1100011
+shape Bne = B 0b001 0b1100011
+shape Blt = B 0b100 0b1100011
+shape Bge = B 0b101 0b1100011
+shape Bltu = B 0b110 0b1100011
+shape Bgeu = B 0b111 0b1100011
+-- loads
+shape Lb = I 0b000 0b0000011
+shape Lh = I 0b001 0b0000011
+shape Lw = I 0b010 0b0000011
+shape Lbu = I 0b100 0b0000011
+shape Lhu = I 0b101 0b0000011
+-- stores
+shape Sb = S 0b000 0b0100011
+shape Sh = S 0b001 0b0100011
+shape Sw = S 0b010 0b0100011
+-- computing with an immediate
+shape Addi = I 0b000 0b0010011
+shape Slti = I 0b010 0b0010011
+shape Sltiu = I 0b011 0b0010011
+shape Xori = I 0b100 0b0010011
+shape Ori = I 0b110 0b0010011
+shape Andi = I 0b111 0b0010011
+shape Slli = Shift 0b0000000 0b001 0b0010011
+shape Srli = Shift 0b0000000 0b101 0b0010011
+shape Srai = Shift 0b0100000 0b101 0b0010011
+-- computing with two registers
+shape Add = R 0b0000000 0b000 0b0110011
+shape Sub = R 0b0100000 0b000 0b0110011
+shape Sll = R 0b0000000 0b001 0b0110011
+shape Slt = R 0b0000000 0b010 0b0110011
+shape Sltu = R 0b0000000 0b011 0b0110011
+shape Xor = R 0b0000000 0b100 0b0110011
+shape Srl = R 0b0000000 0b101 0b0110011
+shape Sra = R 0b0100000 0b101 0b0110011
+shape Or = R 0b0000000 0b110 0b0110011
+shape And = R 0b0000000 0b111 0b0110011
+-- memory order, and the environment
+shape Fence = Open 0b000 0b0001111
+shape Ecall = Exact 0x00000073
+shape Ebreak = Exact 0x00100073
+-- M 2.0
+shape Mul = R 0b0000001 0b000 0b0110011
+shape Mulh = R 0b0000001 0b001 0b0110011
+shape Mulhsu = R 0b0000001 0b010 0b0110011
+shape Mulhu = R 0b0000001 0b011 0b0110011
+shape Div = R 0b0000001 0b100 0b0110011
+shape Divu = R 0b0000001 0b101 0b0110011
+shape Rem = R 0b0000001 0b110 0b0110011
+shape Remu = R 0b0000001 0b111 0b0110011
+
+-- every operation, in the same order
+abbrev pub table : List Op
+table =
+    Lui ∷ Auipc ∷ Jal ∷ Jalr ∷
+    Beq ∷ Bne ∷ Blt ∷ Bge ∷ Bltu ∷ Bgeu ∷
+    Lb ∷ Lh ∷ Lw ∷ Lbu ∷ Lhu ∷
+    Sb ∷ Sh ∷ Sw ∷
+    Addi ∷ Slti ∷ Sltiu ∷ Xori ∷ Ori ∷ Andi ∷ Slli ∷ Srli ∷ Srai ∷
+    Add ∷ Sub ∷ Sll ∷ Slt ∷ Sltu ∷ Xor ∷ Srl ∷ Sra ∷ Or ∷ And ∷
+    Fence ∷ Ecall ∷ Ebreak ∷
+    Mul ∷ Mulh ∷ Mulhsu ∷ Mulhu ∷ Div ∷ Divu ∷ Rem ∷ Remu ∷ []
+
+-- ---- what a word says
+
+-- the three codes are those of the shape; no codes are enough for one exact word
+abbrev pub has_codes : Shape → ℕ → ℕ → ℕ → Bool
+has_codes (U o) opcode funct3 funct7 = opcode == o
+has_codes (J o) opcode funct3 funct7 = opcode == o
+has_codes (I f3 o) opcode funct3 funct7 = (opcode == o) && (funct3 == f3)
+has_codes (B f3 o) opcode funct3 funct7 = (opcode == o) && (funct3 == f3)
+has_codes (S f3 o) opcode funct3 funct7 = (opcode == o) && (funct3 == f3)
+has_codes (R f7 f3 o) opcode funct3 funct7 = (opcode == o) && (funct3 == f3) && (funct7 == f7)
+has_codes (Shift f7 f3 o) opcode funct3 funct7 = (opcode == o) && (funct3 == f3) && (funct7 == f7)
+has_codes (Open f3 o) opcode funct3 funct7 = (opcode == o) && (funct3 == f3)
+has_codes (Exact word) opcode funct3 funct7 = false
+
+-- w is a word of the shape
+abbrev pub fits : ℕ → Shape → Bool
+fits w (Exact word) = w == word
+fits w s = has_codes s (opcode w) (funct3 w) (funct7 w)
+
+-- what a word of the shape says; a field that the format lacks is 0
+abbrev pub instr_of : Shape → Op → ℕ → Instr
+instr_of (U o) op w = record { op = op; rd = rd w; rs1 = 0; rs2 = 0; imm = imm_u w }
+instr_of (J o) op w = record { op = op; rd = rd w; rs1 = 0; rs2 = 0; imm = imm_j w }
+instr_of (I f3 o) op w = record { op = op; rd = rd w; rs1 = rs1 w; rs2 = 0; imm = imm_i w }
+instr_of (B f3 o) op w = record { op = op; rd = 0; rs1 = rs1 w; rs2 = rs2 w; imm = imm_b w }
+instr_of (S f3 o) op w = record { op = op; rd = 0; rs1 = rs1 w; rs2 = rs2 w; imm = imm_s w }
+instr_of (R f7 f3 o) op w = record { op = op; rd = rd w; rs1 = rs1 w; rs2 = rs2 w; imm = pos 0 }
+instr_of (Shift f7 f3 o) op w = record { op = op; rd = rd w; rs1 = rs1 w; rs2 = 0; imm = pos (rs2 w) }
+instr_of (Open f3 o) op w = record { op = op; rd = 0; rs1 = 0; rs2 = 0; imm = pos 0 }
+instr_of (Exact word) op w = record { op = op; rd = 0; rs1 = 0; rs2 = 0; imm = pos 0 }
+
+-- the operation that w is a word of
+abbrev pub op_of : ℕ → Option Op
+op_of w = find (λ op. fits w (shape op)) table
+
+-- what the word w says by the table, if it stands there
+unfoldable pub row_of : ℕ → Option Instr
+row_of w = option_map (λ op. instr_of (shape op) op w) (op_of w)
+
+-- no other word of 32 bits says the instruction
+abbrev pub IsOnlyWordOf : Instr → ℕ → Type 0
+IsOnlyWordOf i word = (w : ℕ) → w < 2 ^ 32 → row_of w ≡ Some i → w ≡ word
+
+-- ---- valid instructions
+
+-- z can be written in n bits of two's complement
+abbrev pub FitsBits : ℕ → ℤ → Type 0
+FitsBits n z = (neg_ℤ (pos (2 ^ (n - 1))) ≤ℤ z) × (z <ℤ pos (2 ^ (n - 1)))
+
+-- the low n bits of the two's complement of z are 0
+abbrev pub LowBitsZero : ℕ → ℤ → Type 0
+LowBitsZero n z = cast_unsigned w32 z % 2 ^ n ≡ 0
+
+-- the registers are below 32, what is not used is 0, and the format can hold the immediate
+abbrev pub Holds : Shape → Instr → Type 0
+Holds (U o) i = (i.rd < 32) × (i.rs1 ≡ 0) × (i.rs2 ≡ 0) × FitsBits 32 i.imm × LowBitsZero 12 i.imm
+Holds (J o) i = (i.rd < 32) × (i.rs1 ≡ 0) × (i.rs2 ≡ 0) × FitsBits 21 i.imm × LowBitsZero 1 i.imm
+Holds (I f3 o) i = (i.rd < 32) × (i.rs1 < 32) × (i.rs2 ≡ 0) × FitsBits 12 i.imm
+Holds (B f3 o) i = (i.rd ≡ 0) × (i.rs1 < 32) × (i.rs2 < 32) × FitsBits 13 i.imm × LowBitsZero 1 i.imm
+Holds (S f3 o) i = (i.rd ≡ 0) × (i.rs1 < 32) × (i.rs2 < 32) × FitsBits 12 i.imm
+Holds (R f7 f3 o) i = (i.rd < 32) × (i.rs1 < 32) × (i.rs2 < 32) × (i.imm ≡ pos 0)
+Holds (Shift f7 f3 o) i = (i.rd < 32) × (i.rs1 < 32) × (i.rs2 ≡ 0) × (pos 0 ≤ℤ i.imm) × (i.imm <ℤ pos 32)
+Holds (Open f3 o) i = (i.rd ≡ 0) × (i.rs1 ≡ 0) × (i.rs2 ≡ 0) × (i.imm ≡ pos 0)
+Holds (Exact word) i = (i.rd ≡ 0) × (i.rs1 ≡ 0) × (i.rs2 ≡ 0) × (i.imm ≡ pos 0)
+
+-- the instruction has a word
+abbrev pub IsValid : Instr → Type 0
+IsValid i = Holds (shape i.op) i
+
+-- the registers are below 32
+abbrev pub HasRegisters : Instr → Type 0
+HasRegisters i = (i.rd < 32) × (i.rs1 < 32) × (i.rs2 < 32)
+
+-- ---- words for parts of the code
+
+-- the operation with these codes
+abbrev pub op_at : ℕ → ℕ → ℕ → Option Op
+op_at opcode funct3 funct7 = find (λ op. has_codes (shape op) opcode funct3 funct7) table
+
+-- the shape is of format R
+abbrev pub is_r : Shape → Bool
+is_r (R f7 f3 o) = true
+is_r s = false
+
+-- a register that is used is below 32, and another one is 0
+abbrev pub FitsUse : Bool → ℕ → Type 0
+FitsUse true r = r < 32
+FitsUse false r = r ≡ 0
