@@ -1,0 +1,114 @@
+// Memory as bytes from an address on.
+ghost use Rattle.std.specs.Prelude.{◌≡◌, ◌≢◌, ◌≤◌, ◌<◌, ◌+◌, ◌-◌, ◌%◌, ◌^◌, ◌↔◌, ◌++◌, ℕ, IfOk, IsTrue, IsSome, Some, ◌⊎◌, length, replicate, slice_get};
+
+use byteorder::{ByteOrder, LittleEndian};
+use std::alloc::{AllocError, Global};
+use std::marker::Model;
+
+/// A range of bytes that begins at an address and ends at 2^32 at the latest.
+///
+/// Words are little-endian, and an access of n bytes is inside where all n of them are (RISC-V
+/// Unprivileged ISA, RV32I 2.1, chapter 'Load and Store Instructions').
+#[derive(Drop)]
+pub struct Memory {
+    base: u32,
+    bytes: Vec<u8>,
+}
+
+impl Model for Memory {
+    ghost use Rattle.diva_memory.specs.Bytes.{Bytes};
+
+    ghost Value = { Bytes };
+
+    ghost use Rattle.std.specs.Prelude.{◌≤◌, ◌<◌, ◌+◌, ◌^◌, length};
+
+    ghost view = { λ m. record { base = m.base; items = m.bytes.items } };
+
+    ghost invariant = { λ m. (m.base + length m.bytes.items ≤ 2 ^ 32) × (length m.bytes.items < 2 ^ 32) };
+}
+
+impl Memory {
+    ghost use Rattle.diva_memory.specs.Bytes.{IsInside, is_inside, byte_at, word_at, put, put_all};
+
+    /// Memory of `size` bytes from `base` on: the payload, and zeros behind it. The error is want of
+    /// memory.
+    pub fn new(alloc: Global, base: u32, size: u32, payload: &[u8]) -> Result<Self, AllocError>
+        requires range { base + size ≤ 2 ^ 32 }
+        requires fits { length payload.now ≤ size }
+        ensures { IfOk result (λ m. m ≡ record { base = base; items = payload.now ++ replicate (size - length payload.now) 0 }) }
+    {
+        let mut bytes = Vec::with_capacity(alloc, size as usize)?;
+        bytes.extend_from_slice(payload)?;
+        bytes.resize(size as usize, 0)?;
+        Ok(Memory { base, bytes })
+    }
+
+    /// The first address.
+    pub fn base(&self) -> u32
+        ensures base { result ≡ self.now.base }
+        ensures range { self.now.base + length self.now.items ≤ 2 ^ 32 }
+    {
+        self.base
+    }
+
+    /// How many bytes there are.
+    pub fn size(&self) -> u32
+        ensures size { result ≡ length self.now.items }
+        ensures range { self.now.base + length self.now.items ≤ 2 ^ 32 }
+    {
+        self.bytes.len() as u32
+    }
+
+    /// Whether the `n` bytes from `addr` on are inside.
+    pub fn inside(&self, addr: u32, n: u32) -> bool
+        ensures value { result ≡ is_inside self.now addr n }
+        ensures inside { IsTrue result ↔ IsInside self.now addr n }
+    {
+        self.base <= addr
+            && u64::from(addr) + u64::from(n) <= u64::from(self.base) + self.bytes.len() as u64
+    }
+
+    /// The byte at `addr`, `None` exactly where it is outside.
+    pub fn byte(&self, addr: u32) -> Option<u8>
+        ensures value { result ≡ byte_at self.now addr }
+        ensures inside { IsSome result ↔ IsInside self.now addr 1 }
+    {
+        let at = addr.checked_sub(self.base)?;
+        self.bytes.get(at as usize).copied()
+    }
+
+    /// The word at `addr`, `None` exactly where `addr` is no multiple of 4 or the word is outside.
+    pub fn word(&self, addr: u32) -> Option<u32>
+        ensures value { result ≡ word_at self.now addr }
+        ensures inside { IsSome result ↔ ((addr % 4 ≡ 0) × IsInside self.now addr 4) }
+    {
+        if addr % 4 == 0 && self.inside(addr, 4) {
+            let at = (addr - self.base) as usize;
+            Some(LittleEndian::read_u32(&self.bytes[at..]))
+        } else {
+            None
+        }
+    }
+
+    /// Writes one byte.
+    pub fn put(&mut self, addr: u32, b: u8)
+        requires { IsInside self.old addr 1 }
+        ensures value { self.new ≡ put self.old addr b }
+        ensures written { byte_at self.new addr ≡ Some b }
+        ensures others { (a : ℕ) → a ≢ addr → byte_at self.new a ≡ byte_at self.old a }
+    {
+        let at = (addr - self.base) as usize;
+        self.bytes[at] = b;
+    }
+
+    /// Writes bytes one after the other, from `addr` on.
+    pub fn put_all(&mut self, addr: u32, bytes: &[u8])
+        requires { IsInside self.old addr (length bytes.now) }
+        ensures value { self.new ≡ put_all self.old addr bytes.now }
+        ensures written { (i : ℕ) → i < length bytes.now → byte_at self.new (addr + i) ≡ slice_get bytes.now i }
+        ensures others { (a : ℕ) → (a < addr) ⊎ (addr + length bytes.now ≤ a) → byte_at self.new a ≡ byte_at self.old a }
+    {
+        let at = (addr - self.base) as usize;
+        self.bytes[at..at + bytes.len()].copy_from_slice(bytes);
+    }
+}
