@@ -1,0 +1,10 @@
+// Whether the machine recovers from a flush.
+
+/// What the machine runs.
+#[derive(Clone, Copy, Debug, PartialEq, Eq)]
+pub enum Recover {
+    /// The instructions that the core hands over.
+    Running,
+    /// One instruction alone, on the checker's own values, since the cycle of this number.
+    Solo(u64),
+}

@@ -1,0 +1,58 @@
+// The count of cycles without a commit.
+ghost use Rattle.std.specs.Prelude.{◌≡◌, ◌≤◌, ◌<◌, ◌+◌, ◌^◌, ◌↔◌, IsTrue, false};
+
+use std::marker::Model;
+
+/// A count of the cycles since the last commit, with its limit.
+#[derive(Clone, Copy, Debug)]
+pub struct Watchdog {
+    limit: u32,
+    idle: u32,
+}
+
+impl Model for Watchdog {
+    ghost use Rattle.diva_watchdog.specs.Watch.{Watch};
+
+    ghost Value = { Watch };
+
+    ghost view = { λ w. record { limit = w.limit; idle = w.idle } };
+
+    ghost inverse = { λ w. record { limit = w.limit; idle = w.idle } };
+}
+
+impl Watchdog {
+    ghost use Rattle.diva_watchdog.specs.Watch.{barks, ticked};
+
+    /// A watchdog that calls for a flush after `w` cycles without a commit.
+    pub fn new(w: u32) -> Self
+        ensures { result ≡ record { limit = w; idle = 0 } }
+    {
+        Watchdog { limit: w, idle: 0 }
+    }
+
+    /// After how many cycles without a commit it calls for a flush.
+    pub fn limit(&self) -> u32
+        ensures { result ≡ self.now.limit }
+    {
+        self.limit
+    }
+
+    /// How many cycles there were since the last commit.
+    pub fn idle(&self) -> u32
+        ensures { result ≡ self.now.idle }
+    {
+        self.idle
+    }
+
+    /// Ends a cycle in which something `committed` or nothing did, and in which an instruction runs
+    /// alone (`solo`) or none does. Answers whether the machine must flush.
+    pub fn tick(&mut self, committed: bool, solo: bool) -> bool
+        requires { self.old.idle + 1 < 2 ^ 32 }
+        ensures ticked { self.new ≡ ticked self.old committed }
+        ensures value { result ≡ barks self.new solo }
+        ensures flush { IsTrue result ↔ ((self.old.limit ≤ self.new.idle) × (solo ≡ false)) }
+    {
+        self.idle = if committed { 0 } else { self.idle + 1 };
+        self.idle >= self.limit && !solo
+    }
+}
