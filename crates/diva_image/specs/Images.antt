@@ -1,0 +1,68 @@
+-- The bytes of an image, and what is wrong with those that are none.
+use Rattle.std.specs.Prelude.{ℕ, ◌+◌, ◌%◌, ◌^◌, ◌==◌, ◌&&◌, not, nat_lt, nat_le, nat_eq, Bool, List, length, drop, codes, Option, Some, None, if◌then◌else◌}
+use Rattle.std.specs.List.{starts_with}
+use Rattle.std.specs.Option.{option_or}
+use Rattle.byteorder.specs.Endian.{little_number}
+use Rattle.diva_image.specs.Layout.{Layout}
+use Rattle.diva_image.specs.declared.header.Header.{Header}
+use Rattle.diva_image.specs.declared.fault.Fault.{Fault}
+
+-- the number of the four bytes from a place on, the lowest byte first
+abbrev pub word_at : ℕ → List ℕ → ℕ
+word_at place bytes = little_number 4 (drop place bytes)
+
+-- the numbers that follow the version
+abbrev pub header_of : List ℕ → Header
+header_of bytes = record { base = word_at 8 bytes; size = word_at 12 bytes; entry = word_at 16 bytes; len = word_at 20 bytes }
+
+abbrev pub is_aligned : ℕ → Bool
+is_aligned n = n % 4 == 0
+
+abbrev pub is_size : ℕ → ℕ → Bool
+is_size base size = is_aligned size && nat_le 4 size && nat_le size (2 ^ 24) && nat_le (base + size) (2 ^ 32)
+
+abbrev pub is_entry : ℕ → ℕ → ℕ → Bool
+is_entry base size entry = is_aligned entry && nat_le base entry && nat_lt entry (base + size)
+
+abbrev pub fault : ℕ → ℕ → Option Fault
+fault kind place = Some (record { kind = kind; place = place })
+
+-- the faults of the first 24 bytes but for their numbers
+unfoldable pub start_fault : List ℕ → Option Fault
+start_fault bytes =
+    -- 1, at the length: there are fewer than 24 bytes
+    if nat_lt (length bytes) 24 then fault 1 (length bytes)
+    -- 2: they do not begin with DIVA
+    else (if not (starts_with nat_eq bytes (codes "DIVA")) then fault 2 0
+    -- 3: the version is not 1
+    else (if not (word_at 4 bytes == 1) then fault 3 4 else None))
+
+-- the faults of the numbers
+unfoldable pub header_fault : Header → Option Fault
+header_fault h =
+    -- 4: base is no multiple of 4
+    if not (is_aligned h.base) then fault 4 8
+    -- 5: size is no multiple of 4, not in 4 to 2 ^ 24, or base + size is past 2 ^ 32
+    else (if not (is_size h.base h.size) then fault 5 12
+    -- 6: entry is no multiple of 4, below base, or not below base + size
+    else (if not (is_entry h.base h.size h.entry) then fault 6 16
+    -- 7: length is more than size
+    else (if nat_lt h.size h.len then fault 7 20 else None)))
+
+-- the faults of the payload, which is to end where the file does
+unfoldable pub length_fault : ℕ → ℕ → Option Fault
+length_fault length end =
+    -- 8, at the length: it is cut short
+    if nat_lt length end then fault 8 length
+    -- 9, at its end: bytes follow it
+    else (if nat_lt end length then fault 9 end else None)
+
+-- the first fault of the bytes
+unfoldable pub fault_of : List ℕ → Option Fault
+fault_of bytes =
+    let header = header_of bytes in
+    option_or (start_fault bytes) (option_or (header_fault header) (length_fault (length bytes) (24 + header.len)))
+
+-- the image of bytes that have no fault
+abbrev pub image_of : List ℕ → Layout
+image_of bytes = record { base = word_at 8 bytes; size = word_at 12 bytes; entry = word_at 16 bytes; payload = drop 24 bytes }

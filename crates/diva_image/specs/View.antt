@@ -1,0 +1,16 @@
+-- An image of the code as the definitions have it, and what its reading gives.
+use Rattle.std.specs.Prelude.{◌≡◌, List, ℕ, ⊤, Result, Ok, Err, None}
+use Rattle.diva_image.specs.declared.image.Image.{Image}
+use Rattle.diva_image.specs.declared.fault.ImageFault.{ImageFault}
+use Rattle.diva_image.specs.declared.fault.ImageFault.TheVariants.{Bad, Memory}
+use Rattle.diva_image.specs.Layout.{Layout}
+use Rattle.diva_image.specs.Images.{fault, fault_of, image_of}
+
+abbrev pub layout : Image → Layout
+layout i = record { base = i.base; size = i.size; entry = i.entry; payload = i.payload }
+
+-- the bytes are read to their image or refused for their first fault, unless memory runs out
+abbrev pub Reads : List ℕ → Result Image ImageFault → Type 0
+Reads bytes (Ok i) = (fault_of bytes ≡ None) × (image_of bytes ≡ layout i)
+Reads bytes (Err (Bad kind place)) = fault_of bytes ≡ fault kind place
+Reads bytes (Err Memory) = ⊤

@@ -1,0 +1,8 @@
+-- Bytes that have no fault.
+use Rattle.std.specs.Prelude.{◌≡◌, ℕ, ◌+◌, List, length}
+use Rattle.diva_image.specs.declared.header.Header.{Header}
+use Rattle.diva_image.specs.Layout.{IsLayout}
+
+pub record IsWhole (bytes : List ℕ) (h : Header) : Type 0 where
+  pub len : length bytes ≡ 24 + h.len
+  pub rules : IsLayout h.base h.size h.entry h.len

@@ -1,0 +1,22 @@
+//! Image files: what a machine's memory begins with, and where it is entered.
+//!
+//! A file is the four letters "DIVA", then five numbers of four bytes each, the lowest byte first: the version,
+//! which is 1, base, size, entry and length. Then come exactly `length` bytes, which are loaded at base.
+//!
+//! - `image`: an image, in whose type its rules hold. `payload`: its bytes.
+//! - `reading`: bytes to an image or to their first fault. `header`: the header's numbers.
+//! - `fault`: the kinds of faults.
+#![tactic(auto)]
+
+mod fault;
+mod header;
+mod image;
+mod payload;
+mod reading;
+#[cfg(test)]
+mod tests;
+
+pub use fault::ImageFault;
+pub use image::Image;
+pub use payload::Payload;
+pub use reading::read;
