@@ -1,0 +1,10 @@
+pub mod Causes
+pub mod Faults
+pub mod Files
+pub mod MemFiles
+pub mod MemSink
+pub mod Named
+pub mod Numbers
+pub mod Sink
+pub mod StdSink
+pub mod Text

@@ -1,0 +1,89 @@
+// The files of the operating system.
+ghost use Rattle.std.specs.Prelude.{◌≡◌, ◌≤◌, ◌<◌, None, IfOk, IfSome, IsErrOf, length};
+
+use crate::faults::Faults;
+use crate::{Files, LoadFault, What};
+use std::alloc::Global;
+use std::io::Read;
+use std::marker::Model;
+use std::{fs, rt};
+
+/// Files of the operating system, by path. They tell no bytes. Each error of the system is a fault.
+#[derive(Drop)]
+pub struct DiskFiles<'a, R: rt::Files> {
+    rt: &'a R,
+    faults: Faults,
+}
+
+impl<'a, R: rt::Files> Model for DiskFiles<'a, R> {
+    ghost use Rattle.diva_outside.specs.declared.faults.Faults.{Faults};
+
+    ghost Value = { Faults };
+
+    ghost view = { λ files. files.faults };
+}
+
+impl<'a, R: rt::Files> DiskFiles<'a, R> {
+    ghost use Rattle.diva_outside.specs.Faults.{no_faults};
+
+    pub fn new(rt: &'a R) -> Self
+        ensures { result ≡ no_faults }
+    {
+        DiskFiles {
+            rt,
+            faults: Faults::none(),
+        }
+    }
+}
+
+impl<R: rt::Files> Files for DiskFiles<'_, R> {
+    ghost use Rattle.diva_outside.specs.Faults.{faults_of};
+
+    ghost told = { λ _. None };
+
+    ghost faults = { faults_of };
+
+    fn load(
+        &mut self,
+        alloc: Global,
+        what: What,
+        name: &str,
+        limit: usize,
+    ) -> Result<Vec<u8>, LoadFault> {
+        let answer = read_file(self.rt, alloc, name, limit);
+        self.faults.count(what, &answer);
+        answer
+    }
+}
+
+fn read_file<R: rt::Files>(
+    rt: &R,
+    alloc: Global,
+    name: &str,
+    limit: usize,
+) -> Result<Vec<u8>, LoadFault>
+    ensures { IfOk result (λ v. length v.items ≤ limit) }
+{
+    let mut file = fs::open(rt, name).map_err(|_| LoadFault::Failed)?;
+    read_whole(&mut file, alloc, limit)
+}
+
+/// Reads to the end, or until there are more bytes than `limit`.
+fn read_whole<R: Read>(file: &mut R, alloc: Global, limit: usize) -> Result<Vec<u8>, LoadFault>
+    ensures within { IfOk result (λ v. length v.items ≤ limit) }
+    ensures whole { IfOk result (λ v. IfSome (R.remaining file.old) (λ bytes. v.items ≡ bytes)) }
+    ensures too_long { IsErrOf result LoadFault.TooLong → IfSome (R.remaining file.old) (λ bytes. limit < length bytes) }
+{
+    let mut bytes = Vec::new(alloc);
+    let mut buffer = [0; 4096];
+    loop {
+        let count = file.read(&mut buffer).map_err(|_| LoadFault::Failed)?;
+        if count == 0 {
+            return Ok(bytes);
+        }
+        if count > limit - bytes.len() {
+            return Err(LoadFault::TooLong);
+        }
+        bytes.extend_from_slice(&buffer[..count])?;
+    }
+}

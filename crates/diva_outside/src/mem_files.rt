@@ -1,0 +1,108 @@
+// Files in memory, of which some calls fail.
+ghost use Rattle.std.specs.Prelude.{◌≡◌, ◌==◌, ◌≤◌, ◌≢◌, ◌⊎◌, List, ℕ, Some, Ok, Err, IfOk, IfErr, IsErrOf, length};
+ghost use Rattle.diva_outside.specs.Causes.{Rose};
+ghost use Rattle.diva_outside.specs.Files.{Has, IsMissing, IsLonger};
+ghost use Rattle.std.specs.List.{list_any};
+ghost use Rattle.std.specs.Option.{option_copied};
+ghost use Rattle.diva_outside.specs.Named.{bytes_of, answer_to};
+
+use crate::faults::Faults;
+use crate::mem_file::{copy, find};
+use crate::{Files, LoadFault, MemFile, What};
+use std::alloc::Global;
+use std::marker::Model;
+
+/// Files that tell all of their bytes, for tests of what a program does when a load fails.
+///
+/// Calls are counted from 1. A load of a name that is there fails where its call is listed.
+#[derive(Drop)]
+pub struct MemFiles {
+    files: Vec<MemFile>,
+    fails: Vec<u64>,
+    calls: u64,
+    faults: Faults,
+}
+
+impl Model for MemFiles {
+    ghost use Rattle.diva_outside.specs.MemFiles.{FilesInMemory};
+
+    ghost Value = { FilesInMemory };
+
+    ghost view = { λ m. record { files = m.files.items; fails = m.fails.items; calls = m.calls; faults = m.faults } };
+}
+
+impl MemFiles {
+    ghost use Rattle.diva_outside.specs.Faults.{no_faults};
+
+    pub fn new(files: Vec<MemFile>, fails: Vec<u64>) -> Self
+        ensures { result ≡ record { files = files.items; fails = fails.items; calls = 0; faults = no_faults } }
+    {
+        MemFiles {
+            files,
+            fails,
+            calls: 0,
+            faults: Faults::none(),
+        }
+    }
+}
+
+impl Files for MemFiles {
+    ghost use Rattle.diva_outside.specs.declared.files.What.{What};
+    ghost use Rattle.diva_outside.specs.MemFiles.{told_by, faults_in, load_of, after_load};
+
+    ghost told = { told_by };
+
+    ghost faults = { faults_in };
+
+    fn load(
+        &mut self,
+        alloc: Global,
+        what: What,
+        name: &str,
+        limit: usize,
+    ) -> Result<Vec<u8>, LoadFault>
+        ensures stays { told_by self.new ≡ told_by self.old }
+        ensures later { (w : What) → faults_in self.old w ≤ faults_in self.new w }
+        ensures whole { IfOk result (λ v. Has (told_by self.old) name.now v.items) }
+        ensures within { IfOk result (λ v. length v.items ≤ limit) }
+        ensures too_long { IsErrOf result LoadFault.TooLong → IsLonger (told_by self.old) name.now limit }
+        ensures failed { IsErrOf result LoadFault.Failed → Rose (faults_in self.old what) (faults_in self.new what) ⊎ IsMissing (told_by self.old) name.now }
+        ensures missing { IsMissing (told_by self.old) name.now → IsErrOf result LoadFault.Failed ⊎ IsErrOf result LoadFault.Memory }
+        ensures uncounted { IsMissing (told_by self.old) name.now → (w : What) → faults_in self.new w ≡ faults_in self.old w }
+
+        // The answer is that of the definition, unless memory runs out.
+        ensures ok { IfOk result (λ v. load_of self.old name.now limit ≡ Ok v.items) }
+        ensures err { IfErr result (λ fault. fault ≢ LoadFault.Memory → load_of self.old name.now limit ≡ Err fault) }
+        ensures after { self.new ≡ after_load self.old what name.now }
+    {
+        self.calls = self.calls.saturating_add(1);
+        let bytes = find(&self.files, name);
+        let fails = is_listed(&self.fails, self.calls);
+        if fails && bytes.is_some() {
+            self.faults.raise(what);
+        }
+        answer(alloc, bytes, fails, limit)
+    }
+}
+
+fn is_listed(calls: &[u64], call: u64) -> bool
+    ensures { result ≡ list_any (λ c. c == call) calls.now }
+{
+    calls.iter().any(|c| *c == call)
+}
+
+/// What a call answers that found these bytes.
+fn answer(
+    alloc: Global,
+    found: Option<&[u8]>,
+    fails: bool,
+    limit: usize,
+) -> Result<Vec<u8>, LoadFault>
+    ensures ok { IfOk result (λ v. answer_to (option_copied found.entry) fails limit ≡ Ok v.items) }
+    ensures err { IfErr result (λ fault. fault ≢ LoadFault.Memory → answer_to (option_copied found.entry) fails limit ≡ Err fault) }
+{
+    match found {
+        Some(bytes) if !fails => copy(alloc, bytes, limit),
+        _ => Err(LoadFault::Failed),
+    }
+}

@@ -1,0 +1,36 @@
+// A sink of bytes, piece by piece.
+ghost use Rattle.std.specs.Prelude.{List, ℕ, Option};
+ghost use Rattle.std.specs.List.{concat};
+ghost use Rattle.diva_outside.specs.Sink.{Puts};
+
+use crate::Line;
+
+/// A piece was not taken whole.
+#[derive(Clone, Copy, Debug, PartialEq, Eq)]
+pub struct SinkFailed;
+
+/// What takes a program's text.
+pub trait Sink {
+    /// The bytes so far, where they are told.
+    ghost contents: { Self → Option (List ℕ) };
+
+    /// How often the sink has failed.
+    ghost faults: { Self → ℕ };
+
+    /// Appends the piece, or counts a fault and appends a front of it.
+    fn put(&mut self, piece: &[u8]) -> Result<(), SinkFailed>
+        ensures { Puts piece.now (contents self.old) (contents self.new) (faults self.old) (faults self.new) result };
+}
+
+/// Puts lines, one after the other, until one fails.
+pub fn put_lines<S: Sink>(sink: &mut S, lines: &[Line]) -> Result<(), SinkFailed>
+    ensures { Puts (concat lines.now) (S.contents sink.old) (S.contents sink.new) (S.faults sink.old) (S.faults sink.new) result }
+{
+    for line in lines {
+        match sink.put(line.bytes()) {
+            Ok(()) => {}
+            Err(fault) => return Err(fault),
+        }
+    }
+    Ok(())
+}

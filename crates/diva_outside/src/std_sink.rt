@@ -1,0 +1,66 @@
+// A sink that writes to a writer, such as standard output.
+ghost use Rattle.std.specs.Prelude.{◌≡◌, None, OnOk, OnErr};
+ghost use Rattle.std.specs.Io.KnownBytes.{Appends};
+ghost use Rattle.diva_outside.specs.Sink.{AppendsPart, Puts};
+
+use crate::{Sink, SinkFailed};
+use std::io::Write;
+use std::marker::Model;
+
+/// A sink that writes each piece through. It tells no bytes. Each error of the writer is a fault, and so is a
+/// write that takes nothing of what is left.
+#[derive(Drop)]
+pub struct StdSink<W: Write> {
+    out: W,
+    faults: u64,
+}
+
+impl<W: Write> Model for StdSink<W> {
+    ghost use Rattle.diva_outside.specs.StdSink.{SinkOver};
+
+    ghost Value = { SinkOver };
+
+    ghost view = { λ sink. record { bytes = W.contents sink.out; faults = sink.faults } };
+}
+
+impl<W: Write> StdSink<W> {
+    pub fn new(out: W) -> Self
+        ensures { result ≡ record { bytes = W.contents out; faults = 0 } }
+    {
+        StdSink { out, faults: 0 }
+    }
+}
+
+impl<W: Write> Sink for StdSink<W> {
+    ghost contents = { λ _. None };
+
+    ghost faults = { λ sink. sink.faults };
+
+    fn put(&mut self, piece: &[u8]) -> Result<(), SinkFailed>
+        ensures puts { Puts piece.now None None self.old.faults self.new.faults result }
+
+        // The writer took what was put, where its bytes are known.
+        ensures written { Puts piece.now self.old.bytes self.new.bytes self.old.faults self.new.faults result }
+    {
+        let answer = write_whole(&mut self.out, piece);
+        if answer.is_err() {
+            self.faults = self.faults.saturating_add(1);
+        }
+        answer
+    }
+}
+
+/// Writes until the whole piece is taken.
+fn write_whole<W: Write>(out: &mut W, piece: &[u8]) -> Result<(), SinkFailed>
+    ensures ok { OnOk result (Appends (W.contents out.old) (W.contents out.new) piece.now) }
+    ensures err { OnErr result (AppendsPart (W.contents out.old) (W.contents out.new) piece.now) }
+{
+    let mut taken = 0;
+    while taken < piece.len() {
+        match out.write(&piece[taken..]) {
+            Ok(count) if count > 0 => taken += count,
+            _ => return Err(SinkFailed),
+        }
+    }
+    Ok(())
+}

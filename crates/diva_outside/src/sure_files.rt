@@ -1,0 +1,47 @@
+// Files in memory that never fail.
+ghost use Rattle.std.specs.Prelude.{◌≡◌, List, ℕ, Some};
+ghost use Rattle.diva_outside.specs.Named.{bytes_of, or_empty};
+
+use crate::mem_file::{copy, find};
+use crate::{Files, LoadFault, MemFile, What};
+use std::alloc::Global;
+use std::marker::Model;
+
+/// Files that tell all of their bytes and never fail. A name that is not among them is an empty file.
+#[derive(Drop)]
+pub struct SureFiles {
+    files: Vec<MemFile>,
+}
+
+impl Model for SureFiles {
+    ghost Value = { List (List ℕ × List ℕ) };
+
+    ghost view = { λ s. s.files.items };
+}
+
+impl SureFiles {
+    pub fn new(files: Vec<MemFile>) -> Self
+        ensures { result ≡ files.items }
+    {
+        SureFiles { files }
+    }
+}
+
+impl Files for SureFiles {
+    ghost told = { λ files. Some (λ name. Some (or_empty (bytes_of files name))) };
+
+    ghost faults = { λ _ _. 0 };
+
+    fn load(
+        &mut self,
+        alloc: Global,
+        _what: What,
+        name: &str,
+        limit: usize,
+    ) -> Result<Vec<u8>, LoadFault> {
+        match find(&self.files, name) {
+            Some(bytes) => copy(alloc, bytes, limit),
+            None => Ok(Vec::new(alloc)),
+        }
+    }
+}

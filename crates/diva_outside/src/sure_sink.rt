@@ -1,0 +1,18 @@
+// A sink that takes everything, and keeps nothing.
+ghost use Rattle.std.specs.Prelude.{None};
+
+use crate::{Sink, SinkFailed};
+
+/// A sink that never fails, and neither keeps nor tells its bytes.
+#[derive(Clone, Copy, Debug)]
+pub struct SureSink;
+
+impl Sink for SureSink {
+    ghost contents = { λ _. None };
+
+    ghost faults = { λ _. 0 };
+
+    fn put(&mut self, _piece: &[u8]) -> Result<(), SinkFailed> {
+        Ok(())
+    }
+}

@@ -1,0 +1,82 @@
+use crate::{
+    Fail, Files, LoadFault, MemFile, MemFiles, MemSink, Sink, SinkFailed, SureFiles, What, decimal,
+    hex,
+};
+use std::alloc::{AllocError, Global};
+use std::test::Fail as TestFail;
+
+/// `a` holds three bytes, and `b` none.
+fn two_files(alloc: Global) -> Result<Vec<MemFile>, AllocError> {
+    let mut files = Vec::new(alloc);
+    let a = Vec::from_slice(alloc, b"abc")?;
+    files.push(MemFile::new(String::from_str(alloc, "a")?, a))?;
+    files.push(MemFile::new(String::from_str(alloc, "b")?, Vec::new(alloc)))?;
+    Ok(files)
+}
+
+#[test]
+fn files_in_memory(rt: HostRuntime) -> Result<(), TestFail> {
+    let alloc = rt.alloc();
+    let mut files = MemFiles::new(two_files(alloc)?, Vec::from_slice(alloc, &[4])?);
+    for (name, limit, want) in [
+        ("a", 3, Ok("abc")),
+        ("a", 2, Err(LoadFault::TooLong)),
+        ("c", 3, Err(LoadFault::Failed)),
+        ("a", 3, Err(LoadFault::Failed)),
+        ("b", 0, Ok("")),
+    ] {
+        match (files.load(alloc, What::Image, name, limit), want) {
+            (Ok(bytes), Ok(text)) => assert_eq!(rt; bytes.as_slice(), text.as_bytes()),
+            (Err(fault), Err(due)) => assert_eq!(rt; fault, due),
+            _ => assert!(rt; false, "{name} within {limit}"),
+        }
+    }
+    Ok(())
+}
+
+#[test]
+fn files_that_never_fail(rt: HostRuntime) -> Result<(), TestFail> {
+    let alloc = rt.alloc();
+    let mut files = SureFiles::new(two_files(alloc)?);
+    for (name, text) in [("a", "abc"), ("b", ""), ("c", "")] {
+        match files.load(alloc, What::Tape, name, 3) {
+            Ok(bytes) => assert_eq!(rt; bytes.as_slice(), text.as_bytes()),
+            Err(_) => assert!(rt; false, "{name}"),
+        }
+    }
+    Ok(())
+}
+
+#[test]
+fn sink_in_memory(rt: HostRuntime) -> Result<(), TestFail> {
+    let alloc = rt.alloc();
+    let fails = Vec::from_slice(alloc, &[Fail { call: 2, takes: 1 }])?;
+    let mut sink = MemSink::new(alloc, 6, fails)?;
+    for (piece, want, text) in [
+        ("ab", Ok(()), "ab"),
+        ("cd", Err(SinkFailed), "abc"),
+        ("efg", Ok(()), "abcefg"),
+        ("h", Err(SinkFailed), "abcefg"),
+    ] {
+        assert_eq!(rt; sink.put(piece.as_bytes()), want, "{piece}");
+        assert_eq!(rt; sink.bytes(), text.as_bytes(), "{piece}");
+    }
+    Ok(())
+}
+
+#[test]
+fn numbers(rt: HostRuntime) {
+    for (word, hex_due, decimal_due) in [
+        ("", None, None),
+        ("0", Some(0), Some(0)),
+        ("ffffffff", Some(0xffff_ffff), None),
+        ("FFFFFFFF", Some(0xffff_ffff), None),
+        ("123456789", None, Some(123_456_789)),
+        ("g", None, None),
+        ("4294967296", None, Some(4_294_967_296)),
+        ("99999999999", None, None),
+    ] {
+        assert_eq!(rt; hex(word.as_bytes()), hex_due, "hex {word}");
+        assert_eq!(rt; decimal(word.as_bytes()), decimal_due, "decimal {word}");
+    }
+}
