@@ -1,0 +1,7 @@
+pub mod Steps
+pub mod Parts
+pub mod Registers
+pub mod Room
+pub mod Inside
+pub mod Ends
+pub mod Stored

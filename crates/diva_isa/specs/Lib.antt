@@ -1,0 +1,8 @@
+-- The meaning of the instruction table.
+pub mod State
+pub mod Kind
+pub mod Alu
+pub mod Regs
+pub mod Step
+pub mod Trap
+pub mod Run

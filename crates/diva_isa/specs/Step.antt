@@ -1,0 +1,227 @@
+-- The record of the next instruction of a state, and what applying a record does.
+use Rattle.std.specs.Prelude.{◌≡◌, ◌<◌, ◌≤◌, ℕ, zero, suc, ◌+◌, ◌*◌, ◌/◌, ◌%◌, ◌^◌, ◌==◌, Bool, true, false, [], ◌∷◌, ◌++◌, Option, Some, None, length, if◌then◌else◌, nat_lt}
+use Rattle.std.specs.Int.{cast_unsigned, w32}
+use Rattle.diva_decode.specs.declared.op.Op.{Op}
+use Rattle.diva_decode.specs.declared.instr.Instr.{Instr}
+use Rattle.diva_decode.specs.Table.{row_of}
+use Rattle.diva_memory.specs.Bytes.{IsInside, put_all, low_bytes}
+use Rattle.diva_isa.specs.State.{State, reg_of, memory_of, number_of, word_of, goes_on}
+use Rattle.diva_isa.specs.Alu.{alu, is_taken, extended}
+use Rattle.diva_isa.specs.Kind.{kind, size}
+use Rattle.diva_isa.specs.Regs.{with_reg}
+use Rattle.diva_isa.specs.declared.kind.Kind.{Kind}
+use Rattle.diva_isa.specs.declared.kind.Kind.TheVariants.{LoadUpper, AddUpper, Jump, JumpRegister, Branch, Load, Store, Immediate, Register, Fence, Call, Break}
+use Rattle.diva_isa.specs.declared.kind.Width.{Width}
+use Rattle.diva_isa.specs.declared.record.Record.{Record}
+use Rattle.diva_isa.specs.declared.record.Outcome.{Outcome}
+
+-- ---- how the machine ends
+
+abbrev pub trap : ℕ → ℕ
+trap n = 1 + n
+
+abbrev pub halt : ℕ → ℕ
+halt status = 256 + status
+
+-- the end that a record may have: 0, 1 and a trap's number, or 256 and a status
+pub record IsEnd (end : ℕ) : Type 0 where
+  pub halts : 10 < end → 256 ≤ end
+  pub below : end < 512
+
+-- ---- what an instruction comes to
+
+-- the immediate as a word
+abbrev pub imm : Instr → ℕ
+imm i = cast_unsigned w32 i.imm
+
+-- it goes on behind pc with a value
+abbrev pub going : (pc value : ℕ) → Outcome
+going pc value = record { value = value; next = (pc + 4) % 2 ^ 32; end = 0 }
+
+-- the machine ends at pc
+abbrev pub ended : (pc end : ℕ) → Outcome
+ended pc end = record { value = 0; next = pc; end = end }
+
+-- it leads to a target; one that is no multiple of 4 is trap 0
+abbrev pub to_target : (pc value target : ℕ) → Outcome
+to_target pc value target = if target % 4 == 0 then record { value = value; next = target; end = 0 } else ended pc (trap 0)
+
+-- a load gives its number, extended; outside is trap 5
+abbrev pub loaded : (pc : ℕ) → Op → Option ℕ → Outcome
+loaded pc op None = ended pc (trap 5)
+loaded pc op (Some number) = going pc (extended op number)
+
+-- a load of n bytes; misaligned is trap 4, before outside
+abbrev pub load : State → (pc addr : ℕ) → Op → ℕ → Outcome
+load s pc addr op n = if addr % n == 0 then loaded pc op (number_of s n addr) else ended pc (trap 4)
+
+-- a store stores the low n bytes of b; outside is trap 7
+abbrev pub stored : (pc b n : ℕ) → Option ℕ → Outcome
+stored pc b n None = ended pc (trap 7)
+stored pc b n (Some number) = going pc (b % 2 ^ (8 * n))
+
+-- a store of n bytes; misaligned is trap 6, before outside
+abbrev pub store : State → (pc addr b : ℕ) → ℕ → Outcome
+store s pc addr b n = if addr % n == 0 then stored pc b n (number_of s n addr) else ended pc (trap 6)
+
+-- a call for service 1 puts the low byte of b, where the output has room (else trap 9), for 93 it halts with it; no other is served (trap 8)
+abbrev pub call : State → (pc a b : ℕ) → Outcome
+call s pc a b =
+    if a == 1 then (if nat_lt (length s.output) 65536 then going pc (b % 2 ^ 8) else ended pc (trap 9))
+    else (if a == 93 then ended pc (halt (b % 2 ^ 8)) else ended pc (trap 8))
+
+-- ---- the parts of a record, by the kind of the instruction i
+
+-- the words that an instruction reads, 0 where it reads none; a call reads x17 and x10
+abbrev pub source1 : Kind → State → Instr → ℕ
+source1 LoadUpper s i = 0
+source1 AddUpper s i = 0
+source1 Jump s i = 0
+source1 JumpRegister s i = reg_of s i.rs1
+source1 Branch s i = reg_of s i.rs1
+source1 (Load width) s i = reg_of s i.rs1
+source1 (Store width) s i = reg_of s i.rs1
+source1 Immediate s i = reg_of s i.rs1
+source1 Register s i = reg_of s i.rs1
+source1 Fence s i = 0
+source1 Call s i = reg_of s 17
+source1 Break s i = 0
+
+abbrev pub source2 : Kind → State → Instr → ℕ
+source2 LoadUpper s i = 0
+source2 AddUpper s i = 0
+source2 Jump s i = 0
+source2 JumpRegister s i = 0
+source2 Branch s i = reg_of s i.rs2
+source2 (Load width) s i = 0
+source2 (Store width) s i = reg_of s i.rs2
+source2 Immediate s i = 0
+source2 Register s i = reg_of s i.rs2
+source2 Fence s i = 0
+source2 Call s i = reg_of s 10
+source2 Break s i = 0
+
+-- the address of a load or a store, where a is rs1; 0 elsewhere
+abbrev pub address : Kind → Instr → ℕ → ℕ
+address LoadUpper i a = 0
+address AddUpper i a = 0
+address Jump i a = 0
+address JumpRegister i a = 0
+address Branch i a = 0
+address (Load width) i a = (a + imm i) % 2 ^ 32
+address (Store width) i a = (a + imm i) % 2 ^ 32
+address Immediate i a = 0
+address Register i a = 0
+address Fence i a = 0
+address Call i a = 0
+address Break i a = 0
+
+-- what an instruction at pc comes to, where a and b are what it reads and addr is its address
+abbrev pub outcome : Kind → State → Instr → (pc a b addr : ℕ) → Outcome
+outcome LoadUpper s i pc a b addr = going pc (imm i)
+outcome AddUpper s i pc a b addr = going pc ((pc + imm i) % 2 ^ 32)
+outcome Jump s i pc a b addr = to_target pc ((pc + 4) % 2 ^ 32) ((pc + imm i) % 2 ^ 32)
+outcome JumpRegister s i pc a b addr = to_target pc ((pc + 4) % 2 ^ 32) ((a + imm i) % 2 ^ 32 / 2 * 2)
+outcome Branch s i pc a b addr = if is_taken i.op a b then to_target pc 0 ((pc + imm i) % 2 ^ 32) else going pc 0
+outcome (Load width) s i pc a b addr = load s pc addr i.op (size width)
+outcome (Store width) s i pc a b addr = store s pc addr b (size width)
+outcome Immediate s i pc a b addr = going pc (alu i.op a (imm i))
+outcome Register s i pc a b addr = going pc (alu i.op a b)
+outcome Fence s i pc a b addr = going pc 0
+outcome Call s i pc a b addr = call s pc a b
+outcome Break s i pc a b addr = ended pc (trap 3)
+
+-- ---- the parts of a record, by what its word says, which is none where there is no word or it is not one of the table
+
+abbrev pub source1_of : Option Instr → State → ℕ
+source1_of None s = 0
+source1_of (Some i) s = source1 (kind i.op) s i
+
+abbrev pub source2_of : Option Instr → State → ℕ
+source2_of None s = 0
+source2_of (Some i) s = source2 (kind i.op) s i
+
+abbrev pub address_of : Option Instr → ℕ → ℕ
+address_of None a = 0
+address_of (Some i) a = address (kind i.op) i a
+
+-- no word is trap 1, a word that says nothing trap 2
+abbrev pub outcome_of : (there : Bool) → Option Instr → State → (pc a b addr : ℕ) → Outcome
+outcome_of there (Some i) s pc a b addr = outcome (kind i.op) s i pc a b addr
+outcome_of true None s pc a b addr = ended pc (trap 2)
+outcome_of false None s pc a b addr = ended pc (trap 1)
+
+-- ---- the record
+
+-- the parts of a record put together
+abbrev pub whole : (pc word a b addr : ℕ) → Outcome → Record
+whole pc word a b addr o = record { pc = pc; word = word; src1 = a; src2 = b; addr = addr; value = o.value; next = o.next; end = o.end }
+
+-- the record of a word w that says form
+abbrev pub said : State → (there : Bool) → ℕ → Option Instr → Record
+said s there w form =
+    let a = source1_of form s in let b = source2_of form s in let addr = address_of form a in
+    whole s.pc w a b addr (outcome_of there form s s.pc a b addr)
+
+abbrev pub fetched : State → Option ℕ → Record
+fetched s None = said s false 0 None
+fetched s (Some w) = said s true w (row_of w)
+
+-- the record of a state's next instruction
+unfoldable pub record_of : State → Record
+record_of s = fetched s (word_of s s.pc)
+
+-- ---- what applying a record does
+
+abbrev pub with_rd : State → Instr → ℕ → State
+with_rd s i v = record s { regs = with_reg s.regs i.rd v }
+
+-- s with the low n bytes of v from a on, the lowest first; what falls outside is ignored
+abbrev pub with_bytes : State → (n a v : ℕ) → State
+with_bytes s n a v = record s { bytes = (put_all (memory_of s) a (low_bytes n v)).items }
+
+-- s with the low byte of v put
+abbrev pub with_output : State → ℕ → State
+with_output s v = record s { output = s.output ++ (v % 2 ^ 8) ∷ [] }
+
+-- what r does to s but for pc, r's word being an instruction i of this kind
+abbrev pub acted : Kind → State → Instr → Record → State
+acted LoadUpper s i r = with_rd s i r.value
+acted AddUpper s i r = with_rd s i r.value
+acted Jump s i r = with_rd s i r.value
+acted JumpRegister s i r = with_rd s i r.value
+acted Branch s i r = s
+acted (Load width) s i r = with_rd s i r.value
+acted (Store width) s i r = with_bytes s (size width) r.addr r.value
+acted Immediate s i r = with_rd s i r.value
+acted Register s i r = with_rd s i r.value
+acted Fence s i r = s
+acted Call s i r = if r.src1 == 1 then with_output s r.value else s
+acted Break s i r = s
+
+abbrev pub acted_by : Option Instr → State → Record → State
+acted_by None s r = s
+acted_by (Some i) s r = acted (kind i.op) s i r
+
+-- any record, also a wrong one: an ended state stays, and a record that ends changes nothing but the end
+unfoldable pub apply : State → Record → State
+apply s r =
+    if goes_on s then (if r.end == 0 then record (acted_by (row_of r.word) s r) { pc = r.next } else record s { end = r.end }) else s
+
+-- one instruction; an ended state stays
+unfoldable pub step : State → State
+step s = apply s (record_of s)
+
+abbrev pub steps : ℕ → State → State
+steps zero s = s
+steps (suc k) s = step (steps k s)
+
+-- ---- what holds of the due record
+
+-- the output has room for what r puts
+abbrev pub HasRoom : State → Record → Type 0
+HasRoom s r = (i : Instr) → row_of r.word ≡ Some i → kind i.op ≡ Call → r.end ≡ 0 → r.src1 ≡ 1 → length s.output < 65536
+
+-- what r stores is inside memory
+abbrev pub StoresInside : State → Record → Type 0
+StoresInside s r = (i : Instr) (width : Width) → row_of r.word ≡ Some i → kind i.op ≡ Store width → r.end ≡ 0 → IsInside (memory_of s) r.addr (size width)

@@ -1,0 +1,231 @@
+ghost use Rattle.std.specs.Prelude.{◌≡◌, ◌*◌, ◌%◌, ◌^◌, ◌<◌, IfSome};
+ghost use Rattle.diva_decode.specs.Table.{HasRegisters};
+ghost use Rattle.diva_isa.specs.State.{word_of};
+ghost use Rattle.diva_isa.specs.Kind.{kind, size};
+ghost use Rattle.diva_isa.specs.Step.{call, ended, going, halt, load, outcome, outcome_of, record_of, source1, source2, source1_of, source2_of, address_of, store, to_target, trap};
+ghost use Rattle.diva_isa.specs.Trap.{trap_number};
+
+use crate::arithmetic::{alu, branch_taken, load_value};
+use crate::kind::{Kind, Width, kind_of};
+use crate::look::Look;
+use crate::reading::{number, word};
+use crate::record::{OUTPUT_LIMIT, Operands, Outcome, Record};
+use crate::trap::Trap;
+use diva_decode::{Instr, Op, decode};
+
+/// The service that puts a byte, as ECALL asks for it by x17.
+const PUT: u32 = 1;
+
+/// The service that halts the machine.
+const HALT: u32 = 93;
+
+/// The record of the next instruction of a state, an ended one too.
+#[tactic(auto, unfolding(crate::specs::Step::record_of))]
+pub fn record_of<L: Look>(state: &L) -> Record
+    ensures { result ≡ record_of (L.shows state.now) }
+{
+    let fetched = fetch(state);
+    let word = fetched.unwrap_or(0);
+    let form = match fetched {
+        Some(word) => decode(word),
+        None => None,
+    };
+    let sources = sources(state, form);
+    let r = Record {
+        pc: state.pc(),
+        word,
+        src1: sources.first,
+        src2: sources.second,
+        addr: address(form, sources.first),
+        value: 0,
+        next: 0,
+        end: 0,
+    };
+    r.ending_in(finish(state, fetched.is_some(), form, &r))
+}
+
+/// The word of the next instruction, none where `pc` is no multiple of 4 or a byte is outside memory.
+pub fn fetch<L: Look>(state: &L) -> Option<u32>
+    ensures { let s = L.shows state.now in result ≡ word_of s s.pc }
+{
+    word(state, state.pc())
+}
+
+/// The registers that a word's instruction reads.
+pub fn sources<L: Look>(state: &L, form: Option<Instr>) -> Operands
+    requires { IfSome form HasRegisters }
+    ensures { result ≡ record { first = source1_of form (L.shows state.now); second = source2_of form (L.shows state.now) } }
+{
+    match form {
+        Some(i) => reads(state, &i),
+        None => Operands {
+            first: 0,
+            second: 0,
+        },
+    }
+}
+
+fn reads<L: Look>(state: &L, i: &Instr) -> Operands
+    requires { HasRegisters i.now }
+    ensures { result ≡ record { first = source1 (kind i.now.op) (L.shows state.now) i.now; second = source2 (kind i.now.op) (L.shows state.now) i.now } }
+{
+    match kind_of(i.op) {
+        Kind::LoadUpper | Kind::AddUpper | Kind::Jump | Kind::Fence | Kind::Break => Operands {
+            first: 0,
+            second: 0,
+        },
+        Kind::JumpRegister | Kind::Load(_) | Kind::Immediate => Operands {
+            first: state.reg(i.rs1),
+            second: 0,
+        },
+        Kind::Branch | Kind::Store(_) | Kind::Register => Operands {
+            first: state.reg(i.rs1),
+            second: state.reg(i.rs2),
+        },
+        Kind::Call => Operands {
+            first: state.reg(17),
+            second: state.reg(10),
+        },
+    }
+}
+
+/// The address of a load or a store that reads `base`, 0 of another instruction.
+pub fn address(form: Option<Instr>, base: u32) -> u32
+    ensures { result ≡ address_of form base }
+{
+    match form {
+        Some(i) => match kind_of(i.op) {
+            Kind::Load(_) | Kind::Store(_) => base.wrapping_add(i.imm.cast_unsigned()),
+            _ => 0,
+        },
+        None => 0,
+    }
+}
+
+fn going(pc: u32, value: u32) -> Outcome
+    ensures { result ≡ going pc value }
+{
+    Outcome {
+        value,
+        next: pc.wrapping_add(4),
+        end: 0,
+    }
+}
+
+fn trapped(pc: u32, cause: Trap) -> Outcome
+    ensures { result ≡ ended pc (trap (trap_number cause)) }
+{
+    Outcome {
+        value: 0,
+        next: pc,
+        end: 1 + cause.number(),
+    }
+}
+
+fn halted(pc: u32, status: u32) -> Outcome
+    requires { status < 256 }
+    ensures { result ≡ ended pc (halt status) }
+{
+    Outcome {
+        value: 0,
+        next: pc,
+        end: 256 + status,
+    }
+}
+
+fn to_target(pc: u32, value: u32, target: u32) -> Outcome
+    ensures { result ≡ to_target pc value target }
+{
+    if target % 4 == 0 {
+        Outcome {
+            value,
+            next: target,
+            end: 0,
+        }
+    } else {
+        trapped(pc, Trap::TargetMisaligned)
+    }
+}
+
+fn load<L: Look>(state: &L, r: &Record, op: Op, width: Width) -> Outcome
+    ensures { result ≡ load (L.shows state.now) r.now.pc r.now.addr op (size width) }
+{
+    if r.addr % width.size() != 0 {
+        return trapped(r.pc, Trap::LoadMisaligned);
+    }
+    match number(state, r.addr, width) {
+        Some(number) => going(r.pc, load_value(op, number)),
+        None => trapped(r.pc, Trap::LoadOutside),
+    }
+}
+
+fn store<L: Look>(state: &L, r: &Record, width: Width) -> Outcome
+    ensures { result ≡ store (L.shows state.now) r.now.pc r.now.addr r.now.src2 (size width) }
+{
+    if r.addr % width.size() != 0 {
+        return trapped(r.pc, Trap::StoreMisaligned);
+    }
+    match number(state, r.addr, width) {
+        Some(_) => going(r.pc, low_bytes(r.src2, width)),
+        None => trapped(r.pc, Trap::StoreOutside),
+    }
+}
+
+fn low_bytes(word: u32, width: Width) -> u32
+    ensures { result ≡ word % 2 ^ (8 * size width) }
+{
+    match width {
+        Width::Byte => word & 0xff,
+        Width::Half => word & 0xffff,
+        Width::Word => word,
+    }
+}
+
+fn call<L: Look>(state: &L, r: &Record) -> Outcome
+    ensures { result ≡ call (L.shows state.now) r.now.pc r.now.src1 r.now.src2 }
+{
+    match r.src1 {
+        PUT if state.out_len() < OUTPUT_LIMIT => going(r.pc, r.src2 & 0xff),
+        PUT => trapped(r.pc, Trap::OutputFull),
+        HALT => halted(r.pc, r.src2 & 0xff),
+        _ => trapped(r.pc, Trap::CallNotServed),
+    }
+}
+
+/// What an instruction comes to, by the first five fields of its record, by whether its word is there, and by what the
+/// word says.
+pub fn finish<L: Look>(state: &L, there: bool, form: Option<Instr>, r: &Record) -> Outcome
+    ensures { result ≡ outcome_of there form (L.shows state.now) r.now.pc r.now.src1 r.now.src2 r.now.addr }
+{
+    match form {
+        Some(i) => come_to(state, &i, r),
+        None if there => trapped(r.pc, Trap::Illegal),
+        None => trapped(r.pc, Trap::FetchOutside),
+    }
+}
+
+fn come_to<L: Look>(state: &L, i: &Instr, r: &Record) -> Outcome
+    ensures { result ≡ outcome (kind i.now.op) (L.shows state.now) i.now r.now.pc r.now.src1 r.now.src2 r.now.addr }
+{
+    let imm = i.imm.cast_unsigned();
+    match kind_of(i.op) {
+        Kind::LoadUpper => going(r.pc, imm),
+        Kind::AddUpper => going(r.pc, r.pc.wrapping_add(imm)),
+        Kind::Jump => to_target(r.pc, r.pc.wrapping_add(4), r.pc.wrapping_add(imm)),
+        Kind::JumpRegister => to_target(r.pc, r.pc.wrapping_add(4), r.src1.wrapping_add(imm) & !1),
+        Kind::Branch => {
+            if branch_taken(i.op, r.src1, r.src2) {
+                to_target(r.pc, 0, r.pc.wrapping_add(imm))
+            } else {
+                going(r.pc, 0)
+            }
+        }
+        Kind::Load(width) => load(state, r, i.op, width),
+        Kind::Store(width) => store(state, r, width),
+        Kind::Immediate => going(r.pc, alu(i.op, r.src1, imm)),
+        Kind::Register => going(r.pc, alu(i.op, r.src1, r.src2)),
+        Kind::Fence => going(r.pc, 0),
+        Kind::Call => call(state, r),
+        Kind::Break => trapped(r.pc, Trap::Breakpoint),
+    }
+}

@@ -1,0 +1,83 @@
+ghost use Rattle.std.specs.Prelude.{◌≡◌};
+ghost use Rattle.diva_isa.specs.Kind.{kind, size};
+
+use diva_decode::Op;
+
+/// How much a load or a store moves.
+#[derive(Clone, Copy, Debug, PartialEq, Eq)]
+pub enum Width {
+    Byte,
+    Half,
+    Word,
+}
+
+impl Width {
+    /// How many bytes a width is.
+    pub fn size(self) -> u32
+        ensures { result ≡ size self }
+    {
+        match self {
+            Width::Byte => 1,
+            Width::Half => 2,
+            Width::Word => 4,
+        }
+    }
+}
+
+/// A kind of operation. The records of one kind are made alike.
+#[derive(Clone, Copy, Debug, PartialEq, Eq)]
+pub enum Kind {
+    /// LUI.
+    LoadUpper,
+    /// AUIPC.
+    AddUpper,
+    /// JAL.
+    Jump,
+    /// JALR.
+    JumpRegister,
+    /// A conditional branch.
+    Branch,
+    Load(Width),
+    Store(Width),
+    /// An operation on a register and an immediate.
+    Immediate,
+    /// An operation on two registers.
+    Register,
+    Fence,
+    /// ECALL.
+    Call,
+    /// EBREAK.
+    Break,
+}
+
+/// The kind of an operation.
+pub fn kind_of(op: Op) -> Kind
+    ensures { result ≡ kind op }
+{
+    match op {
+        Op::Lui => Kind::LoadUpper,
+        Op::Auipc => Kind::AddUpper,
+        Op::Jal => Kind::Jump,
+        Op::Jalr => Kind::JumpRegister,
+        Op::Beq | Op::Bne | Op::Blt | Op::Bge | Op::Bltu | Op::Bgeu => Kind::Branch,
+        Op::Lb | Op::Lbu => Kind::Load(Width::Byte),
+        Op::Lh | Op::Lhu => Kind::Load(Width::Half),
+        Op::Lw => Kind::Load(Width::Word),
+        Op::Sb => Kind::Store(Width::Byte),
+        Op::Sh => Kind::Store(Width::Half),
+        Op::Sw => Kind::Store(Width::Word),
+        Op::Addi
+        | Op::Slti
+        | Op::Sltiu
+        | Op::Xori
+        | Op::Ori
+        | Op::Andi
+        | Op::Slli
+        | Op::Srli
+        | Op::Srai => Kind::Immediate,
+        Op::Fence => Kind::Fence,
+        Op::Ecall => Kind::Call,
+        Op::Ebreak => Kind::Break,
+        _ => Kind::Register,
+    }
+}

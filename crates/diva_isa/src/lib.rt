@@ -1,0 +1,32 @@
+//! The meaning of the instruction table.
+//!
+//! - `kind`: the kinds of operations, and how many bytes a load or a store moves.
+//! - `arithmetic`: what an operation computes, whether a branch is taken, what a load makes of its bytes.
+//! - `look`: a state that can be read.
+//! - `record`: the record of one instruction, and its parts.
+//! - `trap`: the traps by number.
+//! - `due`: the record of a state's next instruction, and each part by itself.
+//! - `regs`: the registers.
+//! - `plain`: the machine that does one instruction after another.
+//!
+//! The definitions that contracts cite are in `specs/`: a state in `State`, the record and what it does in `Step`. What
+//! is known of them is in `proofs/`.
+#![tactic(auto)]
+
+mod arithmetic;
+mod due;
+mod kind;
+mod look;
+mod plain;
+mod reading;
+mod record;
+mod regs;
+mod trap;
+
+pub use arithmetic::{alu, branch_taken, load_value};
+pub use due::{address, fetch, finish, record_of, sources};
+pub use kind::{Kind, Width, kind_of};
+pub use look::Look;
+pub use plain::Plain;
+pub use record::{OUTPUT_LIMIT, Operands, Outcome, Record};
+pub use regs::Regs;

@@ -1,0 +1,244 @@
+ghost use Rattle.std.specs.Prelude.{◌≡◌, ◌+◌, ◌-◌, ◌<◌, ◌≤◌, ◌^◌, [], ◌++◌, IsSome, ◌↔◌, IfSome, IfOk, length, replicate, if◌then◌else◌};
+ghost use Rattle.diva_memory.specs.Bytes.{IsInside};
+ghost use Rattle.diva_isa.specs.Kind.{size};
+ghost use Rattle.diva_isa.specs.Run.{done};
+ghost use Rattle.diva_isa.specs.State.{GoesOn, byte_of, goes_on, memory_of, reg_of};
+ghost use Rattle.diva_isa.specs.Step.{HasRoom, StoresInside, apply, record_of, step, steps, with_bytes, with_output};
+
+use crate::due::record_of;
+use crate::kind::{Kind, Width, kind_of};
+use crate::look::Look;
+use crate::record::{OUTPUT_LIMIT, Record};
+use crate::regs::Regs;
+use diva_decode::decode;
+use diva_memory::Memory;
+use std::alloc::{AllocError, Global};
+use std::marker::Model;
+
+/// The machine that does one instruction after another, with no stages and nobody to check.
+#[derive(Drop)]
+pub struct Plain {
+    regs: Regs,
+    pc: u32,
+    memory: Memory,
+    output: Vec<u8>,
+    end: u32,
+    count: u64,
+}
+
+impl Model for Plain {
+    ghost use Rattle.std.specs.Prelude.{◌≤◌, length, vec_capacity};
+    ghost use Rattle.diva_isa.specs.Run.{Run};
+
+    ghost Value = { Run };
+
+    ghost view = { λ p. record {
+      state = record { regs = p.regs; pc = p.pc; base = p.memory.base; bytes = p.memory.items; output = p.output.items; end = p.end };
+      count = p.count;
+    } };
+
+    ghost invariant = { λ p. (65536 ≤ vec_capacity p.output) × (length p.output.items ≤ 65536) };
+}
+
+impl Look for Plain {
+    ghost shows = { λ p. p.state };
+
+    fn pc(&self) -> u32 {
+        self.pc
+    }
+
+    fn reg(&self, n: u8) -> u32 {
+        self.regs.get(n)
+    }
+
+    fn byte(&self, addr: u32) -> Option<u8> {
+        self.memory.byte(addr)
+    }
+
+    fn out_len(&self) -> u32 {
+        self.output.len() as u32
+    }
+}
+
+impl Plain {
+    /// A machine at reset: every register is 0, the output is empty, `pc` is the entry, and memory is the payload with
+    /// zeros behind it, `size` bytes from `base` on.
+    pub fn new(
+        alloc: Global,
+        base: u32,
+        size: u32,
+        entry: u32,
+        payload: &[u8],
+    ) -> Result<Self, AllocError>
+        requires range { base + size ≤ 2 ^ 32 }
+        requires payload { length payload.now ≤ size }
+        ensures { IfOk result (λ p. p ≡ record {
+          state = record { regs = replicate 32 0; pc = entry; base = base; bytes = payload.now ++ replicate (size - length payload.now) 0; output = []; end = 0 };
+          count = 0;
+        }) }
+    {
+        Ok(Plain {
+            regs: Regs::new(),
+            pc: entry,
+            memory: Memory::new(alloc, base, size, payload)?,
+            output: Vec::with_capacity(alloc, OUTPUT_LIMIT as usize)?,
+            end: 0,
+            count: 0,
+        })
+    }
+
+    /// The record of the next instruction, none exactly after the end.
+    pub fn record(&self) -> Option<Record>
+        ensures some { IsSome result ↔ GoesOn self.now.state }
+        ensures value { IfSome result (λ r. r ≡ record_of self.now.state) }
+    {
+        if self.end == 0 {
+            Some(record_of(self))
+        } else {
+            None
+        }
+    }
+
+    /// Does the next instruction; the ending one counts too. An ended machine stays.
+    #[tactic(auto, using(crate::proofs::Room::room, crate::proofs::Inside::store_inside, crate::proofs::Steps::step_ended), unfolding(crate::specs::Step::step))]
+    pub fn step(&mut self)
+        requires { GoesOn self.old.state → self.old.count < 2 ^ 60 }
+        ensures state { self.new.state ≡ step self.old.state }
+        ensures count { self.new.count ≡ self.old.count + (if goes_on self.old.state then 1 else 0) }
+    {
+        if let Some(r) = self.record() {
+            self.apply(&r);
+            self.count += 1;
+        }
+    }
+
+    /// Does so many instructions, or fewer where the machine ends before.
+    pub fn run(&mut self, limit: u64)
+        requires { self.old.count + limit ≤ 2 ^ 60 }
+        ensures state { self.new.state ≡ steps limit self.old.state }
+        ensures count { self.new.count ≡ self.old.count + done limit self.old.state }
+    {
+        for _ in 0..limit {
+            self.step();
+        }
+    }
+
+    /// 0 where the machine goes on, 1 + a trap's number, or 256 + the status of a halt.
+    pub fn ended(&self) -> u32
+        ensures { result ≡ self.now.state.end }
+    {
+        self.end
+    }
+
+    /// How many instructions were done.
+    pub fn count(&self) -> u64
+        ensures { result ≡ self.now.count }
+    {
+        self.count
+    }
+
+    /// The word in register `n`.
+    pub fn reg(&self, n: u8) -> u32
+        requires { n < 32 }
+        ensures { result ≡ reg_of self.now.state n }
+    {
+        self.regs.get(n)
+    }
+
+    /// The byte at an address, none outside memory.
+    pub fn byte(&self, addr: u32) -> Option<u8>
+        ensures { result ≡ byte_of self.now.state addr }
+    {
+        self.memory.byte(addr)
+    }
+
+    /// What was put, at most 65,536 bytes.
+    pub fn output(&self) -> &[u8]
+        ensures bytes { result.now ≡ self.now.state.output }
+        ensures few { length result.now ≤ 65536 }
+    {
+        &self.output
+    }
+
+    #[tactic(auto, unfolding(crate::specs::Step::apply))]
+    fn apply(&mut self, r: &Record)
+        requires goes_on { GoesOn self.old.state }
+        requires room { HasRoom self.old.state r.now }
+        requires inside { StoresInside self.old.state r.now }
+        ensures state { self.new.state ≡ apply self.old.state r.now }
+        ensures count { self.new.count ≡ self.old.count }
+    {
+        if r.end != 0 {
+            self.end = r.end;
+            return;
+        }
+        if let Some(i) = decode(r.word) {
+            match kind_of(i.op) {
+                Kind::LoadUpper
+                | Kind::AddUpper
+                | Kind::Jump
+                | Kind::JumpRegister
+                | Kind::Load(_)
+                | Kind::Immediate
+                | Kind::Register => self.regs.set(i.rd, r.value),
+                Kind::Store(width) => self.store(width, r.addr, r.value),
+                Kind::Call if r.src1 == 1 => self.put(r.value),
+                Kind::Call | Kind::Branch | Kind::Fence | Kind::Break => {}
+            }
+        }
+        self.pc = r.next;
+    }
+
+    #[tactic(auto, using(crate::proofs::Stored::base_put_all, crate::proofs::Stored::length_low_bytes))]
+    fn store(&mut self, width: Width, addr: u32, value: u32)
+        requires { IsInside (memory_of self.old.state) addr (size width) }
+        ensures state { self.new.state ≡ with_bytes self.old.state (size width) addr value }
+        ensures count { self.new.count ≡ self.old.count }
+    {
+        let bytes = value.to_le_bytes();
+        self.memory.put_all(addr, &bytes[..width.size() as usize]);
+    }
+
+    fn put(&mut self, value: u32)
+        requires { length self.old.state.output < 65536 }
+        ensures state { self.new.state ≡ with_output self.old.state value }
+        ensures count { self.new.count ≡ self.old.count }
+    {
+        // The room was taken when the machine was made.
+        let _ = self.output.push((value & 0xff) as u8);
+    }
+}
+
+#[cfg(test)]
+mod tests {
+    use super::Plain;
+    use crate::record::Record;
+    use std::test::Fail;
+
+    /// `addi x1, x0, 5`, `addi x17, x0, 93` and `ecall`, which halts with what x10 holds.
+    const PROGRAM: [u8; 12] = [
+        0x93, 0x00, 0x50, 0x00, 0x93, 0x08, 0xd0, 0x05, 0x73, 0x00, 0x00, 0x00,
+    ];
+
+    #[test]
+    fn three_instructions(rt: HostRuntime) -> Result<(), Fail> {
+        let mut plain = Plain::new(rt.alloc(), 0, 64, 0, &PROGRAM)?;
+        let first = Record {
+            word: 0x0050_0093,
+            value: 5,
+            next: 4,
+            ..Record::default()
+        };
+        assert_eq!(rt; plain.record(), Some(first));
+        plain.step();
+        assert_eq!(rt; plain.reg(1), 5);
+        plain.run(8);
+        assert_eq!(rt; plain.record(), None);
+        assert_eq!(rt; plain.ended(), 256);
+        assert_eq!(rt; plain.count(), 3);
+        assert_eq!(rt; plain.byte(8), Some(0x73));
+        assert_eq!(rt; plain.byte(64), None);
+        assert!(rt; plain.output().is_empty());
+        Ok(())
+    }
+}
