@@ -1,0 +1,14 @@
+use Rattle.std.proofs.Common.{◌≡◌, None, sym, rules, map}
+use Rattle.std.proofs.lemmas.List.{map-append}
+use Rattle.diva_memory.specs.Bytes.{byte_at}
+use Rattle.diva_storeq.proofs.Laying.{laid_none, laid_more}
+use Rattle.diva_storeq.proofs.queue.StoreQueue.byte.Goals as goal
+
+pub returns-in_err-byte-clause-value : goal.returns-in_err-byte-clause-value
+returns-in_err-byte-clause-value c =
+    let outside : byte_at c.args.memory.now c.args.addr ≡ None = search rules in
+    rw c.from_residual.ensures (sym (laid_none c.args.memory.now c.args.self.now.items c.args.addr outside))
+
+pub loop-store-preserved : goal.loop-store-preserved
+loop-store-preserved c =
+    simp map-append (rw (c.unwrap_or-byte.ensures, c.byte-in-loop-store.ensures) (laid_more c.args.memory.now (map (λ s. s.now) c.loop-store.yielded) c.in-Some.store.now c.args.addr c.loop-store.byte c.loop-store.invariant))

@@ -1,0 +1,17 @@
+use Rattle.std.proofs.Common.{◌≡◌, [], ◌∷◌, ◌++◌, arith}
+use Rattle.std.proofs.lemmas.Grind.{common_steps}
+use Rattle.diva_storeq.proofs.Laying.{laid_push, laid_push_covered, laid_push_others}
+use Rattle.diva_storeq.proofs.queue.StoreQueue.push.Goals as goal
+
+-- nothing is pushed out
+stays : (c : goal.After-push_back) → c.push_back.new.self.items ≡ c.args.self.now.items ++ c.args.s ∷ []
+stays c = grind (arith, common_steps)
+
+pub returns-clause-laid : goal.returns-clause-laid
+returns-clause-laid c = λ m. rw (stays c) (laid_push m c.args.self.now.items c.args.s)
+
+pub returns-clause-covered : goal.returns-clause-covered
+returns-clause-covered c = λ m a h k. rw (stays c) (laid_push_covered m c.args.self.now.items c.args.s a h k)
+
+pub returns-clause-others : goal.returns-clause-others
+returns-clause-others c = λ m a h. rw (stays c) (laid_push_others m c.args.self.now.items c.args.s a h)

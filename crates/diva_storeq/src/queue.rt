@@ -1,0 +1,126 @@
+// The stores that are not in memory yet, the oldest first.
+ghost use Rattle.std.specs.Prelude.{◌≡◌, ◌≤◌, ◌<◌, ℕ, ◌+◌, ◌-◌, ◌%◌, ◌^◌, ◌==◌, ◌⊎◌, ◌↔◌, [], ◌∷◌, ◌++◌, drop, take, length, slice_get, IfOk, IsSome};
+ghost use Rattle.std.specs.List.{list_all};
+ghost use Rattle.std.specs.Option.{ForSome};
+ghost use Rattle.circular_buffer.specs.Buffer.{Buffer, buffer};
+ghost use Rattle.diva_memory.specs.Bytes.{Bytes, IsInside, byte_at, word_at};
+
+use crate::Store;
+use circular_buffer::HeapCircularBuffer;
+use diva_memory::Memory;
+use std::alloc::{AllocError, Global};
+use std::marker::Model;
+
+/// The stores that have committed and are not in memory yet, in order.
+///
+/// A reader of memory sees them laid over it, so that a load gets what the stores before it wrote.
+#[derive(Drop)]
+pub struct StoreQueue {
+    stores: HeapCircularBuffer<Store>,
+}
+
+impl Model for StoreQueue {
+    ghost use Rattle.circular_buffer.specs.Buffer.{Buffer};
+    ghost use Rattle.diva_storeq.specs.declared.store.Store.{Store};
+
+    ghost Value = { Buffer Store };
+
+    ghost view = { λ q. q.stores };
+}
+
+impl StoreQueue {
+    ghost use Rattle.diva_storeq.specs.Stores.{bytes_of, is_apart, lay, laid};
+
+    /// An empty queue for at most `cap` stores. The error is want of memory, and no later call takes
+    /// any.
+    pub fn new(alloc: Global, cap: usize) -> Result<Self, AllocError>
+        ensures { IfOk result (λ q. q ≡ buffer [] cap) }
+    {
+        Ok(StoreQueue {
+            stores: HeapCircularBuffer::with_capacity(alloc, cap)?,
+        })
+    }
+
+    /// Whether there is no room for another store.
+    pub fn full(&self) -> bool
+        ensures value { result ≡ (length self.now.items == self.now.capacity) }
+        ensures within { length self.now.items ≤ self.now.capacity }
+    {
+        self.owed() == self.stores.capacity()
+    }
+
+    /// How many stores are not in memory yet.
+    pub fn owed(&self) -> usize
+        ensures value { result ≡ length self.now.items }
+        ensures within { result ≤ self.now.capacity }
+    {
+        self.stores.len()
+    }
+
+    /// Adds the youngest store.
+    pub fn push(&mut self, s: Store)
+        requires room { length self.old.items < self.old.capacity }
+        requires range { s.addr + s.width ≤ 2 ^ 32 }
+        ensures stores { self.new ≡ buffer (self.old.items ++ s ∷ []) self.old.capacity }
+        ensures laid { (m : Bytes) → laid m self.new.items ≡ lay (laid m self.old.items) s }
+
+        // Exactly the bytes that it covers are changed.
+        ensures covered { (m : Bytes) (a : ℕ) → IsInside m a 1 → IsInside (bytes_of s) a 1 → byte_at (laid m self.new.items) a ≡ byte_at (bytes_of s) a }
+        ensures others { (m : Bytes) (a : ℕ) → ¬ IsInside (bytes_of s) a 1 → byte_at (laid m self.new.items) a ≡ byte_at (laid m self.old.items) a }
+    {
+        self.stores.push_back(s);
+    }
+
+    /// Puts the oldest store to memory. Nothing happens where there is none.
+    #[tactic(auto, using(crate::proofs::Laying::lay_base, crate::proofs::Laying::lay_length))]
+    pub fn drain(&mut self, memory: &mut Memory)
+        requires { ForSome (slice_get self.old.items 0) (λ s. IsInside memory.old s.addr s.width) }
+        ensures oldest { memory.new ≡ laid memory.old (take 1 self.old.items) }
+        ensures rest { self.new ≡ buffer (drop 1 self.old.items) self.old.capacity }
+        ensures owed { length self.new.items ≡ length self.old.items - 1 }
+        ensures laid { laid memory.new self.new.items ≡ laid memory.old self.old.items }
+        ensures range { (memory.new.base ≡ memory.old.base) × (length memory.new.items ≡ length memory.old.items) }
+        ensures empty { self.old.items ≡ [] → (memory.new ≡ memory.old) × (self.new ≡ self.old) }
+    {
+        if let Some(store) = self.stores.pop_front() {
+            store.put_to(memory);
+        }
+    }
+
+    /// The byte at `addr` as it is once all stores are in memory, `None` exactly where it is outside.
+    pub fn byte(&self, memory: &Memory, addr: u32) -> Option<u8>
+        ensures value { result ≡ byte_at (laid memory.now self.now.items) addr }
+        ensures inside { IsSome result ↔ IsInside memory.now addr 1 }
+    {
+        let mut byte = memory.byte(addr)?;
+        for store in self.stores.iter() {
+            byte = store.byte(addr).unwrap_or(byte);
+        }
+        Some(byte)
+    }
+
+    /// The word at `addr` as it is once all stores are in memory, `None` exactly where `addr` is no
+    /// multiple of 4 or the word is outside.
+    pub fn word(&self, memory: &Memory, addr: u32) -> Option<u32>
+        ensures value { result ≡ word_at (laid memory.now self.now.items) addr }
+        ensures inside { IsSome result ↔ ((addr % 4 ≡ 0) × IsInside memory.now addr 4) }
+    {
+        let word = memory.word(addr)?;
+        if self.is_apart(addr, 4) {
+            return Some(word);
+        }
+        Some(u32::from_le_bytes([
+            self.byte(memory, addr)?,
+            self.byte(memory, addr + 1)?,
+            self.byte(memory, addr + 2)?,
+            self.byte(memory, addr + 3)?,
+        ]))
+    }
+
+    /// Whether no store has one of the `n` bytes from `addr` on.
+    fn is_apart(&self, addr: u32, n: u32) -> bool
+        ensures { result ≡ list_all (λ s. is_apart s addr n) self.now.items }
+    {
+        self.stores.iter().all(|store| store.is_apart(addr, n))
+    }
+}

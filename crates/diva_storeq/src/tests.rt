@@ -1,0 +1,43 @@
+// A load that meets a store on its way to memory.
+use crate::{Store, StoreQueue};
+use diva_memory::Memory;
+use std::test::Fail;
+
+#[test]
+fn store_over_a_byte_of_a_word(rt: HostRuntime) -> Result<(), Fail> {
+    let mut memory = Memory::new(rt.alloc(), 32, 4, &[0x11, 0x22, 0x33, 0x44])?;
+    let mut queue = StoreQueue::new(rt.alloc(), 2)?;
+    assert_eq!(rt; memory.word(32), Some(0x4433_2211));
+
+    queue.push(Store {
+        addr: 33,
+        width: 1,
+        value: 0x55,
+    });
+    assert_eq!(rt; queue.owed(), 1);
+    assert!(rt; !queue.full());
+    assert_eq!(rt;
+        shown(&queue, &memory),
+        [Some(0x11), Some(0x55), Some(0x33), Some(0x44)]
+    );
+    assert_eq!(rt; queue.word(&memory, 32), Some(0x4433_5511));
+
+    queue.drain(&mut memory);
+    assert_eq!(rt; queue.owed(), 0);
+    assert_eq!(rt;
+        shown(&queue, &memory),
+        [Some(0x11), Some(0x55), Some(0x33), Some(0x44)]
+    );
+    assert_eq!(rt; memory.word(32), Some(0x4433_5511));
+    Ok(())
+}
+
+// The four bytes from 32 on, with the stores laid over memory.
+fn shown(queue: &StoreQueue, memory: &Memory) -> [Option<u8>; 4] {
+    [
+        queue.byte(memory, 32),
+        queue.byte(memory, 33),
+        queue.byte(memory, 34),
+        queue.byte(memory, 35),
+    ]
+}
