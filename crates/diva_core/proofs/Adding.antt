@@ -1,0 +1,108 @@
+-- The rows that many cycles add to the log.
+use Rattle.std.proofs.Common.{◌≡◌, ℕ, zero, suc, ◌+◌, ◌-◌, ◌<◌, ◌≤◌, Bool, List, [], ◌∷◌, ◌++◌, length, take, get_or, Option, Some, refl, ap, sym, ◌∙◌, arith, inl, inr, length-append, length-take, append-nil, append_assoc, if◌then◌else◌}
+use Rattle.std.specs.Prelude.{nat_lt, count_by}
+use Rattle.std.proofs.lemmas.Bool.{cond_both, cases_lt, ltb-true, ltb-false}
+use Rattle.std.proofs.lemmas.List.{take-append-le, take_all}
+use Rattle.std.proofs.lemmas.List.Elements.{All-append}
+use Rattle.std.proofs.lemmas.List.Sums.{sum_by-append}
+use Rattle.diva_isa.specs.declared.record.Record.{Record}
+use Rattle.diva_isa.specs.Step.{record_of, steps}
+use Rattle.diva_core.specs.declared.flushes.FlushRow.{FlushRow}
+use Rattle.diva_core.specs.declared.flushes.Cause.{Cause}
+use Rattle.diva_core.specs.declared.flushes.Cause.TheVariants.{Differs, Silent}
+use Rattle.diva_core.specs.Difference.{field_of}
+use Rattle.diva_core.specs.Timed.{Timed}
+use Rattle.diva_core.specs.Cycle.{cycle_of, run_of, kept, number, is_silent}
+use Rattle.diva_core.specs.Machine.{IsMachine}
+use Rattle.diva_core.specs.Headline.{Rises, SameLog, AddsRow, AddsRows, IsRowSince, IsCause, HasCause, newest_of, is_silent_row}
+use Rattle.diva_core.proofs.Steps.{steps-add}
+use Rattle.diva_core.proofs.Outcomes.{logs, rises}
+use Rattle.diva_core.proofs.Keeping.{stays}
+use Rattle.diva_core.proofs.Progressing.{same-sizes}
+
+all-one : (P : FlushRow → Type 0) (row : FlushRow) → P row → (k : ℕ) (d : FlushRow) → k < 1 → P (get_or (row ∷ []) k d)
+all-one P row p zero d h = p
+all-one P row p (suc k) d h = absurd (omega arith)
+
+count-append : (p : FlushRow → Bool) (xs ys : List FlushRow) → count_by p (xs ++ ys) ≡ count_by p xs + count_by p ys
+count-append p xs ys = sum_by-append (λ x. if p x then 1 else 0) xs ys
+
+newest-append : (before : Option FlushRow) (xs ys : List FlushRow) → newest_of before (xs ++ ys) ≡ newest_of (newest_of before xs) ys
+newest-append before [] ys = refl
+newest-append before (x ∷ xs) ys = newest-append (Some x) xs ys
+
+-- what was kept of the first is kept of both
+take-twice : (n : ℕ) (xs ys : List FlushRow) → take n (take n xs ++ ys) ≡ take n (xs ++ ys)
+take-twice n xs ys =
+    elim (cases_lt (length xs) n) [
+      | inl h ↦ ap (λ zs. take n (zs ++ ys)) (take_all n xs (omega arith))
+      | inr h ↦ take-append-le n (take n xs) ys (rw length-take (omega arith)) ∙ take_all n (take n xs) (rw length-take (omega arith)) ∙ sym (take-append-le n xs ys h)
+    ]
+
+kept-take : (rows : List FlushRow) (row : FlushRow) → length rows ≤ 1024 → kept rows row ≡ take 1024 (rows ++ row ∷ [])
+kept-take rows row few =
+    cond_both (nat_lt (length rows) 1024) _ _ (λ z. z ≡ take 1024 (rows ++ row ∷ []))
+    (λ t. let l = ltb-true (length rows) 1024 t in sym (take_all 1024 (rows ++ row ∷ []) (rw length-append (omega arith))))
+    (λ f. let l = ltb-false (length rows) 1024 f in sym (take-append-le 1024 rows (row ∷ []) (omega arith) ∙ take_all 1024 rows few))
+
+cause-since : (m last : Timed) (at : ℕ) (cause : Cause) → at ≡ last.count → IsCause m last cause → HasCause m.arch m.sizes.limit (at - m.count) cause
+cause-since m last at (Differs d) e c = (c.0, c.1 ∙ ap (λ k. field_of d.field (record_of (steps (k - m.count) m.arch))) (sym e))
+cause-since m last at (Silent limit) e c = c.0
+
+same-adds : (m last : Timed) → length m.rows ≤ 1024 → SameLog m last → AddsRows m last
+same-adds m last few s =
+    record {
+      added = [];
+      are_true = λ k d h. absurd (omega arith);
+      rows = s.rows ∙ sym (ap (take 1024) (append-nil m.rows) ∙ take_all 1024 m.rows few);
+      newest = s.newest;
+      flushes = s.flushes ∙ (omega arith);
+      silent = s.silent ∙ (omega arith);
+    }
+
+silent-one : (row : FlushRow) → number (is_silent row.cause) ≡ count_by is_silent_row (row ∷ [])
+silent-one row = go (is_silent row.cause)
+  where
+    go : (b : Bool) → (if b then 1 else 0) ≡ 0 + (if b then 1 else 0)
+    go b = omega arith
+
+one-adds : (m last : Timed) → length m.rows ≤ 1024 → Rises m last → AddsRow m last → AddsRows m last
+one-adds m last few r a =
+    record {
+      added = a.row ∷ [];
+      are_true = all-one (IsRowSince m) a.row (record { later = (let e = a.at in let c = r.counted in omega arith); caused = cause-since m last a.row.at a.row.cause a.at a.caused });
+      rows = a.has.rows ∙ kept-take m.rows a.row few;
+      newest = a.has.newest;
+      flushes = a.has.flushes;
+      silent = a.has.silent ∙ ap (λ k. m.silent + k) (silent-one a.row);
+    }
+
+pub adds_rows : (m : Timed) (list : List Record) → IsMachine m → AddsRows m (cycle_of m list)
+adds_rows m list inv = elim (logs m list inv) [ inl s ↦ same-adds m (cycle_of m list) inv.rows s | inr a ↦ one-adds m (cycle_of m list) inv.rows (rises m list inv) a ]
+
+cause-before : (m mid : Timed) (at : ℕ) (cause : Cause) → Rises m mid → mid.sizes.limit ≡ m.sizes.limit → mid.count ≤ at → HasCause mid.arch mid.sizes.limit (at - mid.count) cause → HasCause m.arch m.sizes.limit (at - m.count) cause
+cause-before m mid at (Differs d) r l h c =
+    let far : steps (at - mid.count) mid.arch ≡ steps (at - m.count) m.arch =
+    ap (steps (at - mid.count)) r.stepped ∙ sym (steps-add (mid.count - m.count) (at - mid.count) m.arch) ∙ ap (λ k. steps k m.arch) (let e = r.counted in omega arith) in
+    (c.0, c.1 ∙ ap (λ s. field_of d.field (record_of s)) far)
+cause-before m mid at (Silent idle) r l h c = c ∙ l
+
+row-before : (m mid : Timed) (row : FlushRow) → Rises m mid → mid.sizes.limit ≡ m.sizes.limit → IsRowSince mid row → IsRowSince m row
+row-before m mid row r l s =
+    record { later = (let a = s.later in let b = r.counted in omega arith); caused = cause-before m mid row.at row.cause r l s.later s.caused }
+
+AddsRows-trans : (m mid last : Timed) → Rises m mid → mid.sizes.limit ≡ m.sizes.limit → AddsRows m mid → AddsRows mid last → AddsRows m last
+AddsRows-trans m mid last r l a b =
+    record {
+      added = a.added ++ b.added;
+      are_true = All-append (IsRowSince m) a.added b.added a.are_true (λ k d h. row-before m mid (get_or b.added k d) r l (b.are_true k d h));
+      rows = b.rows ∙ ap (λ xs. take 1024 (xs ++ b.added)) a.rows ∙ take-twice 1024 (m.rows ++ a.added) b.added ∙ ap (take 1024) (append_assoc m.rows a.added b.added);
+      newest = b.newest ∙ ap (λ o. newest_of o b.added) a.newest ∙ sym (newest-append m.newest a.added b.added);
+      flushes = rw length-append (let e = a.flushes in let f = b.flushes in omega arith);
+      silent = rw count-append (let e = a.silent in let f = b.silent in omega arith);
+    }
+
+pub run-adds : (lists : List (List Record)) (m : Timed) → IsMachine m → AddsRows m (run_of m lists)
+run-adds [] m inv = same-adds m m inv.rows (record { rows = refl; newest = refl; flushes = refl; silent = refl })
+run-adds (list ∷ rest) m inv =
+    AddsRows-trans m (cycle_of m list) (run_of (cycle_of m list) rest) (rises m list inv) (ap (λ z. z.limit) (same-sizes m list inv)) (adds_rows m list inv) (run-adds rest (cycle_of m list) (stays m list inv))

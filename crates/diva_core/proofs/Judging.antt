@@ -1,0 +1,279 @@
+-- What phase 2 does.
+use Rattle.std.proofs.Common.{◌≡◌, ℕ, zero, suc, ◌+◌, ◌<◌, ◌≤◌, ◌==◌, Bool, true, false, ◌&&◌, List, [], ◌∷◌, Option, Some, None, refl, ap, sym, ◌∙◌, arith, get_or, drop, subst, ◌⊎◌, inl, inr}
+use Rattle.std.specs.Prelude.{nat_le}
+use Rattle.std.proofs.lemmas.Bool.{cond_both, leb-true, eqb-false, ne_eqb, and_right}
+use Rattle.diva_isa.specs.State.{State, goes_on}
+use Rattle.diva_isa.specs.Step.{record_of, step, steps}
+use Rattle.diva_core.specs.declared.differences.Diff.{Diff}
+use Rattle.diva_core.specs.declared.flushes.Cause.TheVariants.{Differs}
+use Rattle.diva_core.specs.Difference.{first_difference, IsDifference}
+use Rattle.diva_core.specs.Timed.{Timed, Waiting}
+use Rattle.diva_core.specs.Cycle.{judged, by_front, by_difference, followed, committed, flushed, puts_store, number}
+use Rattle.diva_core.specs.Headline.{SameLog, HasRow}
+use Rattle.diva_core.proofs.Commits.{Commits}
+use Rattle.diva_core.proofs.Steps.{steps-shift, step-on}
+use Rattle.diva_core.proofs.Differing.{difference-some, difference-none}
+
+-- R holds while at most so many claims more are judged, and Q where the judging stops
+pub record Judges (R : ℕ → Timed → Type 0) (Q : Timed → Type 0) : Type 0 where
+  pub stop : (n : ℕ) (m : Timed) → R n m → Q m
+  pub flush : (n : ℕ) (m : Timed) (p : Waiting) (rest : List Waiting) (d : Diff) → m.pending ≡ p ∷ rest → nat_le (p.cycle + 6) m.cycles ≡ true → first_difference p.claim (record_of m.arch) ≡ Some d → R n m → Q (flushed m (Differs d))
+  pub commit :
+      (n : ℕ) (m : Timed) (p : Waiting) (rest : List Waiting)
+      → m.pending ≡ p ∷ rest
+      → nat_le (p.cycle + 6) m.cycles ≡ true
+      → first_difference p.claim (record_of m.arch) ≡ None
+      → (puts_store (record_of m.arch) && (m.owed == m.sizes.stores)) ≡ false
+      → R (suc n) m
+      → (goes_on (committed (record m { pending = rest }) (record_of m.arch)).arch ≡ true → R n (committed (record m { pending = rest }) (record_of m.arch)))
+      × (goes_on (committed (record m { pending = rest }) (record_of m.arch)).arch ≡ false → Q (record (committed (record m { pending = rest }) (record_of m.arch)) { pending = [] }))
+
+Judges-first_difference :
+    (R : ℕ → Timed → Type 0) (Q : Timed → Type 0) (j : Judges R Q) (n : ℕ) (next : Timed → Timed)
+    → ((m : Timed) → R n m → Q (next m))
+    → (m : Timed) (p : Waiting) (rest : List Waiting) (o : Option Diff)
+    → first_difference p.claim (record_of m.arch) ≡ o
+    → m.pending ≡ p ∷ rest
+    → nat_le (p.cycle + 6) m.cycles ≡ true
+    → R (suc n) m
+    → Q (by_difference next m rest o)
+Judges-first_difference R Q j n next ih m p rest (Some d) same e ready r = j.flush (suc n) m p rest d e ready same r
+Judges-first_difference R Q j n next ih m p rest None same e ready r =
+    cond_both (puts_store (record_of m.arch) && (m.owed == m.sizes.stores)) _ _ Q
+    (λ held. j.stop (suc n) m r)
+    (λ free. let both = j.commit n m p rest e ready same free r in cond_both (goes_on (committed (record m { pending = rest }) (record_of m.arch)).arch) _ _ Q (λ on. ih _ (both.0 on)) (λ off. both.1 off))
+
+Judges-front :
+    (R : ℕ → Timed → Type 0) (Q : Timed → Type 0) (j : Judges R Q) (n : ℕ) (next : Timed → Timed)
+    → ((m : Timed) → R n m → Q (next m))
+    → (m : Timed) (pending : List Waiting)
+    → m.pending ≡ pending
+    → R (suc n) m
+    → Q (by_front next m pending)
+Judges-front R Q j n next ih m [] e r = j.stop (suc n) m r
+Judges-front R Q j n next ih m (p ∷ rest) e r =
+    cond_both (nat_le (p.cycle + 6) m.cycles) _ _ Q (λ ready. Judges-first_difference R Q j n next ih m p rest (first_difference p.claim (record_of m.arch)) refl e ready r) (λ young. j.stop (suc n) m r)
+
+pub Judges-judged : (R : ℕ → Timed → Type 0) (Q : Timed → Type 0) → Judges R Q → (n : ℕ) (m : Timed) → R n m → Q (judged n m)
+Judges-judged R Q j zero m r = j.stop zero m r
+Judges-judged R Q j (suc n) m r = Judges-front R Q j n (judged n) (Judges-judged R Q j n) m m.pending refl r
+
+-- what every part of phase 2 does, after k commits
+pub record Moved (b m : Timed) (k : ℕ) : Type 0 where
+  pub sizes : m.sizes ≡ b.sizes
+  pub cycles : m.cycles ≡ b.cycles
+  pub idle : m.idle ≡ b.idle
+  pub counted : m.count ≡ b.count + k
+  pub stepped : m.arch ≡ steps k b.arch
+  pub owed : m.owed ≤ b.sizes.stores
+  pub few : k ≤ b.sizes.width
+
+pub record Still (b m : Timed) : Type 0 where
+  pub k : ℕ
+  pub moved : Moved b m k
+  pub log : SameLog b m
+  pub solo : m.solo ≡ None
+  pub claims : Commits k b.arch b.cycles b.pending m.pending
+  pub on : goes_on m.arch ≡ true
+
+-- at most n claims more are judged
+pub record Judging (b : Timed) (n : ℕ) (m : Timed) : Type 0 where
+  pub now : Still b m
+  pub few : now.k + n ≤ b.sizes.width
+
+pub record Flushing (b m : Timed) : Type 0 where
+  pub k : ℕ
+  pub moved : Moved b m k
+  pub p : Waiting
+  pub rest : List Waiting
+  pub d : Diff
+  pub log : HasRow b m (record { cycle = b.cycles; at = m.count; cause = Differs d })
+  pub differs : IsDifference p.claim (record_of m.arch) d
+  pub claims : Commits k b.arch b.cycles b.pending (p ∷ rest)
+  pub solo : m.solo ≡ Some b.cycles
+  pub pending : m.pending ≡ []
+  pub on : goes_on m.arch ≡ true
+
+pub record Ending (b m : Timed) : Type 0 where
+  pub k : ℕ
+  pub moved : Moved b m (suc k)
+  pub log : SameLog b m
+  pub rest : List Waiting
+  pub claims : Commits (suc k) b.arch b.cycles b.pending rest
+  pub solo : m.solo ≡ None
+  pub pending : m.pending ≡ []
+  pub went : goes_on (steps k b.arch) ≡ true
+  pub off : goes_on m.arch ≡ false
+
+pub data Outcome (b m : Timed) : Type 0 where
+  still : Still b m → Outcome b m
+  flushing : Flushing b m → Outcome b m
+  ending : Ending b m → Outcome b m
+
+Commits-more : (k : ℕ) (s : State) (c : ℕ) (waiting : List Waiting) (p : Waiting) (rest : List Waiting) → Commits k s c waiting (p ∷ rest) → p.claim ≡ record_of (steps k s) → p.cycle + 6 ≤ c → Commits (suc k) s c waiting rest
+Commits-more zero s c [] p rest h e ready = absurd (grind arith)
+Commits-more zero s c (q ∷ waiting) p rest h e ready =
+    let same : p ≡ q = ap (λ xs. get_or xs 0 p) h in
+    (ap (λ z. z.claim) (sym same) ∙ e, subst (λ z. z.cycle + 6 ≤ c) same ready, ap (drop 1) h)
+Commits-more (suc k) s c [] p rest h e ready = h
+Commits-more (suc k) s c (q ∷ waiting) p rest h e ready = (h.0, h.1, Commits-more k (step s) c waiting p rest h.2 (e ∙ ap record_of (sym (steps-shift k s))) ready)
+
+owed-fits : (b : Bool) (owed stores : ℕ) → (b && (owed == stores)) ≡ false → owed ≤ stores → owed + number b ≤ stores
+owed-fits true owed stores e h = let n = eqb-false owed stores e in omega arith
+owed-fits false owed stores e h = omega arith
+
+Moved-commit :
+    (b m : Timed) (k : ℕ) (rest : List Waiting)
+    → Moved b m k
+    → (puts_store (record_of m.arch) && (m.owed == m.sizes.stores)) ≡ false
+    → goes_on m.arch ≡ true
+    → suc k ≤ b.sizes.width
+    → Moved b (committed (record m { pending = rest }) (record_of m.arch)) (suc k)
+unfolding committed
+Moved-commit b m k rest v free on few =
+    record {
+      sizes = v.sizes;
+      cycles = v.cycles;
+      idle = v.idle;
+      counted = let e = v.counted in omega arith;
+      stepped = sym (step-on m.arch) ∙ ap step v.stepped;
+      owed = rw (ap (λ z. z.stores) (sym v.sizes)) (owed-fits (puts_store (record_of m.arch)) m.owed m.sizes.stores free (rw (ap (λ z. z.stores) v.sizes) v.owed));
+      few = few;
+    }
+
+Still-start : (b : Timed) → b.solo ≡ None → goes_on b.arch ≡ true → b.owed ≤ b.sizes.stores → Still b b
+Still-start b none on owed =
+    record {
+      k = 0;
+      moved = record { sizes = refl; cycles = refl; idle = refl; counted = omega arith; stepped = refl; owed = owed; few = omega arith };
+      log = record { rows = refl; newest = refl; flushes = refl; silent = refl };
+      solo = none;
+      claims = refl;
+      on = on;
+    }
+
+Flushing-from : (b m : Timed) (p : Waiting) (rest : List Waiting) (d : Diff) → m.pending ≡ p ∷ rest → first_difference p.claim (record_of m.arch) ≡ Some d → Still b m → Flushing b (flushed m (Differs d))
+unfolding flushed
+Flushing-from b m p rest d e differs r =
+    record {
+      k = r.k;
+      moved = record { sizes = r.moved.sizes; cycles = r.moved.cycles; idle = r.moved.idle; counted = r.moved.counted; stepped = r.moved.stepped; owed = r.moved.owed; few = r.moved.few };
+      p = p;
+      rest = rest;
+      d = d;
+      log = record {
+        rows = rw (r.log.rows, r.moved.cycles) refl;
+        newest = rw r.moved.cycles refl;
+        flushes = rw r.log.flushes refl;
+        silent = rw r.log.silent refl;
+      };
+      differs = difference-some p.claim (record_of m.arch) d differs;
+      claims = rw e at r.claims;
+      solo = ap Some r.moved.cycles;
+      pending = refl;
+      on = r.on;
+    }
+
+claims-commit : (b m : Timed) (p : Waiting) (rest : List Waiting) → m.pending ≡ p ∷ rest → nat_le (p.cycle + 6) m.cycles ≡ true → first_difference p.claim (record_of m.arch) ≡ None → (r : Still b m) → Commits (suc r.k) b.arch b.cycles b.pending rest
+claims-commit b m p rest e ready same r =
+    Commits-more r.k b.arch b.cycles b.pending p rest
+    (rw e at r.claims)
+    (difference-none p.claim (record_of m.arch) same ∙ ap record_of r.moved.stepped)
+    (rw r.moved.cycles at (leb-true _ _ ready))
+
+Still-commit :
+    (b m : Timed) (p : Waiting) (rest : List Waiting)
+    → m.pending ≡ p ∷ rest
+    → nat_le (p.cycle + 6) m.cycles ≡ true
+    → first_difference p.claim (record_of m.arch) ≡ None
+    → (puts_store (record_of m.arch) && (m.owed == m.sizes.stores)) ≡ false
+    → (r : Still b m)
+    → suc r.k ≤ b.sizes.width
+    → goes_on (committed (record m { pending = rest }) (record_of m.arch)).arch ≡ true
+    → Still b (committed (record m { pending = rest }) (record_of m.arch))
+unfolding committed
+Still-commit b m p rest e ready same free r few on =
+    record {
+      k = suc r.k;
+      moved = Moved-commit b m r.k rest r.moved free r.on few;
+      log = record { rows = r.log.rows; newest = r.log.newest; flushes = r.log.flushes; silent = r.log.silent };
+      solo = r.solo;
+      claims = claims-commit b m p rest e ready same r;
+      on = on;
+    }
+
+Ending-commit :
+    (b m : Timed) (p : Waiting) (rest : List Waiting)
+    → m.pending ≡ p ∷ rest
+    → nat_le (p.cycle + 6) m.cycles ≡ true
+    → first_difference p.claim (record_of m.arch) ≡ None
+    → (puts_store (record_of m.arch) && (m.owed == m.sizes.stores)) ≡ false
+    → (r : Still b m)
+    → suc r.k ≤ b.sizes.width
+    → goes_on (committed (record m { pending = rest }) (record_of m.arch)).arch ≡ false
+    → Ending b (record (committed (record m { pending = rest }) (record_of m.arch)) { pending = [] })
+unfolding committed
+Ending-commit b m p rest e ready same free r few off =
+    let v = Moved-commit b m r.k rest r.moved free r.on few in
+    record {
+      k = r.k;
+      moved = record { sizes = v.sizes; cycles = v.cycles; idle = v.idle; counted = v.counted; stepped = v.stepped; owed = v.owed; few = v.few };
+      log = record { rows = r.log.rows; newest = r.log.newest; flushes = r.log.flushes; silent = r.log.silent };
+      rest = rest;
+      claims = claims-commit b m p rest e ready same r;
+      solo = r.solo;
+      pending = refl;
+      went = ap goes_on (sym r.moved.stepped) ∙ r.on;
+      off = off;
+    }
+
+judges : (b : Timed) → Judges (Judging b) (Outcome b)
+unfolding Still-commit
+judges b =
+    record {
+      stop = λ n m r. still r.now;
+      flush = λ n m p rest d e ready differs r. flushing (Flushing-from b m p rest d e differs r.now);
+      commit = λ n m p rest e ready same free r.
+          let few : suc r.now.k ≤ b.sizes.width = (let f = r.few in omega arith) in
+          (λ on. record { now = Still-commit b m p rest e ready same free r.now few on; few = (let f = r.few in omega arith) }, λ off. ending (Ending-commit b m p rest e ready same free r.now few off));
+    }
+
+-- what judging leads to
+pub judged-outcome : (b : Timed) → b.solo ≡ None → goes_on b.arch ≡ true → b.owed ≤ b.sizes.stores → Outcome b (judged b.sizes.width b)
+unfolding Still-start
+judged-outcome b none on owed = Judges-judged (Judging b) (Outcome b) (judges b) b.sizes.width b (record { now = Still-start b none on owed; few = omega arith })
+
+counts : (c : ℕ) → Judges (λ n x. c < x.count) (λ x. c < x.count)
+unfolding committed flushed
+counts c = record { stop = λ n m r. r; flush = λ n m p rest d e ready differs r. r; commit = λ n m p rest e ready same free r. (λ on. omega arith, λ off. omega arith) }
+
+followed-counts : (n c : ℕ) (m : Timed) → c < m.count → c < (followed (judged n) m).count
+followed-counts n c m h =
+    cond_both {A = Timed} (goes_on m.arch) _ _ (λ x. c < x.count) (λ on. Judges-judged (λ n x. c < x.count) (λ x. c < x.count) (counts c) n m h) (λ off. h)
+
+-- a ready front claim is judged, where a store is not held up
+by_difference-judged :
+    (n : ℕ) (m : Timed) (rest : List Waiting) (o : Option Diff)
+    → m.owed < m.sizes.stores
+    → (m.count < (by_difference (judged n) m rest o).count) ⊎ (m.flushes < (by_difference (judged n) m rest o).flushes)
+unfolding committed flushed
+by_difference-judged n m rest (Some d) free = inr (omega arith)
+by_difference-judged n m rest None free =
+    let open_ : (puts_store (record_of m.arch) && (m.owed == m.sizes.stores)) ≡ false = and_right (puts_store (record_of m.arch)) _ (ne_eqb m.owed m.sizes.stores (λ e. omega arith)) in
+    rw open_ (inl (followed-counts n m.count (committed (record m { pending = rest }) (record_of m.arch)) (omega arith)))
+
+by_front-judged :
+    (n : ℕ) (m : Timed) (pending : List Waiting) (p : Waiting) (rest : List Waiting)
+    → pending ≡ p ∷ rest
+    → nat_le (p.cycle + 6) m.cycles ≡ true
+    → m.owed < m.sizes.stores
+    → (m.count < (by_front (judged n) m pending).count) ⊎ (m.flushes < (by_front (judged n) m pending).flushes)
+by_front-judged n m pending p rest e ready free = rw (e, ready) (by_difference-judged n m rest (first_difference p.claim (record_of m.arch)) free)
+
+pub front-judged :
+    (n : ℕ) (m : Timed) (p : Waiting) (rest : List Waiting)
+    → m.pending ≡ p ∷ rest
+    → nat_le (p.cycle + 6) m.cycles ≡ true
+    → m.owed < m.sizes.stores
+    → (m.count < (judged (suc n) m).count) ⊎ (m.flushes < (judged (suc n) m).flushes)
+front-judged n m p rest e ready free = by_front-judged n m m.pending p rest e ready free

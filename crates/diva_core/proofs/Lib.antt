@@ -1,0 +1,16 @@
+pub mod Adding
+pub mod Commits
+pub mod Cycling
+pub mod Differing
+pub mod Ending
+pub mod Holding
+pub mod Judging
+pub mod Keeping
+pub mod Outcomes
+pub mod Pacing
+pub mod Phases
+pub mod Progressing
+pub mod Reaching
+pub mod Starting
+pub mod Steps
+pub mod Turning

@@ -1,0 +1,100 @@
+-- The laws of a cycle.
+use Rattle.std.proofs.Common.{◌≡◌, ℕ, suc, ◌+◌, ◌-◌, ◌≤◌, true, false, List, ◌∷◌, refl, ap, sym, ◌∙◌, arith, ◌⊎◌, inl, inr, subst}
+use Rattle.std.proofs.lemmas.Bool.{cases_Bool}
+use Rattle.diva_isa.specs.declared.record.Record.{Record}
+use Rattle.diva_isa.specs.Step.{record_of, steps}
+use Rattle.diva_core.specs.Difference.{field_of}
+use Rattle.diva_isa.specs.State.{goes_on}
+use Rattle.diva_core.specs.Timed.{Timed, Waiting}
+use Rattle.diva_core.specs.Cycle.{cycle_of}
+use Rattle.diva_core.specs.Machine.{IsMachine, Lives}
+use Rattle.diva_core.specs.Headline.{SameLog, Rises, AddsRow}
+use Rattle.diva_core.specs.Headline.{dues, ByClaims, ByItself}
+use Rattle.diva_core.proofs.Commits.{Commits, CommitsClaims, CommitsItself, commits-records}
+use Rattle.diva_core.proofs.Cycling.{Cycled, cycled, Base, idled, ran, barks, differed, ended, finished, waited}
+
+pub record AnyBase (b n : Timed) : Type 0 where
+  pub k : ℕ
+  pub base : Base b n k
+
+pub any-base : (b : Timed) (list : List Record) (n : Timed) → Cycled b list n → AnyBase b n
+any-base b list n (idled r) = record { k = 0; base = r.base }
+any-base b list n (ran r) = record { k = suc r.k; base = r.base }
+any-base b list n (barks r) = record { k = 0; base = r.base }
+any-base b list n (differed r) = record { k = r.k; base = r.base }
+any-base b list n (ended r) = record { k = suc r.k; base = r.base }
+any-base b list n (finished r) = record { k = 1; base = r.base }
+any-base b list n (waited r) = record { k = 0; base = r.base }
+
+-- the number of commits is the rise of the count
+pub k-is : (b n : Timed) (k : ℕ) → Base b n k → n.count - b.count ≡ k
+k-is b n k v = let c = v.counted in omega arith
+
+Rises-base : (b n : Timed) (k : ℕ) → Base b n k → Rises b n
+Rises-base b n k v = record { counted = (let c = v.counted in omega arith); stepped = rw (k-is b n k v) v.stepped }
+
+Rises-any : (b n : Timed) → AnyBase b n → Rises b n
+Rises-any b n a = Rises-base b n a.k a.base
+
+-- a cycle on an ended machine changes nothing
+pub cycle-off : (m : Timed) (list : List Record) → goes_on m.arch ≡ false → cycle_of m list ≡ m
+unfolding cycle_of
+cycle-off m list off = rw off refl
+
+pub Rises-none : (m : Timed) → Rises m m
+Rises-none m = record { counted = omega arith; stepped = (let e : m.count - m.count ≡ 0 = omega arith in rw e refl) }
+
+-- a law of each cycle, from the ways in which it can go
+pub by-cases : (P : Timed → Type 0) (m : Timed) (list : List Record) → IsMachine m → (goes_on m.arch ≡ true → Cycled m list (cycle_of m list) → P (cycle_of m list)) → (goes_on m.arch ≡ false → P m) → P (cycle_of m list)
+by-cases P m list inv f g =
+    elim (cases_Bool (goes_on m.arch)) [ inl on ↦ f on (cycled m list inv on) | inr off ↦ subst P (sym (cycle-off m list off)) (g off) ]
+
+pub rises : (m : Timed) (list : List Record) → IsMachine m → Rises m (cycle_of m list)
+rises m list inv = by-cases (Rises m) m list inv (λ on c. Rises-any m _ (any-base m list _ c)) (λ off. Rises-none m)
+
+-- ---- the log
+
+pub log-cases : (b : Timed) (list : List Record) (n : Timed) → IsMachine b → Cycled b list n → SameLog b n ⊎ AddsRow b n
+log-cases b list n inv (idled r) = inl r.log
+log-cases b list n inv (ran r) = inl r.log
+log-cases b list n inv (barks r) =
+    let lives : b.idle + 1 ≤ b.sizes.limit = subst (Lives b) r.was inv.lives in
+    inr (record { row = _; has = r.log; cycle = refl; at = refl; caused = (refl, (let i = r.idle in let l = r.late in omega arith)) })
+log-cases b list n inv (differed r) =
+    inr (record { row = _; has = r.log; cycle = refl; at = refl; caused = (r.differs.differ, r.differs.dues ∙ ap (λ s. field_of r.d.field (record_of s)) (r.base.stepped ∙ ap (λ k. steps k b.arch) (sym (k-is b n r.k r.base)))) })
+log-cases b list n inv (ended r) = inl r.log
+log-cases b list n inv (finished r) = inl r.log
+log-cases b list n inv (waited r) = inl r.log
+
+pub logs : (m : Timed) (list : List Record) → IsMachine m → SameLog m (cycle_of m list) ⊎ AddsRow m (cycle_of m list)
+logs m list inv = by-cases (λ n. SameLog m n ⊎ AddsRow m n) m list inv (λ on c. log-cases m list _ inv c) (λ off. inl (record { rows = refl; newest = refl; flushes = refl; silent = refl }))
+
+-- ---- what commits
+
+Commits-base : (b n : Timed) (k : ℕ) (rest : List Waiting) → Base b n k → Commits k b.arch (b.cycles + 1) b.pending rest → CommitsClaims b n
+Commits-base b n k rest v h = record { rest = rest; commits = rw (k-is b n k v) h }
+
+commit-cases : (b : Timed) (list : List Record) (n : Timed) → Cycled b list n → CommitsClaims b n ⊎ CommitsItself b n
+commit-cases b list n (idled r) = inl (Commits-base b n 0 b.pending r.base refl)
+commit-cases b list n (ran r) = inl (Commits-base b n (suc r.k) r.rest r.base r.claims)
+commit-cases b list n (barks r) = inl (Commits-base b n 0 b.pending r.base refl)
+commit-cases b list n (differed r) = inl (Commits-base b n r.k (r.p ∷ r.rest) r.base r.claims)
+commit-cases b list n (ended r) = inl (Commits-base b n (suc r.k) r.rest r.base r.claims)
+commit-cases b list n (finished r) = inr (record { start = r.start; since = r.since; sixth = r.sixth; one = r.base.counted })
+commit-cases b list n (waited r) = inl (Commits-base b n 0 b.pending r.base refl)
+
+pub commit_by : (m : Timed) (list : List Record) → IsMachine m → CommitsClaims m (cycle_of m list) ⊎ CommitsItself m (cycle_of m list)
+commit_by m list inv =
+    by-cases (λ n. CommitsClaims m n ⊎ CommitsItself m n) m list inv (λ on c. commit-cases m list _ c)
+    (λ off. inl (record { rest = m.pending; commits = (let e : m.count - m.count ≡ 0 = omega arith in rw e refl) }))
+
+-- nothing commits where nothing changes
+pub none_commits : (m : Timed) → CommitsClaims m m ⊎ CommitsItself m m
+none_commits m = inl (record { rest = m.pending; commits = (let e : m.count - m.count ≡ 0 = omega arith in rw e refl) })
+
+-- the records of a cycle's commits
+pub records_by : (m : Timed) (list : List Record) → IsMachine m → ByClaims m (dues ((cycle_of m list).count - m.count) m.arch) ⊎ ByItself m (dues ((cycle_of m list).count - m.count) m.arch)
+records_by m list inv = commits-records m (cycle_of m list) (commit_by m list inv)
+
+pub cycle-cycles : (m : Timed) (list : List Record) → IsMachine m → goes_on m.arch ≡ true → (cycle_of m list).cycles ≡ m.cycles + 1
+cycle-cycles m list inv on = (any-base m list _ (cycled m list inv on)).base.cycles

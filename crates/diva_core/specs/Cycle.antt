@@ -1,0 +1,124 @@
+-- One cycle of the timed machine, a definition for each phase. The cycle's number is raised first, so that each phase knows it.
+use Rattle.std.specs.Prelude.{ℕ, zero, suc, ◌+◌, ◌-◌, ◌==◌, List, [], ◌∷◌, ◌++◌, length, take, map, Bool, true, false, ◌&&◌, Option, Some, None, is_none, nat_le, nat_lt, if◌then◌else◌}
+use Rattle.diva_decode.specs.declared.instr.Instr.{Instr}
+use Rattle.diva_decode.specs.Table.{row_of}
+use Rattle.diva_isa.specs.Kind.{kind}
+use Rattle.diva_isa.specs.declared.kind.Kind.{Kind}
+use Rattle.diva_isa.specs.declared.kind.Kind.TheVariants.{Store}
+use Rattle.diva_isa.specs.declared.record.Record.{Record}
+use Rattle.diva_isa.specs.State.{goes_on}
+use Rattle.diva_isa.specs.Step.{record_of, apply}
+use Rattle.diva_core.specs.declared.differences.Diff.{Diff}
+use Rattle.diva_core.specs.declared.flushes.FlushRow.{FlushRow}
+use Rattle.diva_core.specs.declared.flushes.Cause.{Cause}
+use Rattle.diva_core.specs.declared.flushes.Cause.TheVariants.{Differs, Silent}
+use Rattle.diva_core.specs.declared.TheConstants.{DEPTH, KEPT_ROWS}
+use Rattle.diva_core.specs.Difference.{first_difference}
+use Rattle.diva_core.specs.Timed.{Timed, Waiting, room_of}
+
+-- ---- what the phases are made of
+
+abbrev pub is_store_kind : Kind → Bool
+is_store_kind (Store width) = true
+is_store_kind _ = false
+
+abbrev pub is_store : Option Instr → Bool
+is_store None = false
+is_store (Some i) = is_store_kind (kind i.op)
+
+-- r is a store that does not trap, so it goes to the store queue
+unfoldable pub puts_store : Record → Bool
+puts_store r = (r.end == 0) && is_store (row_of r.word)
+
+abbrev pub is_silent : Cause → Bool
+is_silent (Differs d) = false
+is_silent (Silent limit) = true
+
+abbrev pub number : Bool → ℕ
+number b = if b then 1 else 0
+
+-- the rows with one more, where there is room to keep it
+abbrev pub kept : List FlushRow → FlushRow → List FlushRow
+kept rows row = if nat_lt (length rows) KEPT_ROWS then rows ++ row ∷ [] else rows
+
+-- the row of a flush in the cycle that runs
+abbrev pub flush_row : Timed → Cause → FlushRow
+flush_row m cause = record { cycle = m.cycles; at = m.count; cause = cause }
+
+-- the machine flushes: nothing is pending, and the next instruction starts on the checker alone
+unfoldable pub flushed : Timed → Cause → Timed
+flushed m cause =
+    record m { pending = []; solo = Some m.cycles; flushes = m.flushes + 1; silent = m.silent + number (is_silent cause); rows = kept m.rows (flush_row m cause); newest = Some (flush_row m cause) }
+
+-- a record commits
+unfoldable pub committed : Timed → Record → Timed
+committed m r = record m { arch = apply m.arch r; count = m.count + 1; owed = m.owed + number (puts_store r) }
+
+-- ---- the phases
+
+abbrev pub begun : Timed → Timed
+begun m = record m { cycles = m.cycles + 1 }
+
+-- phase 1, drain: the oldest undrained store goes to memory
+unfoldable pub drained : Timed → Timed
+drained m = record m { owed = m.owed - 1 }
+
+-- phase 2, commit. Where the machine goes on, what is to follow does; an end drops what is pending
+abbrev pub followed : (Timed → Timed) → Timed → Timed
+followed next m = if goes_on m.arch then next m else record m { pending = [] }
+
+-- a claim that differs flushes; an equal one commits, unless it is a store and all stores are owed
+abbrev pub by_difference : (Timed → Timed) → Timed → List Waiting → Option Diff → Timed
+by_difference next m rest (Some d) = flushed m (Differs d)
+by_difference next m rest None =
+    if puts_store (record_of m.arch) && (m.owed == m.sizes.stores) then m else followed next (committed (record m { pending = rest }) (record_of m.arch))
+
+-- the front claim is judged once it has passed through the checker's stages
+abbrev pub by_front : (Timed → Timed) → Timed → List Waiting → Timed
+by_front next m [] = m
+by_front next m (p ∷ rest) = if nat_le (p.cycle + DEPTH) m.cycles then by_difference next m rest (first_difference p.claim (record_of m.arch)) else m
+
+-- at most n ready claims are judged, oldest first
+abbrev pub judged : ℕ → Timed → Timed
+judged zero m = m
+judged (suc n) m = by_front (judged n) m m.pending
+
+-- an instruction that is alone commits once it has passed through the stages; else the claims are judged
+abbrev pub by_solo : Timed → Option ℕ → Timed
+by_solo m None = judged m.sizes.width m
+by_solo m (Some start) = if m.cycles == start + DEPTH then committed (record m { solo = None }) (record_of m.arch) else m
+
+unfoldable pub commits : Timed → Timed
+commits m = by_solo m m.solo
+
+-- phase 3, advance, changes nothing that is seen here
+
+-- phase 4, accept: the first claims of the list become pending, where phase 2 neither flushed nor ended
+abbrev pub accepted_in : ℕ → Record → Waiting
+accepted_in cycle claim = record { claim = claim; cycle = cycle }
+
+abbrev pub accepted : Timed → List Record → Timed → List Waiting
+accepted before list m =
+    if goes_on m.arch && (m.flushes == before.flushes) then m.pending ++ map (accepted_in m.cycles) (take (room_of before) list) else m.pending
+
+unfoldable pub accepts : Timed → List Record → Timed → Timed
+accepts before list m = record m { pending = accepted before list m }
+
+-- phase 5, watchdog: too many cycles without a commit flush
+abbrev pub counted : Timed → Timed → Timed
+counted before m = record m { idle = if m.count == before.count then m.idle + 1 else 0 }
+
+abbrev pub barked : Timed → Timed
+barked m = if nat_le m.sizes.limit m.idle && is_none m.solo && goes_on m.arch then flushed m (Silent m.sizes.limit) else m
+
+unfoldable pub watched : Timed → Timed → Timed
+watched before m = barked (counted before m)
+
+-- the whole cycle; an ended machine stays
+unfoldable pub cycle_of : Timed → List Record → Timed
+cycle_of m list = if goes_on m.arch then watched m (accepts m list (commits (drained (begun m)))) else m
+
+-- the machine after these lists
+abbrev pub run_of : Timed → List (List Record) → Timed
+run_of m [] = m
+run_of m (list ∷ rest) = run_of (cycle_of m list) rest

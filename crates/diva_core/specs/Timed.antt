@@ -1,0 +1,54 @@
+-- The timed machine: the committed state, and what is under way.
+use Rattle.std.specs.Prelude.{ℕ, ◌+◌, ◌-◌, ◌==◌, List, [], length, min, Bool, ◌&&◌, Option, None, is_none, nat_le, nat_lt, if◌then◌else◌}
+use Rattle.diva_isa.specs.State.{State, goes_on}
+use Rattle.diva_isa.specs.declared.record.Record.{Record}
+use Rattle.diva_core.specs.declared.flushes.FlushRow.{FlushRow}
+use Rattle.diva_core.specs.declared.TheConstants.{DEPTH}
+
+-- the claims that are accepted and judged in a cycle at most, those that are pending at most, the stores that are owed at most, and the watchdog's limit in cycles
+pub record Sizes : Type 0 where
+  pub width : ℕ
+  pub window : ℕ
+  pub stores : ℕ
+  pub limit : ℕ
+
+-- a pending claim, and the cycle in which it was accepted
+pub record Waiting : Type 0 where
+  pub claim : Record
+  pub cycle : ℕ
+
+pub record Timed : Type 0 where
+  pub sizes : Sizes
+  -- the committed state
+  pub arch : State
+  -- the instructions committed, and the cycles run
+  pub count : ℕ
+  pub cycles : ℕ
+  -- oldest first
+  pub pending : List Waiting
+  -- the cycle in which an instruction was started on the checker alone
+  pub solo : Option ℕ
+  -- the committed stores that are not in memory yet
+  pub owed : ℕ
+  -- the cycles since the last commit
+  pub idle : ℕ
+  -- the rows of the flushes that are kept, the newest row, and the number of all flushes and of the silent ones
+  pub rows : List FlushRow
+  pub newest : Option FlushRow
+  pub flushes : ℕ
+  pub silent : ℕ
+
+-- how many claims the coming cycle accepts at most
+abbrev pub room_of : Timed → ℕ
+room_of m = if is_none m.solo && goes_on m.arch then min m.sizes.width (m.sizes.window - length m.pending) else 0
+
+abbrev pub is_empty : {A : Type 0} → List A → Bool
+is_empty xs = length xs == 0
+
+-- a claim has to be handed over in the coming cycle, or the watchdog will bark
+abbrev pub is_due : Timed → Bool
+is_due m = is_empty m.pending && nat_lt 0 (room_of m) && nat_le m.sizes.limit (m.idle + (DEPTH + 1))
+
+-- the machine that begins with a state
+abbrev pub new_timed : Sizes → State → Timed
+new_timed sizes s = record { sizes = sizes; arch = s; count = 0; cycles = 0; pending = []; solo = None; owed = 0; idle = 0; rows = []; newest = None; flushes = 0; silent = 0 }

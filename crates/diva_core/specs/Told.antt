@@ -1,0 +1,30 @@
+-- What a core is told before a cycle.
+use Rattle.std.specs.Prelude.{ℕ, ◌+◌, ◌≤◌, length, Bool, not}
+use Rattle.diva_isa.specs.State.{goes_on}
+use Rattle.diva_core.specs.Timed.{Timed, room_of, is_due}
+
+pub record Notice : Type 0 where
+  -- the number of the coming cycle
+  pub cycle : ℕ
+  -- the instructions committed, and the committed pc
+  pub count : ℕ
+  pub pc : ℕ
+  -- the flushes so far
+  pub epoch : ℕ
+  -- the claims pending, and how many more are accepted
+  pub pending : ℕ
+  pub room : ℕ
+  -- the cycles since the last commit
+  pub idle : ℕ
+  -- a claim has to be handed over now, or the watchdog will bark
+  pub due : Bool
+  pub ended : Bool
+
+-- at most four claims are accepted in a cycle, and never more than 64 are pending
+pub record IsRoom (pending room : ℕ) : Type 0 where
+  pub width : room ≤ 4
+  pub total : pending + room ≤ 64
+
+abbrev pub notice_of : Timed → Notice
+notice_of m =
+    record { cycle = m.cycles + 1; count = m.count; pc = m.arch.pc; epoch = m.flushes; pending = length m.pending; room = room_of m; idle = m.idle; due = is_due m; ended = not (goes_on m.arch) }

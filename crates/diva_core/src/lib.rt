@@ -1,0 +1,39 @@
+//! What cores, checks and the machine share.
+//!
+//! - `claims`: what a core hands over, `Claim` and `Claims`;
+//! - `told`, `view`: what a core is told and shown before a cycle, `Told` and `View`;
+//! - `cores`: the trait `Core`, with its one meaning `gives`;
+//! - `output`: the bytes that the program put, `Output`;
+//! - `pending`: the claims that wait for their commit, `Entry` and `Pending`;
+//! - `differences`: how a claim differs from the record that is due, `Field` and `Diff`;
+//! - `flushes`: why the machine flushed, `Cause` and `FlushRow`.
+//!
+//! `specs/` holds the timed machine that contracts speak of: the machine and what it is told
+//! (`Timed`, `Told`), its cycle phase by phase (`Cycle`), first differences (`Difference`), turns
+//! of a machine and a core (`Log`), what holds between cycles (`Machine`), and the words of what a
+//! cycle promises (`Headline`, `Progress`). `proofs/` has the laws that follow.
+#![tactic(auto)]
+
+mod claims;
+mod cores;
+mod differences;
+mod flushes;
+mod output;
+mod pending;
+mod told;
+mod view;
+
+pub use claims::{Claim, Claims};
+pub use cores::Core;
+pub use differences::{Diff, Field, first_difference};
+pub use flushes::{Cause, FlushRow};
+pub use output::Output;
+pub use pending::{Entry, Pending};
+pub use told::Told;
+pub use view::View;
+
+/// The checker's depth: the cycles from the acceptance of a claim to its judging.
+pub const DEPTH: u64 = 6;
+
+/// The rows of flushes that are kept; later ones are counted.
+pub const KEPT_ROWS: usize = 1024;

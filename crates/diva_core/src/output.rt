@@ -1,0 +1,59 @@
+// The bytes that the program put.
+ghost use Rattle.std.specs.Prelude.{◌≡◌, ◌<◌, ◌≤◌, [], ◌∷◌, ◌++◌, length, IfOk};
+
+use std::alloc::{AllocError, Global};
+use std::marker::Model;
+
+/// The output: at most 65,536 bytes, for which room is reserved from the start.
+#[derive(Drop)]
+pub struct Output {
+    bytes: Vec<u8>,
+}
+
+impl Model for Output {
+    ghost use Rattle.std.specs.Prelude.{ℕ, List, ◌≤◌, length, vec_capacity};
+
+    ghost Value = { List ℕ };
+
+    ghost view = { λ o. o.bytes.items };
+
+    ghost invariant = { λ o. (65536 ≤ vec_capacity o.bytes) × (length o.bytes.items ≤ 65536) };
+}
+
+impl Output {
+    /// The most bytes that an output holds.
+    pub const MOST: usize = 65_536;
+
+    /// An empty output. The one error is want of memory.
+    pub fn new(alloc: Global) -> Result<Self, AllocError>
+        ensures { IfOk result (λ o. o ≡ []) }
+    {
+        Ok(Output {
+            bytes: Vec::with_capacity(alloc, Self::MOST)?,
+        })
+    }
+
+    /// How many bytes were put: at most 65,536.
+    pub fn len(&self) -> u32
+        ensures len { result ≡ length self.now }
+        ensures most { result ≤ 65536 }
+    {
+        self.bytes.len() as u32
+    }
+
+    /// The bytes, in order.
+    pub fn bytes(&self) -> &[u8]
+        ensures value { result.now ≡ self.now }
+        ensures most { length result.now ≤ 65536 }
+    {
+        &self.bytes
+    }
+
+    /// Puts a byte behind the others.
+    pub fn push(&mut self, byte: u8)
+        requires { length self.old < 65536 }
+        ensures { self.new ≡ self.old ++ byte ∷ [] }
+    {
+        let _ = self.bytes.push(byte);
+    }
+}

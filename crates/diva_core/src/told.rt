@@ -1,0 +1,37 @@
+// What a core is told before a cycle.
+use std::marker::Model;
+
+/// What a core is told before a cycle.
+#[derive(Clone, Copy, Debug)]
+pub struct Told {
+    /// The number of the coming cycle, from 1.
+    pub cycle: u64,
+    /// The instructions committed so far.
+    pub count: u64,
+    /// The committed pc.
+    pub pc: u32,
+    /// The flushes so far.
+    pub epoch: u64,
+    /// The claims that are pending.
+    pub pending: u32,
+    /// How many claims the coming cycle accepts: at most four, and with those pending at most 64.
+    pub room: u32,
+    /// The cycles since the last commit.
+    pub idle: u32,
+    /// Whether a claim has to be handed over now lest the watchdog bark.
+    pub due: bool,
+    /// Whether the machine has ended.
+    pub ended: bool,
+}
+
+impl Model for Told {
+    ghost use Rattle.diva_core.specs.Told.{Notice, IsRoom};
+
+    ghost Value = { Notice };
+
+    ghost view = { λ t. record { cycle = t.cycle; count = t.count; pc = t.pc; epoch = t.epoch; pending = t.pending; room = t.room; idle = t.idle; due = t.due; ended = t.ended } };
+
+    ghost invariant = { λ t. IsRoom t.pending t.room };
+
+    ghost inverse = { λ n. record { cycle = n.cycle; count = n.count; pc = n.pc; epoch = n.epoch; pending = n.pending; room = n.room; idle = n.idle; due = n.due; ended = n.ended } };
+}

@@ -1,0 +1,123 @@
+// The committed state as a core sees it.
+ghost use Rattle.std.specs.Prelude.{◌≡◌, ◌<◌, ◌≤◌, ◌%◌, length};
+ghost use Rattle.diva_isa.specs.State.{State, reg_of, byte_of, word_of};
+ghost use Rattle.diva_storeq.specs.Stores.{laid};
+
+use crate::output::Output;
+use diva_isa::{Look, Regs};
+use diva_memory::Memory;
+use diva_storeq::StoreQueue;
+use std::marker::Model;
+
+/// The committed state, to read only: memory with the undrained stores laid over it.
+#[derive(Drop)]
+pub struct View<'a> {
+    regs: &'a Regs,
+    pc: u32,
+    memory: &'a Memory,
+    queue: &'a StoreQueue,
+    output: &'a Output,
+}
+
+impl<'a> Model for View<'a> {
+    ghost use Rattle.diva_isa.specs.State.{State};
+    ghost use Rattle.diva_storeq.specs.Stores.{laid};
+
+    ghost Value = { State };
+
+    ghost view = { λ v. record {
+      regs = v.regs.now;
+      pc = v.pc;
+      base = (laid v.memory.now v.queue.now.items).base;
+      bytes = (laid v.memory.now v.queue.now.items).items;
+      output = v.output.now;
+      end = 0;
+    } };
+}
+
+impl<'a> View<'a> {
+    /// The state that these parts show, one that goes on.
+    pub fn new(
+        regs: &'a Regs,
+        pc: u32,
+        memory: &'a Memory,
+        queue: &'a StoreQueue,
+        output: &'a Output,
+    ) -> View<'a>
+        ensures { result ≡ record {
+          regs = regs.now;
+          pc = pc;
+          base = (laid memory.now queue.now.items).base;
+          bytes = (laid memory.now queue.now.items).items;
+          output = output.now;
+          end = 0;
+        } }
+    {
+        View {
+            regs,
+            pc,
+            memory,
+            queue,
+            output,
+        }
+    }
+}
+
+impl View<'_> {
+    /// The committed pc.
+    pub fn pc(&self) -> u32
+        ensures { result ≡ self.now.pc }
+    {
+        self.pc
+    }
+
+    /// The word in a register.
+    pub fn reg(&self, n: u8) -> u32
+        requires { n < 32 }
+        ensures { result ≡ reg_of self.now n }
+    {
+        self.regs.get(n)
+    }
+
+    /// The byte at an address, none exactly outside memory.
+    pub fn byte(&self, addr: u32) -> Option<u8>
+        ensures { result ≡ byte_of self.now addr }
+    {
+        self.queue.byte(self.memory, addr)
+    }
+
+    /// The word at an address, none exactly where the address is no multiple of 4 or outside memory.
+    pub fn word(&self, addr: u32) -> Option<u32>
+        ensures { result ≡ word_of self.now addr }
+    {
+        self.queue.word(self.memory, addr)
+    }
+
+    /// How many bytes were put: at most 65,536.
+    pub fn out_len(&self) -> u32
+        ensures len { result ≡ length self.now.output }
+        ensures most { result ≤ 65536 }
+    {
+        self.output.len()
+    }
+}
+
+impl Look for View<'_> {
+    ghost shows = { λ v. v };
+
+    fn pc(&self) -> u32 {
+        self.pc
+    }
+
+    fn reg(&self, n: u8) -> u32 {
+        self.regs.get(n)
+    }
+
+    fn byte(&self, addr: u32) -> Option<u8> {
+        self.queue.byte(self.memory, addr)
+    }
+
+    fn out_len(&self) -> u32 {
+        self.output.len()
+    }
+}
