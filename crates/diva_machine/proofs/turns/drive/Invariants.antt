@@ -1,0 +1,14 @@
+use Rattle.std.proofs.Common.{◌≡◌, ◌+◌, true}
+use Rattle.diva_isa.specs.State.{goes_on}
+use Rattle.diva_core.specs.Log.{Turns}
+use Rattle.diva_core.specs.Machine.{IsMachine}
+use Rattle.diva_machine.proofs.turns.drive.Given as goal
+
+abbrev pub invariant-loop : goal.invariant-loop
+invariant-loop g l = record {
+  turns : Turns g.C.Core.gives l.fn.m.timed l.fn.core l.m.timed l.core;
+  on : goes_on l.m.timed.arch ≡ true;
+  began : goes_on l.fn.m.timed.arch ≡ true;
+  cycles : l.m.timed.cycles ≡ l.fn.m.timed.cycles + l.counter;
+  sound : IsMachine l.fn.m.timed;
+}

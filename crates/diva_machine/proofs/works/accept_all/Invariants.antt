@@ -1,0 +1,11 @@
+use Rattle.std.proofs.Common.{◌≡◌, ◌+◌, ◌++◌, take, map, length}
+use Rattle.diva_core.specs.Cycle.{accepted_in}
+use Rattle.diva_machine.specs.Shown.{waiting_of}
+use Rattle.diva_machine.proofs.works.accept_all.Given as goal
+
+abbrev pub invariant-loop-claim : goal.invariant-loop-claim
+invariant-loop-claim l = record {
+  items : map waiting_of l.pending.items ≡ map waiting_of l.fn.pending.items ++ map (accepted_in l.cycle) (take l.claim-index l.claims);
+  capacity : l.pending.capacity ≡ l.fn.pending.capacity;
+  len : length l.pending.items ≡ length l.fn.pending.items + l.claim-index;
+}

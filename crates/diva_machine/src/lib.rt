@@ -1,0 +1,26 @@
+//! The processor's timed machine: a checker that commits nothing that it has not recomputed.
+//!
+//! - `config`: how wide and deep the machine is, `Config`;
+//! - `arch`: the committed state over memory and store queue;
+//! - `log`: the flushes that came;
+//! - `works`: the parts of the machine, and the phases of a cycle over them;
+//! - `machine`: the machine between cycles, `Machine`;
+//! - `ends`: how a machine ended, `End`, and how a drive stopped, `Drive`;
+//! - `turns`: a machine and a core, turn by turn, `turn` and `drive`.
+//!
+//! What a cycle does is `cycle_of` of `diva_core`'s definitions; `specs/Start.antt` says in which
+//! state an image starts, and `specs/Shown.antt` what contracts see of a machine.
+#![tactic(auto)]
+
+mod arch;
+mod config;
+mod ends;
+mod log;
+mod machine;
+mod turns;
+mod works;
+
+pub use config::Config;
+pub use ends::{Drive, End};
+pub use machine::Machine;
+pub use turns::{drive, turn};

@@ -1,0 +1,208 @@
+// The machine between cycles.
+ghost use Rattle.std.specs.Prelude.{◌≡◌, ◌⊎◌, ◌+◌, ◌-◌, ◌*◌, ◌<◌, ◌≤◌, ◌^◌, ◌∷◌, ℕ, [], List, length, slice_get, None, Some, IfOk, true, false};
+ghost use Rattle.diva_isa.specs.State.{goes_on, GoesOn};
+ghost use Rattle.diva_isa.specs.Step.{steps};
+ghost use Rattle.diva_image.specs.View.{layout};
+ghost use Rattle.diva_core.specs.Timed.{Timed, Waiting, new_timed};
+ghost use Rattle.diva_core.specs.Told.{notice_of};
+ghost use Rattle.diva_core.specs.Cycle.{begun, cycle_of, drained};
+ghost use Rattle.diva_core.specs.Machine.{IsMachine};
+ghost use Rattle.diva_core.specs.Headline.{dues, Rises, ByClaims, ByItself, IsJudged, SameLog, AddsRow, AddsRows, WillCount};
+ghost use Rattle.diva_core.specs.declared.TheConstants.{DEPTH};
+ghost use Rattle.diva_machine.specs.Start.{start_of};
+ghost use Rattle.diva_machine.specs.Shown.{end_of, end_number};
+
+use crate::config::Config;
+use crate::ends::End;
+use crate::works::Works;
+use diva_core::{Claims, DEPTH, Entry, FlushRow, Told, View};
+use diva_image::Image;
+use diva_isa::Record;
+use std::alloc::{AllocError, Global};
+use std::marker::Model;
+
+/// A processor of which nothing is trusted but the checker: a core hands over claims, and only what
+/// the checker has recomputed commits (after Austin, MICRO-32, 1999, and Weaver and Austin,
+/// DSN 2001; sizes and timing are this model's own).
+///
+/// It takes all its memory when it is made. Between two cycles it is sound: its numbers are within
+/// their bounds, and nothing is stalled for longer than the watchdog allows.
+#[derive(Drop)]
+pub struct Machine {
+    works: Works,
+}
+
+impl Model for Machine {
+    ghost use Rattle.std.specs.Prelude.{◌≤◌, ◌^◌};
+    ghost use Rattle.diva_core.specs.Machine.{IsMachine};
+    ghost use Rattle.diva_machine.specs.Shown.{Shown, IsSound};
+
+    ghost Value = { Shown };
+
+    ghost view = { λ m. m.works };
+
+    ghost invariant = { λ m. IsSound m.works.timed };
+}
+
+impl Machine {
+    /// The machine that begins with an image: all registers are 0, pc is the image's entry, the
+    /// output is empty, and memory is the payload and zeros behind it. The one error is want of
+    /// memory; no later call takes any.
+    pub fn new(alloc: Global, image: &Image, config: Config) -> Result<Self, AllocError>
+        ensures timed { IfOk result (λ m. m.timed ≡ new_timed config (start_of (layout image.now))) }
+        ensures last { IfOk result (λ m. m.last ≡ []) }
+        ensures counts { IfOk result (λ m. WillCount m.timed) }
+    {
+        let works = Works::new(alloc, image, config)?;
+        let _ = config.width();
+        Ok(Machine { works })
+    }
+
+    /// What a core is told before the coming cycle.
+    pub fn told(&self) -> Told
+        ensures { result ≡ notice_of self.now.timed }
+    {
+        let room = self.works.room() as u32;
+        let pending = self.works.pending.len() as u32;
+        let idle = self.works.watchdog.idle();
+        Told {
+            cycle: self.works.cycles + 1,
+            count: self.works.count,
+            pc: self.works.arch.pc(),
+            epoch: self.works.log.flushes(),
+            pending,
+            room,
+            idle,
+            due: pending == 0 && room > 0 && u64::from(idle) + DEPTH + 1 >= u64::from(self.limit()),
+            ended: !self.works.goes_on(),
+        }
+    }
+
+    /// The committed state, memory with the undrained stores laid over it.
+    pub fn view(&self) -> View<'_>
+        ensures shows { result ≡ record self.now.timed.arch { end = 0 } }
+        ensures goes_on { goes_on self.now.timed.arch ≡ true → result ≡ self.now.timed.arch }
+    {
+        self.works.arch.view()
+    }
+
+    /// The pending claim at a place, the oldest being at 0.
+    pub fn entry(&self, at: usize) -> Entry
+        requires { at < length self.now.timed.pending }
+        ensures { slice_get self.now.timed.pending at ≡ Some (record { claim = result.claim; cycle = result.cycle }) }
+    {
+        self.works.pending.entry(at)
+    }
+
+    /// How many instructions have committed.
+    pub fn count(&self) -> u64
+        ensures { result ≡ self.now.timed.count }
+    {
+        self.works.count
+    }
+
+    /// How many cycles have run.
+    pub fn cycles(&self) -> u64
+        ensures { result ≡ self.now.timed.cycles }
+    {
+        self.works.cycles
+    }
+
+    /// How many flushes came.
+    pub fn flushes(&self) -> u64
+        ensures { result ≡ self.now.timed.flushes }
+    {
+        self.works.log.flushes()
+    }
+
+    /// How many of the flushes came since nothing had committed for too long.
+    pub fn silent(&self) -> u64
+        ensures { result ≡ self.now.timed.silent }
+    {
+        self.works.log.silent()
+    }
+
+    /// The first flushes, 1,024 at most.
+    pub fn log(&self) -> &[FlushRow]
+        ensures { result.now ≡ self.now.timed.rows }
+    {
+        self.works.log.rows()
+    }
+
+    /// The newest flush.
+    pub fn newest(&self) -> Option<FlushRow>
+        ensures { result ≡ self.now.timed.newest }
+    {
+        self.works.log.newest()
+    }
+
+    /// The watchdog's limit, in cycles.
+    pub fn limit(&self) -> u32
+        ensures { result ≡ self.now.timed.sizes.limit }
+    {
+        self.works.watchdog.limit()
+    }
+
+    /// The records that the last cycle committed, in order; none after a cycle on an ended machine.
+    pub fn last(&self) -> &[Record]
+        ensures { result.now ≡ self.now.last }
+    {
+        self.works.last.as_slice()
+    }
+
+    /// What the program put.
+    pub fn output(&self) -> &[u8]
+        ensures bytes { result.now ≡ self.now.timed.arch.output }
+        ensures most { length result.now ≤ 65536 }
+    {
+        self.works.arch.output()
+    }
+
+    /// How the machine ended, if it has.
+    pub fn ended(&self) -> End
+        ensures value { result ≡ end_of self.now.timed.arch.end }
+        ensures number { end_number result ≡ self.now.timed.arch.end }
+    {
+        self.works.arch.ended()
+    }
+
+    /// Whether the machine has not ended.
+    pub fn goes_on(&self) -> bool
+        ensures value { result ≡ goes_on self.now.timed.arch }
+        ensures sound { IsMachine self.now.timed }
+    {
+        self.works.goes_on()
+    }
+
+    /// Runs one cycle on what a core handed over. On an ended machine nothing changes but `last`,
+    /// which is then empty.
+    #[tactic(auto, using(diva_core::proofs::Keeping::stays, diva_core::proofs::Outcomes::rises, diva_core::proofs::Outcomes::logs, diva_core::proofs::Outcomes::records_by, diva_core::proofs::Adding::adds_rows, diva_core::proofs::Pacing::will_count))]
+    pub fn cycle(&mut self, list: &Claims)
+        requires { self.old.timed.cycles < 2 ^ 60 }
+        // It is the cycle of the definition, in every part.
+        ensures cycled { self.new.timed ≡ cycle_of self.old.timed list.now }
+        ensures last { self.new.last ≡ dues (self.new.timed.count - self.old.timed.count) self.old.timed.arch }
+
+        // The committed state is the table's after the counted instructions, each committed by an
+        // equal claim or by the checker alone, and each flush has its cause.
+        ensures rises { Rises self.old.timed self.new.timed }
+        ensures commits { ByClaims self.old.timed self.new.last ⊎ ByItself self.old.timed self.new.last }
+        ensures logs { SameLog self.old.timed self.new.timed ⊎ AddsRow self.old.timed self.new.timed }
+        ensures rows { AddsRows self.old.timed self.new.timed }
+
+        // It is sound again, and goes on counting.
+        ensures sound { IsMachine self.new.timed }
+        ensures counts { WillCount self.new.timed }
+
+        // Nothing ready is held up.
+        ensures drained { (drained (begun self.old.timed)).owed < self.old.timed.sizes.stores }
+        ensures front { (p : Waiting) (rest : List Waiting) → goes_on self.old.timed.arch ≡ true → self.old.timed.solo ≡ None → self.old.timed.pending ≡ p ∷ rest → p.cycle + DEPTH ≤ self.old.timed.cycles + 1 → IsJudged self.old.timed self.new.timed p }
+        ensures sixth { (start : ℕ) → goes_on self.old.timed.arch ≡ true → self.old.timed.solo ≡ Some start → self.old.timed.cycles + 1 ≡ start + DEPTH → self.new.timed.count ≡ self.old.timed.count + 1 }
+    {
+        if self.works.goes_on() {
+            self.works.cycle(list.as_slice());
+        } else {
+            self.works.forget_last();
+        }
+    }
+}

@@ -1,0 +1,67 @@
+// A machine and a core, turn by turn.
+ghost use Rattle.std.specs.Prelude.{◌≡◌, ◌+◌, ◌≤◌, ◌<◌, ◌^◌, ◌↔◌, [], true, false};
+ghost use Rattle.diva_isa.specs.State.{goes_on};
+ghost use Rattle.diva_core.specs.Told.{notice_of};
+ghost use Rattle.diva_core.specs.Cycle.{cycle_of};
+ghost use Rattle.diva_core.specs.Log.{Turns};
+ghost use Rattle.diva_core.specs.Machine.{IsMachine};
+ghost use Rattle.diva_core.specs.Headline.{AddsRows, HasCounted, KeepsPace, Rises, WillCount};
+
+use crate::ends::Drive;
+use crate::machine::Machine;
+use diva_core::{Claims, Core};
+
+/// Asks the core once and runs one cycle; the list is then what was handed over. On an ended
+/// machine the core is not asked, and the list is empty.
+pub fn turn<C: Core>(m: &mut Machine, core: &mut C, list: &mut Claims)
+    requires { m.old.timed.cycles < 2 ^ 60 }
+    ensures cycled { m.new.timed ≡ cycle_of m.old.timed list.new }
+    ensures asked { goes_on m.old.timed.arch ≡ true → C.gives core.old (notice_of m.old.timed) m.old.timed.arch list.new core.new }
+    ensures ended { goes_on m.old.timed.arch ≡ false → (m.new.timed ≡ m.old.timed) × (m.new.last ≡ []) × (core.new ≡ core.old) × (list.new ≡ []) }
+
+    // The committed state is the table's after the counted instructions, and each flush has its cause.
+    ensures rises { Rises m.old.timed m.new.timed }
+    ensures rows { AddsRows m.old.timed m.new.timed }
+    ensures sound { IsMachine m.new.timed }
+    ensures counts { WillCount m.new.timed }
+{
+    list.clear();
+    if m.goes_on() {
+        core.cycle(&m.told(), &m.view(), list);
+    }
+    m.cycle(list);
+}
+
+/// Takes turns until the machine ends or the budget's cycles are run. On an ended machine nothing
+/// changes, and the core is not asked.
+pub fn drive<C: Core>(m: &mut Machine, core: &mut C, budget: u64) -> Drive
+    requires { m.old.timed.cycles + budget ≤ 2 ^ 60 }
+    // Machine and core are reached by turns, one for each cycle.
+    ensures turns { Turns C.gives m.old.timed core.old m.new.timed core.new }
+    ensures ended { (result ≡ Drive.Ended) ↔ (goes_on m.new.timed.arch ≡ false) }
+    ensures budget { (result ≡ Drive.Budget) ↔ ((m.new.timed.cycles ≡ m.old.timed.cycles + budget) × (goes_on m.new.timed.arch ≡ true)) }
+    ensures within { m.new.timed.cycles ≤ m.old.timed.cycles + budget }
+    ensures stays { goes_on m.old.timed.arch ≡ false → (m.new ≡ m.old) × (core.new ≡ core.old) }
+
+    // The committed state is the table's after the counted instructions, and each flush has its cause.
+    ensures rises { Rises m.old.timed m.new.timed }
+    ensures rows { AddsRows m.old.timed m.new.timed }
+    ensures sound { IsMachine m.new.timed }
+
+    // Until the end every W + DEPTH cycles count at least one instruction more.
+    ensures counted { HasCounted m.old.timed m.new.timed }
+    ensures pace { KeepsPace m.old.timed m.new.timed }
+    ensures counts { WillCount m.new.timed }
+{
+    if !m.goes_on() {
+        return Drive::Ended;
+    }
+    let mut list = Claims::new();
+    for _ in 0..budget {
+        turn(m, core, &mut list);
+        if !m.goes_on() {
+            return Drive::Ended;
+        }
+    }
+    Drive::Budget
+}
