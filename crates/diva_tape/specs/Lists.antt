@@ -1,0 +1,17 @@
+-- What the simple cores hand over: in one call, and at each machine.
+use Rattle.std.specs.Prelude.{◌==◌, ◌&&◌, nat_lt, List, [], ◌∷◌, if◌then◌else◌}
+use Rattle.diva_isa.specs.State.{State}
+use Rattle.diva_isa.specs.Step.{record_of}
+use Rattle.diva_isa.specs.declared.record.Record.{Record}
+use Rattle.diva_core.specs.Timed.{Timed}
+use Rattle.diva_core.specs.Told.{Notice, notice_of}
+
+-- the due record where nothing is pending and there is room, else nothing
+abbrev pub lockstep_call : Notice → State → List Record
+lockstep_call told s = if (told.pending == 0) && nat_lt 0 told.room then record_of s ∷ [] else []
+
+abbrev pub lockstep_list : Timed → List Record
+lockstep_list m = lockstep_call (notice_of m) m.arch
+
+abbrev pub silent_list : Timed → List Record
+silent_list m = []

@@ -1,0 +1,21 @@
+// A core that does one instruction at a time.
+use diva_core::{Claims, Core, Told, View};
+use diva_isa::record_of;
+
+/// A core that waits until nothing is pending, and then hands over the record of the committed
+/// state, read through the view. It is right always.
+#[derive(Clone, Copy, Debug)]
+pub struct Lockstep;
+
+impl Core for Lockstep {
+    ghost use Rattle.std.specs.Prelude.{◌≡◌};
+    ghost use Rattle.diva_tape.specs.Lists.{lockstep_call};
+
+    ghost gives = { λ before told state list after. list ≡ lockstep_call told state };
+
+    fn cycle(&mut self, told: &Told, view: &View<'_>, out: &mut Claims) {
+        if told.pending == 0 && told.room > 0 {
+            out.push(record_of(view));
+        }
+    }
+}
