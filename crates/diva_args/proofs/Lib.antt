@@ -1,0 +1,7 @@
+pub mod CommandLemmas
+pub mod ReadLemmas
+pub mod ValueLemmas
+pub mod PlainSteps
+pub mod PlainOptions
+pub mod PlainEnd
+pub mod PlainLaw

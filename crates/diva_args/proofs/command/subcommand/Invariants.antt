@@ -1,0 +1,13 @@
+use Rattle.std.proofs.Common.{take, map, ◌++◌, []}
+use Rattle.clap.specs.Walk.{texts}
+use Rattle.diva_args.specs.Command.{option_rule, positional_rule}
+use Rattle.diva_args.proofs.CommandLemmas.{HasRules}
+use Rattle.diva_args.proofs.command.subcommand.Given as goal
+
+abbrev pub invariant-loop-id : goal.invariant-loop-id
+invariant-loop-id l =
+    HasRules l.command l.leaf.name.now ([] ++ map positional_rule (texts (take l.id-index l.leaf.positionals.now)))
+
+abbrev pub invariant-loop-name : goal.invariant-loop-name
+invariant-loop-name l = HasRules l.command l.leaf.name.now
+    (map positional_rule (texts l.leaf.positionals.now) ++ map option_rule (texts (take l.name-index l.leaf.options.now)))

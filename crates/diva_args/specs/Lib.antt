@@ -1,0 +1,7 @@
+pub mod Command
+pub mod Fault
+pub mod Line
+pub mod Options
+pub mod Plain
+pub mod Table
+pub mod Values

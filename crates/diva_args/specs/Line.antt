@@ -1,0 +1,69 @@
+-- What a command line asks for: the words as `clap` matches them, then the rules on the values.
+use Rattle.std.specs.Prelude.{ℕ, List, [], ◌∷◌, Option, None, codes, if◌then◌else◌}
+use Rattle.std.specs.Prelude.{option_and_then, option_map}
+use Rattle.std.specs.Str.{bytes_eq}
+use Rattle.clap.specs.Walk.{Row, Text, first_of}
+use Rattle.clap.specs.Simple.{subcommand_of}
+use Rattle.clap.specs.Faults.{fault_of}
+use Rattle.clap.specs.Kinds.{Kinds}
+use Rattle.diva_args.specs.Command.{diva}
+use Rattle.diva_args.specs.Options.{DumpRange, RunOptions}
+use Rattle.diva_args.specs.Values.{core_of, dump_of, file_name_of, number_of}
+use Rattle.diva_args.specs.declared.job.CoreChoice.{CoreChoice}
+use Rattle.diva_args.specs.declared.job.Job.{Job}
+use Rattle.diva_args.specs.declared.job.Job.TheVariants as job
+
+-- what was found, where there is no fault
+abbrev pub unless : Kinds → Option (Text × List Row) → Option (Text × List Row)
+unless [] found = found
+unless (fault ∷ faults) found = None
+
+-- the command and its matches, where `clap` takes the words
+unfoldable pub taken : List Text → Option (Text × List Row)
+taken words = unless (fault_of diva words) (subcommand_of diva words)
+
+-- ---- jobs, by the value of each positional and option
+
+abbrev pub run_with : Option Text → Option CoreChoice → Option ℕ → Option ℕ → Option ℕ
+    → Option ℕ → Option ℕ → Option (Option DumpRange) → Option RunOptions
+run_with image core width window stores watchdog cycles dump =
+    option_and_then (λ i. option_and_then (λ c. option_and_then (λ n. option_and_then (λ q.
+    option_and_then (λ s. option_and_then (λ w. option_and_then (λ y. option_map (λ d. record {
+      image = i;
+      core = c;
+      width = n;
+      window = q;
+      stores = s;
+      watchdog = w;
+      cycles = y;
+      dump = d;
+    }) dump) cycles) watchdog) stores) window) width) core) image
+
+-- `run`
+unfoldable pub run_from : (Text → Option Text) → Option RunOptions
+run_from value = run_with
+    (file_name_of (value (codes "IMAGE")))
+    (core_of (value (codes "core")))
+    (number_of 1 4 2 (value (codes "width")))
+    (number_of 8 64 16 (value (codes "window")))
+    (number_of 1 6 4 (value (codes "stores")))
+    (number_of 16 1024 64 (value (codes "watchdog")))
+    (number_of 1 1000000000 1000000 (value (codes "cycles")))
+    (dump_of (value (codes "dump")))
+
+-- the job of the command of this name
+abbrev pub job_from : Text → (Text → Option Text) → Option Job
+job_from name value =
+    if bytes_eq name (codes "run") then option_map job.Run (run_from value)
+    else None
+
+-- the first value of each positional and option in the matches
+abbrev pub values_of : List Row → Text → Option Text
+values_of rows = λ id. first_of id rows
+
+abbrev pub job_of : Text × List Row → Option Job
+job_of found = job_from found.0 (values_of found.1)
+
+-- the job that the words ask for, or none where they are a usage fault
+unfoldable pub command_of : List Text → Option Job
+command_of words = option_and_then job_of (taken words)

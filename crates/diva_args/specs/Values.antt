@@ -1,0 +1,63 @@
+-- What the texts of a command line stand for: the rules on the values of positionals and options.
+use Rattle.std.specs.Prelude.{ℕ, ◌+◌, ◌==◌, ◌&&◌, Bool, false, not, nat_le, [], ◌∷◌, codes}
+use Rattle.std.specs.Prelude.{Option, Some, None, option_and_then, option_map, if◌then◌else◌}
+use Rattle.std.specs.List.{before_first, after_first}
+use Rattle.std.specs.Str.{bytes_eq}
+use Rattle.clap.specs.Walk.{Text}
+use Rattle.diva_outside.specs.Numbers.{decimal_of, hex_of}
+use Rattle.diva_args.specs.Options.{DumpRange}
+use Rattle.diva_args.specs.declared.job.CoreChoice.{CoreChoice}
+use Rattle.diva_args.specs.declared.job.CoreChoice.TheVariants.{Own, Lockstep, Silent}
+
+-- the word is neither empty nor begins with `-` (45)
+abbrev pub is_plain_word : Text → Bool
+is_plain_word [] = false
+is_plain_word (first ∷ rest) = not (first == 45)
+
+-- the name of a file
+abbrev pub file_name_of : Option Text → Option Text
+file_name_of None = None
+file_name_of (Some word) = if is_plain_word word then Some word else None
+
+unfoldable pub core_named : Text → Option CoreChoice
+core_named word =
+    if bytes_eq word (codes "own") then Some Own
+    else if bytes_eq word (codes "lockstep") then Some Lockstep
+    else if bytes_eq word (codes "silent") then Some Silent
+    else None
+
+-- the core of `--core`
+abbrev pub core_of : Option Text → Option CoreChoice
+core_of None = Some Own
+core_of (Some word) = core_named word
+
+-- the number that the word spells, where it is within these bounds
+abbrev pub within : ℕ → ℕ → ℕ → Option ℕ
+within least most n = if nat_le least n && nat_le n most then Some n else None
+
+abbrev pub number_in_range : ℕ → ℕ → Text → Option ℕ
+number_in_range least most word = option_and_then (within least most) (decimal_of word)
+
+-- a number from `least` to `most`, or what stands for one that is not given
+abbrev pub number_of : ℕ → ℕ → ℕ → Option Text → Option ℕ
+number_of least most otherwise None = Some otherwise
+number_of least most otherwise (Some word) = number_in_range least most word
+
+-- `:`
+abbrev pub is_colon : ℕ → Bool
+is_colon byte = byte == 58
+
+-- these bytes, where they end at 2^32 at most
+abbrev pub dump_at : ℕ → ℕ → Option DumpRange
+dump_at addr len =
+    if nat_le (addr + len) 4294967296 then Some (record { addr = addr; len = len }) else None
+
+-- `ADDR:LEN`, a hex number and a decimal one from 1 to 4096
+unfoldable pub dump_range_of : Text → Option DumpRange
+dump_range_of word = option_and_then (λ addr. option_and_then (dump_at addr)
+    (number_in_range 1 4096 (after_first is_colon word))) (hex_of (before_first is_colon word))
+
+-- the memory of `--dump`, if it is given
+abbrev pub dump_of : Option Text → Option (Option DumpRange)
+dump_of None = Some None
+dump_of (Some word) = option_map Some (dump_range_of word)

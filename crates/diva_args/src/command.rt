@@ -1,0 +1,88 @@
+// The command line as `clap` sees it.
+ghost use Rattle.std.specs.Prelude.{◌≡◌, codes, false, IfOk, map};
+ghost use Rattle.clap.specs.Walk.{rule_of};
+ghost use Rattle.clap.specs.Simple.{app_of, shape_of};
+ghost use Rattle.clap.specs.declared.builder.Command.TheViews.{out-Command as fields_of};
+ghost use Rattle.diva_args.specs.Command.{diva, leaf_shape, option_rule, positional_rule, top_app};
+ghost use Rattle.diva_args.specs.Command.{with_subcommands};
+ghost use Rattle.diva_args.specs.Table.{leaf_of};
+
+use clap::{Arg, Command};
+use std::alloc::{AllocError, Global};
+
+/// A command: its name, the ids of its positionals in order, and the names of its options.
+pub(crate) struct Leaf {
+    name: &'static str,
+    positionals: &'static [&'static str],
+    options: &'static [&'static str],
+}
+
+static LEAVES: [Leaf; 1] = [Leaf {
+    name: "run",
+    positionals: &["IMAGE"],
+    options: &[
+        "core", "width", "window", "stores", "watchdog", "cycles", "dump",
+    ],
+}];
+
+/// The whole command, over words without the program's name.
+pub(crate) fn command<'a>(alloc: Global) -> Result<Command<'a>, AllocError>
+    ensures { IfOk result (λ c. app_of c ≡ diva) }
+{
+    with_leaves(alloc, bare(alloc), &LEAVES)
+}
+
+// The command with no subcommand yet. Help words have no meaning in it.
+fn bare<'a>(alloc: Global) -> Command<'a>
+    ensures { app_of result ≡ top_app (codes "diva") }
+{
+    Command::new(alloc, "diva")
+        .no_binary_name(true)
+        .disable_help_flag(true)
+        .disable_help_subcommand(true)
+        .subcommand_required(true)
+}
+
+// The command with each of the leaves as a subcommand.
+fn with_leaves<'a>(
+    alloc: Global,
+    mut command: Command<'a>,
+    leaves: &[Leaf],
+) -> Result<Command<'a>, AllocError>
+    ensures { IfOk result (λ c. app_of c
+        ≡ with_subcommands (app_of command.entry) (map leaf_of leaves.now)) }
+{
+    for leaf in leaves {
+        command = command.subcommand(subcommand(alloc, leaf)?)?;
+    }
+    Ok(command)
+}
+
+fn subcommand<'a>(alloc: Global, leaf: &Leaf) -> Result<Command<'a>, AllocError>
+    ensures shape { IfOk result (λ c. shape_of c ≡ leaf_shape (leaf_of leaf.now)) }
+    ensures local { IfOk result (λ c. (fields_of c).has_globals ≡ false) }
+{
+    let mut command = Command::new(alloc, leaf.name);
+    for id in leaf.positionals {
+        command = command.arg(positional(alloc, id))?;
+    }
+    for name in leaf.options {
+        command = command.arg(option(alloc, name))?;
+    }
+    Ok(command)
+}
+
+fn positional<'a>(alloc: Global, id: &'a str) -> Arg<'a>
+    ensures rule { rule_of result ≡ positional_rule id.entry.now }
+    ensures local { result.global ≡ false }
+{
+    Arg::new(alloc, id).required(true)
+}
+
+// `--name VALUE`
+fn option<'a>(alloc: Global, name: &'a str) -> Arg<'a>
+    ensures rule { rule_of result ≡ option_rule name.entry.now }
+    ensures local { result.global ≡ false }
+{
+    Arg::new(alloc, name).long(name)
+}

@@ -1,0 +1,118 @@
+// From words to a job.
+ghost use Rattle.std.specs.Prelude.{◌≡◌, IfOk, None, Some, map, option_and_then, option_map};
+ghost use Rattle.clap.specs.Walk.{rows_of};
+ghost use Rattle.clap.specs.Words.{found_of, subcommand_rows_of};
+ghost use Rattle.diva_args.specs.Line.{command_of, job_of, run_from, taken, values_of};
+ghost use Rattle.diva_args.specs.Plain.{IsPlainLine, PlainLine, job_on};
+ghost use Rattle.diva_args.specs.Values.{file_name_of};
+
+use crate::command::command;
+use crate::fault::ArgsFault;
+use crate::file_name::FileName;
+use crate::job::{Job, Run};
+use crate::values::{core, dump, is_plain, number};
+use clap::ArgMatches;
+use std::alloc::Global;
+
+/// The job that the words ask for, which are those after the program's name: `Usage` exactly where they ask for none,
+/// help words among them, and `Memory` only for want of memory.
+#[tactic(auto, using(crate::proofs::PlainLaw::plain_line), unfolding(crate::specs::Line::command_of))]
+pub fn read_words(alloc: Global, words: &[&str]) -> Result<Job, ArgsFault>
+    ensures job { IfOk result (λ job. command_of (map (λ w. w.now) words.now) ≡ Some job) }
+    ensures usage { result ≡ Err ArgsFault.Usage → command_of (map (λ w. w.now) words.now) ≡ None }
+
+    // A plain line is read off its words, and only the rules on values refuse it.
+    ensures plain { (line : PlainLine) → IsPlainLine (map (λ w. w.now) words.now) line
+        → command_of (map (λ w. w.now) words.now) ≡ job_on line }
+{
+    let matches = matches(alloc, words)?;
+    job(alloc, &matches)
+}
+
+// The matches of the words, where the command takes them.
+fn matches<'a>(alloc: Global, words: &'a [&'a str]) -> Result<ArgMatches<'a>, ArgsFault>
+    ensures matches { IfOk result (λ m. taken (map (λ w. w.now) words.entry.now)
+        ≡ subcommand_rows_of m) }
+    ensures usage { result ≡ Err ArgsFault.Usage
+        → taken (map (λ w. w.now) words.entry.now) ≡ None }
+{
+    let command = command(alloc)?;
+    Ok(command.try_get_matches_from(words)?)
+}
+
+// The job of the subcommand that the matches entered.
+fn job(alloc: Global, matches: &ArgMatches<'_>) -> Result<Job, ArgsFault>
+    ensures job { IfOk result (λ job.
+        option_and_then job_of (subcommand_rows_of matches.now) ≡ Some job) }
+    ensures usage { result ≡ Err ArgsFault.Usage
+        → option_and_then job_of (subcommand_rows_of matches.now) ≡ None }
+{
+    let Some((name, found)) = matches.subcommand() else {
+        return Err(ArgsFault::Usage);
+    };
+    match name {
+        "run" => Ok(Job::Run(run(alloc, found)?)),
+        _ => Err(ArgsFault::Usage),
+    }
+}
+
+#[tactic(auto, unfolding(crate::specs::Line::run_from))]
+fn run(alloc: Global, found: &ArgMatches<'_>) -> Result<Run, ArgsFault>
+    ensures run { IfOk result (λ run. run_from (values_of (rows_of (found_of found.now))) ≡ Some run) }
+    ensures usage { result ≡ Err ArgsFault.Usage
+        → run_from (values_of (rows_of (found_of found.now))) ≡ None }
+{
+    let image = file_name(alloc, text_of(found, "IMAGE"))?;
+    let Some(core) = core(text_of(found, "core")) else {
+        return Err(ArgsFault::Usage);
+    };
+    let Some(width) = number(text_of(found, "width"), 1, 4, 2) else {
+        return Err(ArgsFault::Usage);
+    };
+    let Some(window) = number(text_of(found, "window"), 8, 64, 16) else {
+        return Err(ArgsFault::Usage);
+    };
+    let Some(stores) = number(text_of(found, "stores"), 1, 6, 4) else {
+        return Err(ArgsFault::Usage);
+    };
+    let Some(watchdog) = number(text_of(found, "watchdog"), 16, 1024, 64) else {
+        return Err(ArgsFault::Usage);
+    };
+    let Some(cycles) = number(text_of(found, "cycles"), 1, 1_000_000_000, 1_000_000) else {
+        return Err(ArgsFault::Usage);
+    };
+    let Some(dump) = dump(text_of(found, "dump")) else {
+        return Err(ArgsFault::Usage);
+    };
+    Ok(Run {
+        image,
+        core,
+        width,
+        window,
+        stores,
+        watchdog,
+        cycles: u64::from(cycles),
+        dump,
+    })
+}
+
+// The name of a file, which is neither empty nor begins with `-`.
+fn file_name(alloc: Global, word: Option<&str>) -> Result<FileName, ArgsFault>
+    ensures name { IfOk result (λ name.
+        file_name_of (option_map (λ text. text.now) word.entry) ≡ Some name) }
+    ensures usage { result ≡ Err ArgsFault.Usage
+        → file_name_of (option_map (λ text. text.now) word.entry) ≡ None }
+{
+    match word {
+        Some(text) if is_plain(text) => Ok(FileName::new(alloc, text)?),
+        _ => Err(ArgsFault::Usage),
+    }
+}
+
+// The text that the words give for a positional or an option.
+fn text_of<'a>(found: &ArgMatches<'a>, id: &str) -> Option<&'a str>
+    ensures { option_map (λ text. text.now) result
+        ≡ values_of (rows_of (found_of found.now)) id.now }
+{
+    found.get_str(id)
+}

@@ -1,0 +1,73 @@
+use crate::{ArgsFault, CoreChoice, Dump, Job, Run, read_words};
+use std::alloc::Global;
+use std::test::Fail;
+
+fn run(alloc: Global, words: &[&str]) -> Result<Run, Fail> {
+    let Job::Run(run) = read_words(alloc, words)?;
+    Ok(run)
+}
+
+#[test]
+fn lines_that_are_taken(rt: HostRuntime) -> Result<(), Fail> {
+    let plain = run(rt.alloc(), &["run", "p1.diva"])?;
+    assert_eq!(rt; plain.image.as_str(), "p1.diva");
+    assert_eq!(rt; plain.core, CoreChoice::Own);
+    assert_eq!(rt; (plain.width, plain.window, plain.stores), (2, 16, 4));
+    assert_eq!(rt; (plain.watchdog, plain.cycles), (64, 1_000_000));
+    assert_eq!(rt; plain.dump, None);
+
+    let words = [
+        "run",
+        "p1.diva",
+        "--dump",
+        "3c:8",
+        "--cycles",
+        "1000000000",
+        "--stores",
+        "6",
+        "--core",
+        "silent",
+        "--watchdog",
+        "1024",
+        "--width",
+        "1",
+        "--window",
+        "08",
+    ];
+    let full = run(rt.alloc(), &words)?;
+    assert_eq!(rt; full.core, CoreChoice::Silent);
+    assert_eq!(rt; (full.width, full.window, full.stores), (1, 8, 6));
+    assert_eq!(rt; (full.watchdog, full.cycles), (1024, 1_000_000_000));
+    assert_eq!(rt; full.dump, Some(Dump { addr: 0x3c, len: 8 }));
+    Ok(())
+}
+
+#[test]
+fn lines_that_are_refused(rt: HostRuntime) {
+    let lines: [&[&str]; 20] = [
+        &[],
+        &["run"],
+        &["run", "a", "b"],
+        &["walk", "a"],
+        &["help"],
+        &["--help"],
+        &["-h"],
+        &["run", "a", "--help"],
+        &["run", ""],
+        &["run", "-x"],
+        &["run", "--", "-x"],
+        &["run", "a", "--trace"],
+        &["run", "a", "--core", "scalar"],
+        &["run", "a", "--core", "own", "--core", "own"],
+        &["run", "a", "--width", "5"],
+        &["run", "a", "--cycles", "0"],
+        &["run", "a", "--dump", "8"],
+        &["run", "a", "--dump", "0:0"],
+        &["run", "a", "--dump", "123456789:1"],
+        &["run", "a", "--dump", "fffffffc:5"],
+    ];
+    for line in lines {
+        let answer = read_words(rt.alloc(), line);
+        assert!(rt; matches!(answer, Err(ArgsFault::Usage)));
+    }
+}

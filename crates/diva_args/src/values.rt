@@ -1,0 +1,90 @@
+// The texts of a command line as cores, numbers and addresses.
+ghost use Rattle.std.specs.Prelude.{◌≡◌, ◌≤◌, IfSome, None, Some, option_map};
+ghost use Rattle.diva_args.specs.Values.{core_named, core_of, dump_of, dump_range_of, is_plain_word};
+ghost use Rattle.diva_args.specs.Values.{number_in_range, number_of};
+
+use crate::job::{CoreChoice, Dump};
+use diva_outside::{decimal, hex};
+
+/// Whether the word is neither empty nor begins with `-`.
+pub(crate) fn is_plain(word: &str) -> bool
+    ensures { result ≡ is_plain_word word.now }
+{
+    match word.as_bytes() {
+        [] => false,
+        [first, ..] => *first != b'-',
+    }
+}
+
+/// The core of `--core`; the program's own where none is named.
+pub(crate) fn core(word: Option<&str>) -> Option<CoreChoice>
+    ensures { result ≡ core_of (option_map (λ text. text.now) word.entry) }
+{
+    match word {
+        Some(word) => named_core(word),
+        None => Some(CoreChoice::Own),
+    }
+}
+
+#[tactic(auto, unfolding(crate::specs::Values::core_named))]
+fn named_core(word: &str) -> Option<CoreChoice>
+    ensures { result ≡ core_named word.now }
+{
+    match word {
+        "own" => Some(CoreChoice::Own),
+        "lockstep" => Some(CoreChoice::Lockstep),
+        "silent" => Some(CoreChoice::Silent),
+        _ => None,
+    }
+}
+
+/// The number from `least` to `most` that an option gives, or `otherwise` where it is not given.
+pub(crate) fn number(word: Option<&str>, least: u32, most: u32, otherwise: u32) -> Option<u32>
+    requires low { least ≤ otherwise }
+    requires high { otherwise ≤ most }
+    ensures value { result
+        ≡ number_of least most otherwise (option_map (λ text. text.now) word.entry) }
+    ensures in_range { IfSome result (λ n. (least ≤ n) × (n ≤ most)) }
+{
+    match word {
+        Some(word) => number_within(word, least, most),
+        None => Some(otherwise),
+    }
+}
+
+fn number_within(word: &str, least: u32, most: u32) -> Option<u32>
+    ensures value { result ≡ number_in_range least most word.now }
+    ensures in_range { IfSome result (λ n. (least ≤ n) × (n ≤ most)) }
+{
+    let number = decimal(word.as_bytes())?;
+    if u64::from(least) <= number && number <= u64::from(most) {
+        Some(number as u32)
+    } else {
+        None
+    }
+}
+
+/// The memory of `--dump`, and none where it is not given.
+pub(crate) fn dump(word: Option<&str>) -> Option<Option<Dump>>
+    ensures { result ≡ dump_of (option_map (λ text. text.now) word.entry) }
+{
+    match word {
+        Some(word) => Some(Some(dump_range(word)?)),
+        None => Some(None),
+    }
+}
+
+// `ADDR:LEN`
+#[tactic(auto, using(crate::proofs::ValueLemmas::no_colon), unfolding(crate::specs::Values::dump_range_of))]
+fn dump_range(word: &str) -> Option<Dump>
+    ensures { result ≡ dump_range_of word.now }
+{
+    let (addr, len) = word.split_once(':')?;
+    let addr = hex(addr.as_bytes())?;
+    let len = number_within(len, 1, 4096)?;
+    if u64::from(addr) + u64::from(len) <= 1 << 32 {
+        Some(Dump { addr, len })
+    } else {
+        None
+    }
+}
