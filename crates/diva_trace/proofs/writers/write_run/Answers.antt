@@ -1,0 +1,5 @@
+use Rattle.diva_trace.proofs.Reports.{text_in_is}
+use Rattle.diva_trace.proofs.writers.write_run.Goals as goal
+
+pub returns-clause-machine : goal.returns-clause-machine
+returns-clause-machine g c = λ m is. rw (text_in_is m c.args.report.now is) at c.write_parts.ensures

@@ -1,0 +1,92 @@
+-- The lines of the program's text, each with its line feed.
+use Rattle.std.specs.Prelude.{ℕ, ◌+◌, ◌-◌, ◌==◌, List, ◌++◌, slice_index, nat_lt, codes, Option, Some, None, if◌then◌else◌}
+use Rattle.std.specs.Fmt.{decimal}
+use Rattle.std.specs.List.{flat_map, range_with_len}
+use Rattle.diva_memory.specs.Bytes.{Bytes, byte_at}
+use Rattle.diva_isa.specs.declared.record.Record.{Record}
+use Rattle.diva_core.specs.Difference.{all_fields, field_of}
+use Rattle.diva_core.specs.declared.differences.Field.{Field}
+use Rattle.diva_core.specs.declared.differences.Field.TheVariants.{Pc, Word, Src1, Src2, Addr, Value, Next, End}
+use Rattle.diva_core.specs.declared.flushes.Cause.{Cause}
+use Rattle.diva_core.specs.declared.flushes.Cause.TheVariants.{Differs, Silent}
+use Rattle.diva_core.specs.declared.flushes.FlushRow.{FlushRow}
+use Rattle.diva_outside.specs.Text.{hex_byte, hex_word}
+
+-- ---- what was committed, and what was flushed
+
+-- some fields of a record, a blank before each
+abbrev pub fields_text : List Field → Record → List ℕ
+fields_text fields r = flat_map (λ field. codes " " ++ hex_word (field_of field r)) fields
+
+-- an instruction by its number, and all fields of its record
+unfoldable pub commit_line : ℕ → Record → List ℕ
+commit_line index r = decimal index ++ fields_text all_fields r ++ codes "\n"
+
+abbrev pub field_name : Field → List ℕ
+field_name Pc = codes "pc"
+field_name Word = codes "word"
+field_name Src1 = codes "src1"
+field_name Src2 = codes "src2"
+field_name Addr = codes "addr"
+field_name Value = codes "value"
+field_name Next = codes "next"
+field_name End = codes "end"
+
+-- the field in which a claim differed, with what was claimed and what was due; or the cycles without a commit
+abbrev pub cause_text : Cause → List ℕ
+cause_text (Differs d) = field_name d.field ++ codes " claimed " ++ hex_word d.claimed ++ codes " due " ++ hex_word d.due
+cause_text (Silent limit) = codes "silent " ++ decimal limit
+
+unfoldable pub flush_line : FlushRow → List ℕ
+flush_line row = codes "flush " ++ decimal row.cycle ++ codes " at " ++ decimal row.at ++ codes " " ++ cause_text row.cause ++ codes "\n"
+
+-- ---- how a run came out
+
+-- how the machine ended: not at all, in a trap, or with a halt's status
+unfoldable pub end_line : ℕ → List ℕ
+end_line end =
+    if end == 0 then codes "end none\n"
+    else if nat_lt end 256 then codes "end trap " ++ decimal (end - 1) ++ codes "\n"
+    else codes "end halt " ++ decimal (end - 256) ++ codes "\n"
+
+unfoldable pub count_line : ℕ → List ℕ
+count_line n = codes "count " ++ decimal n ++ codes "\n"
+
+unfoldable pub cycles_line : ℕ → List ℕ
+cycles_line n = codes "cycles " ++ decimal n ++ codes "\n"
+
+-- the flushes, and how many of them were silent
+unfoldable pub flushes_line : ℕ → ℕ → List ℕ
+flushes_line n silent = codes "flushes " ++ decimal n ++ codes " silent " ++ decimal silent ++ codes "\n"
+
+-- how many bytes were put
+unfoldable pub output_line : ℕ → List ℕ
+output_line n = codes "output " ++ decimal n ++ codes "\n"
+
+-- some of these bytes
+unfoldable pub out_line : List ℕ → List ℕ
+out_line bytes = codes "out " ++ flat_map hex_byte bytes ++ codes "\n"
+
+-- ---- the state that was left
+
+-- a register's name, and the word in it
+abbrev pub register_text : List ℕ → ℕ → List ℕ
+register_text regs n = codes "x" ++ decimal n ++ codes " " ++ hex_word (slice_index regs n)
+
+-- four registers, from one on
+unfoldable pub registers_line : List ℕ → ℕ → List ℕ
+registers_line regs first =
+    register_text regs first ++ codes " " ++ register_text regs (first + 1) ++ codes " "
+    ++ register_text regs (first + 2) ++ codes " " ++ register_text regs (first + 3) ++ codes "\n"
+
+unfoldable pub pc_line : ℕ → List ℕ
+pc_line pc = codes "pc " ++ hex_word pc ++ codes "\n"
+
+-- a byte of memory, or two dots where the address is outside
+abbrev pub byte_text : Option ℕ → List ℕ
+byte_text (Some byte) = hex_byte byte
+byte_text None = codes ".."
+
+-- the n bytes from an address on
+unfoldable pub mem_line : Bytes → ℕ → ℕ → List ℕ
+mem_line m addr n = codes "mem " ++ hex_word addr ++ codes " " ++ flat_map (λ a. byte_text (byte_at m a)) (range_with_len addr n) ++ codes "\n"

@@ -1,0 +1,86 @@
+-- The text of a run: its parts, and the whole.
+use Rattle.std.specs.Prelude.{◌≡◌, ℕ, ◌+◌, ◌-◌, ◌*◌, List, [], ◌++◌, length, map, min, take, drop, Option, Some, None}
+use Rattle.std.specs.Int.{div_ceil}
+use Rattle.std.specs.List.{concat, range_with_len}
+use Rattle.diva_memory.specs.Bytes.{Bytes}
+use Rattle.diva_isa.specs.State.{memory_of}
+use Rattle.diva_core.specs.Timed.{Timed}
+use Rattle.diva_core.specs.declared.flushes.FlushRow.{FlushRow}
+use Rattle.diva_trace.specs.Lines.{flush_line, end_line, count_line, cycles_line, flushes_line, output_line, out_line, registers_line, pc_line, mem_line}
+use Rattle.diva_trace.specs.declared.report.Dump.{Dump}
+use Rattle.diva_trace.specs.declared.report.Report.{Report}
+
+-- n lines, by their numbers from 0 on
+abbrev pub numbered : ℕ → (ℕ → List ℕ) → List (List ℕ)
+numbered n line = map line (range_with_len 0 n)
+
+-- ---- the lines of each part
+
+abbrev pub flush_lines : List FlushRow → List (List ℕ)
+flush_lines rows = map flush_line rows
+
+-- 32 bytes a line, the last one shorter
+abbrev pub out_lines : List ℕ → List (List ℕ)
+out_lines bytes = numbered (div_ceil (length bytes) 32) (λ n. out_line (take 32 (drop (32 * n) bytes)))
+
+-- 16 bytes a line, the last one shorter
+abbrev pub dump_lines : Bytes → Dump → List (List ℕ)
+dump_lines m dump = numbered (div_ceil dump.len 16) (λ n. mem_line m (dump.addr + 16 * n) (min 16 (dump.len - 16 * n)))
+
+-- ---- the parts
+
+-- the flushes that are kept, in order
+unfoldable pub rows_text : List FlushRow → List ℕ
+rows_text rows = concat (flush_lines rows)
+
+-- how the run ended, and its counts
+unfoldable pub summary_text : (end count cycles flushes silent : ℕ) → List ℕ
+summary_text end count cycles flushes silent = end_line end ++ count_line count ++ cycles_line cycles ++ flushes_line flushes silent
+
+-- how many bytes were put, and the bytes
+unfoldable pub output_text : List ℕ → List ℕ
+output_text bytes = output_line (length bytes) ++ concat (out_lines bytes)
+
+-- the registers in eight lines of four, and the pc
+unfoldable pub registers_text : (regs : List ℕ) (pc : ℕ) → List ℕ
+registers_text regs pc = concat (numbered 8 (λ n. registers_line regs (4 * n))) ++ pc_line pc
+
+-- a stretch of memory
+unfoldable pub dump_text : Bytes → Dump → List ℕ
+dump_text m dump = concat (dump_lines m dump)
+
+-- the same where it is asked for
+abbrev pub asked_text : Bytes → Option Dump → List ℕ
+asked_text m None = []
+asked_text m (Some dump) = dump_text m dump
+
+-- ---- the whole
+
+-- the text of a run that left this machine
+abbrev pub text_of : Timed → Option Dump → List ℕ
+text_of m dump =
+    rows_text m.rows
+    ++ summary_text m.arch.end m.count m.cycles m.flushes m.silent
+    ++ output_text m.arch.output
+    ++ registers_text m.arch.regs m.arch.pc
+    ++ asked_text (memory_of m.arch) dump
+
+-- the same, of what a report tells of the machine
+abbrev pub text_in : Report → List ℕ
+text_in r =
+    rows_text r.rows.now
+    ++ summary_text r.end r.count r.cycles r.flushes r.silent
+    ++ output_text r.output.now
+    ++ registers_text r.view.now.regs r.view.now.pc
+    ++ asked_text (memory_of r.view.now) r.dump
+
+-- a report tells of the machine, through a view that shows its state as one that goes on
+pub record IsReportOf (m : Timed) (r : Report) : Type 0 where
+  pub rows : r.rows.now ≡ m.rows
+  pub end : r.end ≡ m.arch.end
+  pub count : r.count ≡ m.count
+  pub cycles : r.cycles ≡ m.cycles
+  pub flushes : r.flushes ≡ m.flushes
+  pub silent : r.silent ≡ m.silent
+  pub output : r.output.now ≡ m.arch.output
+  pub view : r.view.now ≡ record m.arch { end = 0 }

@@ -1,0 +1,25 @@
+//! The text that the program writes, line by line, and writers that put whole parts of it to a sink.
+//!
+//! - `lines`: one call for each line, which gives the line with its line feed.
+//! - `report`: what a run's text is made of, `Report`, and a stretch of memory that it ends with, `Dump`.
+//! - `line_list`: lines that are made one at a time, and how they are put.
+//! - `writers`: the parts of a run's text, and the whole of it. Each line is one put, and no memory is taken.
+//!
+//! `specs/` holds the lines (`Lines`), and the parts and the whole of a run's text (`Text`).
+#![tactic(auto)]
+
+mod line_list;
+mod lines;
+mod report;
+#[cfg(test)]
+mod tests;
+mod writers;
+
+pub use lines::{
+    commit_line, count_line, cycles_line, end_line, flush_line, flushes_line, mem_line, out_line,
+    output_line, pc_line, registers_line,
+};
+pub use report::{Dump, Report};
+pub use writers::{
+    write_dump, write_output, write_registers, write_rows, write_run, write_summary,
+};

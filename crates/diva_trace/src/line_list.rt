@@ -1,0 +1,35 @@
+// Lines that are made one at a time, and how they are put.
+ghost use Rattle.std.specs.Prelude.{◌≡◌, ◌<◌, ℕ, List, [], length};
+ghost use Rattle.std.specs.List.{concat, slice_index_or};
+ghost use Rattle.diva_outside.specs.Sink.{Puts};
+
+use diva_outside::{Line, Sink, SinkFailed};
+
+/// Lines, each made when it is asked for, so that they take no memory.
+pub(crate) trait LineList {
+    /// The lines, in order.
+    ghost lines: { Self → List (List ℕ) };
+
+    /// How many lines there are.
+    fn count(&self) -> usize
+        ensures { result ≡ length (lines self.now) };
+
+    /// The line at a place, from 0 on.
+    fn line(&self, at: usize) -> Line
+        requires { at < length (lines self.now) }
+        ensures { result ≡ slice_index_or (lines self.now) at [] };
+}
+
+/// Puts the lines, one after the other, until one fails.
+pub(crate) fn write_lines<L: LineList, S: Sink>(list: &L, sink: &mut S) -> Result<(), SinkFailed>
+    ensures { Puts (concat (L.lines list.now)) (S.contents sink.old) (S.contents sink.new) (S.faults sink.old) (S.faults sink.new) result }
+{
+    for at in 0..list.count() {
+        let line = list.line(at);
+        match sink.put(line.bytes()) {
+            Ok(()) => {}
+            Err(fault) => return Err(fault),
+        }
+    }
+    Ok(())
+}

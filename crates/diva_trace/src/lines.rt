@@ -1,0 +1,244 @@
+// The lines of the program's text, each with its line feed.
+ghost use Rattle.std.specs.Prelude.{◌≡◌, ◌+◌, ◌*◌, ◌%◌, ◌^◌, ◌<◌, ◌≤◌, ◌++◌, length, codes};
+ghost use Rattle.std.specs.Fmt.{decimal};
+ghost use Rattle.diva_isa.specs.State.{memory_of};
+ghost use Rattle.diva_trace.specs.Lines.{commit_line, fields_text, field_name, cause_text, flush_line, end_line, count_line, cycles_line, flushes_line, output_line, out_line, register_text, registers_line, pc_line, byte_text, mem_line};
+
+use diva_core::{Cause, Field, FlushRow, View};
+use diva_isa::Record;
+use diva_outside::Line;
+
+/// A committed instruction: its number, from 0 on, and the fields of its record.
+#[tactic(auto, unfolding(crate::specs::Lines::commit_line))]
+pub fn commit_line(index: u64, r: &Record) -> Line
+    ensures { result ≡ commit_line index r.now }
+{
+    let mut line = Line::new();
+    line.decimal(index);
+    push_fields(&mut line, &Field::ALL, r);
+    line.text(b"\n");
+    line
+}
+
+fn push_fields(line: &mut Line, fields: &[Field], r: &Record)
+    requires { length line.old + 9 * length fields.now ≤ 128 }
+    ensures bytes { line.new ≡ line.old ++ fields_text fields.now r.now }
+    ensures len { length line.new ≡ length line.old + 9 * length fields.now }
+{
+    for field in fields {
+        line.text(b" ");
+        line.hex_word(field.of(r));
+    }
+}
+
+/// A flush: its cycle, the instructions committed by then, and its cause.
+#[tactic(auto, unfolding(crate::specs::Lines::flush_line))]
+pub fn flush_line(row: &FlushRow) -> Line
+    ensures { result ≡ flush_line row.now }
+{
+    let mut line = Line::new();
+    line.text(b"flush ");
+    line.decimal(row.cycle);
+    line.text(b" at ");
+    line.decimal(row.at);
+    line.text(b" ");
+    push_cause(&mut line, &row.cause);
+    line.text(b"\n");
+    line
+}
+
+fn push_cause(line: &mut Line, cause: &Cause)
+    requires { length line.old + 60 ≤ 128 }
+    ensures bytes { line.new ≡ line.old ++ cause_text cause.now }
+    ensures len { length line.new ≤ length line.old + 60 }
+{
+    match cause {
+        Cause::Differs(diff) => {
+            line.text(field_name(diff.field).as_bytes());
+            line.text(b" claimed ");
+            line.hex_word(diff.claimed);
+            line.text(b" due ");
+            line.hex_word(diff.due);
+        }
+        Cause::Silent(limit) => {
+            line.text(b"silent ");
+            line.decimal(u64::from(*limit));
+        }
+    }
+}
+
+fn field_name(field: Field) -> &'static str
+    ensures name { result.now ≡ field_name field }
+    ensures short { length result.now ≤ 5 }
+{
+    match field {
+        Field::Pc => "pc",
+        Field::Word => "word",
+        Field::Src1 => "src1",
+        Field::Src2 => "src2",
+        Field::Addr => "addr",
+        Field::Value => "value",
+        Field::Next => "next",
+        Field::End => "end",
+    }
+}
+
+/// How the machine ended: 0 where it goes on, 1 + a trap's number, or 256 + the status of a halt.
+#[tactic(auto, unfolding(crate::specs::Lines::end_line))]
+pub fn end_line(end: u32) -> Line
+    ensures { result ≡ end_line end }
+{
+    if end == 0 {
+        let mut line = Line::new();
+        line.text(b"end none\n");
+        line
+    } else if end < 256 {
+        number_line(b"end trap ", u64::from(end - 1))
+    } else {
+        number_line(b"end halt ", u64::from(end - 256))
+    }
+}
+
+/// The number of committed instructions.
+#[tactic(auto, unfolding(crate::specs::Lines::count_line))]
+pub fn count_line(n: u64) -> Line
+    ensures { result ≡ count_line n }
+{
+    number_line(b"count ", n)
+}
+
+/// The number of cycles.
+#[tactic(auto, unfolding(crate::specs::Lines::cycles_line))]
+pub fn cycles_line(n: u64) -> Line
+    ensures { result ≡ cycles_line n }
+{
+    number_line(b"cycles ", n)
+}
+
+/// The number of flushes, and of the silent ones among them.
+#[tactic(auto, unfolding(crate::specs::Lines::flushes_line))]
+pub fn flushes_line(n: u64, silent: u64) -> Line
+    ensures { result ≡ flushes_line n silent }
+{
+    let mut line = Line::new();
+    line.text(b"flushes ");
+    line.decimal(n);
+    line.text(b" silent ");
+    line.decimal(silent);
+    line.text(b"\n");
+    line
+}
+
+/// The number of bytes that were put.
+pub fn output_line(n: u32) -> Line
+    ensures { result ≡ output_line n }
+{
+    output_len_line(u64::from(n))
+}
+
+/// The same of any number of bytes.
+#[tactic(auto, unfolding(crate::specs::Lines::output_line))]
+pub(crate) fn output_len_line(n: u64) -> Line
+    ensures { result ≡ output_line n }
+{
+    number_line(b"output ", n)
+}
+
+/// A name of at most 80 bytes, and a number.
+fn number_line(name: &[u8], n: u64) -> Line
+    requires { length name.now ≤ 80 }
+    ensures { result ≡ name.now ++ decimal n ++ codes "\n" }
+{
+    let mut line = Line::new();
+    line.text(name);
+    line.decimal(n);
+    line.text(b"\n");
+    line
+}
+
+/// 1 to 32 of the bytes that were put.
+#[tactic(auto, unfolding(crate::specs::Lines::out_line))]
+pub fn out_line(bytes: &[u8]) -> Line
+    requires some { 1 ≤ length bytes.now }
+    requires few { length bytes.now ≤ 32 }
+    ensures { result ≡ out_line bytes.now }
+{
+    let mut line = Line::new();
+    line.text(b"out ");
+    line.hex_bytes(bytes);
+    line.text(b"\n");
+    line
+}
+
+/// The pc.
+#[tactic(auto, unfolding(crate::specs::Lines::pc_line))]
+pub fn pc_line(pc: u32) -> Line
+    ensures { result ≡ pc_line pc }
+{
+    let mut line = Line::new();
+    line.text(b"pc ");
+    line.hex_word(pc);
+    line.text(b"\n");
+    line
+}
+
+/// Four registers, from a multiple of 4 on.
+#[tactic(auto, unfolding(crate::specs::Lines::registers_line))]
+pub fn registers_line(view: &View<'_>, first: u8) -> Line
+    requires in_range { first ≤ 28 }
+    requires aligned { first % 4 ≡ 0 }
+    ensures { result ≡ registers_line view.now.regs first }
+{
+    let mut line = Line::new();
+    push_register(&mut line, view, first);
+    line.text(b" ");
+    push_register(&mut line, view, first + 1);
+    line.text(b" ");
+    push_register(&mut line, view, first + 2);
+    line.text(b" ");
+    push_register(&mut line, view, first + 3);
+    line.text(b"\n");
+    line
+}
+
+fn push_register(line: &mut Line, view: &View<'_>, n: u8)
+    requires in_range { n < 32 }
+    requires room { length line.old + 30 ≤ 128 }
+    ensures bytes { line.new ≡ line.old ++ register_text view.now.regs n }
+    ensures len { length line.new ≤ length line.old + 30 }
+{
+    line.text(b"x");
+    line.decimal(u64::from(n));
+    line.text(b" ");
+    line.hex_word(view.reg(n));
+}
+
+/// 1 to 32 bytes of memory, from an address on. A byte outside is shown as two dots.
+#[tactic(auto, using(crate::proofs::Numbered::flat_map_range_more), unfolding(crate::specs::Lines::mem_line))]
+pub fn mem_line(view: &View<'_>, addr: u32, n: u32) -> Line
+    requires some { 1 ≤ n }
+    requires few { n ≤ 32 }
+    requires in_range { addr + n ≤ 2 ^ 32 }
+    ensures { result ≡ mem_line (memory_of view.now) addr n }
+{
+    let mut line = Line::new();
+    line.text(b"mem ");
+    line.hex_word(addr);
+    line.text(b" ");
+    for i in 0..n {
+        push_byte(&mut line, view.byte(addr + i));
+    }
+    line.text(b"\n");
+    line
+}
+
+fn push_byte(line: &mut Line, byte: Option<u8>)
+    requires { length line.old + 2 ≤ 128 }
+    ensures bytes { line.new ≡ line.old ++ byte_text byte }
+    ensures len { length line.new ≡ length line.old + 2 }
+{
+    match byte {
+        Some(byte) => line.hex_byte(byte),
+        None => line.text(b".."),
+    }
+}

@@ -1,0 +1,172 @@
+// The parts of a run's text, and the whole of it, put to a sink line by line.
+ghost use Rattle.std.specs.Prelude.{◌≡◌, ◌+◌, ◌^◌, ◌≤◌};
+ghost use Rattle.std.specs.Option.{ForSome};
+ghost use Rattle.diva_isa.specs.State.{memory_of};
+ghost use Rattle.diva_core.specs.Timed.{Timed};
+ghost use Rattle.diva_outside.specs.Sink.{Puts};
+ghost use Rattle.diva_trace.specs.Text.{rows_text, summary_text, output_text, registers_text, dump_text, text_in, text_of, IsReportOf};
+
+use crate::line_list::{LineList, write_lines};
+use crate::lines::{
+    count_line, cycles_line, end_line, flush_line, flushes_line, mem_line, out_line,
+    output_len_line, pc_line, registers_line,
+};
+use crate::report::{Dump, Report};
+use diva_core::{FlushRow, View};
+use diva_outside::{Line, Sink, SinkFailed, put_lines};
+
+#[derive(Drop)]
+struct FlushLines<'a> {
+    rows: &'a [FlushRow],
+}
+
+impl LineList for FlushLines<'_> {
+    ghost use Rattle.diva_trace.specs.Text.{flush_lines};
+
+    ghost lines = { λ s. flush_lines s.rows.now };
+
+    fn count(&self) -> usize {
+        self.rows.len()
+    }
+
+    fn line(&self, at: usize) -> Line {
+        flush_line(&self.rows[at])
+    }
+}
+
+#[derive(Drop)]
+struct OutLines<'a> {
+    bytes: &'a [u8],
+}
+
+impl LineList for OutLines<'_> {
+    ghost use Rattle.diva_trace.specs.Text.{out_lines};
+
+    ghost lines = { λ s. out_lines s.bytes.now };
+
+    #[tactic(auto, using(crate::proofs::Numbered::length_numbered))]
+    fn count(&self) -> usize {
+        self.bytes.len().div_ceil(32)
+    }
+
+    #[tactic(auto, using(crate::proofs::Numbered::length_numbered, crate::proofs::Numbered::line_numbered))]
+    fn line(&self, at: usize) -> Line {
+        let rest = &self.bytes[32 * at..];
+        out_line(&rest[..rest.len().min(32)])
+    }
+}
+
+#[derive(Drop)]
+struct DumpLines<'a> {
+    view: &'a View<'a>,
+    dump: Dump,
+    ghost in_range: { dump.addr + dump.len ≤ 2 ^ 32 },
+}
+
+impl LineList for DumpLines<'_> {
+    ghost use Rattle.diva_trace.specs.Text.{dump_lines};
+
+    ghost lines = { λ s. dump_lines (memory_of s.view.now) s.dump };
+
+    #[tactic(auto, using(crate::proofs::Numbered::length_numbered))]
+    fn count(&self) -> usize {
+        self.dump.len.div_ceil(16) as usize
+    }
+
+    #[tactic(auto, using(crate::proofs::Numbered::length_numbered, crate::proofs::Numbered::line_numbered))]
+    fn line(&self, at: usize) -> Line {
+        let done = 16 * at as u32;
+        mem_line(
+            self.view,
+            self.dump.addr + done,
+            (self.dump.len - done).min(16),
+        )
+    }
+}
+
+/// Puts the flushes, in order.
+#[tactic(auto, unfolding(crate::specs::Text::rows_text))]
+pub fn write_rows<S: Sink>(rows: &[FlushRow], sink: &mut S) -> Result<(), SinkFailed>
+    ensures { Puts (rows_text rows.now) (S.contents sink.old) (S.contents sink.new) (S.faults sink.old) (S.faults sink.new) result }
+{
+    write_lines(&FlushLines { rows }, sink)
+}
+
+/// Puts how the run ended, and its counts.
+#[tactic(auto, unfolding(crate::specs::Text::summary_text))]
+pub fn write_summary<S: Sink>(report: &Report<'_>, sink: &mut S) -> Result<(), SinkFailed>
+    ensures { Puts (summary_text report.now.end report.now.count report.now.cycles report.now.flushes report.now.silent) (S.contents sink.old) (S.contents sink.new) (S.faults sink.old) (S.faults sink.new) result }
+{
+    put_lines(
+        sink,
+        &[
+            end_line(report.end),
+            count_line(report.count),
+            cycles_line(report.cycles),
+            flushes_line(report.flushes, report.silent),
+        ],
+    )
+}
+
+/// Puts the number of bytes that were put, and the bytes.
+#[tactic(auto, unfolding(crate::specs::Text::output_text))]
+pub fn write_output<S: Sink>(bytes: &[u8], sink: &mut S) -> Result<(), SinkFailed>
+    ensures { Puts (output_text bytes.now) (S.contents sink.old) (S.contents sink.new) (S.faults sink.old) (S.faults sink.new) result }
+{
+    sink.put(output_len_line(bytes.len() as u64).bytes())?;
+    write_lines(&OutLines { bytes }, sink)
+}
+
+/// Puts the registers and the pc.
+#[tactic(auto, unfolding(crate::specs::Text::registers_text))]
+pub fn write_registers<S: Sink>(view: &View<'_>, sink: &mut S) -> Result<(), SinkFailed>
+    ensures { Puts (registers_text view.now.regs view.now.pc) (S.contents sink.old) (S.contents sink.new) (S.faults sink.old) (S.faults sink.new) result }
+{
+    put_lines(
+        sink,
+        &[
+            registers_line(view, 0),
+            registers_line(view, 4),
+            registers_line(view, 8),
+            registers_line(view, 12),
+            registers_line(view, 16),
+            registers_line(view, 20),
+            registers_line(view, 24),
+            registers_line(view, 28),
+            pc_line(view.pc()),
+        ],
+    )
+}
+
+/// Puts a stretch of memory that ends at 2^32 at the latest.
+#[tactic(auto, unfolding(crate::specs::Text::dump_text))]
+pub fn write_dump<S: Sink>(view: &View<'_>, dump: Dump, sink: &mut S) -> Result<(), SinkFailed>
+    requires { dump.addr + dump.len ≤ 2 ^ 32 }
+    ensures { Puts (dump_text (memory_of view.now) dump) (S.contents sink.old) (S.contents sink.new) (S.faults sink.old) (S.faults sink.new) result }
+{
+    write_lines(&DumpLines { view, dump }, sink)
+}
+
+/// Puts the whole text of a run: the flushes, the summary, the output, the registers and the pc, and where it
+/// is asked for a stretch of memory that ends at 2^32 at the latest.
+pub fn write_run<S: Sink>(report: &Report<'_>, sink: &mut S) -> Result<(), SinkFailed>
+    requires { ForSome report.now.dump (λ d. d.addr + d.len ≤ 2 ^ 32) }
+    ensures text { Puts (text_in report.now) (S.contents sink.old) (S.contents sink.new) (S.faults sink.old) (S.faults sink.new) result }
+    ensures machine { (m : Timed) → IsReportOf m report.now → Puts (text_of m report.now.dump) (S.contents sink.old) (S.contents sink.new) (S.faults sink.old) (S.faults sink.new) result }
+{
+    write_parts(report, sink)
+}
+
+fn write_parts<S: Sink>(report: &Report<'_>, sink: &mut S) -> Result<(), SinkFailed>
+    requires { ForSome report.now.dump (λ d. d.addr + d.len ≤ 2 ^ 32) }
+    ensures { Puts (text_in report.now) (S.contents sink.old) (S.contents sink.new) (S.faults sink.old) (S.faults sink.new) result }
+{
+    write_rows(report.rows, sink)?;
+    write_summary(report, sink)?;
+    write_output(report.output, sink)?;
+    write_registers(report.view, sink)?;
+    match report.dump {
+        Some(dump) => write_dump(report.view, dump, sink),
+        None => Ok(()),
+    }
+}
