@@ -7,7 +7,8 @@ use Rattle.diva_core.specs.Timed.{Timed, new_timed}
 use Rattle.diva_core.specs.Log.{Meaning}
 use Rattle.diva_core.specs.Machine.{IsSizes}
 use Rattle.diva_core.specs.Headline.{IsRow}
-use Rattle.diva_core.proofs.Starting.{headline, pace_of_run}
+use Rattle.diva_core.proofs.Pacing.{are_committed}
+use Rattle.diva_core.proofs.Starting.{headline, pace_of_run, new-machine}
 use Rattle.diva_core.proofs.Reaching.{rows_from_start}
 use Rattle.diva_core.proofs.Ending.{same_end}
 use Rattle.diva_args.specs.Options.{RunOptions, IsRun}
@@ -24,6 +25,7 @@ run_from_start gives options start core last after ok d =
     record {
       driven = d;
       stepped = subst (λ (n : Timed). n.arch ≡ steps n.count start) (sym d.ran) (headline (sizes_of options) start d.lists ok);
+      committed = are_committed (new_timed (sizes_of options) start) d.lists (new-machine (sizes_of options) start ok);
       rows = subst (λ (n : Timed). All (IsRow start options.watchdog) n.rows) (sym d.ran) (rows_from_start (sizes_of options) start d.lists ok);
       paced = subst (λ (n : Timed). n.cycles / (options.watchdog + 6) ≤ n.count) (sym d.ran) (pace_of_run (sizes_of options) start d.lists ok);
       same = λ n ends long. subst (λ (m : Timed). (m.arch ≡ steps n start) × (m.count ≡ n)) (sym d.ran)

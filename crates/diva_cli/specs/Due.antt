@@ -8,7 +8,7 @@ use Rattle.diva_isa.specs.State.{State}
 use Rattle.diva_isa.specs.Step.{steps}
 use Rattle.diva_core.specs.Timed.{Timed, Sizes, new_timed}
 use Rattle.diva_core.specs.Log.{Meaning}
-use Rattle.diva_core.specs.Headline.{EndsAfter, IsRow}
+use Rattle.diva_core.specs.Headline.{AreCommitted, EndsAfter, IsRow}
 use Rattle.diva_core.specs.declared.TheConstants.{DEPTH}
 use Rattle.diva_machine.specs.Start.{start_of}
 use Rattle.diva_args.specs.declared.job.Job.TheVariants.{Run}
@@ -72,6 +72,8 @@ pub record IsRunFrom {C : Type 0} (gives : Meaning C) (options : RunOptions) (st
   pub driven : IsDriven gives options.core options.cycles (new_timed (sizes_of options) start) core last after
   -- the committed state is the table's after the counted instructions
   pub stepped : last.arch ≡ steps last.count start
+  -- in each cycle equal claims that had waited committed, or the one instruction that ran alone
+  pub committed : AreCommitted (new_timed (sizes_of options) start) driven.lists
   -- each row names a claim's difference from the table, or the limit that was reached
   pub rows : All (IsRow start options.watchdog) last.rows
   -- until the end every W + DEPTH cycles counted at least one instruction

@@ -1,5 +1,5 @@
 -- What turns promise, whatever the core hands over.
-use Rattle.std.proofs.Common.{◌≡◌, ◌+◌, ◌<◌, ◌≤◌, true, List, [], length, sym, arith, subst}
+use Rattle.std.proofs.Common.{◌≡◌, ◌+◌, ◌<◌, ◌≤◌, true, List, [], ◌∷◌, length, refl, sym, arith, subst}
 use Rattle.diva_isa.specs.State.{goes_on}
 use Rattle.diva_isa.specs.declared.record.Record.{Record}
 use Rattle.diva_core.specs.Timed.{Timed}
@@ -7,15 +7,21 @@ use Rattle.diva_core.specs.Cycle.{cycle_of, run_of}
 use Rattle.diva_core.specs.Told.{notice_of}
 use Rattle.diva_core.specs.Log.{Meaning, Turns, lists_of}
 use Rattle.diva_core.specs.Machine.{IsMachine}
-use Rattle.diva_core.specs.Headline.{Rises, AddsRows, WillCount, HasCounted, KeepsPace}
+use Rattle.diva_core.specs.Headline.{Rises, AddsRows, WillCount, HasCounted, KeepsPace, AreCommitted, HasCommitted}
 use Rattle.diva_core.proofs.Progressing.{progress, run-rises, run-stays}
 use Rattle.diva_core.proofs.Reaching.{far_enough}
 use Rattle.diva_core.proofs.Adding.{run-adds}
 use Rattle.diva_core.proofs.Turning.{IsLog-run, Turns-more, length-lists_of}
-use Rattle.diva_core.proofs.Outcomes.{cycle-cycles}
+use Rattle.diva_core.proofs.Outcomes.{cycle-cycles, records_by}
+use Rattle.diva_core.proofs.Keeping.{stays}
 
 pub will_count : (m : Timed) → IsMachine m → WillCount m
 will_count m inv on lists long = progress m lists inv on long
+
+-- each cycle commits claims that waited, or the one instruction that ran alone
+pub are_committed : (m : Timed) (lists : List (List Record)) → IsMachine m → AreCommitted m lists
+are_committed m [] inv = tt
+are_committed m (list ∷ rest) inv = (records_by m list inv, are_committed (cycle_of m list) rest (stays m list inv))
 
 module _ {C : Type 0} (gives : Meaning C) (m : Timed) (core : C) (last : Timed) (final : C) (inv : IsMachine m) (t : Turns gives m core last final) where
   abbrev lists : List (List Record)
@@ -35,6 +41,9 @@ module _ {C : Type 0} (gives : Meaning C) (m : Timed) (core : C) (last : Timed) 
 
   pub turns-add : AddsRows m last
   turns-add = subst (AddsRows m) (sym reached) (run-adds lists m inv)
+
+  pub turns-commit : HasCommitted m last
+  turns-commit = record { lists = lists; led = reached; each = are_committed m lists inv }
 
   pub turns-count : HasCounted m last
   turns-count on long =
@@ -57,3 +66,6 @@ module _ {C : Type 0} (gives : Meaning C) (m : Timed) (core : C) (last : Timed) 
 -- nothing changes
 pub adds_none : (m : Timed) → IsMachine m → AddsRows m m
 adds_none m inv = run-adds [] m inv
+
+pub commits_none : (m : Timed) → HasCommitted m m
+commits_none m = record { lists = []; led = refl; each = tt }

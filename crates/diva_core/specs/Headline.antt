@@ -1,5 +1,5 @@
 -- What a cycle, a turn and a drive promise, whatever is handed over.
-use Rattle.std.specs.Prelude.{ℕ, zero, suc, ◌≡◌, ◌≢◌, ◌≤◌, ◌<◌, ◌+◌, ◌-◌, ◌*◌, List, [], ◌∷◌, ◌++◌, length, take, count_by, Option, Some, Bool, true, false}
+use Rattle.std.specs.Prelude.{ℕ, zero, suc, ◌≡◌, ◌≢◌, ◌≤◌, ◌<◌, ◌+◌, ◌-◌, ◌*◌, List, [], ◌∷◌, ◌++◌, ◌⊎◌, length, take, count_by, Option, Some, Bool, true, false}
 use Rattle.std.specs.List.{All}
 use Rattle.diva_isa.specs.State.{State, goes_on}
 use Rattle.diva_isa.specs.declared.record.Record.{Record}
@@ -10,7 +10,7 @@ use Rattle.diva_core.specs.declared.flushes.Cause.TheVariants.{Differs, Silent}
 use Rattle.diva_core.specs.declared.TheConstants.{DEPTH, KEPT_ROWS}
 use Rattle.diva_core.specs.Difference.{field_of}
 use Rattle.diva_core.specs.Timed.{Timed, Waiting}
-use Rattle.diva_core.specs.Cycle.{kept, number, is_silent, run_of}
+use Rattle.diva_core.specs.Cycle.{cycle_of, kept, number, is_silent, run_of}
 
 -- ---- counted: the count rises, and the state has moved by as many steps
 pub record Rises (m last : Timed) : Type 0 where
@@ -46,6 +46,19 @@ pub record ByItself (m : Timed) (records : List Record) : Type 0 where
   pub since : m.solo ≡ Some start
   pub passed : m.cycles + 1 ≡ start + DEPTH
   pub one : length records ≡ 1
+
+-- so it is in each cycle of a run
+abbrev pub AreCommitted : Timed → List (List Record) → Type 0
+AreCommitted m [] = Unit {0}
+AreCommitted m (list ∷ rest) =
+    let records = dues ((cycle_of m list).count - m.count) m.arch in
+    (ByClaims m records ⊎ ByItself m records) × AreCommitted (cycle_of m list) rest
+
+-- cycles lead from a machine to another, and so it is in each
+pub record HasCommitted (m last : Timed) : Type 0 where
+  pub lists : List (List Record)
+  pub led : last ≡ run_of m lists
+  pub each : AreCommitted m lists
 
 -- the front claim p is judged: an equal one commits, another flushes
 pub record IsJudged (m last : Timed) (p : Waiting) : Type 0 where

@@ -1,11 +1,11 @@
 // A machine and a core, turn by turn.
-ghost use Rattle.std.specs.Prelude.{◌≡◌, ◌+◌, ◌≤◌, ◌<◌, ◌^◌, ◌↔◌, [], true, false};
+ghost use Rattle.std.specs.Prelude.{◌≡◌, ◌+◌, ◌-◌, ◌≤◌, ◌<◌, ◌^◌, ◌↔◌, ◌⊎◌, [], true, false};
 ghost use Rattle.diva_isa.specs.State.{goes_on};
 ghost use Rattle.diva_core.specs.Told.{notice_of};
 ghost use Rattle.diva_core.specs.Cycle.{cycle_of};
 ghost use Rattle.diva_core.specs.Log.{Turns};
 ghost use Rattle.diva_core.specs.Machine.{IsMachine};
-ghost use Rattle.diva_core.specs.Headline.{AddsRows, HasCounted, KeepsPace, Rises, WillCount};
+ghost use Rattle.diva_core.specs.Headline.{AddsRows, ByClaims, ByItself, HasCommitted, HasCounted, KeepsPace, Rises, WillCount, dues};
 
 use crate::ends::Drive;
 use crate::machine::Machine;
@@ -19,8 +19,11 @@ pub fn turn<C: Core>(m: &mut Machine, core: &mut C, list: &mut Claims)
     ensures asked { goes_on m.old.timed.arch ≡ true → C.gives core.old (notice_of m.old.timed) m.old.timed.arch list.new core.new }
     ensures ended { goes_on m.old.timed.arch ≡ false → (m.new.timed ≡ m.old.timed) × (m.new.last ≡ []) × (core.new ≡ core.old) × (list.new ≡ []) }
 
-    // The committed state is the table's after the counted instructions, and each flush has its cause.
+    // The committed state is the table's after the counted instructions, each committed by an
+    // equal claim or by the checker alone, and each flush has its cause.
     ensures rises { Rises m.old.timed m.new.timed }
+    ensures last { m.new.last ≡ dues (m.new.timed.count - m.old.timed.count) m.old.timed.arch }
+    ensures commits { ByClaims m.old.timed m.new.last ⊎ ByItself m.old.timed m.new.last }
     ensures rows { AddsRows m.old.timed m.new.timed }
     ensures sound { IsMachine m.new.timed }
     ensures counts { WillCount m.new.timed }
@@ -43,8 +46,10 @@ pub fn drive<C: Core>(m: &mut Machine, core: &mut C, budget: u64) -> Drive
     ensures within { m.new.timed.cycles ≤ m.old.timed.cycles + budget }
     ensures stays { goes_on m.old.timed.arch ≡ false → (m.new ≡ m.old) × (core.new ≡ core.old) }
 
-    // The committed state is the table's after the counted instructions, and each flush has its cause.
+    // The committed state is the table's after the counted instructions, each committed by an
+    // equal claim or by the checker alone, and each flush has its cause.
     ensures rises { Rises m.old.timed m.new.timed }
+    ensures commits { HasCommitted m.old.timed m.new.timed }
     ensures rows { AddsRows m.old.timed m.new.timed }
     ensures sound { IsMachine m.new.timed }
 

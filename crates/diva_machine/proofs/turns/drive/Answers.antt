@@ -1,13 +1,16 @@
 use Rattle.std.proofs.Common.{◌≡◌, true, sym, ◌∙◌, arith}
 use Rattle.diva_isa.specs.State.{goes_on}
 use Rattle.diva_core.proofs.Outcomes.{cycle-cycles}
-use Rattle.diva_core.proofs.Pacing.{turns-rise, turns-stay, turns-add, turns-count, turns-pace, turns-next, adds_none, will_count}
+use Rattle.diva_core.proofs.Pacing.{turns-rise, turns-stay, turns-commit, turns-add, turns-count, turns-pace, turns-next, adds_none, commits_none, will_count}
 use Rattle.diva_machine.proofs.turns.drive.Goals as goal
 
 -- ---- a machine that had ended
 
 pub returns-then-not-goes_on-clause-rows : goal.returns-then-not-goes_on-clause-rows
 returns-then-not-goes_on-clause-rows g c = adds_none c.args.m.now.timed c.goes_on.ensures.sound
+
+pub returns-then-not-goes_on-clause-commits : goal.returns-then-not-goes_on-clause-commits
+returns-then-not-goes_on-clause-commits g c = commits_none c.args.m.now.timed
 
 -- ---- a turn that ended it
 
@@ -17,6 +20,9 @@ returns-then-not-goes_on-2-clause-turns g c =
 
 pub returns-then-not-goes_on-2-clause-rises : goal.returns-then-not-goes_on-2-clause-rises
 returns-then-not-goes_on-2-clause-rises g c = turns-rise g.C.Core.gives _ _ _ _ c.loop.invariant.sound (returns-then-not-goes_on-2-clause-turns g c)
+
+pub returns-then-not-goes_on-2-clause-commits : goal.returns-then-not-goes_on-2-clause-commits
+returns-then-not-goes_on-2-clause-commits g c = turns-commit g.C.Core.gives _ _ _ _ c.loop.invariant.sound (returns-then-not-goes_on-2-clause-turns g c)
 
 pub returns-then-not-goes_on-2-clause-rows : goal.returns-then-not-goes_on-2-clause-rows
 returns-then-not-goes_on-2-clause-rows g c = turns-add g.C.Core.gives _ _ _ _ c.loop.invariant.sound (returns-then-not-goes_on-2-clause-turns g c)
@@ -49,6 +55,9 @@ loop-preserved g c =
 
 pub returns-clause-rises : goal.returns-clause-rises
 returns-clause-rises g c = turns-rise g.C.Core.gives _ _ _ _ c.loop.invariant.sound c.loop.invariant.turns
+
+pub returns-clause-commits : goal.returns-clause-commits
+returns-clause-commits g c = turns-commit g.C.Core.gives _ _ _ _ c.loop.invariant.sound c.loop.invariant.turns
 
 pub returns-clause-rows : goal.returns-clause-rows
 returns-clause-rows g c = turns-add g.C.Core.gives _ _ _ _ c.loop.invariant.sound c.loop.invariant.turns
