@@ -24,6 +24,7 @@ pub record RunOptions : Type 0 where
   pub cycles : ℕ
   pub dump : Option DumpRange
 
+-- the ranges of the numbers of `run`
 pub record IsRun (width window stores watchdog cycles : ℕ) : Type 0 where
   pub width_low : 1 ≤ width
   pub width_high : width ≤ 4

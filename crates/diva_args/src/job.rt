@@ -2,31 +2,31 @@
 use crate::file_name::FileName;
 use std::marker::Model;
 
-/// A command with its options.
+/// A command with its options. Numbers are spelled with 1 to 10 decimal digits.
 #[derive(Debug, Drop)]
 pub enum Job {
-    /// Runs an image.
+    /// `run IMAGE`: runs an image.
     Run(Run),
 }
 
 /// The image to run, on what machine, and for how long.
 #[derive(Debug, Drop)]
 pub struct Run {
-    /// The image's file.
+    /// `IMAGE`: the image's file, whose name is neither empty nor begins with `-`.
     pub image: FileName,
-    /// The core that the checker watches.
+    /// `--core`: the core that the checker watches; the program's own where none is named.
     pub core: CoreChoice,
-    /// The claims accepted and judged in a cycle at most, 1 to 4.
+    /// `--width`: the claims accepted and judged in a cycle at most, 1 to 4; 2 by default.
     pub width: u32,
-    /// The claims pending at most, 8 to 64.
+    /// `--window`: the claims pending at most, 8 to 64; 16 by default.
     pub window: u32,
-    /// The undrained stores at most, 1 to 6.
+    /// `--stores`: the undrained stores at most, 1 to 6; 4 by default.
     pub stores: u32,
-    /// The watchdog's limit in cycles, 16 to 1024.
+    /// `--watchdog`: the watchdog's limit in cycles, 16 to 1,024; 64 by default.
     pub watchdog: u32,
-    /// The cycles to run at most, 1 to 1,000,000,000.
+    /// `--cycles`: the cycles to run at most, 1 to 1,000,000,000; 1,000,000 by default.
     pub cycles: u64,
-    /// The memory to show at the end.
+    /// `--dump ADDR:LEN`, with 1 to 8 hex digits for the address: the memory to show at the end.
     pub dump: Option<Dump>,
 }
 
@@ -43,11 +43,11 @@ impl Model for Run {
 /// The core that the checker watches.
 #[derive(Clone, Copy, Debug, PartialEq, Eq)]
 pub enum CoreChoice {
-    /// The core that the program hands in.
+    /// `own`: the core that the program hands in.
     Own,
-    /// One right claim at a time.
+    /// `lockstep`: one right claim at a time.
     Lockstep,
-    /// No claim, ever.
+    /// `silent`: no claim, ever.
     Silent,
 }
 

@@ -14,12 +14,13 @@ use crate::values::{core, dump, is_plain, number};
 use clap::ArgMatches;
 use std::alloc::Global;
 
-/// The job that the words ask for, which are those after the program's name: `Usage` exactly where they ask for none,
-/// help words among them, and `Memory` only for want of memory.
+/// The job that the words ask for, which are those after the program's name. `Usage` comes exactly where they ask for
+/// none, as help words do, and `Memory` for want of memory.
 #[tactic(auto, using(crate::proofs::PlainLaw::plain_line), unfolding(crate::specs::Line::command_of))]
 pub fn read_words(alloc: Global, words: &[&str]) -> Result<Job, ArgsFault>
     ensures job { IfOk result (λ job. command_of (map (λ w. w.now) words.now) ≡ Some job) }
-    ensures usage { result ≡ Err ArgsFault.Usage → command_of (map (λ w. w.now) words.now) ≡ None }
+    ensures usage { result ≡ Err ArgsFault.Usage
+        → command_of (map (λ w. w.now) words.now) ≡ None }
 
     // A plain line is read off its words, and only the rules on values refuse it.
     ensures plain { (line : PlainLine) → IsPlainLine (map (λ w. w.now) words.now) line
@@ -56,9 +57,11 @@ fn job(alloc: Global, matches: &ArgMatches<'_>) -> Result<Job, ArgsFault>
     }
 }
 
+// `run IMAGE` with its options.
 #[tactic(auto, unfolding(crate::specs::Line::run_from))]
 fn run(alloc: Global, found: &ArgMatches<'_>) -> Result<Run, ArgsFault>
-    ensures run { IfOk result (λ run. run_from (values_of (rows_of (found_of found.now))) ≡ Some run) }
+    ensures run { IfOk result (λ run.
+        run_from (values_of (rows_of (found_of found.now))) ≡ Some run) }
     ensures usage { result ≡ Err ArgsFault.Usage
         → run_from (values_of (rows_of (found_of found.now))) ≡ None }
 {
