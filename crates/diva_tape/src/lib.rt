@@ -1,13 +1,15 @@
 //! The simple cores.
 //!
 //! - `lockstep`: `Lockstep`, which hands over one instruction at a time;
-//! - `silent`: `Silent`, which hands over nothing.
+//! - `silent`: `Silent`, which hands over nothing;
+//! - `worked`: runs that were worked out by hand, which the definitions give.
 //!
-//! `specs/Lists.antt` says what each hands over.
+//! `specs/Lists.antt` says what each core hands over, `specs/Programs.antt` which programs run.
 #![tactic(auto)]
 
 mod lockstep;
 mod silent;
+pub mod worked;
 
 pub use lockstep::Lockstep;
 pub use silent::Silent;
