@@ -1,0 +1,44 @@
+// Cores of the tests' own.
+use diva_core::{Claims, Core, Told, View};
+use diva_isa::{Record, record_of};
+use diva_tape::Lockstep;
+
+/// Hands over what `Lockstep` does, but for the lowest bit of `value` in the first cycle.
+#[derive(Clone, Copy, Debug)]
+pub(crate) struct Flipped;
+
+impl Core for Flipped {
+    ghost use Rattle.std.specs.Prelude.{⊤};
+
+    ghost gives = { λ before told state list after. ⊤ };
+
+    fn cycle(&mut self, told: &Told, view: &View<'_>, out: &mut Claims) {
+        if told.cycle == 1 {
+            let record = record_of(view);
+            out.push(Record {
+                value: record.value ^ 1,
+                ..record
+            });
+        } else {
+            Lockstep.cycle(told, view, out);
+        }
+    }
+}
+
+/// Hands over nothing before this cycle, and then what `Lockstep` does.
+#[derive(Clone, Copy, Debug)]
+pub(crate) struct Late {
+    pub first: u64,
+}
+
+impl Core for Late {
+    ghost use Rattle.std.specs.Prelude.{⊤};
+
+    ghost gives = { λ before told state list after. ⊤ };
+
+    fn cycle(&mut self, told: &Told, view: &View<'_>, out: &mut Claims) {
+        if told.cycle >= self.first {
+            Lockstep.cycle(told, view, out);
+        }
+    }
+}

@@ -1,0 +1,43 @@
+// Small programs, and the image files that they are.
+use std::alloc::Global;
+use std::test::Fail;
+
+/// A program that lies at 0, and is entered there.
+#[derive(Clone, Copy)]
+pub(crate) struct Program {
+    /// The bytes of memory.
+    pub size: u32,
+    /// The words that memory begins with.
+    pub words: &'static [u32],
+}
+
+/// `addi x1, x0, 5`, `addi x17, x0, 93` and `ecall`, which halts with status 0.
+pub(crate) const FIVE: Program = Program {
+    size: 64,
+    words: &[0x0050_0093, 0x05d0_0893, 0x0000_0073],
+};
+
+/// The image file of `FIVE`.
+pub(crate) const FIVE_FILE: [u8; 36] = [
+    0x44, 0x49, 0x56, 0x41, 0x01, 0, 0, 0, 0, 0, 0, 0, 0x40, 0, 0, 0, 0, 0, 0, 0, 0x0c, 0, 0, 0,
+    0x93, 0x00, 0x50, 0x00, 0x93, 0x08, 0xd0, 0x05, 0x73, 0, 0, 0,
+];
+
+/// `jal x0, 0`, which goes on for ever.
+pub(crate) const LOOP: Program = Program {
+    size: 64,
+    words: &[0x0000_006f],
+};
+
+/// The image file of a program.
+pub(crate) fn image_file(alloc: Global, program: Program) -> Result<Vec<u8>, Fail> {
+    let length = u32::try_from(program.words.len())?.saturating_mul(4);
+    let mut bytes = Vec::from_slice(alloc, b"DIVA")?;
+    for number in [1, 0, program.size, 0, length] {
+        bytes.extend_from_slice(&number.to_le_bytes())?;
+    }
+    for word in program.words {
+        bytes.extend_from_slice(&word.to_le_bytes())?;
+    }
+    Ok(bytes)
+}

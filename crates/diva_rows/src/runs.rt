@@ -1,0 +1,124 @@
+//! Command lines over files and a sink in memory, with the status and the text that are due.
+mod refusals;
+mod tables;
+mod texts;
+
+use crate::cores::Flipped;
+use crate::programs::{FIVE_FILE, Program, image_file};
+use diva_cli::top;
+use diva_outside::{Fail as SinkFail, MemFile, MemFiles, MemSink};
+use std::alloc::Global;
+use std::process::Abort;
+use std::test::Fail;
+use tables::{CHATTER, ROWS, TRAPS};
+use texts::{registers_text, text_due};
+
+/// The bytes that a sink takes, more than any of these runs writes.
+const ROOM: usize = 1 << 18;
+
+/// The one file that is there, and how loads of it and the sink fail.
+#[derive(Drop)]
+struct Outside {
+    alloc: Global,
+    file: Vec<u8>,
+    load_fails: Vec<u64>,
+    room: usize,
+    put_fails: Vec<SinkFail>,
+}
+
+impl Outside {
+    /// A file with these bytes, where nothing fails.
+    fn sound(alloc: Global, file: Vec<u8>) -> Self {
+        Outside {
+            alloc,
+            file,
+            load_fails: Vec::new(alloc),
+            room: ROOM,
+            put_fails: Vec::new(alloc),
+        }
+    }
+}
+
+/// Runs the program on a command line, over the file `a.diva` and with `Flipped` as its own core,
+/// and compares status and text.
+fn compare(
+    rt: &impl Abort,
+    line: &str,
+    outside: Outside,
+    status: u8,
+    text: &str,
+) -> Result<(), Fail> {
+    let alloc = outside.alloc;
+    let words: Vec<&str> = line.split_whitespace().collect(alloc)?;
+    let mut file = Vec::new(alloc);
+    file.push(MemFile::new(String::from_str(alloc, "a.diva")?, outside.file))?;
+    let mut files = MemFiles::new(file, outside.load_fails);
+    let mut sink = MemSink::new(alloc, outside.room, outside.put_fails)?;
+    assert_eq!(rt;
+        top(alloc, &words, &mut files, &mut sink, &mut Flipped),
+        status,
+        "{line}"
+    );
+    assert_eq!(rt; str::from_utf8(sink.bytes())?, text, "{line}");
+    Ok(())
+}
+
+/// What `FIVE` writes where it is claimed one by one, to the letter.
+const FIVE_TEXT: &str = "\
+end halt 0
+count 3
+cycles 21
+flushes 0 silent 0
+output 0
+x0 00000000 x1 00000005 x2 00000000 x3 00000000
+x4 00000000 x5 00000000 x6 00000000 x7 00000000
+x8 00000000 x9 00000000 x10 00000000 x11 00000000
+x12 00000000 x13 00000000 x14 00000000 x15 00000000
+x16 00000000 x17 0000005d x18 00000000 x19 00000000
+x20 00000000 x21 00000000 x22 00000000 x23 00000000
+x24 00000000 x25 00000000 x26 00000000 x27 00000000
+x28 00000000 x29 00000000 x30 00000000 x31 00000000
+pc 00000008
+";
+
+#[test]
+fn programs_that_run(rt: HostRuntime) -> Result<(), Fail> {
+    let alloc = rt.alloc();
+    let five = Outside::sound(alloc, Vec::from_slice(alloc, &FIVE_FILE)?);
+    compare(&rt, "run a.diva --core lockstep", five, 0, FIVE_TEXT)?;
+    for row in &ROWS {
+        let outside = Outside::sound(alloc, image_file(alloc, row.program)?);
+        let text = text_due(alloc, row)?;
+        compare(&rt, row.line, outside, row.status, text.as_str())?;
+    }
+    Ok(())
+}
+
+/// An instruction that traps is counted, and changes nothing.
+#[test]
+fn programs_that_trap(rt: HostRuntime) -> Result<(), Fail> {
+    let alloc = rt.alloc();
+    let registers = registers_text(alloc, &[])?;
+    for &(trap, words) in &TRAPS {
+        let file = image_file(alloc, Program { size: 64, words })?;
+        let counts = "count 1\ncycles 7\nflushes 0 silent 0\noutput 0\n";
+        let text = format!(in alloc; "end trap {trap}\n{counts}{registers}pc 00000000\n")?;
+        let outside = Outside::sound(alloc, file);
+        compare(&rt, "run a.diva --core lockstep", outside, 3, text.as_str())?;
+    }
+    Ok(())
+}
+
+/// A put of one byte more than the 65,536 that the output holds: 2 and 2 * 65,536 instructions come
+/// before the trap, and each takes 7 cycles.
+#[test]
+fn output_that_is_full(rt: HostRuntime) -> Result<(), Fail> {
+    let alloc = rt.alloc();
+    let counts = "end trap 9\ncount 131075\ncycles 917525\nflushes 0 silent 0\noutput 65536\n";
+    let line = format!(in alloc; "out {}\n", "41".repeat(alloc, 32)?)?;
+    let output = line.as_str().repeat(alloc, 2048)?;
+    let registers = registers_text(alloc, &[(10, 0x41), (17, 1)])?;
+    let text = format!(in alloc; "{counts}{output}{registers}pc 00000008\n")?;
+    let outside = Outside::sound(alloc, image_file(alloc, CHATTER)?);
+    compare(&rt, "run a.diva --core lockstep", outside, 3, text.as_str())
+}

@@ -1,0 +1,247 @@
+// Programs that are run, and the text that is due.
+use crate::programs::{FIVE, LOOP, Program};
+
+/// A run of one program.
+pub(super) struct Row {
+    /// The command line; the program's file is `a.diva`.
+    pub line: &'static str,
+    pub program: Program,
+    pub status: u8,
+    /// The text before the registers.
+    pub counts: &'static str,
+    /// The registers that are not 0 in the end.
+    pub registers: &'static [(u8, u32)],
+    /// The text behind the registers.
+    pub rest: &'static str,
+}
+
+/// `FIVE` claimed one by one: its claims are of the cycles 1, 8 and 15, and commit in 7, 14 and 21.
+const ONE_BY_ONE: Row = Row {
+    line: "run a.diva --core lockstep",
+    program: FIVE,
+    status: 0,
+    counts: "end halt 0\ncount 3\ncycles 21\nflushes 0 silent 0\noutput 0\n",
+    registers: &[(1, 5), (17, 0x5d)],
+    rest: "pc 00000008\n",
+};
+
+/// `FIVE` by the program's own core, whose first claim is wrong.
+const ONE_FLUSH: Row = Row {
+    line: "run a.diva --core own",
+    counts: "\
+flush 7 at 0 value claimed 00000004 due 00000005
+end halt 0
+count 3
+cycles 27
+flushes 1 silent 0
+output 0
+",
+    ..ONE_BY_ONE
+};
+
+/// Runs of programs that don't trap, but for one that runs past its memory.
+pub(super) static ROWS: [Row; 18] = [
+    ONE_BY_ONE,
+    ONE_FLUSH,
+    Row {
+        line: "run a.diva",
+        ..ONE_FLUSH
+    },
+    Row {
+        line: "run a.diva --core silent",
+        counts: "\
+flush 64 at 0 silent 64
+flush 134 at 1 silent 64
+flush 204 at 2 silent 64
+end halt 0
+count 3
+cycles 210
+flushes 3 silent 3
+output 0
+",
+        ..ONE_BY_ONE
+    },
+    Row {
+        line: "run a.diva --width 1 --window 8 --stores 1 --watchdog 16 --core silent",
+        counts: "\
+flush 16 at 0 silent 16
+flush 38 at 1 silent 16
+flush 60 at 2 silent 16
+end halt 0
+count 3
+cycles 66
+flushes 3 silent 3
+output 0
+",
+        ..ONE_BY_ONE
+    },
+    Row {
+        line: "run a.diva --core lockstep --watchdog 16",
+        ..ONE_BY_ONE
+    },
+    Row {
+        line: "run a.diva --cycles 21 --core lockstep",
+        ..ONE_BY_ONE
+    },
+    Row {
+        line: "run a.diva --cycles 20 --core lockstep",
+        status: 4,
+        counts: "end none\ncount 2\ncycles 20\nflushes 0 silent 0\noutput 0\n",
+        ..ONE_BY_ONE
+    },
+    Row {
+        line: "run a.diva --dump 0:20 --core lockstep",
+        rest: "\
+pc 00000008
+mem 00000000 930050009308d0057300000000000000
+mem 00000010 00000000
+",
+        ..ONE_BY_ONE
+    },
+    Row {
+        line: "run a.diva --core lockstep --dump 3c:8",
+        rest: "pc 00000008\nmem 0000003c 00000000........\n",
+        ..ONE_BY_ONE
+    },
+    Row {
+        line: "run a.diva --core silent --cycles 140",
+        program: LOOP,
+        status: 4,
+        counts: "\
+flush 64 at 0 silent 64
+flush 134 at 1 silent 64
+end none
+count 2
+cycles 140
+flushes 2 silent 2
+output 0
+",
+        registers: &[],
+        rest: "pc 00000000\n",
+    },
+    // addi x1, x0, 7; div x3, x1, x2; the halt
+    Row {
+        program: Program {
+            size: 64,
+            words: &[0x0070_0093, 0x0220_c1b3, 0x05d0_0893, 0x0000_0073],
+        },
+        counts: "end halt 0\ncount 4\ncycles 28\nflushes 0 silent 0\noutput 0\n",
+        registers: &[(1, 7), (3, 0xffff_ffff), (17, 0x5d)],
+        rest: "pc 0000000c\n",
+        ..ONE_BY_ONE
+    },
+    // lui x1, 0x80000; addi x2, x0, -1; div x3, x1, x2; rem x4, x1, x2; the halt
+    Row {
+        program: Program {
+            size: 64,
+            words: &[
+                0x8000_00b7,
+                0xfff0_0113,
+                0x0220_c1b3,
+                0x0220_e233,
+                0x05d0_0893,
+                0x0000_0073,
+            ],
+        },
+        counts: "end halt 0\ncount 6\ncycles 42\nflushes 0 silent 0\noutput 0\n",
+        registers: &[
+            (1, 0x8000_0000),
+            (2, 0xffff_ffff),
+            (3, 0x8000_0000),
+            (17, 0x5d),
+        ],
+        rest: "pc 00000014\n",
+        ..ONE_BY_ONE
+    },
+    // addi x0, x0, 7; add x1, x0, x0; the halt
+    Row {
+        program: Program {
+            size: 64,
+            words: &[0x0070_0013, 0x0000_00b3, 0x05d0_0893, 0x0000_0073],
+        },
+        counts: "end halt 0\ncount 4\ncycles 28\nflushes 0 silent 0\noutput 0\n",
+        registers: &[(17, 0x5d)],
+        rest: "pc 0000000c\n",
+        ..ONE_BY_ONE
+    },
+    // addi x1, x0, 85; sb x1, 33(x0) into a word that lw x2, 32(x0) then loads; the halt
+    Row {
+        line: "run a.diva --core lockstep --dump 20:4",
+        program: Program {
+            size: 64,
+            words: &[
+                0x0550_0093,
+                0x0210_00a3,
+                0x0200_2103,
+                0x05d0_0893,
+                0x0000_0073,
+                0,
+                0,
+                0,
+                0x4433_2211,
+            ],
+        },
+        counts: "end halt 0\ncount 5\ncycles 35\nflushes 0 silent 0\noutput 0\n",
+        registers: &[(1, 0x55), (2, 0x4433_5511), (17, 0x5d)],
+        rest: "pc 00000010\nmem 00000020 11553344\n",
+        ..ONE_BY_ONE
+    },
+    // sw x1, 12(x0) writes the halt's ECALL over the next word, which is then fetched
+    Row {
+        program: Program {
+            size: 64,
+            words: &[0x0730_0093, 0x05d0_0893, 0x0010_2623, 0x0000_0013],
+        },
+        counts: "end halt 0\ncount 4\ncycles 28\nflushes 0 silent 0\noutput 0\n",
+        registers: &[(1, 0x73), (17, 0x5d)],
+        rest: "pc 0000000c\n",
+        ..ONE_BY_ONE
+    },
+    // puts "A", and halts with its code as the status
+    Row {
+        program: Program {
+            size: 64,
+            words: &[
+                0x0010_0893,
+                0x0410_0513,
+                0x0000_0073,
+                0x05d0_0893,
+                0x0000_0073,
+            ],
+        },
+        counts: "end halt 65\ncount 5\ncycles 35\nflushes 0 silent 0\noutput 1\nout 41\n",
+        registers: &[(10, 0x41), (17, 0x5d)],
+        rest: "pc 00000010\n",
+        ..ONE_BY_ONE
+    },
+    // addi x0, x0, 0, and no word behind it
+    Row {
+        program: Program {
+            size: 4,
+            words: &[0x0000_0013],
+        },
+        status: 3,
+        counts: "end trap 1\ncount 2\ncycles 14\nflushes 0 silent 0\noutput 0\n",
+        registers: &[],
+        rest: "pc 00000004\n",
+        ..ONE_BY_ONE
+    },
+];
+
+/// The number of a trap, and the word of the one instruction of a program that ends by it.
+pub(super) static TRAPS: [(u8, &[u32]); 8] = [
+    (0, &[0x0060_00e7]), // jalr x1, 6(x0)
+    (2, &[0x0000_100f]), // FENCE.I, which is outside the table
+    (3, &[0x0010_0073]), // ebreak
+    (4, &[0x0410_2103]), // lw x2, 65(x0), misaligned and outside
+    (5, &[0x0400_2103]), // lw x2, 64(x0), the first byte outside
+    (6, &[0x0000_10a3]), // sh x0, 1(x0)
+    (7, &[0x0400_2023]), // sw x0, 64(x0)
+    (8, &[0x0000_0073]), // ecall with x17 = 0
+];
+
+/// Puts "A" for ever: addi x17, x0, 1; addi x10, x0, 65; ecall; jal x0, -4.
+pub(super) const CHATTER: Program = Program {
+    size: 64,
+    words: &[0x0010_0893, 0x0410_0513, 0x0000_0073, 0xffdf_f06f],
+};
