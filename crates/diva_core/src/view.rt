@@ -106,18 +106,22 @@ impl Look for View<'_> {
     ghost shows = { λ v. v };
 
     fn pc(&self) -> u32 {
-        self.pc
+        View::pc(self)
     }
 
     fn reg(&self, n: u8) -> u32 {
-        self.regs.get(n)
+        View::reg(self, n)
     }
 
     fn byte(&self, addr: u32) -> Option<u8> {
-        self.queue.byte(self.memory, addr)
+        View::byte(self, addr)
+    }
+
+    fn word(&self, addr: u32) -> Option<u32> {
+        View::word(self, addr)
     }
 
     fn out_len(&self) -> u32 {
-        self.output.len()
+        View::out_len(self)
     }
 }

@@ -8,7 +8,7 @@ ghost use Rattle.diva_isa.specs.Trap.{trap_number};
 use crate::arithmetic::{alu, branch_taken, load_value};
 use crate::kind::{Kind, Width, kind_of};
 use crate::look::Look;
-use crate::reading::{number, word};
+use crate::reading::number;
 use crate::record::{OUTPUT_LIMIT, Operands, Outcome, Record};
 use crate::trap::Trap;
 use diva_decode::{Instr, Op, decode};
@@ -48,7 +48,7 @@ pub fn record_of<L: Look>(state: &L) -> Record
 pub fn fetch<L: Look>(state: &L) -> Option<u32>
     ensures { let s = L.shows state.now in result ≡ word_of s s.pc }
 {
-    word(state, state.pc())
+    state.word(state.pc())
 }
 
 /// The registers that a word's instruction reads.

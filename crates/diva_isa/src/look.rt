@@ -1,5 +1,5 @@
 ghost use Rattle.std.specs.Prelude.{◌≡◌, ◌<◌, length};
-ghost use Rattle.diva_isa.specs.State.{State, byte_of, reg_of};
+ghost use Rattle.diva_isa.specs.State.{State, byte_of, reg_of, word_of};
 
 /// A state that can be read, its output by its length alone.
 pub trait Look {
@@ -18,6 +18,23 @@ pub trait Look {
     /// The byte at an address, none outside memory.
     fn byte(&self, addr: u32) -> Option<u8>
         ensures { result ≡ byte_of (shows self.now) addr };
+
+    /// The word at an address, none where the address is no multiple of 4 or a byte is outside memory.
+    ///
+    /// It is read byte by byte, unless an implementation has a shorter way.
+    fn word(&self, addr: u32) -> Option<u32>
+        ensures { result ≡ word_of (shows self.now) addr }
+    {
+        if addr % 4 != 0 {
+            return None;
+        }
+        Some(u32::from_le_bytes([
+            self.byte(addr)?,
+            self.byte(addr + 1)?,
+            self.byte(addr + 2)?,
+            self.byte(addr + 3)?,
+        ]))
+    }
 
     /// How many bytes the output holds.
     fn out_len(&self) -> u32

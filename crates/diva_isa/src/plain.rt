@@ -55,6 +55,10 @@ impl Look for Plain {
         self.memory.byte(addr)
     }
 
+    fn word(&self, addr: u32) -> Option<u32> {
+        self.memory.word(addr)
+    }
+
     fn out_len(&self) -> u32 {
         self.output.len() as u32
     }

@@ -1,20 +1,9 @@
 ghost use Rattle.std.specs.Prelude.{◌≡◌, ◌%◌};
-ghost use Rattle.diva_isa.specs.State.{number_of, word_of};
+ghost use Rattle.diva_isa.specs.State.{number_of};
 ghost use Rattle.diva_isa.specs.Kind.{size};
 
 use crate::kind::Width;
 use crate::look::Look;
-
-/// The instruction's word at an address, none where it is no multiple of 4 or outside.
-pub fn word<L: Look>(state: &L, addr: u32) -> Option<u32>
-    ensures { result ≡ word_of (L.shows state.now) addr }
-{
-    if addr % 4 == 0 {
-        number_4(state, addr)
-    } else {
-        None
-    }
-}
 
 /// The number at an address that is a multiple of its width.
 pub fn number<L: Look>(state: &L, addr: u32, width: Width) -> Option<u32>
@@ -24,7 +13,7 @@ pub fn number<L: Look>(state: &L, addr: u32, width: Width) -> Option<u32>
     match width {
         Width::Byte => number_1(state, addr),
         Width::Half => number_2(state, addr),
-        Width::Word => number_4(state, addr),
+        Width::Word => state.word(addr),
     }
 }
 
@@ -43,15 +32,4 @@ fn number_2<L: Look>(state: &L, addr: u32) -> Option<u32>
     let low = state.byte(addr)?;
     let high = state.byte(addr + 1)?;
     Some(u32::from(low) | u32::from(high) << 8)
-}
-
-fn number_4<L: Look>(state: &L, addr: u32) -> Option<u32>
-    requires { addr % 4 ≡ 0 }
-    ensures { result ≡ number_of (L.shows state.now) 4 addr }
-{
-    let a = state.byte(addr)?;
-    let b = state.byte(addr + 1)?;
-    let c = state.byte(addr + 2)?;
-    let d = state.byte(addr + 3)?;
-    Some(u32::from_le_bytes([a, b, c, d]))
 }
