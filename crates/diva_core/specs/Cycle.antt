@@ -1,13 +1,10 @@
 -- One cycle of the timed machine, a definition for each phase. The cycle's number is raised first, so that each phase knows it.
 use Rattle.std.specs.Prelude.{ℕ, zero, suc, ◌+◌, ◌-◌, ◌==◌, List, [], ◌∷◌, ◌++◌, length, take, map, Bool, true, false, ◌&&◌, Option, Some, None, is_none, nat_le, nat_lt, if◌then◌else◌}
-use Rattle.diva_decode.specs.declared.instr.Instr.{Instr}
-use Rattle.diva_decode.specs.Table.{row_of}
-use Rattle.diva_isa.specs.Kind.{kind}
-use Rattle.diva_isa.specs.declared.kind.Kind.{Kind}
-use Rattle.diva_isa.specs.declared.kind.Kind.TheVariants.{Store}
+use Rattle.diva_isa.specs.declared.effect.Effect.{Effect}
+use Rattle.diva_isa.specs.declared.effect.Effect.TheVariants.{Nothing, Writes, Stores, Puts}
 use Rattle.diva_isa.specs.declared.record.Record.{Record}
 use Rattle.diva_isa.specs.State.{goes_on}
-use Rattle.diva_isa.specs.Step.{record_of, apply}
+use Rattle.diva_isa.specs.Step.{record_of, apply, effect_of}
 use Rattle.diva_core.specs.declared.differences.Diff.{Diff}
 use Rattle.diva_core.specs.declared.flushes.FlushRow.{FlushRow}
 use Rattle.diva_core.specs.declared.flushes.Cause.{Cause}
@@ -18,17 +15,15 @@ use Rattle.diva_core.specs.Timed.{Timed, Waiting, room_of}
 
 -- ---- what the phases are made of
 
-abbrev pub is_store_kind : Kind → Bool
-is_store_kind (Store width) = true
-is_store_kind _ = false
-
-abbrev pub is_store : Option Instr → Bool
-is_store None = false
-is_store (Some i) = is_store_kind (kind i.op)
+abbrev pub is_store : Effect → Bool
+is_store Nothing = false
+is_store (Writes rd value) = false
+is_store (Stores width addr value) = true
+is_store (Puts byte) = false
 
 -- r is a store that does not trap, so it goes to the store queue
 unfoldable pub puts_store : Record → Bool
-puts_store r = (r.end == 0) && is_store (row_of r.word)
+puts_store r = (r.end == 0) && is_store (effect_of r)
 
 abbrev pub is_silent : Cause → Bool
 is_silent (Differs d) = false

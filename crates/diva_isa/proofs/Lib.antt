@@ -2,6 +2,5 @@ pub mod Steps
 pub mod Parts
 pub mod Registers
 pub mod Room
-pub mod Inside
 pub mod Ends
 pub mod Stored

@@ -1,31 +1,76 @@
--- The due record that puts a byte has room for it.
-use Rattle.std.proofs.Common.{◌≡◌, ℕ, ◌<◌, true, length, Option, Some, None, refl, ap, arith, ◌∙◌, sym}
+-- There is room for what the due record does: a store that does not trap is inside memory, and a byte that is put finds an output that is not full.
+use Rattle.std.proofs.Common.{◌≡◌, ◌<◌, ℕ, zero, suc, ◌+◌, ◌*◌, ◌%◌, ◌^◌, ◌==◌, length, Option, Some, None, Bool, true, false, cond, refl, arith, if◌then◌else◌}
+use Rattle.std.specs.Option.{option_map, option_and_then}
 use Rattle.std.proofs.lemmas.Bool.Decides.{nat_tests}
 use Rattle.diva_decode.specs.declared.instr.Instr.{Instr}
 use Rattle.diva_decode.specs.Table.{row_of}
-use Rattle.diva_isa.specs.State.{State, word_of}
-use Rattle.diva_isa.specs.Kind.{kind}
+use Rattle.diva_memory.specs.Bytes.{Bytes, IsInside, byte_at, number_at}
+use Rattle.diva_memory.proofs.Writing.{byte_within}
+use Rattle.diva_isa.specs.State.{State, memory_of, number_of, word_of}
+use Rattle.diva_isa.specs.Kind.{kind, size}
 use Rattle.diva_isa.specs.declared.kind.Kind.{Kind}
-use Rattle.diva_isa.specs.declared.kind.Kind.TheVariants.{Call}
-use Rattle.diva_isa.specs.Step.{record_of, fetched, said, outcome, source1, source2, address, call, HasRoom}
+use Rattle.diva_isa.specs.declared.kind.Kind.TheVariants.{LoadUpper, AddUpper, Jump, JumpRegister, Branch, Load, Store, Immediate, Register, Fence, Call, Break}
+use Rattle.diva_isa.specs.declared.kind.Width.{Width}
+use Rattle.diva_isa.specs.declared.kind.Width.TheVariants.{Byte, Half, Word}
+use Rattle.diva_isa.specs.declared.effect.Effect.TheVariants.{Nothing, Puts}
+use Rattle.diva_isa.specs.Step.{record_of, fetched, said, whole, outcome, source1, source2, address, call, stored, ended, trap, effect, effect_by, effect_of, HasRoom}
 
-call_has_room : (s : State) (pc a b : ℕ) → (call s pc a b).end ≡ 0 → a ≡ 1 → length s.output < 65536
+-- a number is there only where its lowest byte is, and the others
+first_there : (o p : Option ℕ) (v : ℕ) → option_and_then (λ low. option_map (λ high. low + 2 ^ 8 * high) p) o ≡ Some v → (P : Type 0) → ((b c : ℕ) → o ≡ Some b → p ≡ Some c → P) → P
+first_there None p v h P f = absurd (cc)
+first_there (Some b) None v h P f = absurd (cc)
+first_there (Some b) (Some c) v h P f = f b c refl refl
+
+number_within : (m : Bytes) (n a v : ℕ) → number_at m (suc n) a ≡ Some v → IsInside m a (suc n)
+number_within m zero a v h = first_there (byte_at m a) (number_at m zero (a + 1)) v h (IsInside m a 1) (λ b c p q. byte_within m a b p)
+number_within m (suc n) a v h = first_there (byte_at m a) (number_at m (suc n) (a + 1)) v h (IsInside m a (suc (suc n)))
+    (λ b c p q. let here = byte_within m a b p in let rest = number_within m n (a + 1) c q in record { from = here.from; to = let t = rest.to in omega arith })
+
+sized_within : (w : Width) (m : Bytes) (a v : ℕ) → number_at m (size w) a ≡ Some v → IsInside m a (size w)
+sized_within Byte m a v h = number_within m 0 a v h
+sized_within Half m a v h = number_within m 1 a v h
+sized_within Word m a v h = number_within m 3 a v h
+
+stored_there : (pc b n : ℕ) (o : Option ℕ) → (stored pc b n o).end ≡ 0 → (P : Type 0) → ((v : ℕ) → o ≡ Some v → P) → P
+stored_there pc b n None e P f = absurd (omega arith)
+stored_there pc b n (Some v) e P f = f v refl
+
+aligned : (c : Bool) (pc b n : ℕ) (o : Option ℕ) → (cond c (stored pc b n o) (ended pc (trap 6))).end ≡ 0 → (P : Type 0) → ((v : ℕ) → o ≡ Some v → P) → P
+aligned true pc b n o e P f = stored_there pc b n o e P f
+aligned false pc b n o e P f = absurd (omega arith)
+
+call_has_room : (s : State) (pc a b : ℕ) → (call s pc a b).end ≡ 0 → (a == 1) ≡ true → length s.output < 65536
 call_has_room s pc a b e one = grind (arith, nat_tests)
 
-kind_has_room : (k : Kind) (s : State) (i : Instr) (pc a b addr : ℕ) → k ≡ Call → (outcome k s i pc a b addr).end ≡ 0 → a ≡ 1 → length s.output < 65536
-kind_has_room Call s i pc a b addr is e one = call_has_room s pc a b e one
-kind_has_room k s i pc a b addr is e one = absurd (cc)
+put_has_room : (c : Bool) (s : State) (byte : ℕ) → (c ≡ true → length s.output < 65536) → HasRoom s (if c then Puts byte else Nothing)
+put_has_room true s byte h = h refl
+put_has_room false s byte h = tt
 
-word_has_room : (s : State) (w : ℕ) (o : Option Instr) → row_of w ≡ o → HasRoom s (said s true w o)
-word_has_room s w None is i at k e one = absurd (omega arith)
-word_has_room s w (Some j) is i at k e one =
-    let same : j ≡ i = cc (sym is ∙ at) in
-    kind_has_room (kind j.op) s j s.pc (source1 (kind j.op) s j) (source2 (kind j.op) s j) (address (kind j.op) j (source1 (kind j.op) s j)) (ap (λ x. kind x.op) same ∙ k) e one
+kind_has_room : (k : Kind) (s : State) (i : Instr) (pc w a b addr : ℕ) → (outcome k s i pc a b addr).end ≡ 0 → HasRoom s (effect k i (whole pc w a b addr (outcome k s i pc a b addr)))
+kind_has_room LoadUpper s i pc w a b addr e = tt
+kind_has_room AddUpper s i pc w a b addr e = tt
+kind_has_room Jump s i pc w a b addr e = tt
+kind_has_room JumpRegister s i pc w a b addr e = tt
+kind_has_room Branch s i pc w a b addr e = tt
+kind_has_room (Load width) s i pc w a b addr e = tt
+kind_has_room (Store width) s i pc w a b addr e =
+    aligned (addr % size width == 0) pc b (size width) (number_of s (size width) addr) e (IsInside (memory_of s) addr (size width)) (λ v h. sized_within width (memory_of s) addr v h)
+kind_has_room Immediate s i pc w a b addr e = tt
+kind_has_room Register s i pc w a b addr e = tt
+kind_has_room Fence s i pc w a b addr e = tt
+kind_has_room Call s i pc w a b addr e = put_has_room (a == 1) s ((call s pc a b).value % 2 ^ 8) (λ one. call_has_room s pc a b e one)
+kind_has_room Break s i pc w a b addr e = tt
 
-fetched_has_room : (s : State) (o : Option ℕ) → HasRoom s (fetched s o)
-fetched_has_room s None i at k e one = absurd (omega arith)
-fetched_has_room s (Some w) i at k e one = word_has_room s w (row_of w) refl i at k e one
+said_has_room : (s : State) (w : ℕ) (o : Option Instr) → (said s true w o).end ≡ 0 → HasRoom s (effect_by o (said s true w o))
+said_has_room s w None e = absurd (omega arith)
+said_has_room s w (Some i) e =
+    let a = source1 (kind i.op) s i in
+    kind_has_room (kind i.op) s i s.pc w a (source2 (kind i.op) s i) (address (kind i.op) i a) e
 
-pub room : (s : State) → HasRoom s (record_of s)
+fetched_has_room : (s : State) (o : Option ℕ) → (fetched s o).end ≡ 0 → HasRoom s (effect_of (fetched s o))
+fetched_has_room s None e = absurd (omega arith)
+fetched_has_room s (Some w) e = said_has_room s w (row_of w) e
+
+pub room : (s : State) → (record_of s).end ≡ 0 → HasRoom s (effect_of (record_of s))
 unfolding record_of
-room s = fetched_has_room s (word_of s s.pc)
+room s e = fetched_has_room s (word_of s s.pc) e

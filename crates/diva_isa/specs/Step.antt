@@ -1,5 +1,5 @@
 -- The record of the next instruction of a state, and what applying a record does.
-use Rattle.std.specs.Prelude.{◌≡◌, ◌<◌, ◌≤◌, ℕ, zero, suc, ◌+◌, ◌*◌, ◌/◌, ◌%◌, ◌^◌, ◌==◌, Bool, true, false, [], ◌∷◌, ◌++◌, Option, Some, None, length, if◌then◌else◌, nat_lt}
+use Rattle.std.specs.Prelude.{◌<◌, ◌≤◌, ℕ, zero, suc, ◌+◌, ◌*◌, ◌/◌, ◌%◌, ◌^◌, ◌==◌, Bool, true, false, [], ◌∷◌, ◌++◌, Option, Some, None, length, if◌then◌else◌, nat_lt, ⊤}
 use Rattle.std.specs.Int.{cast_unsigned, w32}
 use Rattle.diva_decode.specs.declared.op.Op.{Op}
 use Rattle.diva_decode.specs.declared.instr.Instr.{Instr}
@@ -11,9 +11,10 @@ use Rattle.diva_isa.specs.Kind.{kind, size}
 use Rattle.diva_isa.specs.Regs.{with_reg}
 use Rattle.diva_isa.specs.declared.kind.Kind.{Kind}
 use Rattle.diva_isa.specs.declared.kind.Kind.TheVariants.{LoadUpper, AddUpper, Jump, JumpRegister, Branch, Load, Store, Immediate, Register, Fence, Call, Break}
-use Rattle.diva_isa.specs.declared.kind.Width.{Width}
 use Rattle.diva_isa.specs.declared.record.Record.{Record}
 use Rattle.diva_isa.specs.declared.record.Outcome.{Outcome}
+use Rattle.diva_isa.specs.declared.effect.Effect.{Effect}
+use Rattle.diva_isa.specs.declared.effect.Effect.TheVariants.{Nothing, Writes, Stores, Puts}
 
 -- ---- how the machine ends
 
@@ -173,40 +174,43 @@ record_of s = fetched s (word_of s s.pc)
 
 -- ---- what applying a record does
 
-abbrev pub with_rd : State → Instr → ℕ → State
-with_rd s i v = record s { regs = with_reg s.regs i.rd v }
+-- what r does besides moving pc, r's word being an instruction i of this kind
+abbrev pub effect : Kind → Instr → Record → Effect
+effect LoadUpper i r = Writes i.rd r.value
+effect AddUpper i r = Writes i.rd r.value
+effect Jump i r = Writes i.rd r.value
+effect JumpRegister i r = Writes i.rd r.value
+effect Branch i r = Nothing
+effect (Load width) i r = Writes i.rd r.value
+effect (Store width) i r = Stores width r.addr r.value
+effect Immediate i r = Writes i.rd r.value
+effect Register i r = Writes i.rd r.value
+effect Fence i r = Nothing
+effect Call i r = if r.src1 == 1 then Puts (r.value % 2 ^ 8) else Nothing
+effect Break i r = Nothing
+
+-- the same by what r's word says; a word that is not one of the table does nothing
+abbrev pub effect_by : Option Instr → Record → Effect
+effect_by None r = Nothing
+effect_by (Some i) r = effect (kind i.op) i r
+
+abbrev pub effect_of : Record → Effect
+effect_of r = effect_by (row_of r.word) r
 
 -- s with the low n bytes of v from a on, the lowest first; what falls outside is ignored
 abbrev pub with_bytes : State → (n a v : ℕ) → State
 with_bytes s n a v = record s { bytes = (put_all (memory_of s) a (low_bytes n v)).items }
 
--- s with the low byte of v put
-abbrev pub with_output : State → ℕ → State
-with_output s v = record s { output = s.output ++ (v % 2 ^ 8) ∷ [] }
-
--- what r does to s but for pc, r's word being an instruction i of this kind
-abbrev pub acted : Kind → State → Instr → Record → State
-acted LoadUpper s i r = with_rd s i r.value
-acted AddUpper s i r = with_rd s i r.value
-acted Jump s i r = with_rd s i r.value
-acted JumpRegister s i r = with_rd s i r.value
-acted Branch s i r = s
-acted (Load width) s i r = with_rd s i r.value
-acted (Store width) s i r = with_bytes s (size width) r.addr r.value
-acted Immediate s i r = with_rd s i r.value
-acted Register s i r = with_rd s i r.value
-acted Fence s i r = s
-acted Call s i r = if r.src1 == 1 then with_output s r.value else s
-acted Break s i r = s
-
-abbrev pub acted_by : Option Instr → State → Record → State
-acted_by None s r = s
-acted_by (Some i) s r = acted (kind i.op) s i r
+abbrev pub with_effect : State → Effect → State
+with_effect s Nothing = s
+with_effect s (Writes rd value) = record s { regs = with_reg s.regs rd value }
+with_effect s (Stores width addr value) = with_bytes s (size width) addr value
+with_effect s (Puts byte) = record s { output = s.output ++ byte ∷ [] }
 
 -- any record, also a wrong one: an ended state stays, and a record that ends changes nothing but the end
 unfoldable pub apply : State → Record → State
 apply s r =
-    if goes_on s then (if r.end == 0 then record (acted_by (row_of r.word) s r) { pc = r.next } else record s { end = r.end }) else s
+    if goes_on s then (if r.end == 0 then record (with_effect s (effect_of r)) { pc = r.next } else record s { end = r.end }) else s
 
 -- one instruction; an ended state stays
 unfoldable pub step : State → State
@@ -216,12 +220,18 @@ abbrev pub steps : ℕ → State → State
 steps zero s = s
 steps (suc k) s = step (steps k s)
 
--- ---- what holds of the due record
+-- ---- what holds of an effect
 
--- the output has room for what r puts
-abbrev pub HasRoom : State → Record → Type 0
-HasRoom s r = (i : Instr) → row_of r.word ≡ Some i → kind i.op ≡ Call → r.end ≡ 0 → r.src1 ≡ 1 → length s.output < 65536
+-- a register that is written is below 32
+abbrev pub HasRegister : Effect → Type 0
+HasRegister Nothing = ⊤
+HasRegister (Writes rd value) = rd < 32
+HasRegister (Stores width addr value) = ⊤
+HasRegister (Puts byte) = ⊤
 
--- what r stores is inside memory
-abbrev pub StoresInside : State → Record → Type 0
-StoresInside s r = (i : Instr) (width : Width) → row_of r.word ≡ Some i → kind i.op ≡ Store width → r.end ≡ 0 → IsInside (memory_of s) r.addr (size width)
+-- the state has room for it: what is stored is inside memory, and the output is not full
+abbrev pub HasRoom : State → Effect → Type 0
+HasRoom s Nothing = ⊤
+HasRoom s (Writes rd value) = ⊤
+HasRoom s (Stores width addr value) = IsInside (memory_of s) addr (size width)
+HasRoom s (Puts byte) = length s.output < 65536

@@ -6,6 +6,7 @@ ghost use Rattle.diva_isa.specs.Step.{call, ended, going, halt, load, outcome, o
 ghost use Rattle.diva_isa.specs.Trap.{trap_number};
 
 use crate::arithmetic::{alu, branch_taken, load_value};
+use crate::effect::PUT;
 use crate::kind::{Kind, Width, kind_of};
 use crate::look::Look;
 use crate::reading::number;
@@ -13,10 +14,7 @@ use crate::record::{OUTPUT_LIMIT, Operands, Outcome, Record};
 use crate::trap::Trap;
 use diva_decode::{Instr, Op, decode};
 
-/// The service that puts a byte, as ECALL asks for it by x17.
-const PUT: u32 = 1;
-
-/// The service that halts the machine.
+/// The service that halts the machine, as ECALL asks for it by x17.
 const HALT: u32 = 93;
 
 /// The record of the next instruction of a state, an ended one too.

@@ -6,6 +6,7 @@
 //! - `record`: the record of one instruction, and its parts.
 //! - `trap`: the traps by number.
 //! - `due`: the record of a state's next instruction, and each part by itself.
+//! - `effect`: what a record does besides moving the pc.
 //! - `regs`: the registers.
 //! - `plain`: the machine that does one instruction after another.
 //!
@@ -15,6 +16,7 @@
 
 mod arithmetic;
 mod due;
+mod effect;
 mod kind;
 mod look;
 mod plain;
@@ -25,6 +27,7 @@ mod trap;
 
 pub use arithmetic::{alu, branch_taken, load_value};
 pub use due::{address, fetch, finish, record_of, sources};
+pub use effect::{Effect, effect_of};
 pub use kind::{Kind, Width, kind_of};
 pub use look::Look;
 pub use plain::Plain;

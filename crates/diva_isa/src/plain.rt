@@ -3,14 +3,14 @@ ghost use Rattle.diva_memory.specs.Bytes.{IsInside};
 ghost use Rattle.diva_isa.specs.Kind.{size};
 ghost use Rattle.diva_isa.specs.Run.{done};
 ghost use Rattle.diva_isa.specs.State.{GoesOn, byte_of, goes_on, memory_of, reg_of};
-ghost use Rattle.diva_isa.specs.Step.{HasRoom, StoresInside, apply, record_of, step, steps, with_bytes, with_output};
+ghost use Rattle.diva_isa.specs.Step.{HasRoom, apply, effect_of, record_of, step, steps, with_bytes, with_effect};
 
 use crate::due::record_of;
-use crate::kind::{Kind, Width, kind_of};
+use crate::effect::{Effect, effect_of};
+use crate::kind::Width;
 use crate::look::Look;
 use crate::record::{OUTPUT_LIMIT, Record};
 use crate::regs::Regs;
-use diva_decode::decode;
 use diva_memory::Memory;
 use std::alloc::{AllocError, Global};
 use std::marker::Model;
@@ -104,7 +104,7 @@ impl Plain {
     }
 
     /// Does the next instruction; the ending one counts too. An ended machine stays.
-    #[tactic(auto, using(crate::proofs::Room::room, crate::proofs::Inside::store_inside, crate::proofs::Steps::step_ended), unfolding(crate::specs::Step::step))]
+    #[tactic(auto, using(crate::proofs::Room::room, crate::proofs::Steps::step_ended), unfolding(crate::specs::Step::step))]
     pub fn step(&mut self)
         requires { GoesOn self.old.state → self.old.count < 2 ^ 60 }
         ensures state { self.new.state ≡ step self.old.state }
@@ -167,8 +167,7 @@ impl Plain {
     #[tactic(auto, unfolding(crate::specs::Step::apply))]
     fn apply(&mut self, r: &Record)
         requires goes_on { GoesOn self.old.state }
-        requires room { HasRoom self.old.state r.now }
-        requires inside { StoresInside self.old.state r.now }
+        requires room { r.now.end ≡ 0 → HasRoom self.old.state (effect_of r.now) }
         ensures state { self.new.state ≡ apply self.old.state r.now }
         ensures count { self.new.count ≡ self.old.count }
     {
@@ -176,24 +175,16 @@ impl Plain {
             self.end = r.end;
             return;
         }
-        if let Some(i) = decode(r.word) {
-            match kind_of(i.op) {
-                Kind::LoadUpper
-                | Kind::AddUpper
-                | Kind::Jump
-                | Kind::JumpRegister
-                | Kind::Load(_)
-                | Kind::Immediate
-                | Kind::Register => self.regs.set(i.rd, r.value),
-                Kind::Store(width) => self.store(width, r.addr, r.value),
-                Kind::Call if r.src1 == 1 => self.put(r.value),
-                Kind::Call | Kind::Branch | Kind::Fence | Kind::Break => {}
-            }
+        match effect_of(r) {
+            Effect::Nothing => {}
+            Effect::Writes { rd, value } => self.regs.set(rd, value),
+            Effect::Stores { width, addr, value } => self.store(width, addr, value),
+            Effect::Puts(byte) => self.put(byte),
         }
         self.pc = r.next;
     }
 
-    #[tactic(auto, using(crate::proofs::Stored::base_put_all, crate::proofs::Stored::length_low_bytes))]
+    #[tactic(auto, using(diva_memory::proofs::Writing::put_all_base, crate::proofs::Stored::length_low_bytes))]
     fn store(&mut self, width: Width, addr: u32, value: u32)
         requires { IsInside (memory_of self.old.state) addr (size width) }
         ensures state { self.new.state ≡ with_bytes self.old.state (size width) addr value }
@@ -203,13 +194,13 @@ impl Plain {
         self.memory.put_all(addr, &bytes[..width.size() as usize]);
     }
 
-    fn put(&mut self, value: u32)
+    fn put(&mut self, byte: u8)
         requires { length self.old.state.output < 65536 }
-        ensures state { self.new.state ≡ with_output self.old.state value }
+        ensures state { self.new.state ≡ with_effect self.old.state (Effect.Puts byte) }
         ensures count { self.new.count ≡ self.old.count }
     {
         // The room was taken when the machine was made.
-        let _ = self.output.push((value & 0xff) as u8);
+        let _ = self.output.push(byte);
     }
 }
 

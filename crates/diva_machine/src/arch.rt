@@ -2,7 +2,7 @@
 ghost use Rattle.std.specs.Prelude.{◌≡◌, ◌<◌, ◌≤◌, ◌+◌, ◌-◌, ◌==◌, ◌↔◌, ℕ, true, length, IfOk, IsTrue};
 ghost use Rattle.diva_isa.specs.State.{goes_on, GoesOn, memory_of};
 ghost use Rattle.diva_isa.specs.Kind.{size};
-ghost use Rattle.diva_isa.specs.Step.{apply, record_of, with_bytes, with_output, HasRoom, IsEnd, StoresInside};
+ghost use Rattle.diva_isa.specs.Step.{apply, effect_of, record_of, with_effect, HasRoom, IsEnd};
 ghost use Rattle.diva_memory.specs.Bytes.{IsInside};
 ghost use Rattle.diva_image.specs.View.{layout};
 ghost use Rattle.diva_core.specs.Cycle.{number, puts_store};
@@ -11,9 +11,8 @@ ghost use Rattle.diva_machine.specs.Shown.{end_of, end_number};
 
 use crate::ends::End;
 use diva_core::{Output, View};
-use diva_decode::decode;
 use diva_image::Image;
-use diva_isa::{Kind, Record, Regs, Width, kind_of, record_of};
+use diva_isa::{Effect, Record, Regs, Width, effect_of, record_of};
 use diva_memory::Memory;
 use diva_storeq::{Store, StoreQueue};
 use std::alloc::{AllocError, Global};
@@ -135,8 +134,7 @@ impl Arch {
     #[tactic(auto, unfolding(diva_isa::specs::Step::apply, diva_core::specs::Cycle::puts_store))]
     fn act(&mut self, r: &Record)
         requires goes_on { GoesOn self.old.state }
-        requires room { HasRoom self.old.state r.now }
-        requires inside { StoresInside self.old.state r.now }
+        requires room { r.now.end ≡ 0 → HasRoom self.old.state (effect_of r.now) }
         requires ends { IsEnd r.now.end }
         requires space { puts_store r.now ≡ true → self.old.owed < self.old.stores }
         ensures state { self.new.state ≡ apply self.old.state r.now }
@@ -147,19 +145,11 @@ impl Arch {
             self.end = r.end;
             return;
         }
-        if let Some(i) = decode(r.word) {
-            match kind_of(i.op) {
-                Kind::LoadUpper
-                | Kind::AddUpper
-                | Kind::Jump
-                | Kind::JumpRegister
-                | Kind::Load(_)
-                | Kind::Immediate
-                | Kind::Register => self.regs.set(i.rd, r.value),
-                Kind::Store(width) => self.store(width, r.addr, r.value),
-                Kind::Call if r.src1 == 1 => self.put(r.value),
-                Kind::Call | Kind::Branch | Kind::Fence | Kind::Break => {}
-            }
+        match effect_of(r) {
+            Effect::Nothing => {}
+            Effect::Writes { rd, value } => self.regs.set(rd, value),
+            Effect::Stores { width, addr, value } => self.store(width, addr, value),
+            Effect::Puts(byte) => self.output.push(byte),
         }
         self.pc = r.next;
     }
@@ -167,20 +157,11 @@ impl Arch {
     fn store(&mut self, width: Width, addr: u32, value: u32)
         requires inside { IsInside (memory_of self.old.state) addr (size width) }
         requires space { self.old.owed < self.old.stores }
-        ensures state { self.new.state ≡ with_bytes self.old.state (size width) addr value }
+        ensures state { self.new.state ≡ with_effect self.old.state (Effect.Stores width addr value) }
         ensures owed { self.new.owed ≡ self.old.owed + 1 }
         ensures stores { self.new.stores ≡ self.old.stores }
     {
         let width = width.size() as u8;
         self.queue.push(Store { addr, width, value });
-    }
-
-    fn put(&mut self, value: u32)
-        requires { length self.old.state.output < 65536 }
-        ensures state { self.new.state ≡ with_output self.old.state value }
-        ensures owed { self.new.owed ≡ self.old.owed }
-        ensures stores { self.new.stores ≡ self.old.stores }
-    {
-        self.output.push((value & 0xff) as u8);
     }
 }

@@ -16,9 +16,8 @@ use crate::config::Config;
 use crate::log::Log;
 use arrayvec::ArrayVec;
 use diva_core::{Cause, Claim, DEPTH, FlushRow, Pending, first_difference};
-use diva_decode::decode;
 use diva_image::Image;
-use diva_isa::{Kind, Record, kind_of};
+use diva_isa::{Effect, Record, effect_of};
 use diva_watchdog::{Recover, Watchdog};
 use std::alloc::{AllocError, Global};
 use std::marker::Model;
@@ -318,5 +317,5 @@ fn accept_all(pending: &mut Pending, claims: &[Claim], cycle: u64)
 fn puts_store(r: &Record) -> bool
     ensures { result ≡ puts_store r.now }
 {
-    r.end == 0 && decode(r.word).is_some_and(|i| matches!(kind_of(i.op), Kind::Store(_)))
+    r.end == 0 && matches!(effect_of(r), Effect::Stores { .. })
 }
