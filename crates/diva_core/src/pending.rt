@@ -1,5 +1,6 @@
 // The claims that wait for their commit, the oldest first.
 ghost use Rattle.std.specs.Prelude.{◌≡◌, ◌≤◌, ◌<◌, [], ◌∷◌, ◌++◌, length, IfOk, None, Some, slice_get, slice_set};
+ghost use Rattle.std.specs.Option.{option_copied};
 ghost use Rattle.circular_buffer.specs.Buffer.{Buffer, buffer};
 
 use crate::claims::Claim;
@@ -62,10 +63,10 @@ impl Pending {
     }
 
     /// The oldest claim, if there is one.
-    pub fn front(&self) -> Option<Entry>
-        ensures { result ≡ slice_get self.now.items 0 }
+    pub fn front(&self) -> Option<&Entry>
+        ensures { option_copied result ≡ slice_get self.now.items 0 }
     {
-        self.entries.front().copied()
+        self.entries.front()
     }
 
     /// The claim at a place, the oldest being at 0.

@@ -89,7 +89,7 @@ impl Works {
     {
         match self.recover {
             Recover::Running if self.arch.goes_on() => {
-                let free = self.pending.capacity().saturating_sub(self.pending.len());
+                let free = self.pending.capacity() - self.pending.len();
                 free.min(self.width as usize)
             }
             _ => 0,
@@ -184,7 +184,7 @@ impl Works {
             self.flush(Cause::Differs(diff));
             return false;
         }
-        if puts_store(&due) && self.arch.is_full() {
+        if self.arch.is_full() && puts_store(&due) {
             return false;
         }
         self.pending.pop();
