@@ -1,8 +1,9 @@
 use crate::{
-    Fail, Files, LoadFault, MemFile, MemFiles, MemSink, Sink, SinkFailed, SureFiles, What, decimal,
-    hex,
+    DiskFiles, Fail, Files, LoadFault, MemFile, MemFiles, MemSink, Sink, SinkFailed, StdSink,
+    SureFiles, What, decimal, hex,
 };
 use std::alloc::{AllocError, Global};
+use std::fs;
 use std::test::Fail as TestFail;
 
 /// `a` holds three bytes, and `b` none.
@@ -34,6 +35,27 @@ fn files_in_memory(rt: HostRuntime) -> Result<(), TestFail> {
     Ok(())
 }
 
+/// A file of more than one read: whole at its length, too long a byte below it, and gone in the end.
+#[test]
+fn files_of_the_disk(rt: HostRuntime) -> Result<(), TestFail> {
+    let alloc = rt.alloc();
+    let name = "files_of_the_disk.bytes";
+    let text = "0123456789".repeat(alloc, 1000)?;
+    fs::write(&rt, name, text.as_str())?;
+    let mut files = DiskFiles::new(&rt);
+    let whole = files.load(alloc, What::Image, name, 10_000);
+    let short = files.load(alloc, What::Image, name, 9_999);
+    fs::remove_file(&rt, name)?;
+    let gone = files.load(alloc, What::Image, name, 10_000);
+    match whole {
+        Ok(bytes) => assert_eq!(rt; bytes.as_slice(), text.as_bytes()),
+        Err(_) => assert!(rt; false, "the whole file"),
+    }
+    assert!(rt; matches!(short, Err(LoadFault::TooLong)));
+    assert!(rt; matches!(gone, Err(LoadFault::Failed)));
+    Ok(())
+}
+
 #[test]
 fn files_that_never_fail(rt: HostRuntime) -> Result<(), TestFail> {
     let alloc = rt.alloc();
@@ -62,6 +84,19 @@ fn sink_in_memory(rt: HostRuntime) -> Result<(), TestFail> {
         assert_eq!(rt; sink.bytes(), text.as_bytes(), "{piece}");
     }
     Ok(())
+}
+
+/// A writer with room for five bytes takes what fits, and then nothing more.
+#[test]
+fn sink_over_a_writer(rt: HostRuntime) {
+    let mut room = [0; 5];
+    {
+        let mut sink = StdSink::new(&mut room[..]);
+        for (piece, want) in [("", Ok(())), ("abc", Ok(())), ("def", Err(SinkFailed))] {
+            assert_eq!(rt; sink.put(piece.as_bytes()), want, "{piece}");
+        }
+    }
+    assert_eq!(rt; &room, b"abcde");
 }
 
 #[test]
