@@ -44,17 +44,22 @@ pub record IsUnread (words : List (List ℕ)) (told : Option (List ℕ → Optio
 
 -- ---- the image is refused: it is longer than a file may be, or has this first fault
 
-abbrev pub HasFault : Option (List ℕ → Option (List ℕ)) → List ℕ → ℕ → ℕ → Type 0
-HasFault told name kind place =
-    (kind ≡ 0) × (place ≡ file_limit) × IsLonger told name file_limit
-    ⊎ (bytes : List ℕ) × IsLoaded told name bytes × (fault_of bytes ≡ fault kind place)
+pub record IsTooLong (told : Option (List ℕ → Option (List ℕ))) (name : List ℕ) (kind place : ℕ) : Type 0 where
+  pub numbered : kind ≡ 0
+  pub placed : place ≡ file_limit
+  pub longer : IsLonger told name file_limit
+
+pub record HasFirstFault (told : Option (List ℕ → Option (List ℕ))) (name : List ℕ) (kind place : ℕ) : Type 0 where
+  pub bytes : List ℕ
+  pub loaded : IsLoaded told name bytes
+  pub first : fault_of bytes ≡ fault kind place
 
 pub record IsRefused (words : List (List ℕ)) (told : Option (List ℕ → Option (List ℕ))) (text : List ℕ) : Type 0 where
   pub options : RunOptions
   pub named : command_of words ≡ Some (Run options)
   pub kind : ℕ
   pub place : ℕ
-  pub cause : HasFault told options.image kind place
+  pub cause : IsTooLong told options.image kind place ⊎ HasFirstFault told options.image kind place
   pub line : text ≡ refused_line kind place
 
 -- ---- the image ran
