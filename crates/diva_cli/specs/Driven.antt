@@ -10,13 +10,15 @@ use Rattle.diva_args.specs.declared.job.CoreChoice.{CoreChoice}
 use Rattle.diva_args.specs.declared.job.CoreChoice.TheVariants.{Own, Lockstep, Silent}
 
 -- the lists are those of turns that lead from a machine and a core to others
-pub record ByTurns {C : Type 0} (gives : Meaning C) (m : Timed) (core : C) (lists : List (List Record)) (last : Timed) (after : C) : Type 0 where
+pub record ByTurns {C : Type 0} (gives : Meaning C) (m : Timed) (core : C) (lists : List (List Record))
+    (last : Timed) (after : C) : Type 0 where
   pub log : List (List Record × C)
   pub good : IsLog gives m core log last after
   pub in_order : lists ≡ lists_of log
 
 -- each list is what a rule gives at its machine, and the core handed in stays as it was
-pub record ByRule {C : Type 0} (rule : Timed → List Record) (m : Timed) (core : C) (lists : List (List Record)) (after : C) : Type 0 where
+pub record ByRule {C : Type 0} (rule : Timed → List Record) (m : Timed) (core : C) (lists : List (List Record))
+    (after : C) : Type 0 where
   pub follows : FollowRule rule m lists
   pub same : after ≡ core
 
@@ -27,7 +29,8 @@ AreHanded gives Lockstep m core lists last after = ByRule lockstep_list m core l
 AreHanded gives Silent m core lists last after = ByRule silent_list m core lists after
 
 -- a machine was driven by the core of a choice, one list for each cycle, until it ended or the budget's cycles were run
-pub record IsDriven {C : Type 0} (gives : Meaning C) (choice : CoreChoice) (budget : ℕ) (m : Timed) (core : C) (last : Timed) (after : C) : Type 0 where
+pub record IsDriven {C : Type 0} (gives : Meaning C) (choice : CoreChoice) (budget : ℕ) (m : Timed) (core : C)
+    (last : Timed) (after : C) : Type 0 where
   pub lists : List (List Record)
   pub ran : last ≡ run_of m lists
   pub each : last.cycles ≡ m.cycles + length lists

@@ -45,7 +45,8 @@ pub(crate) fn prepare<F: Files, C: Core>(
     files: &mut F,
     core: &mut C,
 ) -> Result<Outcome, AllocError>
-    ensures caused { IfOk result (HasCause C.gives (map (λ w. w.now) words.now) (F.told files.old) (F.faults files.old What.Image) (F.faults files.new What.Image) core.old core.new) }
+    ensures caused { IfOk result (HasCause C.gives (map (λ w. w.now) words.now) (F.told files.old)
+        (F.faults files.old What.Image) (F.faults files.new What.Image) core.old core.new) }
     ensures unasked { OnErr result (core.new ≡ core.old) }
 {
     let run = match read_words(alloc, words) {

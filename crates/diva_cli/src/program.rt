@@ -35,21 +35,39 @@ pub fn top<F: Files, S: Sink, C: Core>(
 
     // Whatever the core hands over, what a run writes is the text of a machine whose committed
     // state is the table's after the counted instructions, from the state of the image's bytes.
-    ensures halted { result ≡ 0 → HasHalted C.gives (map (λ w. w.now) words.now) (F.told files.old) core.old core.new (S.contents sink.old) (S.contents sink.new) }
-    ensures trapped { result ≡ 3 → HasTrapped C.gives (map (λ w. w.now) words.now) (F.told files.old) core.old core.new (S.contents sink.old) (S.contents sink.new) }
-    ensures unfinished { result ≡ 4 → IsUnfinished C.gives (map (λ w. w.now) words.now) (F.told files.old) core.old core.new (S.contents sink.old) (S.contents sink.new) }
+    ensures halted { result ≡ 0
+        → HasHalted C.gives (map (λ w. w.now) words.now) (F.told files.old) core.old core.new
+        (S.contents sink.old) (S.contents sink.new) }
+    ensures trapped { result ≡ 3
+        → HasTrapped C.gives (map (λ w. w.now) words.now) (F.told files.old) core.old core.new
+        (S.contents sink.old) (S.contents sink.new) }
+    ensures unfinished { result ≡ 4
+        → IsUnfinished C.gives (map (λ w. w.now) words.now) (F.told files.old) core.old core.new
+        (S.contents sink.old) (S.contents sink.new) }
 
     // Nothing is run: the words, the image's first fault, or the files' count of faults says why.
-    ensures misused { result ≡ 2 → HasLine (IsMisused (map (λ w. w.now) words.now)) core.old core.new (S.contents sink.old) (S.contents sink.new) }
-    ensures refused { result ≡ 5 → HasLine (IsRefused (map (λ w. w.now) words.now) (F.told files.old)) core.old core.new (S.contents sink.old) (S.contents sink.new) }
-    ensures unread { result ≡ 8 → HasLine (IsUnread (map (λ w. w.now) words.now) (F.told files.old) (F.faults files.old What.Image) (F.faults files.new What.Image)) core.old core.new (S.contents sink.old) (S.contents sink.new) }
+    ensures misused { result ≡ 2
+        → HasLine (IsMisused (map (λ w. w.now) words.now)) core.old core.new
+        (S.contents sink.old) (S.contents sink.new) }
+    ensures refused { result ≡ 5
+        → HasLine (IsRefused (map (λ w. w.now) words.now) (F.told files.old)) core.old core.new
+        (S.contents sink.old) (S.contents sink.new) }
+    ensures unread { result ≡ 8
+        → HasLine (IsUnread (map (λ w. w.now) words.now) (F.told files.old)
+        (F.faults files.old What.Image) (F.faults files.new What.Image)) core.old core.new
+        (S.contents sink.old) (S.contents sink.new) }
 
     // The sink's count of faults rose; memory ran out.
-    ensures cut { result ≡ 9 → IsCut C.gives (map (λ w. w.now) words.now) (F.told files.old) (F.faults files.old What.Image) (F.faults files.new What.Image) core.old core.new (S.contents sink.old) (S.contents sink.new) (S.faults sink.old) (S.faults sink.new) }
-    ensures memory { result ≡ 10 → HasNoMemory core.old core.new (S.contents sink.old) (S.contents sink.new) }
+    ensures cut { result ≡ 9
+        → IsCut C.gives (map (λ w. w.now) words.now) (F.told files.old)
+        (F.faults files.old What.Image) (F.faults files.new What.Image) core.old core.new
+        (S.contents sink.old) (S.contents sink.new) (S.faults sink.old) (S.faults sink.new) }
+    ensures memory { result ≡ 10
+        → HasNoMemory core.old core.new (S.contents sink.old) (S.contents sink.new) }
 
     // Words that are no command line are answered as that, and a sound image is run.
-    ensures usage { command_of (map (λ w. w.now) words.now) ≡ None → (result ≡ 2) ⊎ ((result ≡ 9) ⊎ (result ≡ 10)) }
+    ensures usage { command_of (map (λ w. w.now) words.now) ≡ None
+        → (result ≡ 2) ⊎ ((result ≡ 9) ⊎ (result ≡ 10)) }
     ensures complete { CanRun (map (λ w. w.now) words.now) (F.told files.old)
         → (Rose (F.faults files.old What.Image) (F.faults files.new What.Image) → ⊥)
         → (Rose (S.faults sink.old) (S.faults sink.new) → ⊥)

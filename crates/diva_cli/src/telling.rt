@@ -47,7 +47,8 @@ fn refused_line(kind: u8, place: u32) -> Line
 
 /// Writes what a run left, line by line; no memory is taken.
 fn write_finished<S: Sink>(finished: &Finished, sink: &mut S) -> Result<(), SinkFailed>
-    ensures { Puts (text_of finished.now.machine.timed (shown_dump finished.now.dump)) (S.contents sink.old) (S.contents sink.new) (S.faults sink.old) (S.faults sink.new) result }
+    ensures { Puts (text_of finished.now.machine.timed (shown_dump finished.now.dump))
+        (S.contents sink.old) (S.contents sink.new) (S.faults sink.old) (S.faults sink.new) result }
 {
     let machine = &finished.machine;
     let report = Report {
@@ -78,7 +79,8 @@ fn shown_dump(asked: Option<diva_args::Dump>) -> Option<Dump>
 }
 
 fn write_text<S: Sink>(outcome: &Outcome, sink: &mut S) -> Result<(), SinkFailed>
-    ensures { Puts (text_due outcome.now) (S.contents sink.old) (S.contents sink.new) (S.faults sink.old) (S.faults sink.new) result }
+    ensures { Puts (text_due outcome.now)
+        (S.contents sink.old) (S.contents sink.new) (S.faults sink.old) (S.faults sink.new) result }
 {
     match outcome {
         Outcome::Misused => sink.put(usage_line().bytes()),
@@ -105,7 +107,8 @@ fn status_of(outcome: &Outcome) -> u8
 
 /// Writes the text of an outcome, and answers the status.
 pub(crate) fn tell<S: Sink>(outcome: &Outcome, sink: &mut S) -> u8
-    ensures { Tells (status_due outcome.now) (text_due outcome.now) (S.contents sink.old) (S.contents sink.new) (S.faults sink.old) (S.faults sink.new) result }
+    ensures { Tells (status_due outcome.now) (text_due outcome.now)
+        (S.contents sink.old) (S.contents sink.new) (S.faults sink.old) (S.faults sink.new) result }
 {
     match write_text(outcome, sink) {
         Ok(()) => status_of(outcome),

@@ -1,4 +1,5 @@
--- One cycle of the timed machine, a definition for each phase. The cycle's number is raised first, so that each phase knows it.
+-- One cycle of the timed machine, a definition for each phase. The cycle's number is raised first, so that each phase
+-- knows it.
 use Rattle.std.specs.Prelude.{ℕ, zero, suc, ◌+◌, ◌-◌, ◌==◌, List, [], ◌∷◌, ◌++◌, length, take, map, Bool, true, false, ◌&&◌, Option, Some, None, is_none, nat_le, nat_lt, if◌then◌else◌}
 use Rattle.diva_isa.specs.declared.effect.Effect.{Effect}
 use Rattle.diva_isa.specs.declared.effect.Effect.TheVariants.{Nothing, Writes, Stores, Puts}
@@ -43,7 +44,14 @@ flush_row m cause = record { cycle = m.cycles; at = m.count; cause = cause }
 -- the machine flushes: nothing is pending, and the next instruction starts on the checker alone
 unfoldable pub flushed : Timed → Cause → Timed
 flushed m cause =
-    record m { pending = []; solo = Some m.cycles; flushes = m.flushes + 1; silent = m.silent + number (is_silent cause); rows = kept m.rows (flush_row m cause); newest = Some (flush_row m cause) }
+    record m {
+      pending = [];
+      solo = Some m.cycles;
+      flushes = m.flushes + 1;
+      silent = m.silent + number (is_silent cause);
+      rows = kept m.rows (flush_row m cause);
+      newest = Some (flush_row m cause);
+    }
 
 -- a record commits
 unfoldable pub committed : Timed → Record → Timed
@@ -66,12 +74,14 @@ followed next m = if goes_on m.arch then next m else record m { pending = [] }
 abbrev pub by_difference : (Timed → Timed) → Timed → List Waiting → Option Diff → Timed
 by_difference next m rest (Some d) = flushed m (Differs d)
 by_difference next m rest None =
-    if puts_store (record_of m.arch) && (m.owed == m.sizes.stores) then m else followed next (committed (record m { pending = rest }) (record_of m.arch))
+    if puts_store (record_of m.arch) && (m.owed == m.sizes.stores) then m
+    else followed next (committed (record m { pending = rest }) (record_of m.arch))
 
 -- the front claim is judged once it has passed through the checker's stages
 abbrev pub by_front : (Timed → Timed) → Timed → List Waiting → Timed
 by_front next m [] = m
-by_front next m (p ∷ rest) = if nat_le (p.cycle + DEPTH) m.cycles then by_difference next m rest (first_difference p.claim (record_of m.arch)) else m
+by_front next m (p ∷ rest) =
+    if nat_le (p.cycle + DEPTH) m.cycles then by_difference next m rest (first_difference p.claim (record_of m.arch)) else m
 
 -- at most n ready claims are judged, oldest first
 abbrev pub judged : ℕ → Timed → Timed
@@ -94,7 +104,8 @@ accepted_in cycle claim = record { claim = claim; cycle = cycle }
 
 abbrev pub accepted : Timed → List Record → Timed → List Waiting
 accepted before list m =
-    if goes_on m.arch && (m.flushes == before.flushes) then m.pending ++ map (accepted_in m.cycles) (take (room_of before) list) else m.pending
+    if goes_on m.arch && (m.flushes == before.flushes)
+    then m.pending ++ map (accepted_in m.cycles) (take (room_of before) list) else m.pending
 
 unfoldable pub accepts : Timed → List Record → Timed → Timed
 accepts before list m = record m { pending = accepted before list m }

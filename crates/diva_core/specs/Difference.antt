@@ -22,7 +22,9 @@ all_fields = Pc ∷ Word ∷ Src1 ∷ Src2 ∷ Addr ∷ Value ∷ Next ∷ End �
 -- the first of some fields in which p and r are unequal, with the value of each
 abbrev pub difference_in : List Field → Record → Record → Option Diff
 difference_in [] p r = None
-difference_in (f ∷ fs) p r = if field_of f p == field_of f r then difference_in fs p r else Some (record { field = f; claimed = field_of f p; due = field_of f r })
+difference_in (f ∷ fs) p r =
+    if field_of f p == field_of f r then difference_in fs p r
+    else Some (record { field = f; claimed = field_of f p; due = field_of f r })
 
 -- the first field in which the claim p differs from the record r, none where they are equal
 unfoldable pub first_difference : Record → Record → Option Diff

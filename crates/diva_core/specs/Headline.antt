@@ -29,11 +29,13 @@ abbrev pub dues : ℕ → State → List Record
 dues zero s = []
 dues (suc k) s = record_of s ∷ dues k (step s)
 
--- the records are the claims at the front of those that waited, each accepted DEPTH or more cycles before this one; the rest waits on
+-- the records are the claims at the front of those that waited, each accepted DEPTH or more cycles before this one; the
+-- rest waits on
 abbrev pub AreClaims : List Record → ℕ → List Waiting → List Waiting → Type 0
 AreClaims [] cycle waiting rest = rest ≡ waiting
 AreClaims (r ∷ records) cycle [] rest = ⊥
-AreClaims (r ∷ records) cycle (p ∷ waiting) rest = (p.claim ≡ r) × (p.cycle + DEPTH ≤ cycle) × AreClaims records cycle waiting rest
+AreClaims (r ∷ records) cycle (p ∷ waiting) rest =
+    (p.claim ≡ r) × (p.cycle + DEPTH ≤ cycle) × AreClaims records cycle waiting rest
 
 -- what a cycle committed are claims that waited
 pub record ByClaims (m : Timed) (records : List Record) : Type 0 where
@@ -63,7 +65,8 @@ pub record HasCommitted (m last : Timed) : Type 0 where
 -- the front claim p is judged: an equal one commits, another flushes
 pub record IsJudged (m last : Timed) (p : Waiting) : Type 0 where
   pub equal : p.claim ≡ record_of m.arch → m.count < last.count
-  pub unequal : p.claim ≢ record_of m.arch → (last.count ≡ m.count) × (last.flushes ≡ m.flushes + 1) × (last.silent ≡ m.silent)
+  pub unequal : p.claim ≢ record_of m.arch
+      → (last.count ≡ m.count) × (last.flushes ≡ m.flushes + 1) × (last.silent ≡ m.silent)
 
 -- ---- flushes come only where a claim differs or the watchdog barks
 
@@ -81,9 +84,11 @@ pub record HasRow (m last : Timed) (row : FlushRow) : Type 0 where
   pub flushes : last.flushes ≡ m.flushes + 1
   pub silent : last.silent ≡ m.silent + number (is_silent row.cause)
 
--- why a cycle added a row: a claim differed from the record that was due, or as many cycles as the limit passed without a commit
+-- why a cycle added a row: a claim differed from the record that was due, or as many cycles as the limit passed without
+-- a commit
 abbrev pub IsCause : Timed → Timed → Cause → Type 0
-IsCause m last (Differs d) = (d.claimed ≢ d.due) × (d.due ≡ field_of d.field (record_of (steps (last.count - m.count) m.arch)))
+IsCause m last (Differs d) =
+    (d.claimed ≢ d.due) × (d.due ≡ field_of d.field (record_of (steps (last.count - m.count) m.arch)))
 IsCause m last (Silent limit) = (limit ≡ m.sizes.limit) × (last.idle ≡ limit)
 
 -- a cycle added a row
@@ -94,7 +99,8 @@ pub record AddsRow (m last : Timed) : Type 0 where
   pub at : row.at ≡ last.count
   pub caused : IsCause m last row.cause
 
--- a row is true, `at` instructions after the state `start`: the due value is the table's and another was claimed, or the limit was reached
+-- a row is true, `at` instructions after the state `start`: the due value is the table's and another was claimed, or the
+-- limit was reached
 abbrev pub HasCause : State → ℕ → ℕ → Cause → Type 0
 HasCause start limit at (Differs d) = (d.claimed ≢ d.due) × (d.due ≡ field_of d.field (record_of (steps at start)))
 HasCause start limit at (Silent idle) = idle ≡ limit
@@ -116,7 +122,8 @@ newest_of before (row ∷ rows) = newest_of (Some row) rows
 abbrev pub is_silent_row : FlushRow → Bool
 is_silent_row row = is_silent row.cause
 
--- true rows were added to the log: the first that there was room for are kept, the newest stands beside them, and all are counted
+-- true rows were added to the log: the first that there was room for are kept, the newest stands beside them, and all are
+-- counted
 pub record AddsRows (m last : Timed) : Type 0 where
   pub added : List FlushRow
   pub are_true : All (IsRowSince m) added
@@ -129,7 +136,9 @@ pub record AddsRows (m last : Timed) : Type 0 where
 
 -- from this machine on, whatever is handed over
 abbrev pub WillCount : Timed → Type 0
-WillCount m = goes_on m.arch ≡ true → (lists : List (List Record)) → m.sizes.limit + DEPTH ≤ length lists → m.count < (run_of m lists).count
+WillCount m =
+    goes_on m.arch ≡ true → (lists : List (List Record)) → m.sizes.limit + DEPTH ≤ length lists
+    → m.count < (run_of m lists).count
 
 -- between two machines
 abbrev pub HasCounted : Timed → Timed → Type 0
@@ -137,4 +146,6 @@ HasCounted m last = goes_on m.arch ≡ true → m.cycles + (m.sizes.limit + DEPT
 
 -- d times as many cycles after which it goes on count d instructions at least
 abbrev pub KeepsPace : Timed → Timed → Type 0
-KeepsPace m last = (d : ℕ) → goes_on last.arch ≡ true → m.cycles + d * (m.sizes.limit + DEPTH) ≤ last.cycles → m.count + d ≤ last.count
+KeepsPace m last =
+    (d : ℕ) → goes_on last.arch ≡ true → m.cycles + d * (m.sizes.limit + DEPTH) ≤ last.cycles
+    → m.count + d ≤ last.count

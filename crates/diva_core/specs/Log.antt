@@ -10,11 +10,13 @@ use Rattle.diva_core.specs.Told.{Notice, notice_of}
 abbrev pub Meaning : Type 0 → Type 1
 Meaning C = C → Notice → State → List Record → C → Type 0
 
--- A log is a list of what was handed over, each with the core after it. It is good from a machine and a core, and leads to others.
+-- A log is a list of what was handed over, each with the core after it. It is good from a machine and a core, and leads
+-- to others.
 abbrev pub IsLog : {C : Type 0} → Meaning C → Timed → C → List (List Record × C) → Timed → C → Type 0
 IsLog gives m core [] last final = (last ≡ m) × (final ≡ core)
 IsLog gives m core (turn ∷ rest) last final =
-    (goes_on m.arch ≡ true) × (gives core (notice_of m) m.arch turn.0 turn.1 × IsLog gives (cycle_of m turn.0) turn.1 rest last final)
+    (goes_on m.arch ≡ true)
+    × (gives core (notice_of m) m.arch turn.0 turn.1 × IsLog gives (cycle_of m turn.0) turn.1 rest last final)
 
 -- the lists of a log, in order
 abbrev pub lists_of : {C : Type 0} → List (List Record × C) → List (List Record)

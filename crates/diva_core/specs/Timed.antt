@@ -5,7 +5,8 @@ use Rattle.diva_isa.specs.declared.record.Record.{Record}
 use Rattle.diva_core.specs.declared.flushes.FlushRow.{FlushRow}
 use Rattle.diva_core.specs.declared.TheConstants.{DEPTH}
 
--- the claims that are accepted and judged in a cycle at most, those that are pending at most, the stores that are owed at most, and the watchdog's limit in cycles
+-- the claims that are accepted and judged in a cycle at most, those that are pending at most, the stores that are owed at
+-- most, and the watchdog's limit in cycles
 pub record Sizes : Type 0 where
   pub width : ℕ
   pub window : ℕ
@@ -51,4 +52,18 @@ is_due m = is_empty m.pending && nat_lt 0 (room_of m) && nat_le m.sizes.limit (m
 
 -- the machine that begins with a state
 abbrev pub new_timed : Sizes → State → Timed
-new_timed sizes s = record { sizes = sizes; arch = s; count = 0; cycles = 0; pending = []; solo = None; owed = 0; idle = 0; rows = []; newest = None; flushes = 0; silent = 0 }
+new_timed sizes s =
+    record {
+      sizes = sizes;
+      arch = s;
+      count = 0;
+      cycles = 0;
+      pending = [];
+      solo = None;
+      owed = 0;
+      idle = 0;
+      rows = [];
+      newest = None;
+      flushes = 0;
+      silent = 0;
+    }

@@ -27,4 +27,14 @@ pub record IsRoom (pending room : ℕ) : Type 0 where
 
 abbrev pub notice_of : Timed → Notice
 notice_of m =
-    record { cycle = m.cycles + 1; count = m.count; pc = m.arch.pc; epoch = m.flushes; pending = length m.pending; room = room_of m; idle = m.idle; due = is_due m; ended = not (goes_on m.arch) }
+    record {
+      cycle = m.cycles + 1;
+      count = m.count;
+      pc = m.arch.pc;
+      epoch = m.flushes;
+      pending = length m.pending;
+      room = room_of m;
+      idle = m.idle;
+      due = is_due m;
+      ended = not (goes_on m.arch);
+    }

@@ -81,7 +81,9 @@ impl Pending {
     pub fn set(&mut self, at: usize, decoded: Option<Instr>, verdict: Option<Diff>)
         requires { at < length self.old.items }
         ensures { (entry : _) × (slice_get self.old.items at ≡ Some entry)
-            × (self.new ≡ buffer (slice_set self.old.items at (record entry { decoded = decoded; verdict = verdict })) self.old.capacity) }
+            × (self.new ≡ buffer
+            (slice_set self.old.items at (record entry { decoded = decoded; verdict = verdict }))
+            self.old.capacity) }
     {
         let entry = self.entries.get_mut(at).unwrap();
         entry.decoded = decoded;
@@ -91,7 +93,9 @@ impl Pending {
     /// Puts a claim behind the others, neither decoded nor checked yet.
     pub fn push(&mut self, claim: Claim, cycle: u64)
         requires { length self.old.items < self.old.capacity }
-        ensures { self.new ≡ buffer (self.old.items ++ record { claim = claim; cycle = cycle; decoded = None; verdict = None } ∷ []) self.old.capacity }
+        ensures { self.new ≡ buffer
+            (self.old.items ++ record { claim = claim; cycle = cycle; decoded = None; verdict = None } ∷ [])
+            self.old.capacity }
     {
         self.entries.push_back(Entry {
             claim,

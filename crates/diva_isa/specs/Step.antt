@@ -65,7 +65,8 @@ stored pc b n (Some number) = going pc (b % 2 ^ (8 * n))
 abbrev pub store : State → (pc addr b : ℕ) → ℕ → Outcome
 store s pc addr b n = if addr % n == 0 then stored pc b n (number_of s n addr) else ended pc (trap 6)
 
--- a call for service 1 puts the low byte of b, where the output has room (else trap 9), for 93 it halts with it; no other is served (trap 8)
+-- a call for service 1 puts the low byte of b, where the output has room (else trap 9), for 93 it halts with it; no
+-- other is served (trap 8)
 abbrev pub call : State → (pc a b : ℕ) → Outcome
 call s pc a b =
     if a == 1 then (if nat_lt (length s.output) 65536 then going pc (b % 2 ^ 8) else ended pc (trap 9))
@@ -156,7 +157,8 @@ outcome_of false None s pc a b addr = ended pc (trap 1)
 
 -- the parts of a record put together
 abbrev pub whole : (pc word a b addr : ℕ) → Outcome → Record
-whole pc word a b addr o = record { pc = pc; word = word; src1 = a; src2 = b; addr = addr; value = o.value; next = o.next; end = o.end }
+whole pc word a b addr o =
+    record { pc = pc; word = word; src1 = a; src2 = b; addr = addr; value = o.value; next = o.next; end = o.end }
 
 -- the record of a word w that says form
 abbrev pub said : State → (there : Bool) → ℕ → Option Instr → Record
@@ -210,7 +212,9 @@ with_effect s (Puts byte) = record s { output = s.output ++ byte ∷ [] }
 -- any record, also a wrong one: an ended state stays, and a record that ends changes nothing but the end
 unfoldable pub apply : State → Record → State
 apply s r =
-    if goes_on s then (if r.end == 0 then record (with_effect s (effect_of r)) { pc = r.next } else record s { end = r.end }) else s
+    if goes_on s
+    then (if r.end == 0 then record (with_effect s (effect_of r)) { pc = r.next } else record s { end = r.end })
+    else s
 
 -- one instruction; an ended state stays
 unfoldable pub step : State → State

@@ -52,7 +52,8 @@ pub fn fetch<L: Look>(state: &L) -> Option<u32>
 /// The registers that a word's instruction reads.
 pub fn sources<L: Look>(state: &L, form: Option<Instr>) -> Operands
     requires { IfSome form HasRegisters }
-    ensures { result ≡ record { first = source1_of form (L.shows state.now); second = source2_of form (L.shows state.now) } }
+    ensures { let s = L.shows state.now in
+        result ≡ record { first = source1_of form s; second = source2_of form s } }
 {
     match form {
         Some(i) => reads(state, &i),
@@ -65,7 +66,8 @@ pub fn sources<L: Look>(state: &L, form: Option<Instr>) -> Operands
 
 fn reads<L: Look>(state: &L, i: &Instr) -> Operands
     requires { HasRegisters i.now }
-    ensures { result ≡ record { first = source1 (kind i.now.op) (L.shows state.now) i.now; second = source2 (kind i.now.op) (L.shows state.now) i.now } }
+    ensures { let s = L.shows state.now in let k = kind i.now.op in
+        result ≡ record { first = source1 k s i.now; second = source2 k s i.now } }
 {
     match kind_of(i.op) {
         Kind::LoadUpper | Kind::AddUpper | Kind::Jump | Kind::Fence | Kind::Break => Operands {
@@ -203,7 +205,8 @@ pub fn finish<L: Look>(state: &L, there: bool, form: Option<Instr>, r: &Record) 
 }
 
 fn come_to<L: Look>(state: &L, i: &Instr, r: &Record) -> Outcome
-    ensures { result ≡ outcome (kind i.now.op) (L.shows state.now) i.now r.now.pc r.now.src1 r.now.src2 r.now.addr }
+    ensures { let s = L.shows state.now in
+        result ≡ outcome (kind i.now.op) s i.now r.now.pc r.now.src1 r.now.src2 r.now.addr }
 {
     let imm = i.imm.cast_unsigned();
     match kind_of(i.op) {

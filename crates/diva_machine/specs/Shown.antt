@@ -39,7 +39,8 @@ abbrev pub AreInside : Bytes → List Store → Type 0
 AreInside m [] = Unit {0}
 AreInside m (s ∷ stores) = IsInside m s.addr s.width × AreInside m stores
 
--- what holds of the committed state: memory ends at 2^32 at the latest, the undrained stores lie inside it, and the end is one that a record can have
+-- what holds of the committed state: memory ends at 2^32 at the latest, the undrained stores lie inside it, and the end is
+-- one that a record can have
 pub record IsKept (m : Bytes) (stores : List Store) (end : ℕ) : Type 0 where
   pub range : m.base + length m.items ≤ 2 ^ 32
   pub inside : AreInside m stores

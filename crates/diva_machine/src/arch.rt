@@ -37,7 +37,11 @@ impl Model for Arch {
 
     ghost Value = { Stored };
 
-    ghost view = { λ a. record { state = state_of a.regs a.pc (laid a.memory a.queue.items) a.output a.end; owed = length a.queue.items; stores = a.queue.capacity } };
+    ghost view = { λ a. record {
+      state = state_of a.regs a.pc (laid a.memory a.queue.items) a.output a.end;
+      owed = length a.queue.items;
+      stores = a.queue.capacity;
+    } };
 
     ghost invariant = { λ a. IsKept a.memory a.queue.items a.end };
 }

@@ -89,7 +89,8 @@ impl Machine {
     /// The pending claim at a place, the oldest being at 0.
     pub fn entry(&self, at: usize) -> Entry
         requires { at < length self.now.timed.pending }
-        ensures { slice_get self.now.timed.pending at ≡ Some (record { claim = result.claim; cycle = result.cycle }) }
+        ensures { slice_get self.now.timed.pending at
+            ≡ Some (record { claim = result.claim; cycle = result.cycle }) }
     {
         self.works.pending.entry(at)
     }
@@ -181,12 +182,14 @@ impl Machine {
         requires { self.old.timed.cycles < 2 ^ 60 }
         // It is the cycle of the definition, in every part.
         ensures cycled { self.new.timed ≡ cycle_of self.old.timed list.now }
-        ensures last { self.new.last ≡ dues (self.new.timed.count - self.old.timed.count) self.old.timed.arch }
+        ensures last { self.new.last
+            ≡ dues (self.new.timed.count - self.old.timed.count) self.old.timed.arch }
 
         // The committed state is the table's after the counted instructions, each committed by an
         // equal claim or by the checker alone, and each flush has its cause.
         ensures rises { Rises self.old.timed self.new.timed }
-        ensures commits { ByClaims self.old.timed self.new.last ⊎ ByItself self.old.timed self.new.last }
+        ensures commits { ByClaims self.old.timed self.new.last
+            ⊎ ByItself self.old.timed self.new.last }
         ensures logs { SameLog self.old.timed self.new.timed ⊎ AddsRow self.old.timed self.new.timed }
         ensures rows { AddsRows self.old.timed self.new.timed }
 
@@ -196,8 +199,17 @@ impl Machine {
 
         // Nothing ready is held up.
         ensures drained { (drained (begun self.old.timed)).owed < self.old.timed.sizes.stores }
-        ensures front { (p : Waiting) (rest : List Waiting) → goes_on self.old.timed.arch ≡ true → self.old.timed.solo ≡ None → self.old.timed.pending ≡ p ∷ rest → p.cycle + DEPTH ≤ self.old.timed.cycles + 1 → IsJudged self.old.timed self.new.timed p }
-        ensures sixth { (start : ℕ) → goes_on self.old.timed.arch ≡ true → self.old.timed.solo ≡ Some start → self.old.timed.cycles + 1 ≡ start + DEPTH → self.new.timed.count ≡ self.old.timed.count + 1 }
+        ensures front { (p : Waiting) (rest : List Waiting)
+            → goes_on self.old.timed.arch ≡ true
+            → self.old.timed.solo ≡ None
+            → self.old.timed.pending ≡ p ∷ rest
+            → p.cycle + DEPTH ≤ self.old.timed.cycles + 1
+            → IsJudged self.old.timed self.new.timed p }
+        ensures sixth { (start : ℕ)
+            → goes_on self.old.timed.arch ≡ true
+            → self.old.timed.solo ≡ Some start
+            → self.old.timed.cycles + 1 ≡ start + DEPTH
+            → self.new.timed.count ≡ self.old.timed.count + 1 }
     {
         if self.works.goes_on() {
             self.works.cycle(list.as_slice());

@@ -16,8 +16,10 @@ use diva_core::{Claims, Core};
 pub fn turn<C: Core>(m: &mut Machine, core: &mut C, list: &mut Claims)
     requires { m.old.timed.cycles < 2 ^ 60 }
     ensures cycled { m.new.timed ≡ cycle_of m.old.timed list.new }
-    ensures asked { goes_on m.old.timed.arch ≡ true → C.gives core.old (notice_of m.old.timed) m.old.timed.arch list.new core.new }
-    ensures ended { goes_on m.old.timed.arch ≡ false → (m.new.timed ≡ m.old.timed) × (m.new.last ≡ []) × (core.new ≡ core.old) × (list.new ≡ []) }
+    ensures asked { goes_on m.old.timed.arch ≡ true
+        → C.gives core.old (notice_of m.old.timed) m.old.timed.arch list.new core.new }
+    ensures ended { goes_on m.old.timed.arch ≡ false
+        → (m.new.timed ≡ m.old.timed) × (m.new.last ≡ []) × (core.new ≡ core.old) × (list.new ≡ []) }
 
     // The committed state is the table's after the counted instructions, each committed by an
     // equal claim or by the checker alone, and each flush has its cause.
@@ -42,9 +44,11 @@ pub fn drive<C: Core>(m: &mut Machine, core: &mut C, budget: u64) -> Drive
     // Machine and core are reached by turns, one for each cycle.
     ensures turns { Turns C.gives m.old.timed core.old m.new.timed core.new }
     ensures ended { (result ≡ Drive.Ended) ↔ (goes_on m.new.timed.arch ≡ false) }
-    ensures budget { (result ≡ Drive.Budget) ↔ ((m.new.timed.cycles ≡ m.old.timed.cycles + budget) × (goes_on m.new.timed.arch ≡ true)) }
+    ensures budget { (result ≡ Drive.Budget)
+        ↔ ((m.new.timed.cycles ≡ m.old.timed.cycles + budget) × (goes_on m.new.timed.arch ≡ true)) }
     ensures within { m.new.timed.cycles ≤ m.old.timed.cycles + budget }
-    ensures stays { goes_on m.old.timed.arch ≡ false → (m.new ≡ m.old) × (core.new ≡ core.old) }
+    ensures stays { goes_on m.old.timed.arch ≡ false
+        → (m.new ≡ m.old) × (core.new ≡ core.old) }
 
     // The committed state is the table's after the counted instructions, each committed by an
     // equal claim or by the checker alone, and each flush has its cause.

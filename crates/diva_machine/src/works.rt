@@ -142,7 +142,8 @@ impl Works {
     fn commit(&mut self, due: &Record)
         requires goes_on { GoesOn self.old.timed.arch }
         requires due { due.now ≡ record_of self.old.timed.arch }
-        requires space { puts_store due.now ≡ true → self.old.timed.owed < self.old.timed.sizes.stores }
+        requires space { puts_store due.now ≡ true
+            → self.old.timed.owed < self.old.timed.sizes.stores }
         requires count { self.old.timed.count < 2 ^ 63 }
         requires last { length self.old.last < 4 }
         ensures timed { self.new.timed ≡ committed self.old.timed due.now }
@@ -164,12 +165,16 @@ impl Works {
         requires silent { self.old.timed.silent < 2 ^ 63 }
         requires cycles { self.old.timed.cycles ≤ 2 ^ 60 }
         requires last { length self.old.last < 4 }
-        ensures judges { (next : Timed → Timed) → by_front next self.old.timed self.old.timed.pending ≡ (if result then next self.new.timed else self.new.timed) }
+        ensures judges { (next : Timed → Timed)
+            → by_front next self.old.timed self.old.timed.pending
+            ≡ (if result then next self.new.timed else self.new.timed) }
         ensures goes_on { IsTrue result → GoesOn self.new.timed.arch }
         ensures counted { self.old.timed.count ≤ self.new.timed.count }
         ensures one { self.new.timed.count ≤ self.old.timed.count + 1 }
-        ensures stepped { self.new.timed.arch ≡ steps (self.new.timed.count - self.old.timed.count) self.old.timed.arch }
-        ensures last { self.new.last ≡ self.old.last ++ dues (self.new.timed.count - self.old.timed.count) self.old.timed.arch }
+        ensures stepped { self.new.timed.arch
+            ≡ steps (self.new.timed.count - self.old.timed.count) self.old.timed.arch }
+        ensures last { self.new.last
+            ≡ self.old.last ++ dues (self.new.timed.count - self.old.timed.count) self.old.timed.arch }
         ensures same { IsTrue result → SameLog self.old.timed self.new.timed }
         ensures bounds { KeepsBounds self.old.timed self.new.timed }
     {
@@ -209,7 +214,8 @@ impl Works {
         requires last { self.old.last ≡ [] }
         ensures judged { self.new.timed ≡ judged n self.old.timed }
         ensures counted { self.old.timed.count ≤ self.new.timed.count }
-        ensures last { self.new.last ≡ dues (self.new.timed.count - self.old.timed.count) self.old.timed.arch }
+        ensures last { self.new.last
+            ≡ dues (self.new.timed.count - self.old.timed.count) self.old.timed.arch }
         ensures bounds { KeepsBounds self.old.timed self.new.timed }
     {
         for at in 0..n {
@@ -231,7 +237,8 @@ impl Works {
         requires cycles { self.old.timed.cycles ≤ 2 ^ 60 }
         requires last { self.old.last ≡ [] }
         ensures timed { self.new.timed ≡ commits self.old.timed }
-        ensures last { self.new.last ≡ dues (self.new.timed.count - self.old.timed.count) self.old.timed.arch }
+        ensures last { self.new.last
+            ≡ dues (self.new.timed.count - self.old.timed.count) self.old.timed.arch }
         ensures bounds { KeepsBounds self.old.timed self.new.timed }
     {
         match self.recover {
@@ -251,7 +258,8 @@ impl Works {
     #[tactic(auto, unfolding(diva_core::specs::Cycle::accepts))]
     fn accept(&mut self, room: usize, flushes: u64, list: &[Claim])
         requires { length self.old.timed.pending + room ≤ self.old.timed.sizes.window }
-        ensures timed { (before : Timed) → room_of before ≡ room → before.flushes ≡ flushes → self.new.timed ≡ accepts before list.now self.old.timed }
+        ensures timed { (before : Timed) → room_of before ≡ room → before.flushes ≡ flushes
+            → self.new.timed ≡ accepts before list.now self.old.timed }
         ensures last { self.new.last ≡ self.old.last }
     {
         if self.arch.goes_on() && self.log.flushes() == flushes {
@@ -287,7 +295,8 @@ impl Works {
         requires sound { IsMachine self.old.timed }
         requires cycles { self.old.timed.cycles < 2 ^ 60 }
         ensures timed { self.new.timed ≡ cycle_of self.old.timed list.now }
-        ensures last { self.new.last ≡ dues (self.new.timed.count - self.old.timed.count) self.old.timed.arch }
+        ensures last { self.new.last
+            ≡ dues (self.new.timed.count - self.old.timed.count) self.old.timed.arch }
     {
         let room = self.room();
         let flushes = self.log.flushes();
@@ -304,7 +313,8 @@ impl Works {
 /// Puts claims that are accepted in a cycle behind those that are pending.
 fn accept_all(pending: &mut Pending, claims: &[Claim], cycle: u64)
     requires { length pending.old.items + length claims.now ≤ pending.old.capacity }
-    ensures items { map waiting_of pending.new.items ≡ map waiting_of pending.old.items ++ map (accepted_in cycle) claims.now }
+    ensures items { map waiting_of pending.new.items
+        ≡ map waiting_of pending.old.items ++ map (accepted_in cycle) claims.now }
     ensures capacity { pending.new.capacity ≡ pending.old.capacity }
 {
     for claim in claims {

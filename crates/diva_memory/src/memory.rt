@@ -35,7 +35,8 @@ impl Memory {
     pub fn new(alloc: Global, base: u32, size: u32, payload: &[u8]) -> Result<Self, AllocError>
         requires range { base + size ≤ 2 ^ 32 }
         requires fits { length payload.now ≤ size }
-        ensures { IfOk result (λ m. m ≡ record { base = base; items = payload.now ++ replicate (size - length payload.now) 0 }) }
+        ensures { IfOk result (λ m.
+            m ≡ record { base = base; items = payload.now ++ replicate (size - length payload.now) 0 }) }
     {
         let mut bytes = Vec::with_capacity(alloc, size as usize)?;
         bytes.extend_from_slice(payload)?;
@@ -105,8 +106,10 @@ impl Memory {
     pub fn put_all(&mut self, addr: u32, bytes: &[u8])
         requires { IsInside self.old addr (length bytes.now) }
         ensures value { self.new ≡ put_all self.old addr bytes.now }
-        ensures written { (i : ℕ) → i < length bytes.now → byte_at self.new (addr + i) ≡ slice_get bytes.now i }
-        ensures others { (a : ℕ) → (a < addr) ⊎ (addr + length bytes.now ≤ a) → byte_at self.new a ≡ byte_at self.old a }
+        ensures written { (i : ℕ) → i < length bytes.now
+            → byte_at self.new (addr + i) ≡ slice_get bytes.now i }
+        ensures others { (a : ℕ) → (a < addr) ⊎ (addr + length bytes.now ≤ a)
+            → byte_at self.new a ≡ byte_at self.old a }
     {
         let at = (addr - self.base) as usize;
         self.bytes[at..at + bytes.len()].copy_from_slice(bytes);

@@ -3,6 +3,7 @@ use Rattle.std.specs.Prelude.{ℕ, List, Option, Some, Result, Bool, ◌==◌, �
 use Rattle.std.specs.List.{list_any}
 use Rattle.diva_outside.specs.Causes.{raised}
 use Rattle.diva_outside.specs.Faults.{faults_of, raised_at}
+use Rattle.diva_outside.specs.Files.{ToldFiles}
 use Rattle.diva_outside.specs.Named.{bytes_of, answer_to}
 use Rattle.diva_outside.specs.declared.faults.Faults.{Faults}
 use Rattle.diva_outside.specs.declared.files.What.{What}
@@ -16,7 +17,7 @@ pub record FilesInMemory : Type 0 where
   pub faults : Faults
 
 -- the bytes of each name, all of them told
-abbrev pub told_by : FilesInMemory → Option (List ℕ → Option (List ℕ))
+abbrev pub told_by : FilesInMemory → ToldFiles
 told_by m = Some (bytes_of m.files)
 
 abbrev pub faults_in : FilesInMemory → What → ℕ

@@ -72,7 +72,8 @@ fn read_file<R: rt::Files>(
 fn read_whole<R: Read>(file: &mut R, alloc: Global, limit: usize) -> Result<Vec<u8>, LoadFault>
     ensures within { IfOk result (λ v. length v.items ≤ limit) }
     ensures whole { IfOk result (λ v. IfSome (R.remaining file.old) (λ bytes. v.items ≡ bytes)) }
-    ensures too_long { IsErrOf result LoadFault.TooLong → IfSome (R.remaining file.old) (λ bytes. limit < length bytes) }
+    ensures too_long { IsErrOf result LoadFault.TooLong
+        → IfSome (R.remaining file.old) (λ bytes. limit < length bytes) }
 {
     let mut bytes = Vec::new(alloc);
     let mut buffer = [0; 4096];

@@ -48,7 +48,8 @@ impl Faults {
     /// Counts a load where it failed.
     pub fn count(&mut self, what: What, answer: &Result<Vec<u8>, LoadFault>)
         ensures counts { Counts self.old self.new what answer.now }
-        ensures failed { IsErrOf answer.now LoadFault.Failed → Rose (faults_of self.old what) (faults_of self.new what) }
+        ensures failed { IsErrOf answer.now LoadFault.Failed
+            → Rose (faults_of self.old what) (faults_of self.new what) }
         ensures later { (w : What) → faults_of self.old w ≤ faults_of self.new w }
     {
         if let Err(LoadFault::Failed) = answer {

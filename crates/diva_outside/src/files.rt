@@ -71,10 +71,14 @@ pub trait Files {
         ensures whole { IfOk result (λ v. Has (told self.old) name.now v.items) }
         ensures within { IfOk result (λ v. length v.items ≤ limit) }
 
-        ensures too_long { IsErrOf result LoadFault.TooLong → IsLonger (told self.old) name.now limit }
-        ensures failed { IsErrOf result LoadFault.Failed → Rose (faults self.old what) (faults self.new what) ⊎ IsMissing (told self.old) name.now }
+        ensures too_long { IsErrOf result LoadFault.TooLong
+            → IsLonger (told self.old) name.now limit }
+        ensures failed { IsErrOf result LoadFault.Failed
+            → Rose (faults self.old what) (faults self.new what) ⊎ IsMissing (told self.old) name.now }
 
         // A name that has no bytes is no fault of the files.
-        ensures missing { IsMissing (told self.old) name.now → IsErrOf result LoadFault.Failed ⊎ IsErrOf result LoadFault.Memory }
-        ensures uncounted { IsMissing (told self.old) name.now → (w : What) → faults self.new w ≡ faults self.old w };
+        ensures missing { IsMissing (told self.old) name.now
+            → IsErrOf result LoadFault.Failed ⊎ IsErrOf result LoadFault.Memory }
+        ensures uncounted { IsMissing (told self.old) name.now
+            → (w : What) → faults self.new w ≡ faults self.old w };
 }

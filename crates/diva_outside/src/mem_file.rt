@@ -59,7 +59,8 @@ pub(crate) fn find<'a>(files: &'a [MemFile], name: &str) -> Option<&'a [u8]>
 /// The bytes, where they are `limit` at most.
 pub(crate) fn copy(alloc: Global, bytes: &[u8], limit: usize) -> Result<Vec<u8>, LoadFault>
     ensures ok { IfOk result (λ v. answer_of bytes.now limit ≡ Ok v.items) }
-    ensures err { IfErr result (λ fault. fault ≢ LoadFault.Memory → answer_of bytes.now limit ≡ Err fault) }
+    ensures err { IfErr result (λ fault. fault ≢ LoadFault.Memory
+        → answer_of bytes.now limit ≡ Err fault) }
 {
     if bytes.len() > limit {
         return Err(LoadFault::TooLong);

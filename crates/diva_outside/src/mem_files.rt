@@ -65,14 +65,19 @@ impl Files for MemFiles {
         ensures later { (w : What) → faults_in self.old w ≤ faults_in self.new w }
         ensures whole { IfOk result (λ v. Has (told_by self.old) name.now v.items) }
         ensures within { IfOk result (λ v. length v.items ≤ limit) }
-        ensures too_long { IsErrOf result LoadFault.TooLong → IsLonger (told_by self.old) name.now limit }
-        ensures failed { IsErrOf result LoadFault.Failed → Rose (faults_in self.old what) (faults_in self.new what) ⊎ IsMissing (told_by self.old) name.now }
-        ensures missing { IsMissing (told_by self.old) name.now → IsErrOf result LoadFault.Failed ⊎ IsErrOf result LoadFault.Memory }
-        ensures uncounted { IsMissing (told_by self.old) name.now → (w : What) → faults_in self.new w ≡ faults_in self.old w }
+        ensures too_long { IsErrOf result LoadFault.TooLong
+            → IsLonger (told_by self.old) name.now limit }
+        ensures failed { IsErrOf result LoadFault.Failed
+            → Rose (faults_in self.old what) (faults_in self.new what) ⊎ IsMissing (told_by self.old) name.now }
+        ensures missing { IsMissing (told_by self.old) name.now
+            → IsErrOf result LoadFault.Failed ⊎ IsErrOf result LoadFault.Memory }
+        ensures uncounted { IsMissing (told_by self.old) name.now
+            → (w : What) → faults_in self.new w ≡ faults_in self.old w }
 
         // The answer is that of the definition, unless memory runs out.
         ensures ok { IfOk result (λ v. load_of self.old name.now limit ≡ Ok v.items) }
-        ensures err { IfErr result (λ fault. fault ≢ LoadFault.Memory → load_of self.old name.now limit ≡ Err fault) }
+        ensures err { IfErr result (λ fault. fault ≢ LoadFault.Memory
+            → load_of self.old name.now limit ≡ Err fault) }
         ensures after { self.new ≡ after_load self.old what name.now }
     {
         self.calls = self.calls.saturating_add(1);
@@ -99,7 +104,8 @@ fn answer(
     limit: usize,
 ) -> Result<Vec<u8>, LoadFault>
     ensures ok { IfOk result (λ v. answer_to (option_copied found.entry) fails limit ≡ Ok v.items) }
-    ensures err { IfErr result (λ fault. fault ≢ LoadFault.Memory → answer_to (option_copied found.entry) fails limit ≡ Err fault) }
+    ensures err { IfErr result (λ fault. fault ≢ LoadFault.Memory
+        → answer_to (option_copied found.entry) fails limit ≡ Err fault) }
 {
     match found {
         Some(bytes) if !fails => copy(alloc, bytes, limit),

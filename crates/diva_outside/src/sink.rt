@@ -24,7 +24,8 @@ pub trait Sink {
 
 /// Puts lines, one after the other, until one fails.
 pub fn put_lines<S: Sink>(sink: &mut S, lines: &[Line]) -> Result<(), SinkFailed>
-    ensures { Puts (concat lines.now) (S.contents sink.old) (S.contents sink.new) (S.faults sink.old) (S.faults sink.new) result }
+    ensures { Puts (concat lines.now)
+        (S.contents sink.old) (S.contents sink.new) (S.faults sink.old) (S.faults sink.new) result }
 {
     for line in lines {
         match sink.put(line.bytes()) {

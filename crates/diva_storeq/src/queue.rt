@@ -65,8 +65,10 @@ impl StoreQueue {
         ensures laid { (m : Bytes) → laid m self.new.items ≡ lay (laid m self.old.items) s }
 
         // Exactly the bytes that it covers are changed.
-        ensures covered { (m : Bytes) (a : ℕ) → IsInside m a 1 → IsInside (bytes_of s) a 1 → byte_at (laid m self.new.items) a ≡ byte_at (bytes_of s) a }
-        ensures others { (m : Bytes) (a : ℕ) → ¬ IsInside (bytes_of s) a 1 → byte_at (laid m self.new.items) a ≡ byte_at (laid m self.old.items) a }
+        ensures covered { (m : Bytes) (a : ℕ) → IsInside m a 1 → IsInside (bytes_of s) a 1
+            → byte_at (laid m self.new.items) a ≡ byte_at (bytes_of s) a }
+        ensures others { (m : Bytes) (a : ℕ) → ¬ IsInside (bytes_of s) a 1
+            → byte_at (laid m self.new.items) a ≡ byte_at (laid m self.old.items) a }
     {
         self.stores.push_back(s);
     }

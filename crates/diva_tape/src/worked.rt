@@ -18,7 +18,8 @@ ghost use Rattle.diva_tape.specs.Programs.{three_instructions, jump_to_itself, o
 
 /// The record of `addi x1, x0, 5`, and what the program leaves in the registers.
 pub fn three_instructions_step_by_step()
-    ensures first { record_of three_instructions ≡ record { pc = 0; word = 0x00500093; src1 = 0; src2 = 0; addr = 0; value = 5; next = 4; end = 0 } }
+    ensures first { record_of three_instructions
+        ≡ record { pc = 0; word = 0x00500093; src1 = 0; src2 = 0; addr = 0; value = 5; next = 4; end = 0 } }
     ensures registers { registers (1 ∷ 17 ∷ []) (steps 3 three_instructions) ≡ 5 ∷ 93 ∷ [] }
     ensures pc { (steps 3 three_instructions).pc ≡ 8 }
     ensures end { (steps 3 three_instructions).end ≡ halt 0 }
@@ -27,26 +28,31 @@ pub fn three_instructions_step_by_step()
 /// A load that is both misaligned and outside memory: misaligned wins. A trap changes nothing else.
 pub fn misaligned_wins_over_outside()
     ensures step { step misaligned_load_outside ≡ record misaligned_load_outside { end = trap 4 } }
-    ensures summary { summary_of (led_by lockstep_list 20 (new_timed defaults misaligned_load_outside)) ≡ record { end = trap 4; count = 1; cycles = 7; flushes = 0; silent = 0; rows = [] } }
+    ensures summary { summary_of (led_by lockstep_list 20 (new_timed defaults misaligned_load_outside))
+        ≡ record { end = trap 4; count = 1; cycles = 7; flushes = 0; silent = 0; rows = [] } }
 {}
 
 /// A jump to an address that is no multiple of four traps, and writes no register.
 pub fn a_jump_to_no_multiple_of_four_traps()
     ensures step { step jump_to_six ≡ record jump_to_six { end = trap 0 } }
-    ensures summary { summary_of (led_by lockstep_list 20 (new_timed defaults jump_to_six)) ≡ record { end = trap 0; count = 1; cycles = 7; flushes = 0; silent = 0; rows = [] } }
+    ensures summary { summary_of (led_by lockstep_list 20 (new_timed defaults jump_to_six))
+        ≡ record { end = trap 0; count = 1; cycles = 7; flushes = 0; silent = 0; rows = [] } }
 {}
 
 /// Behind the last word of memory there is none to fetch.
 pub fn a_fetch_outside_memory_traps()
-    ensures second { record_of (step one_word) ≡ record { pc = 4; word = 0; src1 = 0; src2 = 0; addr = 0; value = 0; next = 4; end = trap 1 } }
-    ensures summary { summary_of (led_by lockstep_list 20 (new_timed defaults one_word)) ≡ record { end = trap 1; count = 2; cycles = 14; flushes = 0; silent = 0; rows = [] } }
+    ensures second { record_of (step one_word)
+        ≡ record { pc = 4; word = 0; src1 = 0; src2 = 0; addr = 0; value = 0; next = 4; end = trap 1 } }
+    ensures summary { summary_of (led_by lockstep_list 20 (new_timed defaults one_word))
+        ≡ record { end = trap 1; count = 2; cycles = 14; flushes = 0; silent = 0; rows = [] } }
 {}
 
 /// x0 stays 0, though its record has the value that was computed.
 pub fn a_write_to_x0_is_ignored()
     ensures value { (record_of write_to_x0).value ≡ 7 }
     ensures registers { registers (0 ∷ 1 ∷ []) (steps 2 write_to_x0) ≡ 0 ∷ 0 ∷ [] }
-    ensures summary { summary_of (led_by one_ahead 20 (new_timed defaults write_to_x0)) ≡ record { end = halt 0; count = 4; cycles = 10; flushes = 0; silent = 0; rows = [] } }
+    ensures summary { summary_of (led_by one_ahead 20 (new_timed defaults write_to_x0))
+        ≡ record { end = halt 0; count = 4; cycles = 10; flushes = 0; silent = 0; rows = [] } }
 {}
 
 /// A division by zero does not trap: the quotient is all ones.
@@ -63,26 +69,41 @@ pub fn the_least_number_divided_by_minus_one()
 
 /// A byte that was stored in the cycle before is seen by a load of the whole word.
 pub fn a_store_in_flight_is_seen_by_a_load()
-    ensures registers { registers (1 ∷ 2 ∷ []) (steps 3 store_then_load) ≡ 0x00000055 ∷ 0x44335511 ∷ [] }
-    ensures summary { summary_of (led_by one_ahead 20 (new_timed defaults store_then_load)) ≡ record { end = halt 0; count = 5; cycles = 11; flushes = 0; silent = 0; rows = [] } }
+    ensures registers { registers (1 ∷ 2 ∷ []) (steps 3 store_then_load)
+        ≡ 0x00000055 ∷ 0x44335511 ∷ [] }
+    ensures summary { summary_of (led_by one_ahead 20 (new_timed defaults store_then_load))
+        ≡ record { end = halt 0; count = 5; cycles = 11; flushes = 0; silent = 0; rows = [] } }
 {}
 
 /// A store over the next instruction's word is seen by its fetch at once.
 pub fn a_store_over_the_next_word()
     ensures end { (steps 4 store_over_next_word).end ≡ halt 0 }
-    ensures summary { summary_of (led_by one_ahead 20 (new_timed defaults store_over_next_word)) ≡ record { end = halt 0; count = 4; cycles = 10; flushes = 0; silent = 0; rows = [] } }
+    ensures summary { summary_of (led_by one_ahead 20 (new_timed defaults store_over_next_word))
+        ≡ record { end = halt 0; count = 4; cycles = 10; flushes = 0; silent = 0; rows = [] } }
 {}
 
 /// A core that fetched before that store claims the old word, which flushes.
 pub fn a_stale_word_flushes()
-    ensures summary { summary_of (led_by (handed stale_word) 20 (new_timed defaults store_over_next_word)) ≡ record { end = halt 0; count = 4; cycles = 16; flushes = 1; silent = 0; rows = record { cycle = 10; at = 3; cause = Differs (record { field = Word; claimed = 0x00000013; due = 0x00000073 }) } ∷ [] } }
+    ensures summary { summary_of (led_by (handed stale_word) 20 (new_timed defaults store_over_next_word))
+        ≡ record {
+          end = halt 0;
+          count = 4;
+          cycles = 16;
+          flushes = 1;
+          silent = 0;
+          rows =
+              record { cycle = 10; at = 3; cause = Differs (record { field = Word; claimed = 0x00000013; due = 0x00000073 }) } ∷ [];
+        } }
 {}
 
 /// Two stores commit in one cycle where four may be owed. Where one may, the second waits a cycle.
 pub fn a_store_waits_for_room()
-    ensures with_one { commitments (handed two_at_once) 20 (new_timed (record defaults { stores = 1 }) two_stores) ≡ 7 ∷ 8 ∷ 8 ∷ 9 ∷ [] }
-    ensures with_four { commitments (handed two_at_once) 20 (new_timed defaults two_stores) ≡ 7 ∷ 7 ∷ 8 ∷ 8 ∷ [] }
-    ensures summary { summary_of (led_by (handed two_at_once) 20 (new_timed (record defaults { stores = 1 }) two_stores)) ≡ record { end = halt 0; count = 4; cycles = 9; flushes = 0; silent = 0; rows = [] } }
+    ensures with_one { commitments (handed two_at_once) 20 (new_timed (record defaults { stores = 1 }) two_stores)
+        ≡ 7 ∷ 8 ∷ 8 ∷ 9 ∷ [] }
+    ensures with_four { commitments (handed two_at_once) 20 (new_timed defaults two_stores)
+        ≡ 7 ∷ 7 ∷ 8 ∷ 8 ∷ [] }
+    ensures summary { summary_of (led_by (handed two_at_once) 20 (new_timed (record defaults { stores = 1 }) two_stores))
+        ≡ record { end = halt 0; count = 4; cycles = 9; flushes = 0; silent = 0; rows = [] } }
 {}
 
 // ---- right claims
@@ -90,45 +111,87 @@ pub fn a_store_waits_for_room()
 /// An instruction that is handed over alone commits six cycles later, and the next is accepted in
 /// the cycle after that.
 pub fn three_instructions_in_lockstep()
-    ensures accepted { acceptances lockstep_list 30 (new_timed defaults three_instructions) ≡ 1 ∷ 8 ∷ 15 ∷ [] }
-    ensures committed { commitments lockstep_list 30 (new_timed defaults three_instructions) ≡ 7 ∷ 14 ∷ 21 ∷ [] }
-    ensures summary { summary_of (led_by lockstep_list 30 (new_timed defaults three_instructions)) ≡ record { end = halt 0; count = 3; cycles = 21; flushes = 0; silent = 0; rows = [] } }
-    ensures state { (led_by lockstep_list 30 (new_timed defaults three_instructions)).arch ≡ steps 3 three_instructions }
+    ensures accepted { acceptances lockstep_list 30 (new_timed defaults three_instructions)
+        ≡ 1 ∷ 8 ∷ 15 ∷ [] }
+    ensures committed { commitments lockstep_list 30 (new_timed defaults three_instructions)
+        ≡ 7 ∷ 14 ∷ 21 ∷ [] }
+    ensures summary { summary_of (led_by lockstep_list 30 (new_timed defaults three_instructions))
+        ≡ record { end = halt 0; count = 3; cycles = 21; flushes = 0; silent = 0; rows = [] } }
+    ensures state { (led_by lockstep_list 30 (new_timed defaults three_instructions)).arch
+        ≡ steps 3 three_instructions }
 {}
 
 /// Claims that follow one another by a cycle commit so.
 pub fn three_instructions_one_by_one()
-    ensures accepted { acceptances one_ahead 20 (new_timed defaults three_instructions) ≡ 1 ∷ 2 ∷ 3 ∷ [] }
-    ensures committed { commitments one_ahead 20 (new_timed defaults three_instructions) ≡ 7 ∷ 8 ∷ 9 ∷ [] }
-    ensures summary { summary_of (led_by one_ahead 20 (new_timed defaults three_instructions)) ≡ record { end = halt 0; count = 3; cycles = 9; flushes = 0; silent = 0; rows = [] } }
+    ensures accepted { acceptances one_ahead 20 (new_timed defaults three_instructions)
+        ≡ 1 ∷ 2 ∷ 3 ∷ [] }
+    ensures committed { commitments one_ahead 20 (new_timed defaults three_instructions)
+        ≡ 7 ∷ 8 ∷ 9 ∷ [] }
+    ensures summary { summary_of (led_by one_ahead 20 (new_timed defaults three_instructions))
+        ≡ record { end = halt 0; count = 3; cycles = 9; flushes = 0; silent = 0; rows = [] } }
 {}
 
 /// Claims past the room are dropped.
 pub fn claims_past_the_room_are_dropped()
-    ensures accepted { acceptances (handed eight_at_once) 20 (new_timed defaults three_instructions) ≡ 1 ∷ 1 ∷ 2 ∷ 2 ∷ [] }
-    ensures summary { summary_of (led_by (handed eight_at_once) 20 (new_timed defaults three_instructions)) ≡ record { end = halt 0; count = 3; cycles = 8; flushes = 0; silent = 0; rows = [] } }
+    ensures accepted { acceptances (handed eight_at_once) 20 (new_timed defaults three_instructions)
+        ≡ 1 ∷ 1 ∷ 2 ∷ 2 ∷ [] }
+    ensures summary { summary_of (led_by (handed eight_at_once) 20 (new_timed defaults three_instructions))
+        ≡ record { end = halt 0; count = 3; cycles = 8; flushes = 0; silent = 0; rows = [] } }
 {}
 
 // ---- wrong claims
 
 /// A claim with one wrong bit flushes. The checker runs that instruction alone, for six cycles.
 pub fn a_flipped_value_flushes()
-    ensures accepted { acceptances flipped_first 30 (new_timed defaults three_instructions) ≡ 1 ∷ 14 ∷ 21 ∷ [] }
-    ensures committed { commitments flipped_first 30 (new_timed defaults three_instructions) ≡ 13 ∷ 20 ∷ 27 ∷ [] }
-    ensures summary { summary_of (led_by flipped_first 30 (new_timed defaults three_instructions)) ≡ record { end = halt 0; count = 3; cycles = 27; flushes = 1; silent = 0; rows = record { cycle = 7; at = 0; cause = Differs (record { field = Value; claimed = 4; due = 5 }) } ∷ [] } }
-    ensures state { (led_by flipped_first 30 (new_timed defaults three_instructions)).arch ≡ steps 3 three_instructions }
+    ensures accepted { acceptances flipped_first 30 (new_timed defaults three_instructions)
+        ≡ 1 ∷ 14 ∷ 21 ∷ [] }
+    ensures committed { commitments flipped_first 30 (new_timed defaults three_instructions)
+        ≡ 13 ∷ 20 ∷ 27 ∷ [] }
+    ensures summary { summary_of (led_by flipped_first 30 (new_timed defaults three_instructions))
+        ≡ record {
+          end = halt 0;
+          count = 3;
+          cycles = 27;
+          flushes = 1;
+          silent = 0;
+          rows =
+              record { cycle = 7; at = 0; cause = Differs (record { field = Value; claimed = 4; due = 5 }) } ∷ [];
+        } }
+    ensures state { (led_by flipped_first 30 (new_timed defaults three_instructions)).arch
+        ≡ steps 3 three_instructions }
 {}
 
 /// A right claim that comes twice commits once, and flushes the second time.
 pub fn a_claim_made_twice_flushes()
-    ensures summary { summary_of (led_by (handed second_twice) 20 (new_timed defaults three_instructions)) ≡ record { end = halt 0; count = 3; cycles = 14; flushes = 1; silent = 0; rows = record { cycle = 8; at = 2; cause = Differs (record { field = Pc; claimed = 4; due = 8 }) } ∷ [] } }
+    ensures summary { summary_of (led_by (handed second_twice) 20 (new_timed defaults three_instructions))
+        ≡ record {
+          end = halt 0;
+          count = 3;
+          cycles = 14;
+          flushes = 1;
+          silent = 0;
+          rows =
+              record { cycle = 8; at = 2; cause = Differs (record { field = Pc; claimed = 4; due = 8 }) } ∷ [];
+        } }
 {}
 
 /// A wrong claim that is judged in the very cycle in which the watchdog would fire: the claim is
 /// the cause. After it the watchdog fires for each instruction. Its limit is 16 cycles.
 pub fn a_wrong_claim_comes_before_the_watchdog()
-    ensures committed { commitments (handed late_and_wrong) 70 (new_timed (record defaults { limit = 16 }) three_instructions) ≡ 22 ∷ 44 ∷ 66 ∷ [] }
-    ensures summary { summary_of (led_by (handed late_and_wrong) 70 (new_timed (record defaults { limit = 16 }) three_instructions)) ≡ record { end = halt 0; count = 3; cycles = 66; flushes = 3; silent = 2; rows = record { cycle = 16; at = 0; cause = Differs (record { field = Value; claimed = 4; due = 5 }) } ∷ record { cycle = 38; at = 1; cause = Silent 16 } ∷ record { cycle = 60; at = 2; cause = Silent 16 } ∷ [] } }
+    ensures committed { commitments (handed late_and_wrong) 70 (new_timed (record defaults { limit = 16 }) three_instructions)
+        ≡ 22 ∷ 44 ∷ 66 ∷ [] }
+    ensures summary { summary_of (led_by (handed late_and_wrong) 70 (new_timed (record defaults { limit = 16 }) three_instructions))
+        ≡ record {
+          end = halt 0;
+          count = 3;
+          cycles = 66;
+          flushes = 3;
+          silent = 2;
+          rows =
+              record { cycle = 16; at = 0; cause = Differs (record { field = Value; claimed = 4; due = 5 }) }
+              ∷ record { cycle = 38; at = 1; cause = Silent 16 }
+              ∷ record { cycle = 60; at = 2; cause = Silent 16 } ∷ [];
+        } }
 {}
 
 // ---- silence
@@ -136,17 +199,50 @@ pub fn a_wrong_claim_comes_before_the_watchdog()
 /// Where nothing is handed over, the watchdog fires after 64 cycles and the instruction commits
 /// six cycles later: 70 for each, which is the bound.
 pub fn three_instructions_in_silence()
-    ensures committed { commitments silent_list 220 (new_timed defaults three_instructions) ≡ 70 ∷ 140 ∷ 210 ∷ [] }
-    ensures summary { summary_of (led_by silent_list 220 (new_timed defaults three_instructions)) ≡ record { end = halt 0; count = 3; cycles = 210; flushes = 3; silent = 3; rows = record { cycle = 64; at = 0; cause = Silent 64 } ∷ record { cycle = 134; at = 1; cause = Silent 64 } ∷ record { cycle = 204; at = 2; cause = Silent 64 } ∷ [] } }
-    ensures state { (led_by silent_list 220 (new_timed defaults three_instructions)).arch ≡ steps 3 three_instructions }
+    ensures committed { commitments silent_list 220 (new_timed defaults three_instructions)
+        ≡ 70 ∷ 140 ∷ 210 ∷ [] }
+    ensures summary { summary_of (led_by silent_list 220 (new_timed defaults three_instructions))
+        ≡ record {
+          end = halt 0;
+          count = 3;
+          cycles = 210;
+          flushes = 3;
+          silent = 3;
+          rows =
+              record { cycle = 64; at = 0; cause = Silent 64 }
+              ∷ record { cycle = 134; at = 1; cause = Silent 64 }
+              ∷ record { cycle = 204; at = 2; cause = Silent 64 } ∷ [];
+        } }
+    ensures state { (led_by silent_list 220 (new_timed defaults three_instructions)).arch
+        ≡ steps 3 three_instructions }
 {}
 
 /// A program that never ends goes on in silence too.
 pub fn a_jump_to_itself_in_silence()
-    ensures summary { summary_of (led_by silent_list 140 (new_timed defaults jump_to_itself)) ≡ record { end = 0; count = 2; cycles = 140; flushes = 2; silent = 2; rows = record { cycle = 64; at = 0; cause = Silent 64 } ∷ record { cycle = 134; at = 1; cause = Silent 64 } ∷ [] } }
+    ensures summary { summary_of (led_by silent_list 140 (new_timed defaults jump_to_itself))
+        ≡ record {
+          end = 0;
+          count = 2;
+          cycles = 140;
+          flushes = 2;
+          silent = 2;
+          rows =
+              record { cycle = 64; at = 0; cause = Silent 64 }
+              ∷ record { cycle = 134; at = 1; cause = Silent 64 } ∷ [];
+        } }
 {}
 
 /// A core that falls silent for 200 cycles, and then goes on where the machine is.
 pub fn a_silence_of_200_cycles()
-    ensures summary { summary_of (led_by (hushed 5 204 one_ahead) 300 (new_timed defaults jump_to_itself)) ≡ record { end = 0; count = 96; cycles = 300; flushes = 2; silent = 2; rows = record { cycle = 74; at = 4; cause = Silent 64 } ∷ record { cycle = 144; at = 5; cause = Silent 64 } ∷ [] } }
+    ensures summary { summary_of (led_by (hushed 5 204 one_ahead) 300 (new_timed defaults jump_to_itself))
+        ≡ record {
+          end = 0;
+          count = 96;
+          cycles = 300;
+          flushes = 2;
+          silent = 2;
+          rows =
+              record { cycle = 74; at = 4; cause = Silent 64 }
+              ∷ record { cycle = 144; at = 5; cause = Silent 64 } ∷ [];
+        } }
 {}

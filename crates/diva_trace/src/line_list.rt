@@ -22,7 +22,8 @@ pub(crate) trait LineList {
 
 /// Puts the lines, one after the other, until one fails.
 pub(crate) fn write_lines<L: LineList, S: Sink>(list: &L, sink: &mut S) -> Result<(), SinkFailed>
-    ensures { Puts (concat (L.lines list.now)) (S.contents sink.old) (S.contents sink.new) (S.faults sink.old) (S.faults sink.new) result }
+    ensures { Puts (concat (L.lines list.now))
+        (S.contents sink.old) (S.contents sink.new) (S.faults sink.old) (S.faults sink.new) result }
 {
     for at in 0..list.count() {
         let line = list.line(at);

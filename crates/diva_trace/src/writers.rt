@@ -87,7 +87,8 @@ impl LineList for DumpLines<'_> {
 /// Puts the flushes, in order.
 #[tactic(auto, unfolding(crate::specs::Text::rows_text))]
 pub fn write_rows<S: Sink>(rows: &[FlushRow], sink: &mut S) -> Result<(), SinkFailed>
-    ensures { Puts (rows_text rows.now) (S.contents sink.old) (S.contents sink.new) (S.faults sink.old) (S.faults sink.new) result }
+    ensures { Puts (rows_text rows.now)
+        (S.contents sink.old) (S.contents sink.new) (S.faults sink.old) (S.faults sink.new) result }
 {
     write_lines(&FlushLines { rows }, sink)
 }
@@ -95,7 +96,8 @@ pub fn write_rows<S: Sink>(rows: &[FlushRow], sink: &mut S) -> Result<(), SinkFa
 /// Puts how the run ended, and its counts.
 #[tactic(auto, unfolding(crate::specs::Text::summary_text))]
 pub fn write_summary<S: Sink>(report: &Report<'_>, sink: &mut S) -> Result<(), SinkFailed>
-    ensures { Puts (summary_text report.now.end report.now.count report.now.cycles report.now.flushes report.now.silent) (S.contents sink.old) (S.contents sink.new) (S.faults sink.old) (S.faults sink.new) result }
+    ensures { Puts (summary_text report.now.end report.now.count report.now.cycles report.now.flushes report.now.silent)
+        (S.contents sink.old) (S.contents sink.new) (S.faults sink.old) (S.faults sink.new) result }
 {
     put_lines(
         sink,
@@ -111,7 +113,8 @@ pub fn write_summary<S: Sink>(report: &Report<'_>, sink: &mut S) -> Result<(), S
 /// Puts the number of bytes that were put, and the bytes.
 #[tactic(auto, unfolding(crate::specs::Text::output_text))]
 pub fn write_output<S: Sink>(bytes: &[u8], sink: &mut S) -> Result<(), SinkFailed>
-    ensures { Puts (output_text bytes.now) (S.contents sink.old) (S.contents sink.new) (S.faults sink.old) (S.faults sink.new) result }
+    ensures { Puts (output_text bytes.now)
+        (S.contents sink.old) (S.contents sink.new) (S.faults sink.old) (S.faults sink.new) result }
 {
     sink.put(output_len_line(bytes.len() as u64).bytes())?;
     write_lines(&OutLines { bytes }, sink)
@@ -120,7 +123,8 @@ pub fn write_output<S: Sink>(bytes: &[u8], sink: &mut S) -> Result<(), SinkFaile
 /// Puts the registers and the pc.
 #[tactic(auto, unfolding(crate::specs::Text::registers_text))]
 pub fn write_registers<S: Sink>(view: &View<'_>, sink: &mut S) -> Result<(), SinkFailed>
-    ensures { Puts (registers_text view.now.regs view.now.pc) (S.contents sink.old) (S.contents sink.new) (S.faults sink.old) (S.faults sink.new) result }
+    ensures { Puts (registers_text view.now.regs view.now.pc)
+        (S.contents sink.old) (S.contents sink.new) (S.faults sink.old) (S.faults sink.new) result }
 {
     put_lines(
         sink,
@@ -142,7 +146,8 @@ pub fn write_registers<S: Sink>(view: &View<'_>, sink: &mut S) -> Result<(), Sin
 #[tactic(auto, unfolding(crate::specs::Text::dump_text))]
 pub fn write_dump<S: Sink>(view: &View<'_>, dump: Dump, sink: &mut S) -> Result<(), SinkFailed>
     requires { dump.addr + dump.len ≤ 2 ^ 32 }
-    ensures { Puts (dump_text (memory_of view.now) dump) (S.contents sink.old) (S.contents sink.new) (S.faults sink.old) (S.faults sink.new) result }
+    ensures { Puts (dump_text (memory_of view.now) dump)
+        (S.contents sink.old) (S.contents sink.new) (S.faults sink.old) (S.faults sink.new) result }
 {
     write_lines(&DumpLines { view, dump }, sink)
 }
@@ -151,15 +156,18 @@ pub fn write_dump<S: Sink>(view: &View<'_>, dump: Dump, sink: &mut S) -> Result<
 /// is asked for a stretch of memory that ends at 2^32 at the latest.
 pub fn write_run<S: Sink>(report: &Report<'_>, sink: &mut S) -> Result<(), SinkFailed>
     requires { ForSome report.now.dump (λ d. d.addr + d.len ≤ 2 ^ 32) }
-    ensures text { Puts (text_in report.now) (S.contents sink.old) (S.contents sink.new) (S.faults sink.old) (S.faults sink.new) result }
-    ensures machine { (m : Timed) → IsReportOf m report.now → Puts (text_of m report.now.dump) (S.contents sink.old) (S.contents sink.new) (S.faults sink.old) (S.faults sink.new) result }
+    ensures text { Puts (text_in report.now)
+        (S.contents sink.old) (S.contents sink.new) (S.faults sink.old) (S.faults sink.new) result }
+    ensures machine { (m : Timed) → IsReportOf m report.now → Puts (text_of m report.now.dump)
+        (S.contents sink.old) (S.contents sink.new) (S.faults sink.old) (S.faults sink.new) result }
 {
     write_parts(report, sink)
 }
 
 fn write_parts<S: Sink>(report: &Report<'_>, sink: &mut S) -> Result<(), SinkFailed>
     requires { ForSome report.now.dump (λ d. d.addr + d.len ≤ 2 ^ 32) }
-    ensures { Puts (text_in report.now) (S.contents sink.old) (S.contents sink.new) (S.faults sink.old) (S.faults sink.new) result }
+    ensures { Puts (text_in report.now)
+        (S.contents sink.old) (S.contents sink.new) (S.faults sink.old) (S.faults sink.new) result }
 {
     write_rows(report.rows, sink)?;
     write_summary(report, sink)?;
