@@ -1,14 +1,18 @@
 -- How long nothing has committed, and for how long that may go on.
-use Rattle.std.specs.Prelude.{ℕ, ◌+◌, ◌&&◌, nat_le, not, Bool, if◌then◌else◌}
+use Rattle.std.specs.Prelude.{ℕ, ◌+◌, ◌-◌, ◌^◌, ◌&&◌, min, nat_le, not, Bool, if◌then◌else◌}
 
 -- both in cycles
 pub record Watch : Type 0 where
   pub limit : ℕ
   pub idle : ℕ
 
+-- one cycle more; the count stands still at its last value
+abbrev pub raised : ℕ → ℕ
+raised idle = min (idle + 1) (2 ^ 32 - 1)
+
 -- after a cycle in which something committed, or nothing did
 abbrev pub ticked : Watch → Bool → Watch
-ticked w committed = record w { idle = if committed then 0 else w.idle + 1 }
+ticked w committed = record w { idle = if committed then 0 else raised w.idle }
 
 -- the machine must flush: the limit is reached, and no instruction runs alone
 abbrev pub barks : Watch → Bool → Bool

@@ -1,5 +1,5 @@
 // The count of cycles without a commit.
-ghost use Rattle.std.specs.Prelude.{◌≡◌, ◌≤◌, ◌<◌, ◌+◌, ◌^◌, ◌↔◌, IsTrue, false};
+ghost use Rattle.std.specs.Prelude.{◌≡◌, ◌≤◌, ◌↔◌, IsTrue, false};
 
 use std::marker::Model;
 
@@ -45,14 +45,18 @@ impl Watchdog {
     }
 
     /// Ends a cycle in which something `committed` or nothing did, and in which an instruction runs
-    /// alone (`solo`) or none does. Answers whether the machine must flush.
+    /// alone (`solo`) or none does. Answers whether the machine must flush. The count of cycles stays
+    /// at its last value, `u32::MAX`.
     pub fn tick(&mut self, committed: bool, solo: bool) -> bool
-        requires { self.old.idle + 1 < 2 ^ 32 }
         ensures ticked { self.new ≡ ticked self.old committed }
         ensures value { result ≡ barks self.new solo }
         ensures flush { IsTrue result ↔ ((self.old.limit ≤ self.new.idle) × (solo ≡ false)) }
     {
-        self.idle = if committed { 0 } else { self.idle + 1 };
+        self.idle = if committed {
+            0
+        } else {
+            self.idle.saturating_add(1)
+        };
         self.idle >= self.limit && !solo
     }
 }
