@@ -11,21 +11,22 @@ pub fn number<L: Look>(state: &L, addr: u32, width: Width) -> Option<u32>
     ensures { result ≡ number_of (L.shows state.now) (size width) addr }
 {
     match width {
-        Width::Byte => number_1(state, addr),
-        Width::Half => number_2(state, addr),
+        Width::Byte => byte_number(state, addr),
+        Width::Half => half_number(state, addr),
         Width::Word => state.word(addr),
     }
 }
 
-/// The number that a byte is, where it is inside.
-fn number_1<L: Look>(state: &L, addr: u32) -> Option<u32>
+/// The number that the byte at an address is, none where it is outside.
+fn byte_number<L: Look>(state: &L, addr: u32) -> Option<u32>
     ensures { result ≡ number_of (L.shows state.now) 1 addr }
 {
     let low = state.byte(addr)?;
     Some(u32::from(low))
 }
 
-fn number_2<L: Look>(state: &L, addr: u32) -> Option<u32>
+/// The number that the two bytes from an even address on are, none where one of them is outside.
+fn half_number<L: Look>(state: &L, addr: u32) -> Option<u32>
     requires { addr % 2 ≡ 0 }
     ensures { result ≡ number_of (L.shows state.now) 2 addr }
 {
