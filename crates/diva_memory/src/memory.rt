@@ -83,12 +83,12 @@ impl Memory {
         ensures value { result ≡ word_at self.now addr }
         ensures inside { IsSome result ↔ ((addr % 4 ≡ 0) × IsInside self.now addr 4) }
     {
-        if addr % 4 == 0 && self.inside(addr, 4) {
-            let at = (addr - self.base) as usize;
-            Some(LittleEndian::read_u32(&self.bytes[at..]))
-        } else {
-            None
+        if addr % 4 != 0 {
+            return None;
         }
+        let at = addr.checked_sub(self.base)? as usize;
+        let bytes = self.bytes.get(at..at + 4)?;
+        Some(LittleEndian::read_u32(bytes))
     }
 
     /// Writes one byte.
