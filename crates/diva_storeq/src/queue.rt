@@ -70,7 +70,7 @@ impl StoreQueue {
         ensures others { (m : Bytes) (a : ℕ) → ¬ IsInside (bytes_of s) a 1
             → byte_at (laid m self.new.items) a ≡ byte_at (laid m self.old.items) a }
     {
-        self.stores.push_back(s);
+        let _ = self.stores.try_push_back(s);
     }
 
     /// Puts the oldest store to memory. Nothing happens where there is none.
@@ -103,6 +103,7 @@ impl StoreQueue {
 
     /// The word at `addr` as it is once all stores are in memory, `None` exactly where `addr` is no
     /// multiple of 4 or the word is outside.
+    #[inline]
     pub fn word(&self, memory: &Memory, addr: u32) -> Option<u32>
         ensures value { result ≡ word_at (laid memory.now self.now.items) addr }
         ensures inside { IsSome result ↔ ((addr % 4 ≡ 0) × IsInside memory.now addr 4) }
@@ -111,6 +112,16 @@ impl StoreQueue {
         if self.is_apart(addr, 4) {
             return Some(word);
         }
+        self.overlaid(memory, addr)
+    }
+
+    /// The same, byte by byte: few loads meet a store on its way to memory.
+    #[cold]
+    fn overlaid(&self, memory: &Memory, addr: u32) -> Option<u32>
+        requires { (addr % 4 ≡ 0) × IsInside memory.now addr 4 }
+        ensures value { result ≡ word_at (laid memory.now self.now.items) addr }
+        ensures inside { IsSome result }
+    {
         Some(u32::from_le_bytes([
             self.byte(memory, addr)?,
             self.byte(memory, addr + 1)?,

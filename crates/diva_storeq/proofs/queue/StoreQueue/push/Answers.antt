@@ -4,7 +4,7 @@ use Rattle.diva_storeq.proofs.Laying.{laid_push, laid_push_covered, laid_push_ot
 use Rattle.diva_storeq.proofs.queue.StoreQueue.push.Goals as goal
 
 -- nothing is pushed out
-stays : (c : goal.After-push_back) → c.push_back.new.self.items ≡ c.args.self.now.items ++ c.args.s ∷ []
+stays : (c : goal.After-try_push_back) → c.try_push_back.new.self.items ≡ c.args.self.now.items ++ c.args.s ∷ []
 stays c = grind (arith, common_steps)
 
 pub returns-clause-laid : goal.returns-clause-laid

@@ -1,8 +1,6 @@
-use Rattle.std.proofs.Common.{◌≡◌, ◌+◌, ◌%◌, Some, None, sym, ◌∙◌, rules, arith}
-use Rattle.std.proofs.lemmas.Grind.{common_steps}
-use Rattle.diva_memory.specs.Bytes.{byte_at, word_at}
-use Rattle.diva_storeq.specs.Stores.{laid}
-use Rattle.diva_storeq.proofs.Laying.{laid_apart, laid_word_none, word_by_bytes}
+use Rattle.std.proofs.Common.{◌≡◌, None, sym, ◌∙◌, rules}
+use Rattle.diva_memory.specs.Bytes.{word_at}
+use Rattle.diva_storeq.proofs.Laying.{laid_apart, laid_word_none}
 use Rattle.diva_storeq.proofs.queue.StoreQueue.word.Goals as goal
 
 pub returns-in_err-word-clause-value : goal.returns-in_err-word-clause-value
@@ -13,15 +11,3 @@ returns-in_err-word-clause-value c =
 pub returns-then-is_apart-clause-value : goal.returns-then-is_apart-clause-value
 returns-then-is_apart-clause-value c =
     c.in_ok-word.ensures.value ∙ sym (laid_apart c.args.memory.now c.args.self.now.items c.args.addr (sym c.is_apart.ensures ∙ c.if-is_apart.true))
-
-pub returns-clause-value : goal.returns-clause-value
-returns-clause-value c =
-    let m = laid c.args.memory.now c.args.self.now.items in
-    let a = c.args.addr in
-    let aligned : a % 4 ≡ 0 = grind (arith, common_steps) in
-    let b0 : byte_at m a ≡ Some c.in_ok-byte.field-0 = sym c.in_ok-byte.ensures.value in
-    let b1 : byte_at m (a + 1) ≡ Some c.in_ok-byte-2.field-0 = sym c.in_ok-byte-2.ensures.value in
-    let b2 : byte_at m (a + 2) ≡ Some c.in_ok-byte-3.field-0 = sym c.in_ok-byte-3.ensures.value in
-    let b3 : byte_at m (a + 3) ≡ Some c.in_ok-byte-4.field-0 = sym c.in_ok-byte-4.ensures.value in
-    rw c.from_le_bytes.ensures
-    (sym (word_by_bytes m a c.in_ok-byte.field-0 c.in_ok-byte-2.field-0 c.in_ok-byte-3.field-0 c.in_ok-byte-4.field-0 aligned b0 b1 b2 b3))
