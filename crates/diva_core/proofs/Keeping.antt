@@ -16,7 +16,7 @@ use Rattle.diva_core.proofs.Commits.{Commits}
 use Rattle.diva_core.proofs.Cycling.{Cycled, Base, idled, ran, barks, differed, ended, finished, waited, taken}
 use Rattle.diva_core.proofs.Outcomes.{by-cases, log-cases}
 
-ArePast-later : (c d : ℕ) (xs : List Waiting) → c ≤ d → ArePast c xs → ArePast d xs
+pub ArePast-later : (c d : ℕ) (xs : List Waiting) → c ≤ d → ArePast c xs → ArePast d xs
 ArePast-later c d [] h a = tt
 ArePast-later c d (p ∷ xs) h a = (let e = a.0 in omega arith, ArePast-later c d xs h a.1)
 

@@ -72,7 +72,8 @@ impl Claims {
     pub fn clear(&mut self)
         ensures { self.new ≡ [] }
     {
-        self.items.clear();
+        // One by one, since they are few: `ArrayVec::clear` fills their places by a call.
+        while self.items.pop().is_some() {}
     }
 
     /// The claims, in order.

@@ -97,7 +97,7 @@ impl Pending {
             (self.old.items ++ record { claim = claim; cycle = cycle; decoded = None; verdict = None } ∷ [])
             self.old.capacity }
     {
-        self.entries.push_back(Entry {
+        let _ = self.entries.try_push_back(Entry {
             claim,
             cycle,
             decoded: None,

@@ -87,6 +87,7 @@ impl View<'_> {
     }
 
     /// The word at an address, none exactly where the address is no multiple of 4 or outside memory.
+    #[inline]
     pub fn word(&self, addr: u32) -> Option<u32>
         ensures { result ≡ word_of self.now addr }
     {
@@ -117,6 +118,7 @@ impl Look for View<'_> {
         View::byte(self, addr)
     }
 
+    #[inline]
     fn word(&self, addr: u32) -> Option<u32> {
         View::word(self, addr)
     }
