@@ -1,12 +1,13 @@
 -- What contracts see of a machine and of its parts.
-use Rattle.std.specs.Prelude.{ℕ, ◌≡◌, ◌≤◌, ◌+◌, ◌-◌, ◌^◌, ◌==◌, nat_lt, List, [], ◌∷◌, length, Option, Some, None, if◌then◌else◌}
+use Rattle.std.specs.Prelude.{ℕ, ◌≡◌, ◌≤◌, ◌+◌, ◌-◌, ◌^◌, ◌==◌, nat_lt, nat_le, Bool, true, false, List, [], ◌∷◌, length, Option, Some, None, if◌then◌else◌}
 use Rattle.diva_isa.specs.State.{State}
 use Rattle.diva_isa.specs.Step.{IsEnd}
 use Rattle.diva_isa.specs.declared.record.Record.{Record}
 use Rattle.diva_memory.specs.Bytes.{Bytes, IsInside}
 use Rattle.diva_storeq.specs.declared.store.Store.{Store}
 use Rattle.diva_core.specs.Timed.{Timed, Waiting}
-use Rattle.diva_core.specs.Machine.{IsMachine}
+use Rattle.diva_core.specs.Machine.{ArePast, IsMachine}
+use Rattle.diva_core.specs.declared.TheConstants.{DEPTH}
 use Rattle.diva_core.specs.declared.flushes.FlushRow.{FlushRow}
 use Rattle.diva_core.specs.declared.pending.Entry.{Entry}
 use Rattle.diva_watchdog.specs.declared.recover.Recover.{Recover}
@@ -62,6 +63,12 @@ pub record KeepsBounds (m last : Timed) : Type 0 where
   pub pending : length last.pending ≤ length m.pending
   pub flushes : last.flushes ≤ m.flushes + 1
   pub silent : last.silent ≤ m.silent + 1
+  pub past : ArePast m.cycles m.pending → ArePast last.cycles last.pending
+
+-- there is a front claim, and it has passed through the checker's stages
+abbrev pub is_front_ready : ℕ → List Waiting → Bool
+is_front_ready cycles [] = false
+is_front_ready cycles (p ∷ rest) = nat_le (p.cycle + DEPTH) cycles
 
 -- a pending entry as the timed machine has it
 abbrev pub waiting_of : Entry → Waiting

@@ -177,6 +177,7 @@ impl Machine {
 
     /// Runs one cycle on what a core handed over. On an ended machine nothing changes but `last`,
     /// which is then empty.
+    #[inline(always)]
     #[tactic(auto, using(diva_core::proofs::Keeping::stays, diva_core::proofs::Outcomes::rises, diva_core::proofs::Outcomes::logs, diva_core::proofs::Outcomes::records_by, diva_core::proofs::Adding::adds_rows, diva_core::proofs::Pacing::will_count))]
     pub fn cycle(&mut self, list: &Claims)
         requires { self.old.timed.cycles < 2 ^ 60 }

@@ -1,15 +1,19 @@
 // The parts of the machine, and the phases of a cycle over them. What holds between two cycles need
 // not hold between two phases, so the bounds are asked for where they are needed.
-ghost use Rattle.std.specs.Prelude.{◌≡◌, ◌+◌, ◌-◌, ◌*◌, ◌<◌, ◌≤◌, ◌^◌, ◌++◌, [], ◌∷◌, length, map, take, IfOk, IsTrue, true, if◌then◌else◌};
+//
+// In most cycles nothing is ready. So what each cycle does stands in the loop that drives the
+// machine (`inline(always)`), and what few cycles do is called (`inline(never)`, `cold`).
+ghost use Rattle.std.specs.Prelude.{◌≡◌, ◌+◌, ◌-◌, ◌*◌, ◌<◌, ◌≤◌, ◌^◌, ◌++◌, [], ◌∷◌, length, map, take, IfOk, IsTrue, List, true, not, ◌==◌, if◌then◌else◌};
+ghost use Rattle.diva_isa.specs.declared.record.Record.{Record};
 ghost use Rattle.diva_isa.specs.State.{goes_on, GoesOn};
 ghost use Rattle.diva_isa.specs.Step.{record_of, steps};
 ghost use Rattle.diva_image.specs.View.{layout};
 ghost use Rattle.diva_core.specs.Timed.{Timed, new_timed, room_of};
-ghost use Rattle.diva_core.specs.Machine.{IsMachine};
+ghost use Rattle.diva_core.specs.Machine.{ArePast, IsMachine};
 ghost use Rattle.diva_core.specs.Headline.{dues, SameLog};
 ghost use Rattle.diva_core.specs.Cycle.{accepted_in, accepts, by_front, commits, committed, cycle_of, drained, flushed, judged, puts_store, watched};
 ghost use Rattle.diva_machine.specs.Start.{start_of};
-ghost use Rattle.diva_machine.specs.Shown.{waiting_of, KeepsBounds};
+ghost use Rattle.diva_machine.specs.Shown.{is_front_ready, waiting_of, KeepsBounds};
 
 use crate::arch::Arch;
 use crate::config::Config;
@@ -107,7 +111,21 @@ impl Works {
         ensures timed { self.new.timed ≡ self.old.timed }
         ensures last { self.new.last ≡ [] }
     {
-        self.last.clear();
+        // One by one, since they are few: `clear` fills their places by a call.
+        let last = &mut self.last;
+        while last.pop().is_some() {}
+    }
+
+    /// The claims of a list that the coming cycle accepts, unless it flushes or ends.
+    fn admitted<'a>(&self, list: &'a [Claim]) -> &'a [Claim]
+        requires { self.now.timed.sizes.window ≤ 64 }
+        ensures value { result.now ≡ take (room_of self.now.timed) list.now }
+        ensures fits { length result.now ≤ self.now.timed.sizes.window - length self.now.timed.pending }
+    {
+        if list.is_empty() {
+            return list;
+        }
+        &list[..self.room().min(list.len())]
     }
 
     /// Phase 1: the oldest undrained store goes to memory.
@@ -120,6 +138,7 @@ impl Works {
     }
 
     /// Drops what is pending, and starts the next instruction on the checker alone.
+    #[cold]
     #[tactic(auto, unfolding(diva_core::specs::Cycle::flushed))]
     fn flush(&mut self, cause: Cause)
         requires flushes { self.old.timed.flushes < 2 ^ 63 }
@@ -154,16 +173,28 @@ impl Works {
         self.last.push(*due);
     }
 
-    /// Judges the front claim; answers whether a further one is to be judged. The definition is
-    /// handed what follows, so that one claim can be judged without its number.
+    /// Whether there is a front claim that has passed through the checker's stages.
+    fn is_front_ready(&self) -> bool
+        requires { ArePast self.now.timed.cycles self.now.timed.pending }
+        ensures { result ≡ is_front_ready self.now.timed.cycles self.now.timed.pending }
+    {
+        match self.pending.front() {
+            Some(front) => self.cycles - front.cycle >= DEPTH,
+            None => false,
+        }
+    }
+
+    /// Judges the front claim, which is ready; answers whether a further one is to be judged. The
+    /// definition is handed what follows, so that one claim can be judged without its number.
+    #[inline(never)]
     #[tactic(auto, unfolding(diva_core::specs::Cycle::committed, diva_core::specs::Cycle::flushed))]
     fn judge_front(&mut self) -> bool
+        requires ready { is_front_ready self.old.timed.cycles self.old.timed.pending ≡ true }
         requires goes_on { GoesOn self.old.timed.arch }
         requires owed { self.old.timed.owed ≤ self.old.timed.sizes.stores }
         requires count { self.old.timed.count < 2 ^ 63 }
         requires flushes { self.old.timed.flushes < 2 ^ 63 }
         requires silent { self.old.timed.silent < 2 ^ 63 }
-        requires cycles { self.old.timed.cycles ≤ 2 ^ 60 }
         requires last { length self.old.last < 4 }
         ensures judges { (next : Timed → Timed)
             → by_front next self.old.timed self.old.timed.pending
@@ -178,13 +209,8 @@ impl Works {
         ensures same { IsTrue result → SameLog self.old.timed self.new.timed }
         ensures bounds { KeepsBounds self.old.timed self.new.timed }
     {
-        let Some(front) = self.pending.front() else {
-            return false;
-        };
-        if self.cycles.saturating_sub(front.cycle) < DEPTH {
-            return false;
-        }
         let due = self.arch.due();
+        let front = self.pending.front().unwrap();
         if let Some(diff) = first_difference(&front.claim, &due) {
             self.flush(Cause::Differs(diff));
             return false;
@@ -210,7 +236,7 @@ impl Works {
         requires count { self.old.timed.count + 4 < 2 ^ 63 }
         requires flushes { self.old.timed.flushes < 2 ^ 62 }
         requires silent { self.old.timed.silent < 2 ^ 62 }
-        requires cycles { self.old.timed.cycles ≤ 2 ^ 60 }
+        requires past { ArePast self.old.timed.cycles self.old.timed.pending }
         requires last { self.old.last ≡ [] }
         ensures judged { self.new.timed ≡ judged n self.old.timed }
         ensures counted { self.old.timed.count ≤ self.new.timed.count }
@@ -219,6 +245,9 @@ impl Works {
         ensures bounds { KeepsBounds self.old.timed self.new.timed }
     {
         for at in 0..n {
+            if !self.is_front_ready() {
+                return;
+            }
             if !self.judge_front() {
                 return;
             }
@@ -226,6 +255,7 @@ impl Works {
     }
 
     /// Phase 2: what is ready commits, at most `width` claims or the instruction that is alone.
+    #[inline(always)]
     #[tactic(auto, unfolding(diva_core::specs::Cycle::commits, diva_core::specs::Cycle::committed))]
     fn commits(&mut self)
         requires width { self.old.timed.sizes.width ≤ 4 }
@@ -234,9 +264,10 @@ impl Works {
         requires count { self.old.timed.count + 4 < 2 ^ 63 }
         requires flushes { self.old.timed.flushes < 2 ^ 62 }
         requires silent { self.old.timed.silent < 2 ^ 62 }
-        requires cycles { self.old.timed.cycles ≤ 2 ^ 60 }
+        requires past { ArePast self.old.timed.cycles self.old.timed.pending }
         requires last { self.old.last ≡ [] }
         ensures timed { self.new.timed ≡ commits self.old.timed }
+        ensures counted { self.old.timed.count ≤ self.new.timed.count }
         ensures last { self.new.last
             ≡ dues (self.new.timed.count - self.old.timed.count) self.old.timed.arch }
         ensures bounds { KeepsBounds self.old.timed self.new.timed }
@@ -253,35 +284,34 @@ impl Works {
         }
     }
 
-    /// Phase 4: the first `room` claims become pending, where phase 2 neither flushed nor ended.
+    /// Phase 4: the admitted claims become pending, where phase 2 neither flushed nor ended.
     /// `flushes` is the number before the cycle.
     #[tactic(auto, unfolding(diva_core::specs::Cycle::accepts))]
-    fn accept(&mut self, room: usize, flushes: u64, list: &[Claim])
-        requires { length self.old.timed.pending + room ≤ self.old.timed.sizes.window }
-        ensures timed { (before : Timed) → room_of before ≡ room → before.flushes ≡ flushes
-            → self.new.timed ≡ accepts before list.now self.old.timed }
+    fn accept(&mut self, admitted: &[Claim], flushes: u64)
+        requires { length self.old.timed.pending + length admitted.now ≤ self.old.timed.sizes.window }
+        ensures timed { (before : Timed) (list : List Record)
+            → admitted.now ≡ take (room_of before) list → before.flushes ≡ flushes
+            → self.new.timed ≡ accepts before list self.old.timed }
         ensures last { self.new.last ≡ self.old.last }
     {
-        if self.arch.goes_on() && self.log.flushes() == flushes {
-            accept_all(
-                &mut self.pending,
-                &list[..room.min(list.len())],
-                self.cycles,
-            );
+        if !admitted.is_empty() && self.arch.goes_on() && self.log.flushes() == flushes {
+            accept_all(&mut self.pending, admitted, self.cycles);
         }
     }
 
-    /// Phase 5: the watchdog. `count` is the number before the cycle.
+    /// Phase 5: the watchdog. `committed` tells whether the cycle counted an instruction.
     #[tactic(auto, unfolding(diva_core::specs::Cycle::watched))]
-    fn watch(&mut self, count: u64)
+    fn watch(&mut self, committed: bool)
         requires idle { self.old.timed.idle < 2 ^ 31 }
         requires flushes { self.old.timed.flushes < 2 ^ 63 }
         requires silent { self.old.timed.silent < 2 ^ 63 }
-        ensures timed { (before : Timed) → before.count ≡ count → self.new.timed ≡ watched before self.old.timed }
+        ensures timed { (before : Timed)
+            → (self.old.timed.count == before.count) ≡ not committed
+            → self.new.timed ≡ watched before self.old.timed }
         ensures last { self.new.last ≡ self.old.last }
     {
         let alone = matches!(self.recover, Recover::Solo(_));
-        let barks = self.watchdog.tick(self.count != count, alone);
+        let barks = self.watchdog.tick(committed, alone);
         if barks && self.arch.goes_on() {
             let limit = self.watchdog.limit();
             self.flush(Cause::Silent(limit));
@@ -289,6 +319,7 @@ impl Works {
     }
 
     /// One cycle of a machine that goes on.
+    #[inline(always)]
     #[tactic(auto, unfolding(diva_core::specs::Cycle::cycle_of, diva_core::specs::Cycle::drained, diva_core::specs::Cycle::accepts))]
     pub fn cycle(&mut self, list: &[Claim])
         requires goes_on { GoesOn self.old.timed.arch }
@@ -298,15 +329,15 @@ impl Works {
         ensures last { self.new.last
             ≡ dues (self.new.timed.count - self.old.timed.count) self.old.timed.arch }
     {
-        let room = self.room();
+        let admitted = self.admitted(list);
         let flushes = self.log.flushes();
-        let count = self.count;
         self.forget_last();
         self.cycles += 1;
         self.drain();
         self.commits();
-        self.accept(room, flushes, list);
-        self.watch(count);
+        self.accept(admitted, flushes);
+        let committed = !self.last.is_empty();
+        self.watch(committed);
     }
 }
 

@@ -1,6 +1,7 @@
-use Rattle.std.proofs.Common.{◌+◌, ◌-◌, sym, ◌∙◌, arith, rules, refl}
+use Rattle.std.proofs.Common.{◌≡◌, false, ◌+◌, ◌-◌, sym, ◌∙◌, arith, rules, refl}
 use Rattle.diva_core.specs.Cycle.{judged}
-use Rattle.diva_machine.proofs.Fronts.{judged_less, length-dues, steps-joined, dues-joined, SameLog-joined, KeepsBounds-joined}
+use Rattle.diva_machine.specs.Shown.{is_front_ready}
+use Rattle.diva_machine.proofs.Fronts.{front_young, judged_less, length-dues, steps-joined, dues-joined, SameLog-joined, KeepsBounds-joined}
 use Rattle.diva_machine.proofs.works.Works.judge.Goals as goal
 
 pub judge_front-requires-clause-last : goal.judge_front-requires-clause-last
@@ -8,6 +9,14 @@ judge_front-requires-clause-last c =
     let few = c.loop-at.invariant.few in
     let width = c.requires.width in
     rw (c.loop-at.invariant.last, length-dues) (omega arith)
+
+pub is_front_ready-requires : goal.is_front_ready-requires
+is_front_ready-requires c = c.loop-at.invariant.bounds.past c.requires.past
+
+pub returns-then-not-is_front_ready-clause-judged : goal.returns-then-not-is_front_ready-clause-judged
+returns-then-not-is_front_ready-clause-judged c =
+    let young : is_front_ready c.loop-at.self.timed.cycles c.loop-at.self.timed.pending ≡ false = sym c.is_front_ready.ensures ∙ c.if-not-is_front_ready.true in
+    sym (front_young (judged (c.args.n - (c.loop-at.at + 1))) c.loop-at.self.timed c.loop-at.self.timed.pending young) ∙ sym (judged_less c.args.n c.loop-at.at c.loop-at.self.timed c.loop-at-test.true) ∙ c.loop-at.invariant.left
 
 pub returns-then-not-judge_front-clause-last : goal.returns-then-not-judge_front-clause-last
 returns-then-not-judge_front-clause-last c =

@@ -3,36 +3,32 @@ use Rattle.diva_isa.specs.Step.{record_of, apply}
 use Rattle.diva_core.specs.Difference.{first_difference}
 use Rattle.diva_core.specs.Cycle.{committed, puts_store}
 use Rattle.diva_machine.specs.Shown.{Shown, waiting_of}
-use Rattle.diva_machine.proofs.Fronts.{front_young, front_differs, front_held, one_step}
+use Rattle.diva_machine.proofs.Fronts.{front_there, some_copied, front_differs, front_held, one_step}
 use Rattle.diva_machine.proofs.works.Works.judge_front.Goals as goal
 
-pub returns-then-saturating_sub-lt-DEPTH-clause-judges : goal.returns-then-saturating_sub-lt-DEPTH-clause-judges
-returns-then-saturating_sub-lt-DEPTH-clause-judges c = λ next.
+pub unwrap-front-requires : goal.unwrap-front-requires
+unwrap-front-requires c =
     let waits : c.args.self.now.timed.pending ≡ map waiting_of c.self.inside.pending.items = ap (λ (z : Shown). z.timed.pending) (sym c.self.view_is) in
-    let at : c.args.self.now.timed.cycles ≡ c.self.inside.cycles = ap (λ (z : Shown). z.timed.cycles) (sym c.self.view_is) in
-    let first : slice_get c.self.inside.pending.items 0 ≡ Some c.in-Some.front.now = cc in
-    front_young next c.args.self.now.timed c.self.inside.pending.items c.in-Some.front.now first waits (omega arith)
+    some_copied c.front.result (rw c.front.ensures (front_there c.args.self.now.timed.cycles c.self.inside.pending.items c.args.self.now.timed.pending waits c.requires.ready))
 
-pub returns-in-Some-first_difference-clause-judges : goal.returns-in-Some-first_difference-clause-judges
-returns-in-Some-first_difference-clause-judges c = λ next.
+pub returns-in-Some-clause-judges : goal.returns-in-Some-clause-judges
+returns-in-Some-clause-judges c = λ next.
     let waits : c.args.self.now.timed.pending ≡ map waiting_of c.self.inside.pending.items = ap (λ (z : Shown). z.timed.pending) (sym c.self.view_is) in
-    let at : c.args.self.now.timed.cycles ≡ c.self.inside.cycles = ap (λ (z : Shown). z.timed.cycles) (sym c.self.view_is) in
-    let first : slice_get c.self.inside.pending.items 0 ≡ Some c.in-Some.front.now = cc in
+    let first : slice_get c.self.inside.pending.items 0 ≡ Some c.unwrap-front.result.now = cc in
     let due : c.due-due.result ≡ record_of c.args.self.now.timed.arch = c.due-due.ensures ∙ ap (λ (z : Shown). record_of z.timed.arch) c.self.view_is in
-    let differs : first_difference c.in-Some.front.now.claim (record_of c.args.self.now.timed.arch) ≡ Some c.in-Some-first_difference.diff = cc in
-    front_differs next c.args.self.now.timed c.self.inside.pending.items c.in-Some.front.now first waits c.in-Some-first_difference.diff (omega arith) differs ∙ sym c.flush.ensures.timed
+    let differs : first_difference c.unwrap-front.result.now.claim (record_of c.args.self.now.timed.arch) ≡ Some c.in-Some.diff = cc in
+    front_differs next c.args.self.now.timed c.self.inside.pending.items c.unwrap-front.result.now first waits c.requires.ready c.in-Some.diff differs ∙ sym c.flush.ensures.timed
 
 pub returns-then-puts_store-clause-judges : goal.returns-then-puts_store-clause-judges
 returns-then-puts_store-clause-judges c = λ next.
     let waits : c.args.self.now.timed.pending ≡ map waiting_of c.self.inside.pending.items = ap (λ (z : Shown). z.timed.pending) (sym c.self.view_is) in
-    let at : c.args.self.now.timed.cycles ≡ c.self.inside.cycles = ap (λ (z : Shown). z.timed.cycles) (sym c.self.view_is) in
-    let first : slice_get c.self.inside.pending.items 0 ≡ Some c.in-Some.front.now = cc in
+    let first : slice_get c.self.inside.pending.items 0 ≡ Some c.unwrap-front.result.now = cc in
     let due : c.due-due.result ≡ record_of c.args.self.now.timed.arch = c.due-due.ensures ∙ ap (λ (z : Shown). record_of z.timed.arch) c.self.view_is in
-    let same : first_difference c.in-Some.front.now.claim (record_of c.args.self.now.timed.arch) ≡ None = cc in
+    let same : first_difference c.unwrap-front.result.now.claim (record_of c.args.self.now.timed.arch) ≡ None = cc in
     let store : puts_store (record_of c.args.self.now.timed.arch) ≡ true = cc in
     let full : (c.args.self.now.timed.owed == c.args.self.now.timed.sizes.stores) ≡ true =
     ap (λ (z : Shown). z.timed.owed == z.timed.sizes.stores) (sym c.self.view_is) ∙ (sym c.is_full.ensures.value ∙ c.if-is_full.true) in
-    front_held next c.args.self.now.timed c.self.inside.pending.items c.in-Some.front.now first waits (omega arith) same store full
+    front_held next c.args.self.now.timed c.self.inside.pending.items c.unwrap-front.result.now first waits c.requires.ready same store full
 
 pub returns-then-not-goes_on-clause-stepped : goal.returns-then-not-goes_on-clause-stepped
 unfolding committed
