@@ -1,4 +1,7 @@
 // A core that does one instruction at a time.
+ghost use Rattle.std.specs.Prelude.{◌≡◌, [], ◌∷◌};
+ghost use Rattle.diva_isa.specs.Step.{record_of};
+
 use diva_core::{Claims, Core, Told, View};
 use diva_isa::record_of;
 
@@ -15,7 +18,15 @@ impl Core for Lockstep {
 
     fn cycle(&mut self, told: &Told, view: &View<'_>, out: &mut Claims) {
         if told.pending == 0 && told.room > 0 {
-            out.push(record_of(view));
+            hand_over(view, out);
         }
     }
+}
+
+/// Puts the record of the committed state.
+fn hand_over(view: &View<'_>, out: &mut Claims)
+    requires { out.old ≡ [] }
+    ensures { out.new ≡ record_of view.now ∷ [] }
+{
+    out.push(record_of(view));
 }
