@@ -54,7 +54,6 @@ impl Machine {
         ensures counts { IfOk result (λ m. WillCount m.timed) }
     {
         let works = Works::new(alloc, image, config)?;
-        let _ = config.width();
         Ok(Machine { works })
     }
 

@@ -9,7 +9,7 @@ ghost use Rattle.diva_isa.specs.State.{goes_on, GoesOn};
 ghost use Rattle.diva_isa.specs.Step.{record_of, steps};
 ghost use Rattle.diva_image.specs.View.{layout};
 ghost use Rattle.diva_core.specs.Timed.{Timed, new_timed, room_of};
-ghost use Rattle.diva_core.specs.Machine.{ArePast, IsMachine};
+ghost use Rattle.diva_core.specs.Machine.{ArePast, IsMachine, IsSizes};
 ghost use Rattle.diva_core.specs.Headline.{dues, SameLog};
 ghost use Rattle.diva_core.specs.Cycle.{accepted_in, accepts, by_front, commits, committed, cycle_of, drained, flushed, judged, puts_store, watched};
 ghost use Rattle.diva_machine.specs.Start.{start_of};
@@ -69,6 +69,7 @@ impl Works {
     /// The parts of a new machine. All memory is taken here.
     pub fn new(alloc: Global, image: &Image, config: Config) -> Result<Self, AllocError>
         ensures timed { IfOk result (λ m. m.timed ≡ new_timed config (start_of (layout image.now))) }
+        ensures sizes { IfOk result (λ m. IsSizes m.timed.sizes) }
         ensures last { IfOk result (λ m. m.last ≡ []) }
     {
         Ok(Works {

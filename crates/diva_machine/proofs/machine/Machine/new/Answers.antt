@@ -1,9 +1,12 @@
 use Rattle.std.proofs.Common.{sym, subst}
 use Rattle.diva_core.specs.Timed.{Timed}
 use Rattle.diva_core.specs.Headline.{WillCount}
+use Rattle.diva_core.specs.Machine.{IsSizes}
 use Rattle.diva_core.proofs.Starting.{new-machine}
 use Rattle.diva_core.proofs.Pacing.{will_count}
 use Rattle.diva_machine.proofs.machine.Machine.new.Goals as goal
 
 pub returns-clause-counts : goal.returns-clause-counts
-returns-clause-counts c = subst {A = Timed} WillCount (sym c.in_ok-works.ensures.timed) (will_count _ (new-machine c.args.config _ c.width.ensures.sizes))
+returns-clause-counts c =
+    let sizes : IsSizes c.args.config = subst {A = Timed} (λ m. IsSizes m.sizes) c.in_ok-works.ensures.timed c.in_ok-works.ensures.sizes in
+    subst {A = Timed} WillCount (sym c.in_ok-works.ensures.timed) (will_count _ (new-machine c.args.config _ sizes))
