@@ -1,15 +1,14 @@
 -- What holds of a run, whatever the core hands over.
 use Rattle.std.proofs.Common.{◌≡◌, ℕ, ◌+◌, ◌/◌, ◌≤◌, sym, ◌∙◌, ap, subst}
-use Rattle.std.specs.List.{All}
 use Rattle.diva_isa.specs.State.{State, goes_on}
 use Rattle.diva_isa.specs.Step.{steps}
 use Rattle.diva_core.specs.Timed.{Timed, new_timed}
 use Rattle.diva_core.specs.Log.{Meaning}
 use Rattle.diva_core.specs.Machine.{IsSizes}
-use Rattle.diva_core.specs.Headline.{IsRow}
+use Rattle.diva_core.specs.Headline.{AddsRows}
 use Rattle.diva_core.proofs.Pacing.{are_committed}
 use Rattle.diva_core.proofs.Starting.{headline, pace_of_run, new-machine}
-use Rattle.diva_core.proofs.Reaching.{rows_from_start}
+use Rattle.diva_core.proofs.Adding.{run-adds}
 use Rattle.diva_core.proofs.Ending.{same_end}
 use Rattle.diva_args.specs.Options.{RunOptions, IsRun}
 use Rattle.diva_args.specs.declared.job.CoreChoice.{CoreChoice}
@@ -26,7 +25,7 @@ run_from_start gives options start core last after ok d =
       driven = d;
       stepped = subst (λ (n : Timed). n.arch ≡ steps n.count start) (sym d.ran) (headline (sizes_of options) start d.lists ok);
       committed = are_committed (new_timed (sizes_of options) start) d.lists (new-machine (sizes_of options) start ok);
-      rows = subst (λ (n : Timed). All (IsRow start options.watchdog) n.rows) (sym d.ran) (rows_from_start (sizes_of options) start d.lists ok);
+      rows = subst (AddsRows (new_timed (sizes_of options) start) d.lists) (sym d.ran) (run-adds d.lists (new_timed (sizes_of options) start) (new-machine (sizes_of options) start ok));
       paced = subst (λ (n : Timed). n.cycles / (options.watchdog + 6) ≤ n.count) (sym d.ran) (pace_of_run (sizes_of options) start d.lists ok);
       same = λ n ends long. subst (λ (m : Timed). (m.arch ≡ steps n start) × (m.count ≡ n)) (sym d.ran)
           (same_end (sizes_of options) start d.lists n options.cycles ok (λ on. d.whole (ap (λ m. goes_on m.arch) d.ran ∙ on)) ends long);

@@ -1,17 +1,15 @@
 -- What is due to be written, with its cause: by the words, by what the files tell, by their count of faults before and
 -- now, and by the core before and after.
 use Rattle.std.specs.Prelude.{◌≡◌, ◌⊎◌, ◌≤◌, ◌/◌, ◌*◌, ◌+◌, ◌==◌, nat_lt, ℕ, List, length, Option, Some, None, if◌then◌else◌}
-use Rattle.std.specs.List.{All}
 use Rattle.diva_outside.specs.Causes.{Rose}
 use Rattle.diva_outside.specs.Files.{ToldFiles, Has, IsMissing, IsLonger}
 use Rattle.diva_outside.specs.Text.{Text}
 use Rattle.diva_image.specs.Images.{fault, fault_of, image_of}
 use Rattle.diva_isa.specs.State.{State}
 use Rattle.diva_isa.specs.Step.{steps}
-use Rattle.diva_core.specs.Timed.{Timed, Sizes, new_timed}
+use Rattle.diva_core.specs.Timed.{Timed, Sizes, new_timed, depth}
 use Rattle.diva_core.specs.Log.{Meaning}
-use Rattle.diva_core.specs.Headline.{AreCommitted, EndsAfter, IsRow}
-use Rattle.diva_core.specs.declared.TheConstants.{DEPTH}
+use Rattle.diva_core.specs.Headline.{AddsRows, AreCommitted, EndsAfter}
 use Rattle.diva_machine.specs.Start.{start_of}
 use Rattle.diva_args.specs.declared.job.Job.TheVariants.{Run}
 use Rattle.diva_args.specs.Options.{RunOptions, DumpRange}
@@ -80,14 +78,14 @@ pub record IsRunFrom {C : Type 0} (gives : Meaning C) (options : RunOptions) (st
   pub driven : IsDriven gives options.core options.cycles (new_timed (sizes_of options) start) core last after
   -- the committed state is the table's after the counted instructions
   pub stepped : last.arch ≡ steps last.count start
-  -- in each cycle equal claims that had waited committed, or the one instruction that ran alone
+  -- in each cycle equal claims that had waited committed, or the one instruction that ran solo
   pub committed : AreCommitted (new_timed (sizes_of options) start) driven.lists
-  -- each row names a claim's difference from the table, or the limit that was reached
-  pub rows : All (IsRow start options.watchdog) last.rows
-  -- until the end every W + DEPTH cycles counted at least one instruction
-  pub paced : last.cycles / (options.watchdog + DEPTH) ≤ last.count
+  -- each row of the log is that of a cycle of the run in which a claim differed from the due record, or idle stood at the limit
+  pub rows : AddsRows (new_timed (sizes_of options) start) driven.lists last
+  -- until the end every W + 6 cycles counted at least one instruction, W being the watchdog's limit
+  pub paced : last.cycles / (options.watchdog + depth) ≤ last.count
   -- where the table ends within the budget, every core leads to just that end
-  pub same : (n : ℕ) → EndsAfter n start → n * (options.watchdog + DEPTH) ≤ options.cycles
+  pub same : (n : ℕ) → EndsAfter n start → n * (options.watchdog + depth) ≤ options.cycles
       → (last.arch ≡ steps n start) × (last.count ≡ n)
 
 pub record HasRun {C : Type 0} (gives : Meaning C) (words : List Text) (told : ToldFiles) (core after : C)

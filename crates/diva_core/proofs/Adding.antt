@@ -1,5 +1,6 @@
 -- The rows that many cycles add to the log.
-use Rattle.std.proofs.Common.{◌≡◌, ℕ, zero, suc, ◌+◌, ◌-◌, ◌<◌, ◌≤◌, Bool, List, [], ◌∷◌, ◌++◌, length, take, get_or, Option, Some, refl, ap, sym, ◌∙◌, arith, inl, inr, length-append, length-take, append-nil, append_assoc, if◌then◌else◌}
+use Rattle.std.specs.List.{All}
+use Rattle.std.proofs.Common.{◌≡◌, ℕ, zero, suc, ◌+◌, ◌-◌, ◌<◌, ◌≤◌, Bool, List, [], ◌∷◌, ◌++◌, length, take, get_or, Option, Some, refl, ap, sym, ◌∙◌, arith, ◌⊎◌, inl, inr, length-append, length-take, append-nil, append_assoc, if◌then◌else◌}
 use Rattle.std.specs.Prelude.{nat_lt, count_by}
 use Rattle.std.proofs.lemmas.Bool.{cond_both, cases_lt, ltb-true, ltb-false}
 use Rattle.std.proofs.lemmas.List.{take-append-le, take_all}
@@ -11,10 +12,11 @@ use Rattle.diva_core.specs.declared.flushes.FlushRow.{FlushRow}
 use Rattle.diva_core.specs.declared.flushes.Cause.{Cause}
 use Rattle.diva_core.specs.declared.flushes.Cause.TheVariants.{Differs, Silent}
 use Rattle.diva_core.specs.Difference.{field_of}
+use Rattle.diva_core.proofs.Differing.{difference-some}
 use Rattle.diva_core.specs.Timed.{Timed}
 use Rattle.diva_core.specs.Cycle.{cycle_of, run_of, kept, number, is_silent}
 use Rattle.diva_core.specs.Machine.{IsMachine}
-use Rattle.diva_core.specs.Headline.{Rises, SameLog, AddsRow, AddsRows, IsRowSince, IsCause, HasCause, newest_of, is_silent_row}
+use Rattle.diva_core.specs.Headline.{Rises, SameLog, AddsRow, AddsRows, HasRows, AreRowsOf, IsRowOf, IsRowSince, IsCause, HasCause, newest_of, is_silent_row}
 use Rattle.diva_core.proofs.Steps.{steps-add}
 use Rattle.diva_core.proofs.Outcomes.{logs, rises}
 use Rattle.diva_core.proofs.Keeping.{stays}
@@ -46,14 +48,20 @@ kept-take rows row few =
     (λ f. let l = ltb-false (length rows) 1024 f in sym (take-append-le 1024 rows (row ∷ []) (omega arith) ∙ take_all 1024 rows few))
 
 cause-since : (m last : Timed) (at : ℕ) (cause : Cause) → at ≡ last.count → IsCause m last cause → HasCause m.arch m.sizes.limit (at - m.count) cause
-cause-since m last at (Differs d) e c = (c.0, c.1 ∙ ap (λ k. field_of d.field (record_of (steps (k - m.count) m.arch))) (sym e))
+cause-since m last at (Differs d) e c =
+    let s = difference-some c.p.claim (record_of (steps (last.count - m.count) m.arch)) d c.differs in
+    (s.differ, s.dues ∙ ap (λ k. field_of d.field (record_of (steps (k - m.count) m.arch))) (sym e))
 cause-since m last at (Silent limit) e c = c.0
 
-same-adds : (m last : Timed) → length m.rows ≤ 1024 → SameLog m last → AddsRows m last
-same-adds m last few s =
+row-since : (m last : Timed) (row : FlushRow) → Rises m last → IsRowOf m last row → IsRowSince m row
+row-since m last row r a =
+    record { later = (let e = a.at in let c = r.counted in omega arith); caused = cause-since m last row.at row.cause a.at a.caused }
+
+-- ---- what stands in the log
+
+same-has : (m last : Timed) → length m.rows ≤ 1024 → SameLog m last → HasRows m [] last
+same-has m last few s =
     record {
-      added = [];
-      are_true = λ k d h. absurd (omega arith);
       rows = s.rows ∙ sym (ap (take 1024) (append-nil m.rows) ∙ take_all 1024 m.rows few);
       newest = s.newest;
       flushes = s.flushes ∙ (omega arith);
@@ -66,19 +74,25 @@ silent-one row = go (is_silent row.cause)
     go : (b : Bool) → (if b then 1 else 0) ≡ 0 + (if b then 1 else 0)
     go b = omega arith
 
-one-adds : (m last : Timed) → length m.rows ≤ 1024 → Rises m last → AddsRow m last → AddsRows m last
-one-adds m last few r a =
+one-has : (m last : Timed) (row : FlushRow) → length m.rows ≤ 1024 → IsRowOf m last row → HasRows m (row ∷ []) last
+one-has m last row few a =
     record {
-      added = a.row ∷ [];
-      are_true = all-one (IsRowSince m) a.row (record { later = (let e = a.at in let c = r.counted in omega arith); caused = cause-since m last a.row.at a.row.cause a.at a.caused });
-      rows = a.has.rows ∙ kept-take m.rows a.row few;
+      rows = a.has.rows ∙ kept-take m.rows row few;
       newest = a.has.newest;
       flushes = a.has.flushes;
-      silent = a.has.silent ∙ ap (λ k. m.silent + k) (silent-one a.row);
+      silent = a.has.silent ∙ ap (λ k. m.silent + k) (silent-one row);
     }
 
-pub adds_rows : (m : Timed) (list : List Record) → IsMachine m → AddsRows m (cycle_of m list)
-adds_rows m list inv = elim (logs m list inv) [ inl s ↦ same-adds m (cycle_of m list) inv.rows s | inr a ↦ one-adds m (cycle_of m list) inv.rows (rises m list inv) a ]
+HasRows-trans : (m mid last : Timed) (first more : List FlushRow) → HasRows m first mid → HasRows mid more last → HasRows m (first ++ more) last
+HasRows-trans m mid last first more a b =
+    record {
+      rows = b.rows ∙ ap (λ xs. take 1024 (xs ++ more)) a.rows ∙ take-twice 1024 (m.rows ++ first) more ∙ ap (take 1024) (append_assoc m.rows first more);
+      newest = b.newest ∙ ap (λ o. newest_of o more) a.newest ∙ sym (newest-append m.newest first more);
+      flushes = rw length-append (let e = a.flushes in let f = b.flushes in omega arith);
+      silent = rw count-append (let e = a.silent in let f = b.silent in omega arith);
+    }
+
+-- ---- told from an earlier machine
 
 cause-before : (m mid : Timed) (at : ℕ) (cause : Cause) → Rises m mid → mid.sizes.limit ≡ m.sizes.limit → mid.count ≤ at → HasCause mid.arch mid.sizes.limit (at - mid.count) cause → HasCause m.arch m.sizes.limit (at - m.count) cause
 cause-before m mid at (Differs d) r l h c =
@@ -91,18 +105,40 @@ row-before : (m mid : Timed) (row : FlushRow) → Rises m mid → mid.sizes.limi
 row-before m mid row r l s =
     record { later = (let a = s.later in let b = r.counted in omega arith); caused = cause-before m mid row.at row.cause r l s.later s.caused }
 
-AddsRows-trans : (m mid last : Timed) → Rises m mid → mid.sizes.limit ≡ m.sizes.limit → AddsRows m mid → AddsRows mid last → AddsRows m last
-AddsRows-trans m mid last r l a b =
+all-before : (m mid : Timed) (rows : List FlushRow) → Rises m mid → mid.sizes.limit ≡ m.sizes.limit → All (IsRowSince mid) rows → All (IsRowSince m) rows
+all-before m mid rows r l a = λ k d h. row-before m mid (get_or rows k d) r l (a k d h)
+
+-- ---- the rows of a run
+
+rows-same : (m : Timed) (list : List Record) (rest : List (List Record)) (rows : List FlushRow) → SameLog m (cycle_of m list) → AreRowsOf (cycle_of m list) rest rows → AreRowsOf m (list ∷ rest) rows
+rows-same m list rest [] s a = (s, a)
+rows-same m list rest (row ∷ rows) s a = inl (s, a)
+
+-- a cycle, and the run behind it
+run-more :
+    (m : Timed) (list : List Record) (rest : List (List Record)) (last : Timed)
+    → IsMachine m
+    → SameLog m (cycle_of m list) ⊎ AddsRow m (cycle_of m list)
+    → AddsRows (cycle_of m list) rest last
+    → AddsRows m (list ∷ rest) last
+run-more m list rest last inv (inl s) later =
     record {
-      added = a.added ++ b.added;
-      are_true = All-append (IsRowSince m) a.added b.added a.are_true (λ k d h. row-before m mid (get_or b.added k d) r l (b.are_true k d h));
-      rows = b.rows ∙ ap (λ xs. take 1024 (xs ++ b.added)) a.rows ∙ take-twice 1024 (m.rows ++ a.added) b.added ∙ ap (take 1024) (append_assoc m.rows a.added b.added);
-      newest = b.newest ∙ ap (λ o. newest_of o b.added) a.newest ∙ sym (newest-append m.newest a.added b.added);
-      flushes = rw length-append (let e = a.flushes in let f = b.flushes in omega arith);
-      silent = rw count-append (let e = a.silent in let f = b.silent in omega arith);
+      added = later.added;
+      each = rows-same m list rest later.added s later.each;
+      since = all-before m (cycle_of m list) later.added (rises m list inv) (ap (λ z. z.limit) (same-sizes m list inv)) later.since;
+      has = HasRows-trans m (cycle_of m list) last [] later.added (same-has m (cycle_of m list) inv.rows s) later.has;
+    }
+run-more m list rest last inv (inr a) later =
+    record {
+      added = a.row ∷ later.added;
+      each = inr (a.is, later.each);
+      since = All-append (IsRowSince m) (a.row ∷ []) later.added
+          (all-one (IsRowSince m) a.row (row-since m (cycle_of m list) a.row (rises m list inv) a.is))
+          (all-before m (cycle_of m list) later.added (rises m list inv) (ap (λ z. z.limit) (same-sizes m list inv)) later.since);
+      has = HasRows-trans m (cycle_of m list) last (a.row ∷ []) later.added (one-has m (cycle_of m list) a.row inv.rows a.is) later.has;
     }
 
-pub run-adds : (lists : List (List Record)) (m : Timed) → IsMachine m → AddsRows m (run_of m lists)
-run-adds [] m inv = same-adds m m inv.rows (record { rows = refl; newest = refl; flushes = refl; silent = refl })
-run-adds (list ∷ rest) m inv =
-    AddsRows-trans m (cycle_of m list) (run_of (cycle_of m list) rest) (rises m list inv) (ap (λ z. z.limit) (same-sizes m list inv)) (adds_rows m list inv) (run-adds rest (cycle_of m list) (stays m list inv))
+pub run-adds : (lists : List (List Record)) (m : Timed) → IsMachine m → AddsRows m lists (run_of m lists)
+run-adds [] m inv =
+    record { added = []; each = refl; since = λ k d h. absurd (omega arith); has = same-has m m inv.rows (record { rows = refl; newest = refl; flushes = refl; silent = refl }) }
+run-adds (list ∷ rest) m inv = run-more m list rest _ inv (logs m list inv) (run-adds rest (cycle_of m list) (stays m list inv))

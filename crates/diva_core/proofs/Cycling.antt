@@ -8,7 +8,7 @@ use Rattle.diva_isa.specs.Step.{record_of, steps}
 use Rattle.diva_core.specs.declared.differences.Diff.{Diff}
 use Rattle.diva_core.specs.declared.flushes.Cause.{Cause}
 use Rattle.diva_core.specs.declared.flushes.Cause.TheVariants.{Differs, Silent}
-use Rattle.diva_core.specs.Difference.{IsDifference}
+use Rattle.diva_core.specs.Difference.{first_difference}
 use Rattle.diva_isa.specs.State.{goes_on}
 use Rattle.diva_core.specs.Timed.{Timed, Waiting, room_of}
 use Rattle.diva_core.specs.Cycle.{commits, judged, by_solo, flushed, drained, begun, accepts, accepted, accepted_in, barked, counted, watched, cycle_of}
@@ -77,7 +77,8 @@ pub record Differed (b n : Timed) : Type 0 where
   pub rest : List Waiting
   pub d : Diff
   pub log : HasRow b n (record { cycle = b.cycles + 1; at = n.count; cause = Differs d })
-  pub differs : IsDifference p.claim (record_of n.arch) d
+  pub first : first_difference p.claim (record_of n.arch) ≡ Some d
+  pub ready : p.cycle + 6 ≤ b.cycles + 1
   pub claims : Commits k b.arch (b.cycles + 1) b.pending (p ∷ rest)
   pub was : b.solo ≡ None
   pub solo : n.solo ≡ Some (b.cycles + 1)
@@ -285,7 +286,8 @@ Cycled-flushing b list was r =
       rest = r.rest;
       d = r.d;
       log = record { rows = r.log.rows; newest = r.log.newest; flushes = r.log.flushes; silent = r.log.silent };
-      differs = r.differs;
+      first = r.first;
+      ready = r.ready;
       claims = r.claims;
       was = was;
       solo = r.solo;

@@ -1,4 +1,5 @@
 -- What a difference says, and what none says.
+use Rattle.std.specs.Prelude.{IfSome}
 use Rattle.std.proofs.Common.{◌≡◌, Bool, true, false, ◌==◌, List, [], ◌∷◌, Option, Some, None, refl, sym, subst, cond}
 use Rattle.std.proofs.lemmas.Bool.{eqb-true, eqb-false, eq-eqb}
 use Rattle.std.proofs.lemmas.Option.{none-some, same_Some}
@@ -50,3 +51,11 @@ difference-none p r e = same p r (in-none all_fields p r e)
 pub difference-same : (r : Record) → first_difference r r ≡ None
 unfolding first_difference
 difference-same r = in-same all_fields r
+
+-- the same of the answer
+pub difference_names : (p r : Record) → IfSome (first_difference p r) (IsDifference p r)
+difference_names p r = names (first_difference p r) refl
+  where
+    names : (o : Option Diff) → first_difference p r ≡ o → IfSome o (IsDifference p r)
+    names None e = tt
+    names (Some d) e = difference-some p r d e

@@ -10,6 +10,7 @@ use Rattle.diva_core.specs.Cycle.{cycle_of}
 use Rattle.diva_core.specs.Machine.{IsMachine}
 use Rattle.diva_core.specs.Headline.{IsJudged}
 use Rattle.diva_core.proofs.Commits.{Commits}
+use Rattle.diva_core.proofs.Differing.{difference-some}
 use Rattle.diva_core.proofs.Cycling.{Cycled, cycled, Base, Differed, idled, ran, barks, differed, ended, finished, waited}
 
 first-commits : (k : ℕ) (s : State) (c : ℕ) (xs : List Waiting) (p : Waiting) (rest after : List Waiting) → xs ≡ p ∷ rest → Commits (suc k) s c xs after → p.claim ≡ record_of s
@@ -25,10 +26,11 @@ front-differs b n p q rest after e f = ap (λ xs. get_or xs 0 q) (f ∙ e)
 judged-differed : (b n : Timed) (p : Waiting) (rest : List Waiting) (k : ℕ) (r : Differed b n) → r.k ≡ k → b.pending ≡ p ∷ rest → IsJudged b n p
 judged-differed b n p rest zero r none e =
     let v : Base b n 0 = subst (Base b n) none r.base in
+    let differs = difference-some r.p.claim (record_of n.arch) r.d r.first in
     let c : (r.p ∷ r.rest) ≡ b.pending = subst (λ k. Commits k b.arch (b.cycles + 1) b.pending (r.p ∷ r.rest)) none r.claims in
     let q : r.p ≡ p = front-differs b n p r.p rest r.rest e c in
     record {
-      equal = λ same. absurd (r.differs.differ (r.differs.claims ∙ ap (field_of r.d.field) (ap (λ w. w.claim) q ∙ same ∙ ap record_of (sym v.stepped)) ∙ sym r.differs.dues));
+      equal = λ same. absurd (differs.differ (differs.claims ∙ ap (field_of r.d.field) (ap (λ w. w.claim) q ∙ same ∙ ap record_of (sym v.stepped)) ∙ sym differs.dues));
       unequal = λ other. ((let x = v.counted in omega arith), r.log.flushes, (let s = r.log.silent in omega arith));
     }
 judged-differed b n p rest (suc k) r more e =

@@ -6,13 +6,13 @@ use Rattle.diva_isa.specs.State.{State, goes_on}
 use Rattle.diva_isa.specs.Step.{record_of, step, steps}
 use Rattle.diva_core.specs.declared.differences.Diff.{Diff}
 use Rattle.diva_core.specs.declared.flushes.Cause.TheVariants.{Differs}
-use Rattle.diva_core.specs.Difference.{first_difference, IsDifference}
+use Rattle.diva_core.specs.Difference.{first_difference}
 use Rattle.diva_core.specs.Timed.{Timed, Waiting}
 use Rattle.diva_core.specs.Cycle.{judged, by_front, by_difference, followed, committed, flushed, puts_store, number}
 use Rattle.diva_core.specs.Headline.{SameLog, HasRow}
 use Rattle.diva_core.proofs.Commits.{Commits}
 use Rattle.diva_core.proofs.Steps.{steps-shift, step-on}
-use Rattle.diva_core.proofs.Differing.{difference-some, difference-none}
+use Rattle.diva_core.proofs.Differing.{difference-none}
 
 -- R holds while at most so many claims more are judged, and Q where the judging stops
 pub record Judges (R : ℕ → Timed → Type 0) (Q : Timed → Type 0) : Type 0 where
@@ -88,7 +88,8 @@ pub record Flushing (b m : Timed) : Type 0 where
   pub rest : List Waiting
   pub d : Diff
   pub log : HasRow b m (record { cycle = b.cycles; at = m.count; cause = Differs d })
-  pub differs : IsDifference p.claim (record_of m.arch) d
+  pub first : first_difference p.claim (record_of m.arch) ≡ Some d
+  pub ready : p.cycle + 6 ≤ b.cycles
   pub claims : Commits k b.arch b.cycles b.pending (p ∷ rest)
   pub solo : m.solo ≡ Some b.cycles
   pub pending : m.pending ≡ []
@@ -152,9 +153,9 @@ Still-start b none on owed =
       on = on;
     }
 
-Flushing-from : (b m : Timed) (p : Waiting) (rest : List Waiting) (d : Diff) → m.pending ≡ p ∷ rest → first_difference p.claim (record_of m.arch) ≡ Some d → Still b m → Flushing b (flushed m (Differs d))
+Flushing-from : (b m : Timed) (p : Waiting) (rest : List Waiting) (d : Diff) → m.pending ≡ p ∷ rest → nat_le (p.cycle + 6) m.cycles ≡ true → first_difference p.claim (record_of m.arch) ≡ Some d → Still b m → Flushing b (flushed m (Differs d))
 unfolding flushed
-Flushing-from b m p rest d e differs r =
+Flushing-from b m p rest d e ready differs r =
     record {
       k = r.k;
       moved = record { sizes = r.moved.sizes; cycles = r.moved.cycles; idle = r.moved.idle; counted = r.moved.counted; stepped = r.moved.stepped; owed = r.moved.owed; few = r.moved.few };
@@ -167,7 +168,8 @@ Flushing-from b m p rest d e differs r =
         flushes = rw r.log.flushes refl;
         silent = rw r.log.silent refl;
       };
-      differs = difference-some p.claim (record_of m.arch) d differs;
+      first = differs;
+      ready = rw r.moved.cycles at (leb-true _ _ ready);
       claims = rw e at r.claims;
       solo = ap Some r.moved.cycles;
       pending = refl;
@@ -232,7 +234,7 @@ unfolding Still-commit
 judges b =
     record {
       stop = λ n m r. still r.now;
-      flush = λ n m p rest d e ready differs r. flushing (Flushing-from b m p rest d e differs r.now);
+      flush = λ n m p rest d e ready differs r. flushing (Flushing-from b m p rest d e ready differs r.now);
       commit = λ n m p rest e ready same free r.
           let few : suc r.now.k ≤ b.sizes.width = (let f = r.few in omega arith) in
           (λ on. record { now = Still-commit b m p rest e ready same free r.now few on; few = (let f = r.few in omega arith) }, λ off. ending (Ending-commit b m p rest e ready same free r.now few off));

@@ -1,5 +1,5 @@
 -- What holds of a machine holds of it after a cycle.
-use Rattle.std.proofs.Common.{◌≡◌, ◌≢◌, ℕ, zero, suc, ◌+◌, ◌-◌, ◌*◌, ◌≤◌, ◌&&◌, List, [], ◌∷◌, ◌++◌, map, take, length, Option, Some, None, ap, sym, arith, ◌⊎◌, inl, inr, subst, length-append, length-take}
+use Rattle.std.proofs.Common.{◌≡◌, ◌≢◌, ℕ, zero, suc, ◌+◌, ◌-◌, ◌*◌, ◌≤◌, ◌&&◌, true, List, [], ◌∷◌, ◌++◌, map, take, length, Option, Some, None, ap, sym, arith, ◌⊎◌, inl, inr, subst, length-append, length-take}
 use Rattle.std.proofs.lemmas.List.{length-map}
 use Rattle.std.specs.Prelude.{nat_lt, is_none}
 use Rattle.std.proofs.lemmas.Bool.{cond_both, ltb-true}
@@ -14,7 +14,8 @@ use Rattle.diva_core.specs.Machine.{IsMachine, Lives, IsAlone, ArePast}
 use Rattle.diva_core.specs.Headline.{SameLog, AddsRow}
 use Rattle.diva_core.proofs.Commits.{Commits}
 use Rattle.diva_core.proofs.Cycling.{Cycled, Base, idled, ran, barks, differed, ended, finished, waited, taken}
-use Rattle.diva_core.proofs.Outcomes.{by-cases, log-cases}
+use Rattle.diva_core.proofs.Outcomes.{any-base, by-cases, log-cases}
+use Rattle.diva_core.proofs.Stalling.{Paces, paces, stall-cases}
 
 pub ArePast-later : (c d : ℕ) (xs : List Waiting) → c ≤ d → ArePast c xs → ArePast d xs
 ArePast-later c d [] h a = tt
@@ -50,15 +51,15 @@ kept-fits rows row h = cond_both (nat_lt (length rows) 1024) _ _ (λ r. length r
 
 rows-fit : (b n : Timed) → length b.rows ≤ 1024 → SameLog b n ⊎ AddsRow b n → length n.rows ≤ 1024
 rows-fit b n h (inl s) = rw s.rows h
-rows-fit b n h (inr a) = rw a.has.rows (kept-fits b.rows a.row h)
+rows-fit b n h (inr a) = rw a.is.has.rows (kept-fits b.rows a.row h)
 
 flushes-fit : (b n : Timed) → b.flushes ≤ b.cycles → n.cycles ≡ b.cycles + 1 → SameLog b n ⊎ AddsRow b n → n.flushes ≤ n.cycles
 flushes-fit b n h c (inl s) = let f = s.flushes in omega arith
-flushes-fit b n h c (inr a) = let f = a.has.flushes in omega arith
+flushes-fit b n h c (inr a) = let f = a.is.has.flushes in omega arith
 
 silent-fits : (b n : Timed) → b.silent ≤ b.flushes → SameLog b n ⊎ AddsRow b n → n.silent ≤ n.flushes
 silent-fits b n h (inl s) = let f = s.flushes in let x = s.silent in omega arith
-silent-fits b n h (inr a) = let f = a.has.flushes in let x = a.has.silent in let one = number-least (is_silent a.row.cause) in omega arith
+silent-fits b n h (inr a) = let f = a.is.has.flushes in let x = a.is.has.silent in let one = number-least (is_silent a.row.cause) in omega arith
 
 count-fits : (b n : Timed) (k : ℕ) → b.count ≤ b.sizes.width * b.cycles → Base b n k → n.count ≤ n.sizes.width * n.cycles
 count-fits b n k h v = rw (v.sizes, v.cycles, v.counted) (let f = v.few in omega arith)
@@ -71,8 +72,9 @@ IsMachine-from :
     → Lives n n.solo
     → ArePast n.cycles n.pending
     → length n.pending ≤ n.sizes.window
+    → Paces n
     → IsMachine n
-IsMachine-from b n k inv v log lives past window =
+IsMachine-from b n k inv v log lives past window pace =
     record {
       sizes = rw v.sizes inv.sizes;
       lives = lives;
@@ -83,11 +85,12 @@ IsMachine-from b n k inv v log lives past window =
       flushes = flushes-fit b n inv.flushes v.cycles log;
       silent = silent-fits b n inv.silent log;
       count = count-fits b n k inv.count v;
+      pace = pace;
     }
 
 -- a machine in which nothing waits
-IsMachine-empty : (b n : Timed) (k : ℕ) → IsMachine b → Base b n k → SameLog b n ⊎ AddsRow b n → Lives n n.solo → n.pending ≡ [] → IsMachine n
-IsMachine-empty b n k inv v log lives e = IsMachine-from b n k inv v log lives (subst (ArePast n.cycles) (sym e) tt) (rw e (omega arith))
+IsMachine-empty : (b n : Timed) (k : ℕ) → IsMachine b → Base b n k → SameLog b n ⊎ AddsRow b n → Lives n n.solo → n.pending ≡ [] → Paces n → IsMachine n
+IsMachine-empty b n k inv v log lives e pace = IsMachine-from b n k inv v log lives (subst (ArePast n.cycles) (sym e) tt) (rw e (omega arith)) pace
 
 limit-is : (b n : Timed) (k : ℕ) → Base b n k → n.sizes.limit ≡ b.sizes.limit
 limit-is b n k v = ap (λ z. z.limit) v.sizes
@@ -102,11 +105,13 @@ IsMachine-more :
     → n.pending ≡ rest ++ taken b list
     → ArePast b.cycles rest
     → length rest ≤ length b.pending
+    → Paces n
     → IsMachine n
-IsMachine-more b n k list rest inv v log lives e past short =
+IsMachine-more b n k list rest inv v log lives e past short pace =
     IsMachine-from b n k inv v (inl log) lives
     (rw (e, v.cycles) (ArePast-append (b.cycles + 1) rest (taken b list) (ArePast-later b.cycles (b.cycles + 1) rest (omega arith) past) (ArePast-taken (b.cycles + 1) (take (room_of b) list))))
     (rw (e, length-append, v.sizes) (let t = taken-fits b list in let w = inv.window in omega arith))
+    pace
 
 lives-none : (b n : Timed) (k : ℕ) → Base b n k → n.solo ≡ None → n.idle + 1 ≤ b.sizes.limit → Lives n n.solo
 lives-none b n k v none h = subst (Lives n) (sym none) (rw (limit-is b n k v) h)
@@ -117,32 +122,33 @@ lives-flushed b n k v some e h =
     let l = limit-is b n k v in
     subst (Lives n) (sym some) (record { empty = e; started = omega arith; soon = omega arith; idled = omega arith })
 
-machine-cases : (b : Timed) (list : List Record) (n : Timed) → IsMachine b → Cycled b list n → IsMachine n
-machine-cases b list n inv (idled r) =
-    IsMachine-more b n 0 list b.pending inv r.base r.log (lives-none b n 0 r.base r.solo (let e = r.early in omega arith)) r.pending inv.past (omega arith)
-machine-cases b list n inv (ran r) =
+machine-cases : (b : Timed) (list : List Record) (n : Timed) → IsMachine b → Cycled b list n → Paces n → IsMachine n
+machine-cases b list n inv (idled r) pace =
+    IsMachine-more b n 0 list b.pending inv r.base r.log (lives-none b n 0 r.base r.solo (let e = r.early in omega arith)) r.pending inv.past (omega arith) pace
+machine-cases b list n inv (ran r) pace =
     let low = inv.sizes.limit_low in
     let i = r.idle in
     IsMachine-more b n (suc r.k) list r.rest inv r.base r.log (lives-none b n (suc r.k) r.base r.solo (omega arith)) r.pending
     (ArePast-commits (suc r.k) b.arch (b.cycles + 1) b.cycles b.pending r.rest r.claims inv.past)
     (let l = length-commits (suc r.k) b.arch (b.cycles + 1) b.pending r.rest r.claims in omega arith)
-machine-cases b list n inv (barks r) =
+    pace
+machine-cases b list n inv (barks r) pace =
     let lives : b.idle + 1 ≤ b.sizes.limit = subst (Lives b) r.was inv.lives in
     let i = r.idle in
-    IsMachine-empty b n 0 inv r.base (log-cases b list n inv (barks r)) (lives-flushed b n 0 r.base r.solo r.pending (omega arith)) r.pending
-machine-cases b list n inv (differed r) =
+    IsMachine-empty b n 0 inv r.base (log-cases b list n inv (barks r)) (lives-flushed b n 0 r.base r.solo r.pending (omega arith)) r.pending pace
+machine-cases b list n inv (differed r) pace =
     let lives : b.idle + 1 ≤ b.sizes.limit = subst (Lives b) r.was inv.lives in
     let i = r.idle in
-    IsMachine-empty b n r.k inv r.base (log-cases b list n inv (differed r)) (lives-flushed b n r.k r.base r.solo r.pending (omega arith)) r.pending
-machine-cases b list n inv (ended r) =
+    IsMachine-empty b n r.k inv r.base (log-cases b list n inv (differed r)) (lives-flushed b n r.k r.base r.solo r.pending (omega arith)) r.pending pace
+machine-cases b list n inv (ended r) pace =
     let low = inv.sizes.limit_low in
     let i = r.idle in
-    IsMachine-empty b n (suc r.k) inv r.base (inl r.log) (lives-none b n (suc r.k) r.base r.solo (omega arith)) r.pending
-machine-cases b list n inv (finished r) =
+    IsMachine-empty b n (suc r.k) inv r.base (inl r.log) (lives-none b n (suc r.k) r.base r.solo (omega arith)) r.pending pace
+machine-cases b list n inv (finished r) pace =
     let low = inv.sizes.limit_low in
     let i = r.idle in
-    IsMachine-empty b n 1 inv r.base (inl r.log) (lives-none b n 1 r.base r.solo (omega arith)) r.pending
-machine-cases b list n inv (waited r) =
+    IsMachine-empty b n 1 inv r.base (inl r.log) (lives-none b n 1 r.base r.solo (omega arith)) r.pending pace
+machine-cases b list n inv (waited r) pace =
     let a : IsAlone b r.start = subst (Lives b) r.since inv.lives in
     let c = r.base.cycles in
     let l = limit-is b n 0 r.base in
@@ -151,10 +157,13 @@ machine-cases b list n inv (waited r) =
     let soon = a.soon in
     let was = a.idled in
     let early : b.cycles + 1 ≢ r.start + 6 = r.early in
-    IsMachine-empty b n 0 inv r.base (inl r.log) (subst (Lives n) (sym r.solo) (record { empty = r.pending; started = omega arith; soon = omega arith; idled = omega arith })) r.pending
+    IsMachine-empty b n 0 inv r.base (inl r.log) (subst (Lives n) (sym r.solo) (record { empty = r.pending; started = omega arith; soon = omega arith; idled = omega arith })) r.pending pace
+
+paces-cases : (b : Timed) (list : List Record) (n : Timed) → IsMachine b → goes_on b.arch ≡ true → Cycled b list n → Paces n
+paces-cases b list n inv on c = paces b n (any-base b list n c).k inv (any-base b list n c).base (stall-cases b list n inv on c)
 
 pub stays : (m : Timed) (list : List Record) → IsMachine m → IsMachine (cycle_of m list)
-stays m list inv = by-cases IsMachine m list inv (λ on c. machine-cases m list _ inv c) (λ off. inv)
+stays m list inv = by-cases IsMachine m list inv (λ on c. machine-cases m list _ inv c (paces-cases m list _ inv on c)) (λ off. inv)
 
 idle-at : (m : Timed) (o : Option ℕ) → Lives m o → m.idle ≤ m.sizes.limit + 5
 idle-at m None h = omega arith

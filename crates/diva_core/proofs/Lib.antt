@@ -11,6 +11,8 @@ pub mod Pacing
 pub mod Phases
 pub mod Progressing
 pub mod Reaching
+pub mod Stalling
 pub mod Starting
 pub mod Steps
 pub mod Turning
+pub mod Unchecked

@@ -1,17 +1,17 @@
 -- The laws of a cycle.
-use Rattle.std.proofs.Common.{◌≡◌, ℕ, suc, ◌+◌, ◌-◌, ◌≤◌, true, false, List, ◌∷◌, refl, ap, sym, ◌∙◌, arith, ◌⊎◌, inl, inr, subst}
+use Rattle.std.proofs.Common.{◌≡◌, ℕ, zero, suc, ◌+◌, ◌-◌, ◌≤◌, true, false, List, [], ◌∷◌, Some, slice_get, refl, ap, sym, ◌∙◌, arith, ◌⊎◌, inl, inr, subst}
 use Rattle.std.proofs.lemmas.Bool.{cases_Bool}
 use Rattle.diva_isa.specs.declared.record.Record.{Record}
-use Rattle.diva_isa.specs.Step.{record_of, steps}
-use Rattle.diva_core.specs.Difference.{field_of}
-use Rattle.diva_isa.specs.State.{goes_on}
+use Rattle.diva_isa.specs.Step.{record_of, step, steps}
+use Rattle.diva_core.specs.Difference.{first_difference}
+use Rattle.diva_isa.specs.State.{State, goes_on}
 use Rattle.diva_core.specs.Timed.{Timed, Waiting}
 use Rattle.diva_core.specs.Cycle.{cycle_of}
 use Rattle.diva_core.specs.Machine.{IsMachine, Lives}
-use Rattle.diva_core.specs.Headline.{SameLog, Rises, AddsRow}
+use Rattle.diva_core.specs.Headline.{SameLog, Rises, AddsRow, IsRefuted}
 use Rattle.diva_core.specs.Headline.{dues, ByClaims, ByItself}
 use Rattle.diva_core.proofs.Commits.{Commits, CommitsClaims, CommitsItself, commits-records}
-use Rattle.diva_core.proofs.Cycling.{Cycled, cycled, Base, idled, ran, barks, differed, ended, finished, waited}
+use Rattle.diva_core.proofs.Cycling.{Cycled, cycled, Base, Differed, idled, ran, barks, differed, ended, finished, waited}
 
 pub record AnyBase (b n : Timed) : Type 0 where
   pub k : ℕ
@@ -54,14 +54,30 @@ rises m list inv = by-cases (Rises m) m list inv (λ on c. Rises-any m _ (any-ba
 
 -- ---- the log
 
+-- the claim behind those that committed
+at-place : (k : ℕ) (s : State) (c : ℕ) (xs : List Waiting) (p : Waiting) (rest : List Waiting) → Commits k s c xs (p ∷ rest) → slice_get xs k ≡ Some p
+at-place zero s c xs p rest h = rw (← h) refl
+at-place (suc k) s c [] p rest h = absurd h
+at-place (suc k) s c (q ∷ xs) p rest h = at-place k (step s) c xs p rest h.2
+
+refuted : (b n : Timed) (r : Differed b n) → IsRefuted b n r.d
+refuted b n r =
+    let e : n.arch ≡ steps (n.count - b.count) b.arch = r.base.stepped ∙ ap (λ k. steps k b.arch) (sym (k-is b n r.k r.base)) in
+    record {
+      p = r.p;
+      waited = rw (k-is b n r.k r.base) (at-place r.k b.arch (b.cycles + 1) b.pending r.p r.rest r.claims);
+      ready = r.ready;
+      differs = subst (λ (s : State). first_difference r.p.claim (record_of s) ≡ Some r.d) e r.first;
+    }
+
 pub log-cases : (b : Timed) (list : List Record) (n : Timed) → IsMachine b → Cycled b list n → SameLog b n ⊎ AddsRow b n
 log-cases b list n inv (idled r) = inl r.log
 log-cases b list n inv (ran r) = inl r.log
 log-cases b list n inv (barks r) =
     let lives : b.idle + 1 ≤ b.sizes.limit = subst (Lives b) r.was inv.lives in
-    inr (record { row = _; has = r.log; cycle = refl; at = refl; caused = (refl, (let i = r.idle in let l = r.late in omega arith)) })
+    inr (record { row = _; is = record { has = r.log; cycle = refl; at = refl; caused = (refl, (let i = r.idle in let l = r.late in omega arith)) } })
 log-cases b list n inv (differed r) =
-    inr (record { row = _; has = r.log; cycle = refl; at = refl; caused = (r.differs.differ, r.differs.dues ∙ ap (λ s. field_of r.d.field (record_of s)) (r.base.stepped ∙ ap (λ k. steps k b.arch) (sym (k-is b n r.k r.base)))) })
+    inr (record { row = _; is = record { has = r.log; cycle = refl; at = refl; caused = refuted b n r } })
 log-cases b list n inv (ended r) = inl r.log
 log-cases b list n inv (finished r) = inl r.log
 log-cases b list n inv (waited r) = inl r.log

@@ -7,11 +7,11 @@ use Rattle.diva_core.specs.Cycle.{cycle_of, run_of}
 use Rattle.diva_core.specs.Told.{notice_of}
 use Rattle.diva_core.specs.Log.{Meaning, Turns, lists_of}
 use Rattle.diva_core.specs.Machine.{IsMachine}
-use Rattle.diva_core.specs.Headline.{Rises, AddsRows, WillCount, HasCounted, KeepsPace, AreCommitted, HasCommitted}
+use Rattle.diva_core.specs.Headline.{Rises, AddsRows, WillCount, KeepsPace, AreCommitted, Drives}
 use Rattle.diva_core.proofs.Progressing.{progress, run-rises, run-stays}
-use Rattle.diva_core.proofs.Reaching.{far_enough}
+use Rattle.diva_core.proofs.Reaching.{run-pace}
 use Rattle.diva_core.proofs.Adding.{run-adds}
-use Rattle.diva_core.proofs.Turning.{IsLog-run, Turns-more, length-lists_of}
+use Rattle.diva_core.proofs.Turning.{IsLog-run, Turns-none, Turns-more}
 use Rattle.diva_core.proofs.Outcomes.{cycle-cycles, records_by}
 use Rattle.diva_core.proofs.Keeping.{stays}
 
@@ -30,30 +30,17 @@ module _ {C : Type 0} (gives : Meaning C) (m : Timed) (core : C) (last : Timed) 
   reached : last ≡ run_of m lists
   reached = IsLog-run gives m core t.log last final t.good
 
-  many : length lists ≡ length t.log
-  many = length-lists_of t.log
-
   pub turns-rise : Rises m last
   turns-rise = subst (Rises m) (sym reached) (run-rises m lists inv)
 
   pub turns-stay : IsMachine last
   turns-stay = subst IsMachine (sym reached) (run-stays m lists inv)
 
-  pub turns-add : AddsRows m last
-  turns-add = subst (AddsRows m) (sym reached) (run-adds lists m inv)
-
-  pub turns-commit : HasCommitted m last
-  turns-commit = record { lists = lists; led = reached; each = are_committed m lists inv }
-
-  pub turns-count : HasCounted m last
-  turns-count on long =
-      subst (λ n. m.count < n.count) (sym reached) (let e = many in let f = t.each in let p = progress m lists inv on (omega arith) in omega arith)
-
   pub turns-pace : KeepsPace m last
-  turns-pace d on long =
-      let e = many in
-      let f = t.each in
-      subst (λ n. m.count + d ≤ n.count) (sym reached) (far_enough m lists d inv (subst (λ n. goes_on n.arch ≡ true) reached on) (omega arith))
+  turns-pace = subst (KeepsPace m) (sym reached) (run-pace m lists inv)
+
+  pub turns-drive : Drives gives m core last final
+  turns-drive = record { turns = t; commits = are_committed m lists inv; rows = subst (AddsRows m lists) (sym reached) (run-adds lists m inv) }
 
   -- one turn more
   pub turns-next :
@@ -64,8 +51,5 @@ module _ {C : Type 0} (gives : Meaning C) (m : Timed) (core : C) (last : Timed) 
   turns-next list after on asked = Turns-more gives m core last final list after t on asked (cycle-cycles last list turns-stay on)
 
 -- nothing changes
-pub adds_none : (m : Timed) → IsMachine m → AddsRows m m
-adds_none m inv = run-adds [] m inv
-
-pub commits_none : (m : Timed) → HasCommitted m m
-commits_none m = record { lists = []; led = refl; each = tt }
+pub drives_none : {C : Type 0} (gives : Meaning C) (m : Timed) (core : C) → IsMachine m → Drives gives m core m core
+drives_none gives m core inv = turns-drive gives m core m core inv (Turns-none gives m core)

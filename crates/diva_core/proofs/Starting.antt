@@ -1,22 +1,17 @@
 -- A new machine, and what holds of each machine that is reached from it.
-use Rattle.std.proofs.Common.{◌≡◌, ◌+◌, ◌/◌, ◌≤◌, List, [], ◌∷◌, ap, ◌∙◌, arith}
+use Rattle.std.proofs.Common.{◌≡◌, ◌+◌, ◌/◌, ◌≤◌, List, ap, ◌∙◌, arith}
 use Rattle.diva_isa.specs.State.{State}
 use Rattle.diva_isa.specs.declared.record.Record.{Record}
 use Rattle.diva_isa.specs.Step.{steps}
 use Rattle.diva_core.specs.Timed.{Timed, Sizes, new_timed}
-use Rattle.diva_core.specs.Cycle.{cycle_of, run_of}
+use Rattle.diva_core.specs.Cycle.{run_of}
 use Rattle.diva_core.specs.Machine.{IsMachine, IsSizes}
-use Rattle.diva_core.specs.Headline.{Rises}
-use Rattle.diva_core.proofs.Keeping.{stays}
-use Rattle.diva_core.proofs.Progressing.{run-stays, run-rises, paces, pace, Paces, run-sizes}
+use Rattle.diva_core.specs.Headline.{Rises, HasPace}
+use Rattle.diva_core.proofs.Progressing.{run-stays, run-rises, run-sizes, has_pace}
 
 pub new-machine : (z : Sizes) (s : State) → IsSizes z → IsMachine (new_timed z s)
 new-machine z s ok =
-    record { sizes = ok; lives = (let l = ok.limit_low in omega arith); owed = omega arith; rows = omega arith; past = tt; window = omega arith; flushes = omega arith; silent = omega arith; count = omega arith }
-
-run-paces : (m : Timed) (lists : List (List Record)) → IsMachine m → Paces m → Paces (run_of m lists)
-run-paces m [] inv h = h
-run-paces m (list ∷ rest) inv h = run-paces (cycle_of m list) rest (stays m list inv) (paces m list inv h)
+    record { sizes = ok; lives = (let l = ok.limit_low in omega arith); owed = omega arith; rows = omega arith; past = tt; window = omega arith; flushes = omega arith; silent = omega arith; count = omega arith; pace = omega arith }
 
 pub headline : (z : Sizes) (s : State) (lists : List (List Record)) → IsSizes z → (run_of (new_timed z s) lists).arch ≡ steps (run_of (new_timed z s) lists).count s
 headline z s lists ok =
@@ -25,6 +20,5 @@ headline z s lists ok =
 
 pub pace_of_run : (z : Sizes) (s : State) (lists : List (List Record)) → IsSizes z → (run_of (new_timed z s) lists).cycles / (z.limit + 6) ≤ (run_of (new_timed z s) lists).count
 pace_of_run z s lists ok =
-    let inv : IsMachine (run_of (new_timed z s) lists) = run-stays (new_timed z s) lists (new-machine z s ok) in
-    let p : (run_of (new_timed z s) lists).cycles / ((run_of (new_timed z s) lists).sizes.limit + 6) ≤ (run_of (new_timed z s) lists).count = pace _ inv (run-paces (new_timed z s) lists (new-machine z s ok) (omega arith)) in
+    let p : HasPace (run_of (new_timed z s) lists) = has_pace _ (run-stays (new_timed z s) lists (new-machine z s ok)) in
     rw (run-sizes (new_timed z s) lists (new-machine z s ok)) at p

@@ -10,9 +10,8 @@ use Rattle.diva_core.specs.declared.differences.Diff.{Diff}
 use Rattle.diva_core.specs.declared.flushes.FlushRow.{FlushRow}
 use Rattle.diva_core.specs.declared.flushes.Cause.{Cause}
 use Rattle.diva_core.specs.declared.flushes.Cause.TheVariants.{Differs, Silent}
-use Rattle.diva_core.specs.declared.TheConstants.{DEPTH, KEPT_ROWS}
 use Rattle.diva_core.specs.Difference.{first_difference}
-use Rattle.diva_core.specs.Timed.{Timed, Waiting, room_of}
+use Rattle.diva_core.specs.Timed.{Timed, Waiting, room_of, depth, rows_kept}
 
 -- ---- what the phases are made of
 
@@ -35,7 +34,7 @@ number b = if b then 1 else 0
 
 -- the rows with one more, where there is room to keep it
 abbrev pub kept : List FlushRow → FlushRow → List FlushRow
-kept rows row = if nat_lt (length rows) KEPT_ROWS then rows ++ row ∷ [] else rows
+kept rows row = if nat_lt (length rows) rows_kept then rows ++ row ∷ [] else rows
 
 -- the row of a flush in the cycle that runs
 abbrev pub flush_row : Timed → Cause → FlushRow
@@ -81,7 +80,7 @@ by_difference next m rest None =
 abbrev pub by_front : (Timed → Timed) → Timed → List Waiting → Timed
 by_front next m [] = m
 by_front next m (p ∷ rest) =
-    if nat_le (p.cycle + DEPTH) m.cycles then by_difference next m rest (first_difference p.claim (record_of m.arch)) else m
+    if nat_le (p.cycle + depth) m.cycles then by_difference next m rest (first_difference p.claim (record_of m.arch)) else m
 
 -- at most n ready claims are judged, oldest first
 abbrev pub judged : ℕ → Timed → Timed
@@ -91,7 +90,7 @@ judged (suc n) m = by_front (judged n) m m.pending
 -- an instruction that is alone commits once it has passed through the stages; else the claims are judged
 abbrev pub by_solo : Timed → Option ℕ → Timed
 by_solo m None = judged m.sizes.width m
-by_solo m (Some start) = if m.cycles == start + DEPTH then committed (record m { solo = None }) (record_of m.arch) else m
+by_solo m (Some start) = if m.cycles == start + depth then committed (record m { solo = None }) (record_of m.arch) else m
 
 unfoldable pub commits : Timed → Timed
 commits m = by_solo m m.solo

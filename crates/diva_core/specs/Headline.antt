@@ -1,5 +1,5 @@
 -- What a cycle, a turn and a drive promise, whatever is handed over.
-use Rattle.std.specs.Prelude.{ℕ, zero, suc, ◌≡◌, ◌≢◌, ◌≤◌, ◌<◌, ◌+◌, ◌-◌, ◌*◌, List, [], ◌∷◌, ◌++◌, ◌⊎◌, length, take, count_by, Option, Some, Bool, true, false}
+use Rattle.std.specs.Prelude.{ℕ, zero, suc, ◌≡◌, ◌≢◌, ◌≤◌, ◌<◌, ◌+◌, ◌-◌, ◌*◌, ◌/◌, List, [], ◌∷◌, ◌++◌, ◌⊎◌, length, take, slice_get, count_by, Option, Some, Bool, true, false}
 use Rattle.std.specs.List.{All}
 use Rattle.diva_isa.specs.State.{State, goes_on}
 use Rattle.diva_isa.specs.declared.record.Record.{Record}
@@ -7,10 +7,11 @@ use Rattle.diva_isa.specs.Step.{record_of, step, steps}
 use Rattle.diva_core.specs.declared.flushes.FlushRow.{FlushRow}
 use Rattle.diva_core.specs.declared.flushes.Cause.{Cause}
 use Rattle.diva_core.specs.declared.flushes.Cause.TheVariants.{Differs, Silent}
-use Rattle.diva_core.specs.declared.TheConstants.{DEPTH, KEPT_ROWS}
-use Rattle.diva_core.specs.Difference.{field_of}
-use Rattle.diva_core.specs.Timed.{Timed, Waiting}
+use Rattle.diva_core.specs.declared.differences.Diff.{Diff}
+use Rattle.diva_core.specs.Difference.{field_of, first_difference}
+use Rattle.diva_core.specs.Timed.{Timed, Waiting, depth, rows_kept}
 use Rattle.diva_core.specs.Cycle.{cycle_of, kept, number, is_silent, run_of}
+use Rattle.diva_core.specs.Log.{Meaning, Turns, lists_of}
 
 -- ---- counted: the count rises, and the state has moved by as many steps
 pub record Rises (m last : Timed) : Type 0 where
@@ -29,24 +30,24 @@ abbrev pub dues : ℕ → State → List Record
 dues zero s = []
 dues (suc k) s = record_of s ∷ dues k (step s)
 
--- the records are the claims at the front of those that waited, each accepted DEPTH or more cycles before this one; the
--- rest waits on
+-- the records are the claims at the front of those that waited, each accepted six or more cycles before this one; the rest
+-- waits on
 abbrev pub AreClaims : List Record → ℕ → List Waiting → List Waiting → Type 0
 AreClaims [] cycle waiting rest = rest ≡ waiting
 AreClaims (r ∷ records) cycle [] rest = ⊥
 AreClaims (r ∷ records) cycle (p ∷ waiting) rest =
-    (p.claim ≡ r) × (p.cycle + DEPTH ≤ cycle) × AreClaims records cycle waiting rest
+    (p.claim ≡ r) × (p.cycle + depth ≤ cycle) × AreClaims records cycle waiting rest
 
 -- what a cycle committed are claims that waited
 pub record ByClaims (m : Timed) (records : List Record) : Type 0 where
   pub rest : List Waiting
   pub claims : AreClaims records (m.cycles + 1) m.pending rest
 
--- what a cycle committed is the one instruction that ran alone for DEPTH cycles
+-- what a cycle committed is the one instruction that ran solo for six cycles
 pub record ByItself (m : Timed) (records : List Record) : Type 0 where
   pub start : ℕ
   pub since : m.solo ≡ Some start
-  pub passed : m.cycles + 1 ≡ start + DEPTH
+  pub passed : m.cycles + 1 ≡ start + depth
   pub one : length records ≡ 1
 
 -- so it is in each cycle of a run
@@ -55,12 +56,6 @@ AreCommitted m [] = Unit {0}
 AreCommitted m (list ∷ rest) =
     let records = dues ((cycle_of m list).count - m.count) m.arch in
     (ByClaims m records ⊎ ByItself m records) × AreCommitted (cycle_of m list) rest
-
--- cycles lead from a machine to another, and so it is in each
-pub record HasCommitted (m last : Timed) : Type 0 where
-  pub lists : List (List Record)
-  pub led : last ≡ run_of m lists
-  pub each : AreCommitted m lists
 
 -- the front claim p is judged: an equal one commits, another flushes
 pub record IsJudged (m last : Timed) (p : Waiting) : Type 0 where
@@ -84,30 +79,44 @@ pub record HasRow (m last : Timed) (row : FlushRow) : Type 0 where
   pub flushes : last.flushes ≡ m.flushes + 1
   pub silent : last.silent ≡ m.silent + number (is_silent row.cause)
 
--- why a cycle added a row: a claim differed from the record that was due, or as many cycles as the limit passed without
--- a commit
+-- of the claims that waited, the first that a cycle did not commit was ready, and d is the first field in which it differs
+-- from the record that was then due
+pub record IsRefuted (m last : Timed) (d : Diff) : Type 0 where
+  pub p : Waiting
+  pub waited : slice_get m.pending (last.count - m.count) ≡ Some p
+  pub ready : p.cycle + depth ≤ m.cycles + 1
+  pub differs : first_difference p.claim (record_of (steps (last.count - m.count) m.arch)) ≡ Some d
+
+-- why a cycle flushed: a claim differed from the record that was due, or idle stood at the limit
 abbrev pub IsCause : Timed → Timed → Cause → Type 0
-IsCause m last (Differs d) =
-    (d.claimed ≢ d.due) × (d.due ≡ field_of d.field (record_of (steps (last.count - m.count) m.arch)))
+IsCause m last (Differs d) = IsRefuted m last d
 IsCause m last (Silent limit) = (limit ≡ m.sizes.limit) × (last.idle ≡ limit)
 
--- a cycle added a row
-pub record AddsRow (m last : Timed) : Type 0 where
-  pub row : FlushRow
+-- the row is the one that the cycle from m to `last` added to the log
+pub record IsRowOf (m last : Timed) (row : FlushRow) : Type 0 where
   pub has : HasRow m last row
   pub cycle : row.cycle ≡ m.cycles + 1
   pub at : row.at ≡ last.count
   pub caused : IsCause m last row.cause
+
+-- a cycle added a row
+pub record AddsRow (m last : Timed) : Type 0 where
+  pub row : FlushRow
+  pub is : IsRowOf m last row
+
+-- the rows are those that the cycles of a run added, in order: each cycle added its row, or left the log as it was
+abbrev pub AreRowsOf : Timed → List (List Record) → List FlushRow → Type 0
+AreRowsOf m [] rows = rows ≡ []
+AreRowsOf m (list ∷ rest) [] = SameLog m (cycle_of m list) × AreRowsOf (cycle_of m list) rest []
+AreRowsOf m (list ∷ rest) (row ∷ rows) =
+    (SameLog m (cycle_of m list) × AreRowsOf (cycle_of m list) rest (row ∷ rows))
+    ⊎ (IsRowOf m (cycle_of m list) row × AreRowsOf (cycle_of m list) rest rows)
 
 -- a row is true, `at` instructions after the state `start`: the due value is the table's and another was claimed, or the
 -- limit was reached
 abbrev pub HasCause : State → ℕ → ℕ → Cause → Type 0
 HasCause start limit at (Differs d) = (d.claimed ≢ d.due) × (d.due ≡ field_of d.field (record_of (steps at start)))
 HasCause start limit at (Silent idle) = idle ≡ limit
-
--- a row is true of a machine that began with the state `start` and has this limit
-abbrev pub IsRow : State → ℕ → FlushRow → Type 0
-IsRow start limit row = HasCause start limit row.at row.cause
 
 -- a row that came after the machine m is true, told from m on
 pub record IsRowSince (m : Timed) (row : FlushRow) : Type 0 where
@@ -122,30 +131,42 @@ newest_of before (row ∷ rows) = newest_of (Some row) rows
 abbrev pub is_silent_row : FlushRow → Bool
 is_silent_row row = is_silent row.cause
 
--- true rows were added to the log: the first that there was room for are kept, the newest stands beside them, and all are
--- counted
-pub record AddsRows (m last : Timed) : Type 0 where
-  pub added : List FlushRow
-  pub are_true : All (IsRowSince m) added
-  pub rows : last.rows ≡ take KEPT_ROWS (m.rows ++ added)
+-- the log of `last` is that of m with these rows added: the first that there was room for are kept, the newest stands beside
+-- them, and all are counted
+pub record HasRows (m : Timed) (added : List FlushRow) (last : Timed) : Type 0 where
+  pub rows : last.rows ≡ take rows_kept (m.rows ++ added)
   pub newest : last.newest ≡ newest_of m.newest added
   pub flushes : last.flushes ≡ m.flushes + length added
   pub silent : last.silent ≡ m.silent + count_by is_silent_row added
 
--- ---- until the end, every W + DEPTH cycles count at least one instruction more
+-- the run of these lists from m to `last` added rows to the log: those of its cycles, each with the cause that it had there
+pub record AddsRows (m : Timed) (lists : List (List Record)) (last : Timed) : Type 0 where
+  pub added : List FlushRow
+  pub each : AreRowsOf m lists added
+  pub since : All (IsRowSince m) added
+  pub has : HasRows m added last
+
+-- ---- until the end, every W + depth cycles count at least one instruction more, W being the watchdog's limit
 
 -- from this machine on, whatever is handed over
 abbrev pub WillCount : Timed → Type 0
 WillCount m =
-    goes_on m.arch ≡ true → (lists : List (List Record)) → m.sizes.limit + DEPTH ≤ length lists
+    goes_on m.arch ≡ true → (lists : List (List Record)) → m.sizes.limit + depth ≤ length lists
     → m.count < (run_of m lists).count
 
--- between two machines
-abbrev pub HasCounted : Timed → Timed → Type 0
-HasCounted m last = goes_on m.arch ≡ true → m.cycles + (m.sizes.limit + DEPTH) ≤ last.cycles → m.count < last.count
-
--- d times as many cycles after which it goes on count d instructions at least
+-- from one machine to another: in d times as many cycles d instructions at least
 abbrev pub KeepsPace : Timed → Timed → Type 0
-KeepsPace m last =
-    (d : ℕ) → goes_on last.arch ≡ true → m.cycles + d * (m.sizes.limit + DEPTH) ≤ last.cycles
-    → m.count + d ≤ last.count
+KeepsPace m last = (d : ℕ) → m.cycles + d * (m.sizes.limit + depth) ≤ last.cycles → m.count + d ≤ last.count
+
+-- since a machine was new
+abbrev pub HasPace : Timed → Type 0
+HasPace m = m.cycles / (m.sizes.limit + depth) ≤ m.count
+
+-- ---- a drive
+
+-- turns lead from a machine and a core to others, and of the lists of their log it holds what each cycle committed and which
+-- rows it added
+pub record Drives {C : Type 0} (gives : Meaning C) (m : Timed) (core : C) (last : Timed) (final : C) : Type 0 where
+  pub turns : Turns gives m core last final
+  pub commits : AreCommitted m (lists_of turns.log)
+  pub rows : AddsRows m (lists_of turns.log) last

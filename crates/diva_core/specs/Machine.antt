@@ -1,6 +1,6 @@
 -- What holds of a machine between two cycles.
 use Rattle.std.specs.Prelude.{ℕ, ◌≡◌, ◌≤◌, ◌+◌, ◌-◌, ◌*◌, List, [], ◌∷◌, length, Option, Some, None, ⊤}
-use Rattle.diva_core.specs.Timed.{Timed, Sizes, Waiting}
+use Rattle.diva_core.specs.Timed.{Timed, Sizes, Waiting, depth, rows_kept}
 
 pub record IsSizes (z : Sizes) : Type 0 where
   pub width_low : 1 ≤ z.width
@@ -12,11 +12,11 @@ pub record IsSizes (z : Sizes) : Type 0 where
   pub limit_low : 16 ≤ z.limit
   pub limit_high : z.limit ≤ 1024
 
--- an instruction runs on the checker alone since the cycle `start`
+-- an instruction runs solo since the cycle `start`
 pub record IsAlone (m : Timed) (start : ℕ) : Type 0 where
   pub empty : m.pending ≡ []
   pub started : start ≤ m.cycles
-  pub soon : m.cycles ≤ start + 5
+  pub soon : m.cycles + 1 ≤ start + depth
   pub idled : m.idle ≤ m.sizes.limit + (m.cycles - start)
 
 -- how long the machine can have been without a commit
@@ -29,13 +29,23 @@ abbrev pub ArePast : ℕ → List Waiting → Type 0
 ArePast cycles [] = ⊤
 ArePast cycles (p ∷ rest) = (p.cycle ≤ cycles) × ArePast cycles rest
 
+-- the cycles that went by since the last commit, where a flush counts as the watchdog's limit
+abbrev pub stalled_since : Timed → Option ℕ → ℕ
+stalled_since m None = m.idle
+stalled_since m (Some start) = m.sizes.limit + (m.cycles - start)
+
+abbrev pub stalled : Timed → ℕ
+stalled m = stalled_since m m.solo
+
 pub record IsMachine (m : Timed) : Type 0 where
   pub sizes : IsSizes m.sizes
   pub lives : Lives m m.solo
   pub owed : m.owed ≤ m.sizes.stores
-  pub rows : length m.rows ≤ 1024
+  pub rows : length m.rows ≤ rows_kept
   pub past : ArePast m.cycles m.pending
   pub window : length m.pending ≤ m.sizes.window
   pub flushes : m.flushes ≤ m.cycles
   pub silent : m.silent ≤ m.flushes
   pub count : m.count ≤ m.sizes.width * m.cycles
+  -- each instruction took W + depth cycles at most, W being the watchdog's limit
+  pub pace : m.cycles ≤ m.count * (m.sizes.limit + depth) + stalled m

@@ -3,7 +3,15 @@ use Rattle.std.specs.Prelude.{ℕ, ◌+◌, ◌-◌, ◌==◌, List, [], length,
 use Rattle.diva_isa.specs.State.{State, goes_on}
 use Rattle.diva_isa.specs.declared.record.Record.{Record}
 use Rattle.diva_core.specs.declared.flushes.FlushRow.{FlushRow}
-use Rattle.diva_core.specs.declared.TheConstants.{DEPTH}
+
+-- the checker's depth: a claim that is accepted in cycle c is ready from cycle c + 6, and a solo instruction that starts in
+-- cycle c commits in cycle c + 6
+abbrev pub depth : ℕ
+depth = 6
+
+-- how many rows of flushes are kept
+abbrev pub rows_kept : ℕ
+rows_kept = 1024
 
 -- the claims that are accepted and judged in a cycle at most, those that are pending at most, the stores that are owed at
 -- most, and the watchdog's limit in cycles
@@ -48,7 +56,7 @@ is_empty xs = length xs == 0
 
 -- a claim has to be handed over in the coming cycle, or the watchdog will bark
 abbrev pub is_due : Timed → Bool
-is_due m = is_empty m.pending && nat_lt 0 (room_of m) && nat_le m.sizes.limit (m.idle + (DEPTH + 1))
+is_due m = is_empty m.pending && nat_lt 0 (room_of m) && nat_le m.sizes.limit (m.idle + (depth + 1))
 
 -- the machine that begins with a state
 abbrev pub new_timed : Sizes → State → Timed

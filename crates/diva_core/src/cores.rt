@@ -1,4 +1,4 @@
-// The cores that drive the machine.
+// The trait of the cores that hand over claims.
 ghost use Rattle.std.specs.Prelude.{◌≡◌, []};
 
 use crate::claims::Claims;

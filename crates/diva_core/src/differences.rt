@@ -1,19 +1,27 @@
-// How a claim differs from the record that is due.
-ghost use Rattle.std.specs.Prelude.{◌≡◌, None, Some};
-ghost use Rattle.diva_core.specs.Difference.{all_fields, difference_in, field_of, first_difference};
+// How a claim differs from the due record.
+ghost use Rattle.std.specs.Prelude.{◌≡◌, None, Some, IfSome};
+ghost use Rattle.diva_core.specs.Difference.{all_fields, difference_in, field_of, first_difference, IsDifference};
 
 use diva_isa::Record;
 
 /// The fields of a record, in the order in which they are compared.
 #[derive(Clone, Copy, Debug, PartialEq, Eq)]
 pub enum Field {
+    /// `pc`: the instruction's address.
     Pc,
+    /// `word`: the instruction's word.
     Word,
+    /// `src1`: the first word that it reads.
     Src1,
+    /// `src2`: the second word that it reads.
     Src2,
+    /// `addr`: the address of a load or a store.
     Addr,
+    /// `value`: its result.
     Value,
+    /// `next`: the address of the next instruction.
     Next,
+    /// `end`: whether it ends the machine, and how.
     End,
 }
 
@@ -50,15 +58,19 @@ impl Field {
 /// A field in which a claim differs: what was claimed, and what is due.
 #[derive(Clone, Copy, Debug, PartialEq, Eq)]
 pub struct Diff {
+    /// The field.
     pub field: Field,
+    /// What the claim says.
     pub claimed: u32,
+    /// What the due record says.
     pub due: u32,
 }
 
-/// The first field in which a claim differs from the record that is due, none where they are equal.
-#[tactic(auto, unfolding(crate::specs::Difference::first_difference))]
+/// The first field in which a claim differs from the due record, `None` exactly where they are equal.
+#[tactic(auto, using(crate::proofs::Differing::difference_names), unfolding(crate::specs::Difference::first_difference))]
 pub fn first_difference(claim: &Record, due: &Record) -> Option<Diff>
-    ensures { result ≡ first_difference claim.now due.now }
+    ensures first { result ≡ first_difference claim.now due.now }
+    ensures named { IfSome result (IsDifference claim.now due.now) }
 {
     difference_in(&Field::ALL, claim, due)
 }

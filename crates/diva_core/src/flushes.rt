@@ -4,9 +4,9 @@ use crate::differences::Diff;
 /// The cause of a flush.
 #[derive(Clone, Copy, Debug, PartialEq, Eq)]
 pub enum Cause {
-    /// A claim differed from the record that was due.
+    /// A claim differed from the due record.
     Differs(Diff),
-    /// So many cycles passed without a commit: the watchdog's limit.
+    /// As many cycles as the watchdog's limit, which this is, passed without a commit.
     Silent(u32),
 }
 
@@ -17,5 +17,6 @@ pub struct FlushRow {
     pub cycle: u64,
     /// The instructions committed by then.
     pub at: u64,
+    /// Why it came.
     pub cause: Cause,
 }

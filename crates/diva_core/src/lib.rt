@@ -4,14 +4,15 @@
 //! - `told`, `view`: what a core is told and shown before a cycle, `Told` and `View`;
 //! - `cores`: the trait `Core`, with its one meaning `gives`;
 //! - `output`: the bytes that the program put, `Output`;
-//! - `pending`: the claims that wait for their commit, `Entry` and `Pending`;
-//! - `differences`: how a claim differs from the record that is due, `Field` and `Diff`;
+//! - `pending`: the claims that wait to be judged, `Entry` and `Pending`;
+//! - `differences`: how a claim differs from the due record, `Field`, `Diff` and `first_difference`;
 //! - `flushes`: why the machine flushed, `Cause` and `FlushRow`.
 //!
-//! `specs/` holds the timed machine that contracts speak of: the machine and what it is told
-//! (`Timed`, `Told`), its cycle phase by phase (`Cycle`), first differences (`Difference`), turns
-//! of a machine and a core (`Log`), what holds between cycles (`Machine`), and the words of what a
-//! cycle promises (`Headline`, `Progress`). `proofs/` has the laws that follow.
+//! `specs/` holds the timed machine that contracts speak of: the machine and what a core is told of
+//! it (`Timed`, `Told`), its cycle phase by phase (`Cycle`), first differences (`Difference`), what is
+//! noted of pending claims (`Entries`), turns of a machine and a core (`Log`), what holds between
+//! cycles (`Machine`), and the words of what a cycle, a turn and a drive promise (`Headline`).
+//! `proofs/` has the laws that follow.
 #![tactic(auto)]
 
 mod claims;
@@ -31,9 +32,3 @@ pub use output::Output;
 pub use pending::{Entry, Pending};
 pub use told::Told;
 pub use view::View;
-
-/// The checker's depth: the cycles from the acceptance of a claim to its judging.
-pub const DEPTH: u64 = 6;
-
-/// The rows of flushes that are kept; later ones are counted.
-pub const KEPT_ROWS: usize = 1024;

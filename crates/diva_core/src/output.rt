@@ -24,7 +24,7 @@ impl Output {
     /// The most bytes that an output holds.
     pub const MOST: usize = 65_536;
 
-    /// An empty output. The one error is want of memory.
+    /// An empty output. The one error is that memory runs out.
     pub fn new(alloc: Global) -> Result<Self, AllocError>
         ensures { IfOk result (λ o. o ≡ []) }
     {

@@ -1,4 +1,4 @@
-// The claims that wait for their commit, the oldest first.
+// The claims that wait to be judged, the oldest first.
 ghost use Rattle.std.specs.Prelude.{◌≡◌, ◌≤◌, ◌<◌, [], ◌∷◌, ◌++◌, length, IfOk, None, Some, slice_get, slice_set};
 ghost use Rattle.std.specs.Option.{option_copied};
 ghost use Rattle.circular_buffer.specs.Buffer.{Buffer, buffer};
@@ -13,12 +13,13 @@ use std::marker::Model;
 /// A pending claim.
 #[derive(Clone, Copy, Debug, PartialEq, Eq)]
 pub struct Entry {
+    /// What the core claims.
     pub claim: Claim,
     /// The cycle in which it was accepted.
     pub cycle: u64,
-    /// What its word says, once it is decoded.
+    /// What its word says, once it is decoded. `None` until then.
     pub decoded: Option<Instr>,
-    /// What it differs in, as far as it is checked.
+    /// The first field in which it differs from what is due, as far as it is checked.
     pub verdict: Option<Diff>,
 }
 
@@ -38,7 +39,7 @@ impl Model for Pending {
 }
 
 impl Pending {
-    /// An empty ring for `q` claims. The one error is want of memory.
+    /// An empty ring for `q` claims. The one error is that memory runs out.
     pub fn new(alloc: Global, q: usize) -> Result<Self, AllocError>
         ensures { IfOk result (λ p. p ≡ buffer [] q) }
     {
@@ -62,7 +63,7 @@ impl Pending {
         self.entries.capacity()
     }
 
-    /// The oldest claim, if there is one.
+    /// The oldest claim, `None` exactly where nothing is pending.
     pub fn front(&self) -> Option<&Entry>
         ensures { option_copied result ≡ slice_get self.now.items 0 }
     {
@@ -77,7 +78,7 @@ impl Pending {
         *self.entries.get(at).unwrap()
     }
 
-    /// Notes of the claim at a place what its word says, and what it differs in.
+    /// Notes of the claim at a place (the oldest is at 0) what its word says, and in what it differs.
     pub fn set(&mut self, at: usize, decoded: Option<Instr>, verdict: Option<Diff>)
         requires { at < length self.old.items }
         ensures { (entry : _) × (slice_get self.old.items at ≡ Some entry)

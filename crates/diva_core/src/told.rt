@@ -16,9 +16,9 @@ pub struct Told {
     pub pending: u32,
     /// How many claims the coming cycle accepts: at most four, and with those pending at most 64.
     pub room: u32,
-    /// The cycles since the last commit.
+    /// The cycles run since the last commit.
     pub idle: u32,
-    /// Whether a claim has to be handed over now lest the watchdog bark.
+    /// Whether a claim has to be handed over in this call, or the watchdog will bark before it can commit.
     pub due: bool,
     /// Whether the machine has ended.
     pub ended: bool,

@@ -71,7 +71,7 @@ impl View<'_> {
         self.pc
     }
 
-    /// The word in a register.
+    /// The word in the register `n`, 0 to 31. x0 reads 0.
     pub fn reg(&self, n: u8) -> u32
         requires { n < 32 }
         ensures { result ≡ reg_of self.now n }
@@ -79,14 +79,15 @@ impl View<'_> {
         self.regs.get(n)
     }
 
-    /// The byte at an address, none exactly outside memory.
+    /// The byte at an address, `None` exactly outside memory.
     pub fn byte(&self, addr: u32) -> Option<u8>
         ensures { result ≡ byte_of self.now addr }
     {
         self.queue.byte(self.memory, addr)
     }
 
-    /// The word at an address, none exactly where the address is no multiple of 4 or outside memory.
+    /// The word at an address, `None` exactly where the address is no multiple of 4 or a byte is outside
+    /// memory. The lowest byte comes first.
     #[inline]
     pub fn word(&self, addr: u32) -> Option<u32>
         ensures { result ≡ word_of self.now addr }

@@ -5,9 +5,8 @@ use Rattle.diva_isa.specs.Step.{IsEnd}
 use Rattle.diva_isa.specs.declared.record.Record.{Record}
 use Rattle.diva_memory.specs.Bytes.{Bytes, IsInside}
 use Rattle.diva_storeq.specs.declared.store.Store.{Store}
-use Rattle.diva_core.specs.Timed.{Timed, Waiting}
+use Rattle.diva_core.specs.Timed.{Timed, Waiting, depth}
 use Rattle.diva_core.specs.Machine.{ArePast, IsMachine}
-use Rattle.diva_core.specs.declared.TheConstants.{DEPTH}
 use Rattle.diva_core.specs.declared.flushes.FlushRow.{FlushRow}
 use Rattle.diva_core.specs.declared.pending.Entry.{Entry}
 use Rattle.diva_watchdog.specs.declared.recover.Recover.{Recover}
@@ -68,7 +67,7 @@ pub record KeepsBounds (m last : Timed) : Type 0 where
 -- there is a front claim, and it has passed through the checker's stages
 abbrev pub is_front_ready : ℕ → List Waiting → Bool
 is_front_ready cycles [] = false
-is_front_ready cycles (p ∷ rest) = nat_le (p.cycle + DEPTH) cycles
+is_front_ready cycles (p ∷ rest) = nat_le (p.cycle + depth) cycles
 
 -- a pending entry as the timed machine has it
 abbrev pub waiting_of : Entry → Waiting

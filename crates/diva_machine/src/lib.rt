@@ -2,7 +2,7 @@
 //!
 //! - `config`: how wide and deep the machine is, `Config`;
 //! - `arch`: the committed state over memory and store queue;
-//! - `log`: the flushes that came;
+//! - `log`: the flushes, as rows and as counts;
 //! - `works`: the parts of the machine, and the phases of a cycle over them;
 //! - `machine`: the machine between cycles, `Machine`;
 //! - `ends`: how a machine ended, `End`, and how a drive stopped, `Drive`;
@@ -24,3 +24,10 @@ pub use config::Config;
 pub use ends::{Drive, End};
 pub use machine::Machine;
 pub use turns::{drive, turn};
+
+/// The checker's depth, in cycles: a claim that is accepted in one cycle is judged six cycles later at
+/// the earliest, and a solo instruction commits six cycles after the flush that started it.
+pub const DEPTH: u64 = 6;
+
+/// How many rows of flushes the log keeps. Later ones are only counted.
+pub const KEPT_ROWS: usize = 1024;

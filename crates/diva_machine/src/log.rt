@@ -1,8 +1,9 @@
-// The flushes that came.
+// The flushes, as rows and as counts.
 ghost use Rattle.std.specs.Prelude.{◌≡◌, ◌<◌, ◌≤◌, ◌+◌, ◌^◌, [], length, None, Some, IfOk};
 ghost use Rattle.diva_core.specs.Cycle.{is_silent, kept, number};
 
-use diva_core::{Cause, FlushRow, KEPT_ROWS};
+use crate::KEPT_ROWS;
+use diva_core::{Cause, FlushRow};
 use std::alloc::{AllocError, Global};
 use std::marker::Model;
 
@@ -18,14 +19,14 @@ pub(crate) struct Log {
 
 impl Model for Log {
     ghost use Rattle.std.specs.Prelude.{◌≤◌, vec_len, vec_capacity};
-    ghost use Rattle.diva_core.specs.declared.TheConstants.{KEPT_ROWS};
+    ghost use Rattle.diva_core.specs.Timed.{rows_kept};
     ghost use Rattle.diva_machine.specs.Shown.{Flushes};
 
     ghost Value = { Flushes };
 
     ghost view = { λ l. record { rows = l.rows.items; newest = l.newest; flushes = l.flushes; silent = l.silent } };
 
-    ghost invariant = { λ l. (KEPT_ROWS ≤ vec_capacity l.rows) × (vec_len l.rows ≤ KEPT_ROWS) };
+    ghost invariant = { λ l. (rows_kept ≤ vec_capacity l.rows) × (vec_len l.rows ≤ rows_kept) };
 }
 
 impl Log {

@@ -3,19 +3,20 @@ ghost use Rattle.std.specs.Prelude.{◌≡◌, ◌⊎◌, ◌+◌, ◌-◌, ◌*
 ghost use Rattle.diva_isa.specs.State.{goes_on, GoesOn};
 ghost use Rattle.diva_isa.specs.Step.{steps};
 ghost use Rattle.diva_image.specs.View.{layout};
-ghost use Rattle.diva_core.specs.Timed.{Timed, Waiting, new_timed};
+ghost use Rattle.diva_core.specs.Entries.{IsUnchecked};
+ghost use Rattle.diva_core.specs.Timed.{Timed, Waiting, depth, new_timed};
 ghost use Rattle.diva_core.specs.Told.{notice_of};
 ghost use Rattle.diva_core.specs.Cycle.{begun, cycle_of, drained};
 ghost use Rattle.diva_core.specs.Machine.{IsMachine};
-ghost use Rattle.diva_core.specs.Headline.{dues, Rises, ByClaims, ByItself, IsJudged, SameLog, AddsRow, AddsRows, WillCount};
-ghost use Rattle.diva_core.specs.declared.TheConstants.{DEPTH};
+ghost use Rattle.diva_core.specs.Headline.{dues, Rises, ByClaims, ByItself, IsJudged, SameLog, AddsRow, HasPace, WillCount};
 ghost use Rattle.diva_machine.specs.Start.{start_of};
-ghost use Rattle.diva_machine.specs.Shown.{end_of, end_number};
+ghost use Rattle.diva_machine.specs.Shown.{end_of, end_number, waiting_of};
 
+use crate::DEPTH;
 use crate::config::Config;
 use crate::ends::End;
 use crate::works::Works;
-use diva_core::{Claims, DEPTH, Entry, FlushRow, Told, View};
+use diva_core::{Claims, Entry, FlushRow, Told, View};
 use diva_image::Image;
 use diva_isa::Record;
 use std::alloc::{AllocError, Global};
@@ -46,12 +47,13 @@ impl Model for Machine {
 
 impl Machine {
     /// The machine that begins with an image: all registers are 0, pc is the image's entry, the
-    /// output is empty, and memory is the payload and zeros behind it. The one error is want of
-    /// memory; no later call takes any.
+    /// output is empty, and memory is the payload and zeros behind it. The one error is that memory
+    /// runs out; no later call takes any.
     pub fn new(alloc: Global, image: &Image, config: Config) -> Result<Self, AllocError>
         ensures timed { IfOk result (λ m. m.timed ≡ new_timed config (start_of (layout image.now))) }
         ensures last { IfOk result (λ m. m.last ≡ []) }
         ensures counts { IfOk result (λ m. WillCount m.timed) }
+        ensures paced { IfOk result (λ m. HasPace m.timed) }
     {
         let works = Works::new(alloc, image, config)?;
         Ok(Machine { works })
@@ -85,13 +87,15 @@ impl Machine {
         self.works.arch.view()
     }
 
-    /// The pending claim at a place, the oldest being at 0.
+    /// The pending claim at a place, the oldest being at 0, with the cycle in which it was accepted.
+    /// A claim is compared whole when it is judged, so until then nothing is noted of it: its decoded
+    /// form and its verdict are `None`.
     pub fn entry(&self, at: usize) -> Entry
         requires { at < length self.now.timed.pending }
-        ensures { slice_get self.now.timed.pending at
-            ≡ Some (record { claim = result.claim; cycle = result.cycle }) }
+        ensures entry { slice_get self.now.timed.pending at ≡ Some (waiting_of result) }
+        ensures unchecked { IsUnchecked result }
     {
-        self.works.pending.entry(at)
+        self.works.entry(at)
     }
 
     /// How many instructions have committed.
@@ -122,14 +126,14 @@ impl Machine {
         self.works.log.silent()
     }
 
-    /// The first flushes, 1,024 at most.
+    /// The rows of the first flushes, 1,024 at most.
     pub fn log(&self) -> &[FlushRow]
         ensures { result.now ≡ self.now.timed.rows }
     {
         self.works.log.rows()
     }
 
-    /// The newest flush.
+    /// The row of the newest flush, `None` exactly where none came.
     pub fn newest(&self) -> Option<FlushRow>
         ensures { result ≡ self.now.timed.newest }
     {
@@ -177,7 +181,7 @@ impl Machine {
     /// Runs one cycle on what a core handed over. On an ended machine nothing changes but `last`,
     /// which is then empty.
     #[inline(always)]
-    #[tactic(auto, using(diva_core::proofs::Keeping::stays, diva_core::proofs::Outcomes::rises, diva_core::proofs::Outcomes::logs, diva_core::proofs::Outcomes::records_by, diva_core::proofs::Adding::adds_rows, diva_core::proofs::Pacing::will_count))]
+    #[tactic(auto, using(diva_core::proofs::Keeping::stays, diva_core::proofs::Outcomes::rises, diva_core::proofs::Outcomes::logs, diva_core::proofs::Outcomes::records_by, diva_core::proofs::Pacing::will_count, diva_core::proofs::Progressing::has_pace))]
     pub fn cycle(&mut self, list: &Claims)
         requires { self.old.timed.cycles < 2 ^ 60 }
         // It is the cycle of the definition, in every part.
@@ -191,11 +195,11 @@ impl Machine {
         ensures commits { ByClaims self.old.timed self.new.last
             ⊎ ByItself self.old.timed self.new.last }
         ensures logs { SameLog self.old.timed self.new.timed ⊎ AddsRow self.old.timed self.new.timed }
-        ensures rows { AddsRows self.old.timed self.new.timed }
 
         // It is sound again, and goes on counting.
         ensures sound { IsMachine self.new.timed }
         ensures counts { WillCount self.new.timed }
+        ensures paced { HasPace self.new.timed }
 
         // Nothing ready is held up.
         ensures drained { (drained (begun self.old.timed)).owed < self.old.timed.sizes.stores }
@@ -203,12 +207,12 @@ impl Machine {
             → goes_on self.old.timed.arch ≡ true
             → self.old.timed.solo ≡ None
             → self.old.timed.pending ≡ p ∷ rest
-            → p.cycle + DEPTH ≤ self.old.timed.cycles + 1
+            → p.cycle + depth ≤ self.old.timed.cycles + 1
             → IsJudged self.old.timed self.new.timed p }
         ensures sixth { (start : ℕ)
             → goes_on self.old.timed.arch ≡ true
             → self.old.timed.solo ≡ Some start
-            → self.old.timed.cycles + 1 ≡ start + DEPTH
+            → self.old.timed.cycles + 1 ≡ start + depth
             → self.new.timed.count ≡ self.old.timed.count + 1 }
     {
         if self.works.goes_on() {

@@ -3,9 +3,8 @@ ghost use Rattle.std.specs.Prelude.{◌≡◌, ◌+◌, ◌-◌, ◌≤◌, ◌<
 ghost use Rattle.diva_isa.specs.State.{goes_on};
 ghost use Rattle.diva_core.specs.Told.{notice_of};
 ghost use Rattle.diva_core.specs.Cycle.{cycle_of};
-ghost use Rattle.diva_core.specs.Log.{Turns};
 ghost use Rattle.diva_core.specs.Machine.{IsMachine};
-ghost use Rattle.diva_core.specs.Headline.{AddsRows, ByClaims, ByItself, HasCommitted, HasCounted, KeepsPace, Rises, WillCount, dues};
+ghost use Rattle.diva_core.specs.Headline.{AddsRow, ByClaims, ByItself, Drives, HasPace, KeepsPace, Rises, SameLog, WillCount, dues};
 
 use crate::ends::Drive;
 use crate::machine::Machine;
@@ -26,9 +25,10 @@ pub fn turn<C: Core>(m: &mut Machine, core: &mut C, list: &mut Claims)
     ensures rises { Rises m.old.timed m.new.timed }
     ensures last { m.new.last ≡ dues (m.new.timed.count - m.old.timed.count) m.old.timed.arch }
     ensures commits { ByClaims m.old.timed m.new.last ⊎ ByItself m.old.timed m.new.last }
-    ensures rows { AddsRows m.old.timed m.new.timed }
+    ensures logs { SameLog m.old.timed m.new.timed ⊎ AddsRow m.old.timed m.new.timed }
     ensures sound { IsMachine m.new.timed }
     ensures counts { WillCount m.new.timed }
+    ensures paced { HasPace m.new.timed }
 {
     list.clear();
     if m.goes_on() {
@@ -41,8 +41,9 @@ pub fn turn<C: Core>(m: &mut Machine, core: &mut C, list: &mut Claims)
 /// changes, and the core is not asked.
 pub fn drive<C: Core>(m: &mut Machine, core: &mut C, budget: u64) -> Drive
     requires { m.old.timed.cycles + budget ≤ 2 ^ 60 }
-    // Machine and core are reached by turns, one for each cycle.
-    ensures turns { Turns C.gives m.old.timed core.old m.new.timed core.new }
+    // Machine and core are reached by turns, one for each cycle. In each cycle equal claims committed,
+    // or the checker's own instruction, and each row of the log is that of a cycle, with its cause.
+    ensures drives { Drives C.gives m.old.timed core.old m.new.timed core.new }
     ensures ended { (result ≡ Drive.Ended) ↔ (goes_on m.new.timed.arch ≡ false) }
     ensures budget { (result ≡ Drive.Budget)
         ↔ ((m.new.timed.cycles ≡ m.old.timed.cycles + budget) × (goes_on m.new.timed.arch ≡ true)) }
@@ -50,16 +51,14 @@ pub fn drive<C: Core>(m: &mut Machine, core: &mut C, budget: u64) -> Drive
     ensures stays { goes_on m.old.timed.arch ≡ false
         → (m.new ≡ m.old) × (core.new ≡ core.old) }
 
-    // The committed state is the table's after the counted instructions, each committed by an
-    // equal claim or by the checker alone, and each flush has its cause.
+    // The committed state is the table's after the counted instructions.
     ensures rises { Rises m.old.timed m.new.timed }
-    ensures commits { HasCommitted m.old.timed m.new.timed }
-    ensures rows { AddsRows m.old.timed m.new.timed }
     ensures sound { IsMachine m.new.timed }
 
-    // Until the end every W + DEPTH cycles count at least one instruction more.
-    ensures counted { HasCounted m.old.timed m.new.timed }
+    // Until the end every W + 6 cycles count at least one instruction more, W being the watchdog's
+    // limit: in this drive, since the machine was new, and from now on.
     ensures pace { KeepsPace m.old.timed m.new.timed }
+    ensures paced { HasPace m.new.timed }
     ensures counts { WillCount m.new.timed }
 {
     if !m.goes_on() {

@@ -3,11 +3,12 @@
 //
 // In most cycles nothing is ready. So what each cycle does stands in the loop that drives the
 // machine (`inline(always)`), and what few cycles do is called (`inline(never)`, `cold`).
-ghost use Rattle.std.specs.Prelude.{◌≡◌, ◌+◌, ◌-◌, ◌*◌, ◌<◌, ◌≤◌, ◌^◌, ◌++◌, [], ◌∷◌, length, map, take, IfOk, IsTrue, List, true, not, ◌==◌, if◌then◌else◌};
+ghost use Rattle.std.specs.Prelude.{◌≡◌, ◌+◌, ◌-◌, ◌*◌, ◌<◌, ◌≤◌, ◌^◌, ◌++◌, [], ◌∷◌, length, map, take, slice_get, Some, IfOk, IsTrue, List, true, not, ◌==◌, if◌then◌else◌};
 ghost use Rattle.diva_isa.specs.declared.record.Record.{Record};
 ghost use Rattle.diva_isa.specs.State.{goes_on, GoesOn};
 ghost use Rattle.diva_isa.specs.Step.{record_of, steps};
 ghost use Rattle.diva_image.specs.View.{layout};
+ghost use Rattle.diva_core.specs.Entries.{IsUnchecked, AreUnchecked};
 ghost use Rattle.diva_core.specs.Timed.{Timed, new_timed, room_of};
 ghost use Rattle.diva_core.specs.Machine.{ArePast, IsMachine, IsSizes};
 ghost use Rattle.diva_core.specs.Headline.{dues, SameLog};
@@ -15,11 +16,12 @@ ghost use Rattle.diva_core.specs.Cycle.{accepted_in, accepts, by_front, commits,
 ghost use Rattle.diva_machine.specs.Start.{start_of};
 ghost use Rattle.diva_machine.specs.Shown.{is_front_ready, waiting_of, KeepsBounds};
 
+use crate::DEPTH;
 use crate::arch::Arch;
 use crate::config::Config;
 use crate::log::Log;
 use arrayvec::ArrayVec;
-use diva_core::{Cause, Claim, DEPTH, FlushRow, Pending, first_difference};
+use diva_core::{Cause, Claim, Entry, FlushRow, Pending, first_difference};
 use diva_image::Image;
 use diva_isa::{Effect, Record, effect_of};
 use diva_watchdog::{Recover, Watchdog};
@@ -42,6 +44,7 @@ pub(crate) struct Works {
 
 impl Model for Works {
     ghost use Rattle.std.specs.Prelude.{map};
+    ghost use Rattle.diva_core.specs.Entries.{AreUnchecked};
     ghost use Rattle.diva_machine.specs.Shown.{Shown, waiting_of, solo_of};
 
     ghost Value = { Shown };
@@ -63,6 +66,8 @@ impl Model for Works {
       };
       last = m.last.items;
     } };
+
+    ghost invariant = { λ m. AreUnchecked m.pending.items };
 }
 
 impl Works {
@@ -99,6 +104,16 @@ impl Works {
             }
             _ => 0,
         }
+    }
+
+    /// The pending claim at a place, the oldest being at 0.
+    #[tactic(auto, using(diva_core::proofs::Unchecked::unchecked_at))]
+    pub fn entry(&self, at: usize) -> Entry
+        requires { at < length self.now.timed.pending }
+        ensures entry { slice_get self.now.timed.pending at ≡ Some (waiting_of result) }
+        ensures unchecked { IsUnchecked result }
+    {
+        self.pending.entry(at)
     }
 
     pub fn goes_on(&self) -> bool
@@ -344,10 +359,12 @@ impl Works {
 
 /// Puts claims that are accepted in a cycle behind those that are pending.
 fn accept_all(pending: &mut Pending, claims: &[Claim], cycle: u64)
-    requires { length pending.old.items + length claims.now ≤ pending.old.capacity }
+    requires fits { length pending.old.items + length claims.now ≤ pending.old.capacity }
+    requires unchecked { AreUnchecked pending.old.items }
     ensures items { map waiting_of pending.new.items
         ≡ map waiting_of pending.old.items ++ map (accepted_in cycle) claims.now }
     ensures capacity { pending.new.capacity ≡ pending.old.capacity }
+    ensures unchecked { AreUnchecked pending.new.items }
 {
     for claim in claims {
         pending.push(*claim, cycle);

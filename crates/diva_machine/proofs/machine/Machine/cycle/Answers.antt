@@ -2,7 +2,6 @@ use Rattle.std.proofs.Common.{◌≡◌, true, false, ap, sym, ◌∙◌}
 use Rattle.diva_isa.specs.State.{goes_on}
 use Rattle.diva_core.specs.Cycle.{cycle_of}
 use Rattle.diva_machine.specs.Shown.{IsSound, Shown}
-use Rattle.diva_core.proofs.Pacing.{adds_none}
 use Rattle.diva_core.proofs.Outcomes.{cycle-off}
 use Rattle.diva_core.proofs.Cycling.{owed-drained}
 use Rattle.diva_machine.proofs.Laws.{sound_again, none_held, none_committed, front_is_judged, sixth_commits}
@@ -45,9 +44,3 @@ pub returns-else-goes_on-clause-drained : goal.returns-else-goes_on-clause-drain
 returns-else-goes_on-clause-drained c =
     let sound : IsSound c.args.self.now.timed = rw c.self.view_is at c.self.invariant in
     owed-drained c.args.self.now.timed sound.machine
-
-pub returns-else-goes_on-clause-rows : goal.returns-else-goes_on-clause-rows
-returns-else-goes_on-clause-rows c =
-    let sound : IsSound c.args.self.now.timed = rw c.self.view_is at c.self.invariant in
-    let same : c.forget_last.new.self.timed ≡ c.args.self.now.timed = c.forget_last.ensures.timed ∙ ap (λ (z : Shown). z.timed) c.self.view_is in
-    rw same (adds_none c.args.self.now.timed sound.machine)
