@@ -8,8 +8,7 @@ use Rattle.clap.specs.Simple.{Shape, argument_words, built}
 use Rattle.clap.proofs.WalkLemmas.{both}
 use Rattle.diva_args.specs.Command.{Leaf, diva, leaves, run}
 use Rattle.diva_args.specs.Line.{command_of, job_from, taken, values_of}
-use Rattle.diva_args.specs.Plain.{IsPlainLine, PlainLine, are_distinct, given_in, has_text, job_on, names_in, option_words, value_in}
-use Rattle.diva_args.specs.Values.{is_plain_word}
+use Rattle.diva_args.specs.Plain.{IsPlainLine, PlainLine, are_distinct, given_in, has_text, is_plain_word, job_on, names_in, option_words, value_in}
 use Rattle.diva_args.proofs.PlainSteps.{Stands, first_given, given_row}
 use Rattle.diva_args.proofs.PlainOptions.{Given, Places, apart_at, are_apart, built_rules, has_first, has_later, is_name, line_end, option_names, serves}
 use Rattle.diva_args.proofs.PlainEnd.{Enters, PlainLevel, built_shape, entered_fault_is, entered_rows, plain_level}

@@ -11,8 +11,7 @@ use Rattle.clap.specs.Simple.{Shape}
 use Rattle.clap.specs.Faults.{turn_fault, walk_fault}
 use Rattle.clap.specs.Kinds.{or_else}
 use Rattle.clap.proofs.WalkLemmas.{both}
-use Rattle.diva_args.specs.Plain.{are_distinct, dashed, has_text, option_words}
-use Rattle.diva_args.specs.Values.{is_plain_word}
+use Rattle.diva_args.specs.Plain.{are_distinct, dashed, has_text, is_plain_word, option_words}
 use Rattle.diva_args.proofs.PlainSteps.{Absent, IsName, Stands, between, built_option, built_positional, given_row, option_first, option_first_fault, option_second, option_second_fault, plain_word_is, positional_fault, positional_step, stands_option, stands_positional, with_value, within_option}
 
 -- names, each with its text

@@ -12,8 +12,7 @@ use Rattle.clap.specs.Kinds.{Kinds, or_else}
 use Rattle.clap.specs.declared.parser.ValueSource.TheVariants.{CommandLine}
 use Rattle.clap.specs.declared.builder.value_parser.Reading.TheVariants as reading
 use Rattle.diva_args.specs.Command.{option_rule, positional_rule}
-use Rattle.diva_args.specs.Plain.{dashed, value_in}
-use Rattle.diva_args.specs.Values.{is_plain_word}
+use Rattle.diva_args.specs.Plain.{dashed, is_plain_word, value_in}
 
 -- ---- arguments of a built command
 

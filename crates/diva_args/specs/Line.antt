@@ -1,4 +1,4 @@
--- What a command line asks for: the words as `clap` matches them, then the rules on the values.
+-- What a command line asks for: the words as `clap` matches them, then the rules on the options' values.
 use Rattle.std.specs.Prelude.{ℕ, List, [], ◌∷◌, Option, None, codes, if◌then◌else◌}
 use Rattle.std.specs.Prelude.{option_and_then, option_map}
 use Rattle.std.specs.Str.{bytes_eq}
@@ -8,7 +8,7 @@ use Rattle.clap.specs.Faults.{fault_of}
 use Rattle.clap.specs.Kinds.{Kinds}
 use Rattle.diva_args.specs.Command.{diva}
 use Rattle.diva_args.specs.Options.{DumpRange, RunOptions}
-use Rattle.diva_args.specs.Values.{core_of, dump_of, file_name_of, number_of}
+use Rattle.diva_args.specs.Values.{core_of, dump_of, number_of}
 use Rattle.diva_args.specs.declared.job.CoreChoice.{CoreChoice}
 use Rattle.diva_args.specs.declared.job.Job.{Job}
 use Rattle.diva_args.specs.declared.job.Job.TheVariants as job
@@ -39,10 +39,10 @@ run_with image core width window stores watchdog cycles dump =
       dump = d;
     }) dump) cycles) watchdog) stores) window) width) core) image
 
--- `run`
+-- `run`; the image is the word as it is
 unfoldable pub run_from : (Text → Option Text) → Option RunOptions
 run_from value = run_with
-    (file_name_of (value (codes "IMAGE")))
+    (value (codes "IMAGE"))
     (core_of (value (codes "core")))
     (number_of 1 4 2 (value (codes "width")))
     (number_of 8 64 16 (value (codes "window")))

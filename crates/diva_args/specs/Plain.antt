@@ -1,13 +1,12 @@
 -- A plain line: a command, its positionals in order, then options in any order, each at most once
 -- with its value as the next word, where no positional and no value is empty or begins with `-`.
-use Rattle.std.specs.Prelude.{◌≡◌, Bool, true, not, ◌&&◌, List, [], ◌∷◌, ◌++◌, length, map}
+use Rattle.std.specs.Prelude.{◌≡◌, ◌==◌, Bool, true, false, not, ◌&&◌, List, [], ◌∷◌, ◌++◌, length, map}
 use Rattle.std.specs.Prelude.{Option, Some, None, if◌then◌else◌}
 use Rattle.std.specs.List.{Contains, flat_map, list_all, list_any, zip}
 use Rattle.std.specs.Str.{bytes_eq}
 use Rattle.clap.specs.Walk.{Text}
 use Rattle.diva_args.specs.Command.{Leaf, leaves}
 use Rattle.diva_args.specs.Line.{job_from}
-use Rattle.diva_args.specs.Values.{is_plain_word}
 use Rattle.diva_args.specs.declared.job.Job.{Job}
 
 -- a command, the words of its positionals, and the names and values of its options
@@ -38,6 +37,11 @@ texts_in line = line.positionals ++ map (λ option. option.1) line.options
 
 abbrev pub has_text : Text → List Text → Bool
 has_text text = list_any (λ x. bytes_eq x text)
+
+-- the word is neither empty nor begins with `-` (45)
+abbrev pub is_plain_word : Text → Bool
+is_plain_word [] = false
+is_plain_word (first ∷ rest) = not (first == 45)
 
 -- no text stands twice
 abbrev pub are_distinct : List Text → Bool

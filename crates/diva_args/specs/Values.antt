@@ -1,5 +1,5 @@
--- What the texts of a command line stand for: the rules on the values of positionals and options.
-use Rattle.std.specs.Prelude.{ℕ, ◌+◌, ◌==◌, ◌&&◌, Bool, false, not, nat_le, [], ◌∷◌, codes}
+-- What the texts of a command line stand for: the rules on the values of options.
+use Rattle.std.specs.Prelude.{ℕ, ◌+◌, ◌==◌, ◌&&◌, Bool, nat_le, codes}
 use Rattle.std.specs.Prelude.{Option, Some, None, option_and_then, option_map, if◌then◌else◌}
 use Rattle.std.specs.List.{before_first, after_first}
 use Rattle.std.specs.Str.{bytes_eq}
@@ -8,16 +8,6 @@ use Rattle.diva_outside.specs.Numbers.{decimal_of, hex_of}
 use Rattle.diva_args.specs.Options.{DumpRange}
 use Rattle.diva_args.specs.declared.job.CoreChoice.{CoreChoice}
 use Rattle.diva_args.specs.declared.job.CoreChoice.TheVariants.{Own, Lockstep, Silent}
-
--- the word is neither empty nor begins with `-` (45)
-abbrev pub is_plain_word : Text → Bool
-is_plain_word [] = false
-is_plain_word (first ∷ rest) = not (first == 45)
-
--- the name of a file
-abbrev pub file_name_of : Option Text → Option Text
-file_name_of None = None
-file_name_of (Some word) = if is_plain_word word then Some word else None
 
 unfoldable pub core_named : Text → Option CoreChoice
 core_named word =

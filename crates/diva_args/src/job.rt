@@ -12,7 +12,8 @@ pub enum Job {
 /// The image to run, on what machine, and for how long.
 #[derive(Debug, Drop)]
 pub struct Run {
-    /// `IMAGE`: the image's file, whose name is neither empty nor begins with `-`.
+    /// `IMAGE`: the name of the image's file. It is the word as it is, which may be empty or `-`. A longer name that
+    /// begins with `-` has to stand behind the word `--`.
     pub image: FileName,
     /// `--core`: the core that the checker watches; the program's own where none is named.
     pub core: CoreChoice,

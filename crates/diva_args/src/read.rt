@@ -4,13 +4,12 @@ ghost use Rattle.clap.specs.Walk.{rows_of};
 ghost use Rattle.clap.specs.Words.{found_of, subcommand_rows_of};
 ghost use Rattle.diva_args.specs.Line.{command_of, job_of, run_from, taken, values_of};
 ghost use Rattle.diva_args.specs.Plain.{IsPlainLine, PlainLine, job_on};
-ghost use Rattle.diva_args.specs.Values.{file_name_of};
 
 use crate::command::command;
 use crate::fault::ArgsFault;
 use crate::file_name::FileName;
 use crate::job::{Job, Run};
-use crate::values::{core, dump, is_plain, number};
+use crate::values::{core, dump, number};
 use clap::ArgMatches;
 use std::alloc::Global;
 
@@ -65,7 +64,9 @@ fn run(alloc: Global, found: &ArgMatches<'_>) -> Result<Run, ArgsFault>
     ensures usage { result ≡ Err ArgsFault.Usage
         → run_from (values_of (rows_of (found_of found.now))) ≡ None }
 {
-    let image = file_name(alloc, text_of(found, "IMAGE"))?;
+    let Some(image) = text_of(found, "IMAGE") else {
+        return Err(ArgsFault::Usage);
+    };
     let Some(core) = core(text_of(found, "core")) else {
         return Err(ArgsFault::Usage);
     };
@@ -88,7 +89,7 @@ fn run(alloc: Global, found: &ArgMatches<'_>) -> Result<Run, ArgsFault>
         return Err(ArgsFault::Usage);
     };
     Ok(Run {
-        image,
+        image: FileName::new(alloc, image)?,
         core,
         width,
         window,
@@ -97,19 +98,6 @@ fn run(alloc: Global, found: &ArgMatches<'_>) -> Result<Run, ArgsFault>
         cycles: u64::from(cycles),
         dump,
     })
-}
-
-// The name of a file, which is neither empty nor begins with `-`.
-fn file_name(alloc: Global, word: Option<&str>) -> Result<FileName, ArgsFault>
-    ensures name { IfOk result (λ name.
-        file_name_of (option_map (λ text. text.now) word.entry) ≡ Some name) }
-    ensures usage { result ≡ Err ArgsFault.Usage
-        → file_name_of (option_map (λ text. text.now) word.entry) ≡ None }
-{
-    match word {
-        Some(text) if is_plain(text) => Ok(FileName::new(alloc, text)?),
-        _ => Err(ArgsFault::Usage),
-    }
 }
 
 // The text that the words give for a positional or an option.

@@ -43,6 +43,21 @@ fn lines_that_are_taken(rt: HostRuntime) -> Result<(), Fail> {
 }
 
 #[test]
+fn any_word_is_a_name(rt: HostRuntime) -> Result<(), Fail> {
+    let lines: [(&[&str], &str); 5] = [
+        (&["run", "-"], "-"),
+        (&["run", ""], ""),
+        (&["run", "--", "-x"], "-x"),
+        (&["run", "--width", "2", "--", "-x"], "-x"),
+        (&["run", "--", "--help"], "--help"),
+    ];
+    for (words, name) in lines {
+        assert_eq!(rt; run(rt.alloc(), words)?.image.as_str(), name, "{name}");
+    }
+    Ok(())
+}
+
+#[test]
 fn lines_that_are_refused(rt: HostRuntime) {
     let lines: [&[&str]; 20] = [
         &[],
@@ -53,9 +68,9 @@ fn lines_that_are_refused(rt: HostRuntime) {
         &["--help"],
         &["-h"],
         &["run", "a", "--help"],
-        &["run", ""],
+        &["run", "--"],
         &["run", "-x"],
-        &["run", "--", "-x"],
+        &["run", "a", "--", "-x"],
         &["run", "a", "--trace"],
         &["run", "a", "--core", "scalar"],
         &["run", "a", "--core", "own", "--core", "own"],

@@ -1,20 +1,9 @@
 // The texts of a command line as cores, numbers and addresses.
 ghost use Rattle.std.specs.Prelude.{◌≡◌, ◌≤◌, IfSome, None, Some, option_map};
-ghost use Rattle.diva_args.specs.Values.{core_named, core_of, dump_of, dump_range_of, is_plain_word};
-ghost use Rattle.diva_args.specs.Values.{number_in_range, number_of};
+ghost use Rattle.diva_args.specs.Values.{core_named, core_of, dump_of, dump_range_of, number_in_range, number_of};
 
 use crate::job::{CoreChoice, Dump};
 use diva_outside::{decimal, hex};
-
-/// Whether the word is neither empty nor begins with `-`.
-pub(crate) fn is_plain(word: &str) -> bool
-    ensures { result ≡ is_plain_word word.now }
-{
-    match word.as_bytes() {
-        [] => false,
-        [first, ..] => *first != b'-',
-    }
-}
 
 /// The core of `--core`; the program's own where none is named.
 pub(crate) fn core(word: Option<&str>) -> Option<CoreChoice>
