@@ -5,11 +5,11 @@ use Rattle.std.specs.Option.{option_map, IfSome}
 use Rattle.std.proofs.lemmas.Bool.Decides.{nat_tests}
 use Rattle.std.proofs.lemmas.Int.{ints}
 use Rattle.diva_decode.specs.Fields.{opcode, funct3, funct7, rd, rs1, rs2, field, imm_i, imm_s, imm_b, imm_u, imm_j}
-use Rattle.diva_decode.specs.Table.{row_of, op_of, table, shape, Shape, fits, instr_of, U, J, I, Shift, B, S, R, Open, Exact, Holds, IsValid, HasRegisters}
+use Rattle.diva_decode.specs.Table.{row_of, word_of, word_in, op_of, table, shape, Shape, fits, instr_of, U, J, I, Shift, B, S, R, Open, Exact, Holds, IsValid, HasRegisters}
 use Rattle.diva_decode.specs.declared.op.Op.{Op}
 use Rattle.diva_decode.specs.declared.op.Op.TheVariants.{Fence}
 use Rattle.diva_decode.specs.declared.instr.Instr.{Instr}
-use Rattle.diva_decode.proofs.Words.{word-parts, signed_one}
+use Rattle.diva_decode.proofs.Words.{word-parts, signed_one, row_word_of}
 
 passes_by : {X : Type 0} (p : X → Bool) (y x : X) (rest : Option X) (b : Bool) → p y ≡ b → (rest ≡ Some x → p x ≡ true) → cond b (Some y) rest ≡ Some x → p x ≡ true
 passes_by p y x rest true t h e = let same : y ≡ x = cc in rw (← same) t
@@ -155,3 +155,20 @@ registers_by (Some i) w e =
 pub valid_if : (r : Option Instr) (w : ℕ) → w < 2 ^ 32 → r ≡ row_of w → IfSome r IsValid
 valid_if None w h e = tt
 valid_if (Some i) w h e = row_valid w i h (sym e)
+
+-- ---- the word of what a word says
+
+word_in-below : (op : Op) (i : Instr) → Holds (shape op) i → word_in (shape op) i < 2 ^ 32
+word_in-below Fence i h = omega arith
+word_in-below op i h = omega arith
+
+word_of-below : (i : Instr) → IsValid i → word_of i < 2 ^ 32
+unfolding word_of
+word_of-below i h = word_in-below i.op i h
+
+-- but for FENCE, the word of what w says is w
+pub encodes_if : (r : Option Instr) (w : ℕ) → w < 2 ^ 32 → r ≡ row_of w → IfSome r (λ i. i.op ≢ Fence → word_of i ≡ w)
+encodes_if None w h e = tt
+encodes_if (Some i) w h e = λ d.
+    let valid = row_valid w i h (sym e) in
+    one_word (word_of i) w i (word_of-below i valid) h d (row_word_of i valid) (sym e)

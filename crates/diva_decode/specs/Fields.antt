@@ -1,6 +1,7 @@
 -- The parts of an instruction's word, and the immediates that its formats put together from them.
 -- (RISC-V Unprivileged ISA, RV32I 2.1, "Base Instruction Formats" and "Immediate Encoding Variants".)
 use Rattle.std.specs.Prelude.{ℕ, ◌+◌, ◌-◌, ◌*◌, ◌/◌, ◌%◌, ◌^◌, ℤ, pos, ◌-ℤ◌, if◌then◌else◌, nat_lt}
+use Rattle.std.specs.Int.{cast_unsigned, w32}
 
 -- n bits of w, from bit low up
 abbrev pub field : ℕ → ℕ → ℕ → ℕ
@@ -47,3 +48,7 @@ imm_u w = signed 32 (field 12 20 w * 2 ^ 12)
 -- bit 31 is its bit 20, bits 19..12 are in place, bit 20 is its bit 11, bits 30..21 its bits 10..1
 abbrev pub imm_j : ℕ → ℤ
 imm_j w = signed 21 (field 31 1 w * 2 ^ 20 + field 12 8 w * 2 ^ 12 + field 20 1 w * 2 ^ 11 + field 21 10 w * 2 ^ 1)
+
+-- n bits of the two's complement of an immediate z, from bit low up
+abbrev pub imm_bits : ℕ → ℕ → ℤ → ℕ
+imm_bits low n z = field low n (cast_unsigned w32 z)

@@ -1,8 +1,8 @@
 -- The 48 instructions of RV32IM as rows, what a word of a row says, and which instructions have a word.
 -- (RISC-V Unprivileged ISA, "RV32/64G Instruction Set Listings": RV32I 2.1 and M 2.0.)
-use Rattle.std.specs.Prelude.{◌≡◌, ℕ, ◌-◌, ◌%◌, ◌^◌, ◌<◌, ◌==◌, ◌&&◌, Bool, true, false, List, [], ◌∷◌, Option, Some, ℤ, pos, neg_ℤ, ◌≤ℤ◌, ◌<ℤ◌, find, option_map}
+use Rattle.std.specs.Prelude.{◌≡◌, ℕ, ◌+◌, ◌-◌, ◌*◌, ◌%◌, ◌^◌, ◌<◌, ◌==◌, ◌&&◌, Bool, true, false, List, [], ◌∷◌, Option, Some, ℤ, pos, neg_ℤ, ◌≤ℤ◌, ◌<ℤ◌, find, option_map}
 use Rattle.std.specs.Int.{cast_unsigned, w32}
-use Rattle.diva_decode.specs.Fields.{opcode, rd, funct3, rs1, rs2, funct7, imm_i, imm_s, imm_b, imm_u, imm_j}
+use Rattle.diva_decode.specs.Fields.{opcode, rd, funct3, rs1, rs2, funct7, imm_i, imm_s, imm_b, imm_u, imm_j, imm_bits}
 use Rattle.diva_decode.specs.declared.op.Op.{Op}
 use Rattle.diva_decode.specs.declared.op.Op.TheVariants.{Lui, Auipc, Jal, Jalr, Beq, Bne, Blt, Bge, Bltu, Bgeu, Lb, Lh, Lw, Lbu, Lhu, Sb, Sh, Sw, Addi, Slti, Sltiu, Xori, Ori, Andi, Slli, Srli, Srai, Add, Sub, Sll, Slt, Sltu, Xor, Srl, Sra, Or, And, Fence, Ecall, Ebreak, Mul, Mulh, Mulhsu, Mulhu, Div, Divu, Rem, Remu}
 use Rattle.diva_decode.specs.declared.instr.Instr.{Instr}
@@ -137,6 +137,37 @@ row_of w = option_map (λ op. instr_of (shape op) op w) (op_of w)
 -- no other word of 32 bits says the instruction
 abbrev pub IsOnlyWordOf : Instr → ℕ → Type 0
 IsOnlyWordOf i word = (w : ℕ) → w < 2 ^ 32 → row_of w ≡ Some i → w ≡ word
+
+-- ---- the word of an instruction
+
+-- the word of the shape with the fields of i in their places, from bit 31 down as the manual draws its formats
+abbrev pub word_in : Shape → Instr → ℕ
+-- imm[31:12] rd opcode
+word_in (U o) i = imm_bits 12 20 i.imm * 2 ^ 12 + i.rd * 2 ^ 7 + o
+-- imm[20|10:1|11|19:12] rd opcode
+word_in (J o) i =
+    imm_bits 20 1 i.imm * 2 ^ 31 + imm_bits 1 10 i.imm * 2 ^ 21 + imm_bits 11 1 i.imm * 2 ^ 20 + imm_bits 12 8 i.imm * 2 ^ 12
+    + i.rd * 2 ^ 7 + o
+-- imm[11:0] rs1 funct3 rd opcode
+word_in (I f3 o) i = imm_bits 0 12 i.imm * 2 ^ 20 + i.rs1 * 2 ^ 15 + f3 * 2 ^ 12 + i.rd * 2 ^ 7 + o
+-- imm[12|10:5] rs2 rs1 funct3 imm[4:1|11] opcode
+word_in (B f3 o) i =
+    imm_bits 12 1 i.imm * 2 ^ 31 + imm_bits 5 6 i.imm * 2 ^ 25 + i.rs2 * 2 ^ 20 + i.rs1 * 2 ^ 15 + f3 * 2 ^ 12
+    + imm_bits 1 4 i.imm * 2 ^ 8 + imm_bits 11 1 i.imm * 2 ^ 7 + o
+-- imm[11:5] rs2 rs1 funct3 imm[4:0] opcode
+word_in (S f3 o) i =
+    imm_bits 5 7 i.imm * 2 ^ 25 + i.rs2 * 2 ^ 20 + i.rs1 * 2 ^ 15 + f3 * 2 ^ 12 + imm_bits 0 5 i.imm * 2 ^ 7 + o
+-- funct7 rs2 rs1 funct3 rd opcode
+word_in (R f7 f3 o) i = f7 * 2 ^ 25 + i.rs2 * 2 ^ 20 + i.rs1 * 2 ^ 15 + f3 * 2 ^ 12 + i.rd * 2 ^ 7 + o
+-- funct7 shamt rs1 funct3 rd opcode
+word_in (Shift f7 f3 o) i = f7 * 2 ^ 25 + imm_bits 0 5 i.imm * 2 ^ 20 + i.rs1 * 2 ^ 15 + f3 * 2 ^ 12 + i.rd * 2 ^ 7 + o
+-- fm pred succ rs1 funct3 rd opcode, with pred and succ all ones: the FENCE that orders all accesses
+word_in (Open f3 o) i = 0xff * 2 ^ 20 + f3 * 2 ^ 12 + o
+word_in (Exact word) i = word
+
+-- the word of an instruction that has one
+unfoldable pub word_of : Instr → ℕ
+word_of i = word_in (shape i.op) i
 
 -- ---- valid instructions
 

@@ -4,7 +4,7 @@ mod operations;
 
 ghost use Rattle.std.specs.Prelude.{IfSome, Some, pos, ◌≡◌, ◌≢◌, ◌⊎◌};
 ghost use Rattle.diva_decode.specs.Fields.{opcode, funct3};
-ghost use Rattle.diva_decode.specs.Table.{row_of, IsValid, HasRegisters};
+ghost use Rattle.diva_decode.specs.Table.{row_of, word_of, IsValid, HasRegisters};
 
 use crate::fields::{funct3, funct7, opcode, rd, rs1, rs2};
 use crate::immediates::{imm_b, imm_i, imm_j, imm_s, imm_u};
@@ -13,12 +13,15 @@ use crate::op::Op;
 use crate::opcodes::{AUIPC, BRANCH, JAL, JALR, LOAD, LUI, MISC_MEM, OP, OP_IMM, STORE, SYSTEM};
 use operations::{branch_op, immediate_op, load_op, register_op, shift_op, store_op};
 
-/// The instruction that the word is, or `None` where the word stands outside the table.
+/// The instruction that a word is, `None` exactly where the word stands outside the table. (RISC-V Unprivileged ISA,
+/// "RV32/64G Instruction Set Listings": RV32I 2.1 and M 2.0.)
 ///
-/// What comes out is valid, so [`encode`](crate::encode) may be asked for its word.
-#[tactic(auto, using(crate::proofs::Unique::valid_if, crate::proofs::Unique::registers_by))]
+/// What comes out is valid, so [`encode`](crate::encode) may be asked for its word: that is this word again, unless the
+/// instruction is FENCE, which has several words.
+#[tactic(auto, using(crate::proofs::Unique::valid_if, crate::proofs::Unique::registers_by, crate::proofs::Unique::encodes_if))]
 pub fn decode(word: u32) -> Option<Instr>
     ensures row_of { result ≡ row_of word }
+    ensures encodes { IfSome result (λ i. i.op ≢ Op.Fence → word_of i ≡ word) }
     ensures valid { IfSome result IsValid }
     ensures registers { IfSome result HasRegisters }
 {
