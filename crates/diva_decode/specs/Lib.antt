@@ -1,4 +1,5 @@
+-- The definitions that the contracts of this crate cite.
 -- the parts of a word and its immediates
 pub mod Fields
--- the instruction table
+-- the instruction table both ways, and which instructions are valid
 pub mod Table

@@ -1,5 +1,5 @@
--- The 48 instructions of RV32IM as rows, what a word of a row says, and which instructions have a word.
--- (RISC-V Unprivileged ISA, "RV32/64G Instruction Set Listings": RV32I 2.1 and M 2.0.)
+-- The 48 instructions of RV32IM as rows, what a word of a row says, the word of an instruction, and which instructions
+-- have one. (RISC-V Unprivileged ISA, chapter "RV32/64G Instruction Set Listings": RV32I 2.1 and M 2.0.)
 use Rattle.std.specs.Prelude.{◌≡◌, ℕ, ◌+◌, ◌-◌, ◌*◌, ◌%◌, ◌^◌, ◌<◌, ◌==◌, ◌&&◌, Bool, true, false, List, [], ◌∷◌, Option, Some, ℤ, pos, neg_ℤ, ◌≤ℤ◌, ◌<ℤ◌, find, option_map}
 use Rattle.std.specs.Int.{cast_unsigned, w32}
 use Rattle.diva_decode.specs.Fields.{opcode, rd, funct3, rs1, rs2, funct7, imm_i, imm_s, imm_b, imm_u, imm_j, imm_bits}
@@ -9,8 +9,8 @@ use Rattle.diva_decode.specs.declared.instr.Instr.{Instr}
 
 -- ---- the rows
 
--- What the words of an operation have in common: their format and, where the format has them,
--- funct7, funct3 and the opcode, in the order in which the manual lists them.
+-- What the words of an operation have in common: their format and, where the format has them, funct7, funct3 and the
+-- opcode, in this order, as the manual lists them.
 pub data Shape : Type 0 where
   U : ℕ → Shape
   J : ℕ → Shape
@@ -20,9 +20,9 @@ pub data Shape : Type 0 where
   R : ℕ → ℕ → ℕ → Shape
   -- a shift by an immediate, which stands in the place of rs2
   Shift : ℕ → ℕ → ℕ → Shape
-  -- the word's other fields are ignored
+  -- FENCE: the word's other fields are ignored
   Open : ℕ → ℕ → Shape
-  -- this one word
+  -- ECALL and EBREAK: this one word
   Exact : ℕ → Shape
 
 abbrev pub shape : Op → Shape

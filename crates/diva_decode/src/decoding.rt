@@ -1,4 +1,4 @@
-//! From a word to the instruction that it is: one function for each opcode.
+// From a word to the instruction that it is: one function for each opcode.
 
 mod operations;
 
@@ -14,7 +14,7 @@ use crate::opcodes::{AUIPC, BRANCH, JAL, JALR, LOAD, LUI, MISC_MEM, OP, OP_IMM, 
 use operations::{branch_op, immediate_op, load_op, register_op, shift_op, store_op};
 
 /// The instruction that a word is, `None` exactly where the word stands outside the table. (RISC-V Unprivileged ISA,
-/// "RV32/64G Instruction Set Listings": RV32I 2.1 and M 2.0.)
+/// chapter "RV32/64G Instruction Set Listings": RV32I 2.1 and M 2.0.)
 ///
 /// What comes out is valid, so [`encode`](crate::encode) may be asked for its word: that is this word again, unless the
 /// instruction is FENCE, which has several words.

@@ -1,4 +1,4 @@
-//! From an instruction to its word: one function for each format.
+// From an instruction to its word: one function for each format.
 
 ghost use Rattle.std.specs.Prelude.{IsTrue, Some, ◌≡◌, ◌≢◌, ◌+◌, ◌*◌, ◌^◌, ◌<◌};
 ghost use Rattle.diva_decode.specs.Fields.{field};
@@ -11,8 +11,9 @@ use crate::opcodes::{AUIPC, BRANCH, JAL, JALR, LOAD, LUI, OP, OP_IMM, STORE};
 /// The word of a valid instruction, in which each field stands in the place that its format has for it. (RISC-V
 /// Unprivileged ISA, RV32I 2.1, "Base Instruction Formats" and "Immediate Encoding Variants".)
 ///
-/// [`decode`](crate::decode) of it gives the instruction back, and no other word decodes to that. Only FENCE has several
-/// words, since most of their bits are ignored: it gets the one that orders all accesses, as assemblers write it.
+/// [`decode`](crate::decode) of it gives the instruction back, and no other word decodes to that. Only FENCE has
+/// several words, since most of their bits are ignored: it gets the one that orders all accesses, as assemblers write
+/// it.
 ///
 /// Which instructions are valid is what [`valid`](crate::valid) says.
 #[tactic(auto, using(crate::proofs::Unique::one_word, crate::proofs::Words::row_word_of))]

@@ -1,4 +1,4 @@
-//! The fields of a word that stand at one place in all formats.
+// The fields of a word that stand in one place in all formats.
 
 ghost use Rattle.std.specs.Prelude.{◌≡◌};
 ghost use Rattle.diva_decode.specs.Fields.{opcode, rd, funct3, rs1, rs2, funct7};

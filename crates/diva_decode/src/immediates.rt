@@ -1,5 +1,4 @@
-//! The immediate that a word holds, by its format. (RISC-V Unprivileged ISA, RV32I 2.1, "Immediate
-//! Encoding Variants".)
+// The immediate that a word holds, by its format. (RISC-V Unprivileged ISA, RV32I 2.1, "Immediate Encoding Variants".)
 
 ghost use Rattle.std.specs.Prelude.{◌≡◌, ◌^◌, ◌<◌};
 ghost use Rattle.diva_decode.specs.Fields.{signed, imm_i, imm_s, imm_b, imm_u, imm_j};

@@ -1,13 +1,19 @@
-//! The instruction table of RV32IM, both ways: from a word of 32 bits to the instruction that it
-//! is, and back.
+//! The instruction table of RV32IM, both ways: from a word of 32 bits to the instruction that it is, and back.
 //!
-//! - [`Op`] and [`Instr`] are the instructions, and [`valid`] says which of them have a word.
-//! - [`decode`] reads a word field by field (`fields`, `immediates`), one function for each opcode.
-//! - [`encode`] puts a word together, one function for each format (`encoding`).
+//! - `op`: [`Op`], the 48 operations.
+//! - `instr`: [`Instr`], an operation with its registers and its immediate.
+//! - `validity`: [`valid`], which instructions have a word.
+//! - `decoding`: [`decode`], from a word to its instruction, one function for each opcode.
+//! - `encoding`: [`encode`], from an instruction to its word, one function for each format.
+//! - `fields`: the fields of a word that stand in one place in all formats.
+//! - `immediates`: the immediate of a word, by its format.
+//! - `opcodes`: the opcodes by their names.
+//! - `tests`: words that an assembler made.
 //!
-//! What both mean is the definition `row_of` of `specs/Table.antt`: the table as 48 lines in the
-//! order of the manual's listing. (RISC-V Unprivileged ISA, "RV32/64G Instruction Set Listings":
-//! RV32I 2.1 and M 2.0.)
+//! What [`decode`] gives is the definition `row_of` of `specs/Table.antt`: the table as 48 lines in the order of the
+//! manual's listing. What [`encode`] gives is `word_of` of the same file: the fields of each format in their places.
+//! Each undoes the other, but that FENCE has many words and [`encode`] gives one of them. (RISC-V Unprivileged ISA,
+//! chapter "RV32/64G Instruction Set Listings": RV32I 2.1 and M 2.0.)
 #![tactic(auto)]
 
 mod decoding;

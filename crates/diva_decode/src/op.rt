@@ -1,7 +1,9 @@
+// The operations of the table.
+
 /// What an instruction does: the 48 operations of RV32IM, in the order of the manual's listing.
 ///
 /// Here `rs1`, `rs2` and `rd` are what those registers hold, `pc` is where the instruction stands,
-/// and all numbers have 32 bits. (RISC-V Unprivileged ISA, RV32I 2.1 and M 2.0.)
+/// and all numbers have 32 bits. (RISC-V Unprivileged ISA, chapters RV32I 2.1 and M 2.0.)
 #[derive(Clone, Copy, Debug, PartialEq, Eq)]
 pub enum Op {
     // RV32I 2.1

@@ -1,5 +1,5 @@
-//! The opcodes of the table, by the names of the manual's opcode map. (RISC-V Unprivileged ISA,
-//! "RV32/64G Instruction Set Listings".)
+// The opcodes of the table, by the names of the manual's opcode map. (RISC-V Unprivileged ISA, chapter "RV32/64G
+// Instruction Set Listings".)
 
 pub(crate) const LOAD: u32 = 0x03;
 

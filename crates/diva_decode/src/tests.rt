@@ -1,3 +1,5 @@
+// Words both ways: those that an assembler made, FENCE, and two outside the table.
+
 mod encodings;
 
 use super::*;

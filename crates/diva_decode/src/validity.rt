@@ -1,4 +1,4 @@
-//! Which instructions have a word.
+// Which instructions have a word.
 
 ghost use Rattle.std.specs.Prelude.{IsTrue, ◌↔◌, ◌<◌, pos, neg_ℤ, ◌≤ℤ◌, ◌<ℤ◌};
 ghost use Rattle.diva_decode.specs.Table.{IsValid, LowBitsZero, FitsUse};
@@ -6,8 +6,8 @@ ghost use Rattle.diva_decode.specs.Table.{IsValid, LowBitsZero, FitsUse};
 use crate::instr::Instr;
 use crate::op::Op;
 
-/// Whether an instruction has a word: its registers are below 32, the fields that its format lacks
-/// are 0, and the format can hold its immediate.
+/// Whether an instruction has a word: its registers are below 32, the fields that its format lacks are 0, and the
+/// format can hold its immediate. (RISC-V Unprivileged ISA, RV32I 2.1, "Base Instruction Formats".)
 pub fn valid(i: &Instr) -> bool
     ensures { IsTrue result ↔ IsValid i.now }
 {

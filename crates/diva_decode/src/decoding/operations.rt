@@ -1,4 +1,4 @@
-//! The operation of a word by its funct3 and funct7, for each opcode that has several.
+// The operation of a word by its funct3 and funct7, for each opcode that has several.
 
 ghost use Rattle.std.specs.Prelude.{◌≡◌, ◌≢◌, ◌⊎◌};
 ghost use Rattle.diva_decode.specs.Table.{op_at};

@@ -1,6 +1,5 @@
-//! Words as the GNU assembler (binutils, for rv32im) encodes them, each format at the edges of its
-//! registers and immediates. Beside each row stands the statement that was assembled, a branch or a
-//! jump by its offset from pc.
+// Words as the GNU assembler (binutils, for rv32im) encodes them, each format at the edges of its registers and
+// immediates. Beside each row stands the statement that was assembled, a branch or a jump by its offset from pc.
 
 use crate::Op;
 

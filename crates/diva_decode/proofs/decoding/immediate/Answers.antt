@@ -1,3 +1,4 @@
+-- The word of an immediate operation, by the lemma on its opcode.
 use Rattle.std.proofs.Common.{arith}
 use Rattle.diva_decode.proofs.Rows.{row_immediate}
 use Rattle.diva_decode.proofs.decoding.immediate.Goals as goal

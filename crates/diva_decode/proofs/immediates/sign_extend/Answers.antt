@@ -1,3 +1,4 @@
+-- A number with its sign bit set, read as two's complement.
 use Rattle.std.proofs.Common.{◌≡◌, ◌≤◌, ◌-◌, ◌^◌, ◌*◌, ◌%◌, suc, arith, sym, ap, ◌∙◌}
 use Rattle.std.proofs.Math.Nat.{pow-succ'}
 use Rattle.std.proofs.Math.Pow.{pow_mono}
