@@ -1,5 +1,5 @@
--- What the operations compute, of words: numbers below 2 ^ 32. (RISC-V Unprivileged ISA, RV32I 2.1, chapters 'Integer
--- Computational Instructions', 'Control Transfer Instructions', 'Load and Store Instructions', and 'M' 2.0.)
+-- What the operations compute, of words: numbers below 2 ^ 32. (RISC-V Unprivileged ISA, RV32I 2.1, "Integer
+-- Computational Instructions", "Control Transfer Instructions" and "Load and Store Instructions", and chapter M 2.0.)
 use Rattle.std.specs.Prelude.{ℕ, ◌+◌, ◌-◌, ◌*◌, ◌/◌, ◌%◌, ◌^◌, ◌==◌, Bool, false, not, ℤ, pos, ◌*ℤ◌, if◌then◌else◌, nat_lt, nat_le, int_lt, int_le, int_div, int_rem, bit_and, bit_or, bit_xor}
 use Rattle.std.specs.Int.{cast_unsigned, cast_signed, int_shr, w8, w16, w32, w64}
 use Rattle.diva_decode.specs.declared.op.Op.{Op}
@@ -42,6 +42,9 @@ alu Mul a b = a * b % 2 ^ 32
 alu Mulh a b = high (s a *ℤ s b)
 alu Mulhsu a b = high (s a *ℤ pos b)
 alu Mulhu a b = a * b / 2 ^ 32
+-- int_div and int_rem are of mathematical numbers: int_div rounds toward zero, and the remainder of int_rem has the
+-- dividend's sign. So -2^31 by -1 needs no case of its own: the quotient is 2^31, whose word in 32 bits reads -2^31 again,
+-- and the remainder is 0. By zero the quotient is all ones, and the remainder is the dividend.
 alu Div a b = if b == 0 then 2 ^ 32 - 1 else bits_of (int_div (s a) (s b))
 alu Divu a b = if b == 0 then 2 ^ 32 - 1 else a / b
 alu Rem a b = if b == 0 then a else bits_of (int_rem (s a) (s b))

@@ -17,15 +17,15 @@ reg_of s n = slice_index s.regs n
 abbrev pub memory_of : State → Bytes
 memory_of s = record { base = s.base; items = s.bytes }
 
--- the byte at an address, none outside
+-- the byte at an address, `None` outside
 abbrev pub byte_of : State → ℕ → Option ℕ
 byte_of s a = byte_at (memory_of s) a
 
--- the number that n bytes from an address on are, the lowest first; none where one of them is outside
+-- the number that n bytes from an address on are, the lowest first; `None` where one of them is outside
 abbrev pub number_of : State → ℕ → ℕ → Option ℕ
 number_of s n a = number_at (memory_of s) n a
 
--- the word at an address, none where the address is no multiple of 4 or a byte is outside
+-- the word at an address, `None` where the address is no multiple of 4 or a byte is outside
 abbrev pub word_of : State → ℕ → Option ℕ
 word_of s a = word_at (memory_of s) a
 

@@ -1,4 +1,5 @@
--- The record of the next instruction of a state, and what applying a record does.
+-- The record of the next instruction of a state, and what applying a record does. (RISC-V Unprivileged ISA, chapters
+-- RV32I 2.1 and M 2.0. Traps, the services of ECALL and how the machine ends are what the manual leaves to choose.)
 use Rattle.std.specs.Prelude.{◌<◌, ◌≤◌, ℕ, zero, suc, ◌+◌, ◌*◌, ◌/◌, ◌%◌, ◌^◌, ◌==◌, Bool, true, false, [], ◌∷◌, ◌++◌, Option, Some, None, length, if◌then◌else◌, nat_lt, ⊤}
 use Rattle.std.specs.Int.{cast_unsigned, w32}
 use Rattle.diva_decode.specs.declared.op.Op.{Op}
@@ -72,6 +73,48 @@ call s pc a b =
     if a == 1 then (if nat_lt (length s.output) 65536 then going pc (b % 2 ^ 8) else ended pc (trap 9))
     else (if a == 93 then ended pc (halt (b % 2 ^ 8)) else ended pc (trap 8))
 
+-- ---- the record of an instruction, kind by kind
+
+-- a and b are src1 and src2, imm is the immediate as a word, op is the operation, n is the width of the load or the
+-- store in bytes, number is what the n bytes from addr on are, the lowest first, and sums are modulo 2 ^ 32. What alu,
+-- is_taken and extended compute is in Alu.antt.
+--
+-- kind          instructions               src1  src2  addr     value                   next               trap
+-- LoadUpper     LUI                        0     0     0        imm                     pc + 4
+-- AddUpper      AUIPC                      0     0     0        pc + imm                pc + 4
+-- Jump          JAL                        0     0     0        pc + 4                  pc + imm           0
+-- JumpRegister  JALR                       rs1   0     0        pc + 4                  (a + imm) / 2 * 2  0
+-- Branch        BEQ BNE BLT BGE BLTU BGEU  rs1   rs2   0
+--                 where is_taken op a b                         0                       pc + imm           0
+--                 elsewhere                                     0                       pc + 4
+-- Load          LB LH LW LBU LHU           rs1   0     a + imm  extended op number      pc + 4             4, else 5
+-- Store         SB SH SW                   rs1   rs2   a + imm  b % 2 ^ (8 * n)         pc + 4             6, else 7
+-- Immediate     ADDI SLTI SLTIU XORI ORI   rs1   0     0        alu op a imm            pc + 4
+--               ANDI SLLI SRLI SRAI
+-- Register      ADD SUB SLL SLT SLTU XOR   rs1   rs2   0        alu op a b              pc + 4
+--               SRL SRA OR AND MUL MULH
+--               MULHSU MULHU DIV DIVU
+--               REM REMU
+-- Fence         FENCE                      0     0     0        0                       pc + 4
+-- Call          ECALL                      x17   x10   0
+--                 where a is 1                                  b % 2 ^ 8               pc + 4             9
+--                 where a is 93                                 0                       pc                 halts
+--                 elsewhere                                     0                       pc                 8, always
+-- Break         EBREAK                     0     0     0        0                       pc                 3, always
+--
+-- An instruction that goes on has end 0. One that traps has value 0, next pc and end 1 + the trap's number, and keeps
+-- src1, src2 and addr of its row. The call that halts has end 256 + b % 2 ^ 8.
+--
+-- trap 0  the target, which is next in the row, is no multiple of 4
+-- trap 1  no word stands at pc: pc is no multiple of 4, or one of the 4 bytes is outside memory; word, src1, src2 and
+--         addr are 0
+-- trap 2  the word is not one of the table; src1, src2 and addr are 0
+-- trap 3  EBREAK
+-- trap 4  the address of a load is no multiple of n; else trap 5, one of its n bytes is outside memory
+-- trap 6  the address of a store is no multiple of n; else trap 7, one of its n bytes is outside memory
+-- trap 8  the service that is called is neither 1 nor 93
+-- trap 9  the output holds 65,536 bytes or more
+
 -- ---- the parts of a record, by the kind of the instruction i
 
 -- the words that an instruction reads, 0 where it reads none; a call reads x17 and x10
@@ -133,7 +176,7 @@ outcome Fence s i pc a b addr = going pc 0
 outcome Call s i pc a b addr = call s pc a b
 outcome Break s i pc a b addr = ended pc (trap 3)
 
--- ---- the parts of a record, by what its word says, which is none where there is no word or it is not one of the table
+-- ---- the parts of a record, by what its word says: `None` where there is no word, or one that is not of the table
 
 abbrev pub source1_of : Option Instr → State → ℕ
 source1_of None s = 0
@@ -170,7 +213,7 @@ abbrev pub fetched : State → Option ℕ → Record
 fetched s None = said s false 0 None
 fetched s (Some w) = said s true w (row_of w)
 
--- the record of a state's next instruction
+-- the record of a state's next instruction, which the table above shows kind by kind
 unfoldable pub record_of : State → Record
 record_of s = fetched s (word_of s s.pc)
 
