@@ -1,3 +1,4 @@
+-- What follows from the definitions.
 pub mod Steps
 pub mod Parts
 pub mod Registers

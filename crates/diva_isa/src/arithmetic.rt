@@ -1,11 +1,14 @@
+// What the operations compute, whether a branch is taken, and what a load makes of its bytes.
+
 ghost use Rattle.std.specs.Prelude.{◌≡◌, ◌%◌, ◌^◌};
 ghost use Rattle.diva_isa.specs.Alu.{alu, is_taken, extended};
 
 use diva_decode::Op;
 
-/// The result of an operation on its two operands, the second of which is rs2 or the immediate; 0 of an operation that
-/// computes nothing. (RISC-V Unprivileged ISA, RV32I 2.1, chapter "Integer Computational Instructions", and chapter "M
-/// Extension for Integer Multiplication and Division" 2.0.)
+/// The result of an operation on two words, the second of which is rs2 or the immediate; 0 of an operation that
+/// computes nothing. (RISC-V Unprivileged ISA, RV32I 2.1, "Integer Computational Instructions", and chapter M 2.0.)
+///
+/// Nothing traps: a shift takes the low 5 bits of its amount, and a division by zero has its results by the manual.
 pub fn alu(op: Op, a: u32, b: u32) -> u32
     ensures { result ≡ alu op a b }
 {
@@ -70,8 +73,8 @@ fn rem(a: u32, b: u32) -> u32
     }
 }
 
-/// Whether a branch on two operands is taken; never of another operation. (RISC-V Unprivileged ISA, RV32I 2.1, chapter
-/// "Control Transfer Instructions".)
+/// Whether a branch on two words is taken; `false` of another operation. (RISC-V Unprivileged ISA, RV32I 2.1, "Control
+/// Transfer Instructions".)
 pub fn branch_taken(op: Op, a: u32, b: u32) -> bool
     ensures { result ≡ is_taken op a b }
 {
@@ -87,7 +90,7 @@ pub fn branch_taken(op: Op, a: u32, b: u32) -> bool
 }
 
 /// What a load makes of its 1, 2 or 4 bytes, which are the low ones of `bytes`; 0 of another operation. (RISC-V
-/// Unprivileged ISA, RV32I 2.1, chapter "Load and Store Instructions".)
+/// Unprivileged ISA, RV32I 2.1, "Load and Store Instructions".)
 pub fn load_value(op: Op, bytes: u32) -> u32
     ensures { result ≡ extended op bytes }
 {

@@ -1,3 +1,5 @@
+// The record of a state's next instruction, and each part of it by itself.
+
 ghost use Rattle.std.specs.Prelude.{◌≡◌, ◌*◌, ◌%◌, ◌^◌, ◌<◌, IfSome};
 ghost use Rattle.diva_decode.specs.Table.{HasRegisters};
 ghost use Rattle.diva_isa.specs.State.{word_of};
@@ -17,7 +19,10 @@ use diva_decode::{Instr, Op, decode};
 /// The service that halts the machine, as ECALL asks for it by x17.
 const HALT: u32 = 93;
 
-/// The record of the next instruction of a state, an ended one too.
+/// The record of the next instruction of a state, an ended one too. (RISC-V Unprivileged ISA, chapters RV32I 2.1 and M
+/// 2.0.)
+///
+/// `specs/Step.antt` has a table of it, kind by kind.
 #[tactic(auto, unfolding(crate::specs::Step::record_of))]
 pub fn record_of<L: Look>(state: &L) -> Record
     ensures { result ≡ record_of (L.shows state.now) }
@@ -42,14 +47,14 @@ pub fn record_of<L: Look>(state: &L) -> Record
     r.ending_in(finish(state, fetched.is_some(), form, &r))
 }
 
-/// The word of the next instruction, none where `pc` is no multiple of 4 or a byte is outside memory.
+/// The word of the next instruction, `None` exactly where `pc` is no multiple of 4 or a byte is outside memory.
 pub fn fetch<L: Look>(state: &L) -> Option<u32>
     ensures { let s = L.shows state.now in result ≡ word_of s s.pc }
 {
     state.word(state.pc())
 }
 
-/// The registers that a word's instruction reads.
+/// The words that an instruction reads: `form` is what its word says, and both are 0 where that is `None`.
 pub fn sources<L: Look>(state: &L, form: Option<Instr>) -> Operands
     requires { IfSome form HasRegisters }
     ensures { let s = L.shows state.now in
@@ -89,7 +94,8 @@ fn reads<L: Look>(state: &L, i: &Instr) -> Operands
     }
 }
 
-/// The address of a load or a store that reads `base`, 0 of another instruction.
+/// The address of a load or a store that reads `base`: the sum with its immediate, modulo 2^32. It is 0 of another
+/// instruction, and where `form`, what the word says, is `None`.
 pub fn address(form: Option<Instr>, base: u32) -> u32
     ensures { result ≡ address_of form base }
 {
@@ -192,8 +198,8 @@ fn call<L: Look>(state: &L, r: &Record) -> Outcome
     }
 }
 
-/// What an instruction comes to, by the first five fields of its record, by whether its word is there, and by what the
-/// word says.
+/// What an instruction comes to, by the first five fields of its record, by whether its word is there, and by `form`,
+/// what the word says.
 pub fn finish<L: Look>(state: &L, there: bool, form: Option<Instr>, r: &Record) -> Outcome
     ensures { result ≡ outcome_of there form (L.shows state.now) r.now.pc r.now.src1 r.now.src2 r.now.addr }
 {

@@ -1,3 +1,5 @@
+// What a record does besides moving the pc.
+
 ghost use Rattle.std.specs.Prelude.{◌≡◌};
 ghost use Rattle.diva_isa.specs.Step.{effect_of, HasRegister};
 
@@ -11,17 +13,31 @@ pub(crate) const PUT: u32 = 1;
 /// What a record does to a state besides moving its pc.
 #[derive(Clone, Copy, Debug, PartialEq, Eq)]
 pub enum Effect {
+    /// Only the pc moves.
     Nothing,
     /// Puts a word into a register; x0 ignores it.
-    Writes { rd: u8, value: u32 },
+    Writes {
+        /// The register, 0 to 31.
+        rd: u8,
+        /// The word.
+        value: u32,
+    },
     /// Stores the low bytes of a word, the lowest at the address.
-    Stores { width: Width, addr: u32, value: u32 },
+    Stores {
+        /// How many of them.
+        width: Width,
+        /// The address of the lowest.
+        addr: u32,
+        /// The word.
+        value: u32,
+    },
     /// Puts a byte to the output.
     Puts(u8),
 }
 
-/// What a record does, right or wrong, by the instruction that its word says. It does so only where
-/// it goes on: one that ends does nothing else.
+/// What a record does besides moving the pc, whether the record is right or wrong, by the instruction that its word says;
+/// `Nothing` where the word says none. It is done only where the record goes on: one that ends only ends the machine.
+/// (RISC-V Unprivileged ISA, chapters RV32I 2.1 and M 2.0.)
 pub fn effect_of(r: &Record) -> Effect
     ensures effect { result ≡ effect_of r.now }
     ensures register { HasRegister result }

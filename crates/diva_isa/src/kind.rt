@@ -1,3 +1,5 @@
+// The kinds of operations, and how many bytes a load or a store moves.
+
 ghost use Rattle.std.specs.Prelude.{◌≡◌};
 ghost use Rattle.diva_isa.specs.Kind.{kind, size};
 
@@ -6,13 +8,16 @@ use diva_decode::Op;
 /// How much a load or a store moves.
 #[derive(Clone, Copy, Debug, PartialEq, Eq)]
 pub enum Width {
+    /// 1 byte.
     Byte,
+    /// 2 bytes.
     Half,
+    /// 4 bytes.
     Word,
 }
 
 impl Width {
-    /// How many bytes a width is.
+    /// How many bytes a width is: 1, 2 or 4.
     pub fn size(self) -> u32
         ensures { result ≡ size self }
     {
@@ -37,12 +42,15 @@ pub enum Kind {
     JumpRegister,
     /// A conditional branch.
     Branch,
+    /// A load of so many bytes.
     Load(Width),
+    /// A store of so many bytes.
     Store(Width),
     /// An operation on a register and an immediate.
     Immediate,
     /// An operation on two registers.
     Register,
+    /// FENCE.
     Fence,
     /// ECALL.
     Call,

@@ -3,15 +3,17 @@
 //! - `kind`: the kinds of operations, and how many bytes a load or a store moves.
 //! - `arithmetic`: what an operation computes, whether a branch is taken, what a load makes of its bytes.
 //! - `look`: a state that can be read.
+//! - `reading`: the number that the bytes at an address are.
 //! - `record`: the record of one instruction, and its parts.
 //! - `trap`: the traps by number.
-//! - `due`: the record of a state's next instruction, and each part by itself.
+//! - `due`: the record of a state's next instruction, and each part of it by itself.
 //! - `effect`: what a record does besides moving the pc.
-//! - `regs`: the registers.
+//! - `regs`: the 32 registers.
 //! - `plain`: the machine that does one instruction after another.
 //!
-//! The definitions that contracts cite are in `specs/`: a state in `State`, the record and what it does in `Step`. What
-//! is known of them is in `proofs/`.
+//! The definitions that contracts cite are in `specs/`: a state in `State`; the record and what it does in `Step`, with
+//! a table of it, kind by kind; what an operation computes in `Alu`. What follows from them is in `proofs/`.
+//! (RISC-V Unprivileged ISA, chapters RV32I 2.1 and M 2.0.)
 #![tactic(auto)]
 
 mod arithmetic;

@@ -1,3 +1,5 @@
+// The machine that does one instruction after another.
+
 ghost use Rattle.std.specs.Prelude.{◌≡◌, ◌+◌, ◌-◌, ◌<◌, ◌≤◌, ◌^◌, [], ◌++◌, IsSome, ◌↔◌, IfSome, IfOk, length, replicate, if◌then◌else◌};
 ghost use Rattle.diva_memory.specs.Bytes.{IsInside};
 ghost use Rattle.diva_isa.specs.Kind.{size};
@@ -66,7 +68,10 @@ impl Look for Plain {
 
 impl Plain {
     /// A machine at reset: every register is 0, the output is empty, `pc` is the entry, and memory is the payload with
-    /// zeros behind it, `size` bytes from `base` on.
+    /// zeros behind it, `size` bytes from `base` on. Memory ends at 2^32 or before, and the payload is no longer than
+    /// it.
+    ///
+    /// It takes all memory that its other calls fill, and answers `AllocError` where that runs out.
     pub fn new(
         alloc: Global,
         base: u32,
@@ -91,7 +96,7 @@ impl Plain {
         })
     }
 
-    /// The record of the next instruction, none exactly after the end.
+    /// The record of the next instruction, `None` exactly after the end.
     pub fn record(&self) -> Option<Record>
         ensures some { IsSome result ↔ GoesOn self.now.state }
         ensures value { IfSome result (λ r. r ≡ record_of self.now.state) }
@@ -103,7 +108,8 @@ impl Plain {
         }
     }
 
-    /// Does the next instruction; the ending one counts too. An ended machine stays.
+    /// Does the next instruction; the ending one counts too. An ended machine stays. The count has to be below 2^60,
+    /// unless the machine has ended.
     #[tactic(auto, using(crate::proofs::Room::room, crate::proofs::Steps::step_ended), unfolding(crate::specs::Step::step))]
     pub fn step(&mut self)
         requires { GoesOn self.old.state → self.old.count < 2 ^ 60 }
@@ -116,7 +122,7 @@ impl Plain {
         }
     }
 
-    /// Does so many instructions, or fewer where the machine ends before.
+    /// Does so many instructions, or fewer where the machine ends before. Count and limit have to come to 2^60 at most.
     pub fn run(&mut self, limit: u64)
         requires { self.old.count + limit ≤ 2 ^ 60 }
         ensures state { self.new.state ≡ steps limit self.old.state }
@@ -134,14 +140,14 @@ impl Plain {
         self.end
     }
 
-    /// How many instructions were done.
+    /// How many instructions were done, the ending one among them.
     pub fn count(&self) -> u64
         ensures { result ≡ self.now.count }
     {
         self.count
     }
 
-    /// The word in register `n`.
+    /// The word in register `n`, which is below 32.
     pub fn reg(&self, n: u8) -> u32
         requires { n < 32 }
         ensures { result ≡ reg_of self.now.state n }
@@ -149,7 +155,7 @@ impl Plain {
         self.regs.get(n)
     }
 
-    /// The byte at an address, none outside memory.
+    /// The byte at an address, `None` exactly outside memory.
     pub fn byte(&self, addr: u32) -> Option<u8>
         ensures { result ≡ byte_of self.now.state addr }
     {

@@ -1,9 +1,12 @@
+// The 32 registers.
+
 ghost use Rattle.std.specs.Prelude.{◌≡◌, ℕ, ◌<◌, List, slice_index, replicate, length};
 ghost use Rattle.diva_isa.specs.Regs.{with_reg};
 
 use std::marker::Model;
 
-/// The 32 registers. The first is always 0.
+/// The 32 registers. The first, x0, is always 0. (RISC-V Unprivileged ISA, RV32I 2.1, "Programmers' Model for Base
+/// Integer ISA".)
 #[derive(Clone, Copy, Debug, PartialEq, Eq)]
 pub struct Regs {
     words: [u32; 32],
@@ -27,7 +30,7 @@ impl Regs {
         Regs { words: [0; 32] }
     }
 
-    /// The word in a register.
+    /// The word in register `n`, which is below 32.
     pub fn get(&self, n: u8) -> u32
         requires { n < 32 }
         ensures value { result ≡ slice_index self.now n }
@@ -37,7 +40,7 @@ impl Regs {
         self.words[usize::from(n)]
     }
 
-    /// Puts a word into a register. The first ignores it.
+    /// Puts a word into register `n`, which is below 32. The first ignores it.
     pub fn set(&mut self, n: u8, v: u32)
         requires { n < 32 }
         ensures { self.new ≡ with_reg self.old n v }

@@ -1,3 +1,4 @@
+-- The product of two signed words fits 64 bits.
 use Rattle.std.proofs.Common.{ap, ◌≡◌, ◌/◌, arith, ◌≤◌, ◌^◌, nat_abs, FitsSigned, w64, lit<}
 use Rattle.std.proofs.lemmas.Int.{ints, fits_signed_mul, to_z-of_z}
 use Rattle.diva_isa.specs.Alu.{s}

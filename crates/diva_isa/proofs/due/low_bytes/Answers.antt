@@ -1,3 +1,4 @@
+-- The masks are the remainders.
 use Rattle.std.proofs.lemmas.Nat.{and_mask}
 use Rattle.diva_isa.proofs.due.low_bytes.Goals as goal
 

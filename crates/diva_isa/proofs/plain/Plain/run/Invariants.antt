@@ -1,3 +1,4 @@
+-- After so many steps the machine stands where the table does.
 use Rattle.std.proofs.Common.{◌≡◌, ◌≤◌, ◌+◌}
 use Rattle.diva_isa.specs.Run.{done}
 use Rattle.diva_isa.specs.Step.{steps}
