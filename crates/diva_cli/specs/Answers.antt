@@ -48,7 +48,7 @@ pub record HasLine {C : Type 0} (cause : Text → Type 0) (core after : C) (old 
   pub unasked : after ≡ core
   pub written : Appends old new text
 
--- status 9: the sink's count of faults rose, and a front of what was due was written
+-- status 9: the sink's count of faults rose, and a prefix of the text was written
 pub record IsCut {C : Type 0} (gives : Meaning C) (words : List Text) (told : ToldFiles) (before now : ℕ)
     (core after : C) (old new : Option Text) (faults faults' : ℕ) : Type 0 where
   pub rose : Rose faults faults'

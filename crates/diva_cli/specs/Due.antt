@@ -28,7 +28,7 @@ pub record IsLoaded (told : ToldFiles) (name bytes : List ℕ) : Type 0 where
   pub has : Has told name bytes
   pub short : length bytes ≤ file_limit
 
--- ---- the words are no command line
+-- ---- the words are not a valid command line
 
 pub record IsMisused (words : List Text) (text : Text) : Type 0 where
   pub other : command_of words ≡ None

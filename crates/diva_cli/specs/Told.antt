@@ -21,7 +21,7 @@ status_due Unread = 8
 status_due (Refused kind place) = 5
 status_due (Ran finished) = status_of finished.machine.timed.arch.end
 
--- the whole text with its status, or a front of it where the sink failed
+-- the whole text with its status, or a prefix of it where the sink failed
 abbrev pub Tells : (status_due : ℕ) (text : List ℕ) → Option (List ℕ) → Option (List ℕ) → (before now status : ℕ) → Type 0
 Tells status_due text old new before now status =
     ((status ≡ status_due) × Appends old new text)

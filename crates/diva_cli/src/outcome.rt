@@ -20,7 +20,7 @@ const FILE_LIMIT: usize = 16_777_240;
 /// What is to be written.
 #[derive(Drop)]
 pub(crate) enum Outcome {
-    /// The words are no command line.
+    /// The words are not a valid command line.
     Misused,
     /// The image can't be read.
     Unread,

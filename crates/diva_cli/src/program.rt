@@ -17,12 +17,12 @@ use std::alloc::Global;
 /// | status | comes |
 /// |---|---|
 /// | 0 | the run halted |
-/// | 2 | the words are no command line; the usage line is written |
+/// | 2 | the words are not a valid command line; the usage line is written |
 /// | 3 | the run trapped |
 /// | 4 | exactly the cycles asked for were run, and the machine goes on |
 /// | 5 | the image is refused by its first fault, or is too long; a line says so |
 /// | 8 | the image can't be read; a line says so |
-/// | 9 | the sink failed; a front of the text was written |
+/// | 9 | the sink failed; a prefix of the text was written |
 /// | 10 | memory ran out; nothing was written |
 pub fn top<F: Files, S: Sink, C: Core>(
     alloc: Global,
@@ -65,7 +65,7 @@ pub fn top<F: Files, S: Sink, C: Core>(
     ensures memory { result ≡ 10
         → HasNoMemory core.old core.new (S.contents sink.old) (S.contents sink.new) }
 
-    // Words that are no command line are answered as that, and a sound image is run.
+    // Words that are not a valid command line are answered by the usage line, and a sound image is run.
     ensures usage { command_of (map (λ w. w.now) words.now) ≡ None
         → (result ≡ 2) ⊎ ((result ≡ 9) ⊎ (result ≡ 10)) }
     ensures complete { CanRun (map (λ w. w.now) words.now) (F.told files.old)

@@ -30,7 +30,8 @@ impl Model for Config {
 }
 
 impl Config {
-    /// The machine with these numbers, none exactly where one of them is out of its range.
+    /// The machine's numbers `n` (width, 1 to 4), `q` (window, 8 to 64), `s` (stores, 1 to 6) and `w` (the
+    /// watchdog's limit in cycles, 16 to 1024); `None` exactly where one of them is out of its range.
     pub fn new(n: u32, q: u32, s: u32, w: u32) -> Option<Config>
         ensures ranges { IsSome result ↔ IsSizes (record { width = n; window = q; stores = s; limit = w }) }
         ensures value { IfSome result (λ c. c ≡ record { width = n; window = q; stores = s; limit = w }) }

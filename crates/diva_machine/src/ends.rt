@@ -3,6 +3,7 @@
 /// How a machine ended, if it has.
 #[derive(Clone, Copy, Debug, PartialEq, Eq)]
 pub enum End {
+    /// It has not ended.
     GoesOn,
     /// The program halted with this status.
     Halt(u8),
