@@ -1,3 +1,4 @@
+-- The lemmas of this crate.
 pub mod CommandLemmas
 pub mod ReadLemmas
 pub mod ValueLemmas

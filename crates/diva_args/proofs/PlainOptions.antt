@@ -99,7 +99,7 @@ apart_at (x ∷ xs) others name h has = go (bytes_eq x name) refl has (apart_at 
 
 -- ---- finding an option
 
--- the first option of this name, by any test that the option of that name alone passes
+-- the first option of this name, by any test that only the option of that name passes
 found_option : (test : Rule → Bool) (names : List Text) (name : Text) → ((x : Text) → test (built_option x) ≡ bytes_eq x name)
     → has_text name names ≡ true → find test (map built_option names) ≡ Some (built_option name)
 found_option test [] name is has = cc

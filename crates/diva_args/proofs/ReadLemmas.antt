@@ -34,7 +34,7 @@ taken_ok a words m is has free =
     (has (subst (λ (x : App). is_simple x ≡ true) (sym is) diva_is_simple)).1 ∙ ap (λ (x : App). subcommand_of x words) is in
     rw none (sym found)
 
--- an error that is no want of memory comes only where the line has a fault
+-- an error other than out of memory comes only where the line has a fault
 some_kind : (kinds : Kinds) (k : ErrorKind) (found : Option (Text × List Row)) → IsAmong k kinds
     → unless kinds found ≡ None
 some_kind [] k found h = absurd h

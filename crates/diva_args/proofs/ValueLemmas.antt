@@ -1,4 +1,4 @@
--- Values that are none.
+-- Words that are not `ADDR:LEN`.
 use Rattle.std.proofs.Common.{◌≡◌, ◌∙◌, ◌≤◌, ◌+◌, ℕ, List, [], length, refl, ap, Option, Some, None, arith}
 use Rattle.std.specs.Prelude.{option_and_then}
 use Rattle.std.specs.List.{after_first, before_first, position_or_len}
@@ -11,13 +11,13 @@ use Rattle.diva_args.specs.Values.{dump_at, dump_range_of, is_colon, number_in_r
 abbrev with_length : List ℕ → ℕ → Option DumpRange
 with_length text addr = option_and_then (dump_at addr) (number_in_range 1 4096 text)
 
--- the empty text is no length
+-- the empty text is not a length
 no_length : (addr : Option ℕ) → option_and_then (with_length []) addr ≡ None
 unfolding decimal_of
 no_length None = refl
 no_length (Some addr) = refl
 
--- a word with no colon is no range
+-- a word with no colon is not `ADDR:LEN`
 pub no_colon : (word : List ℕ) → position_or_len is_colon word ≡ length word → dump_range_of word ≡ None
 unfolding dump_range_of
 no_colon word none =

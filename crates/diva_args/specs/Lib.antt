@@ -1,3 +1,4 @@
+-- What the contracts of this crate cite.
 pub mod Command
 pub mod Fault
 pub mod Line

@@ -64,6 +64,6 @@ values_of rows = λ id. first_of id rows
 abbrev pub job_of : Text × List Row → Option Job
 job_of found = job_from found.0 (values_of found.1)
 
--- the job that the words ask for, or none where they are a usage fault
+-- the job that the words ask for, or `None` where they are not a valid command line
 unfoldable pub command_of : List Text → Option Job
 command_of words = option_and_then job_of (taken words)

@@ -1,4 +1,4 @@
-// The command line as `clap` sees it.
+// The table of commands, and the command line as `clap` sees it.
 ghost use Rattle.std.specs.Prelude.{◌≡◌, codes, false, IfOk, map};
 ghost use Rattle.clap.specs.Walk.{rule_of};
 ghost use Rattle.clap.specs.Simple.{app_of, shape_of};
@@ -17,6 +17,7 @@ pub(crate) struct Leaf {
     options: &'static [&'static str],
 }
 
+// The commands of the program.
 static LEAVES: [Leaf; 1] = [Leaf {
     name: "run",
     positionals: &["IMAGE"],
@@ -25,7 +26,7 @@ static LEAVES: [Leaf; 1] = [Leaf {
     ],
 }];
 
-/// The whole command, over words without the program's name.
+/// The whole command, over words without the program's name. The error: out of memory.
 pub(crate) fn command<'a>(alloc: Global) -> Result<Command<'a>, AllocError>
     ensures { IfOk result (λ c. app_of c ≡ diva) }
 {
@@ -58,6 +59,7 @@ fn with_leaves<'a>(
     Ok(command)
 }
 
+// The subcommand of a leaf.
 fn subcommand<'a>(alloc: Global, leaf: &Leaf) -> Result<Command<'a>, AllocError>
     ensures shape { IfOk result (λ c. shape_of c ≡ leaf_shape (leaf_of leaf.now)) }
     ensures local { IfOk result (λ c. (fields_of c).has_globals ≡ false) }
@@ -72,6 +74,7 @@ fn subcommand<'a>(alloc: Global, leaf: &Leaf) -> Result<Command<'a>, AllocError>
     Ok(command)
 }
 
+// A word that has to be given.
 fn positional<'a>(alloc: Global, id: &'a str) -> Arg<'a>
     ensures rule { rule_of result ≡ positional_rule id.entry.now }
     ensures local { result.global ≡ false }

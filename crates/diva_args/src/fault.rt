@@ -9,9 +9,9 @@ use std::alloc::AllocError;
 /// Why the words give no job.
 #[derive(Clone, Copy, Debug, PartialEq, Eq)]
 pub enum ArgsFault {
-    /// The words are no command line of this program.
+    /// The words are not a valid command line of this program.
     Usage,
-    /// There is no memory.
+    /// The words could not be read: out of memory.
     Memory,
 }
 

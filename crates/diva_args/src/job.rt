@@ -2,7 +2,7 @@
 use crate::file_name::FileName;
 use std::marker::Model;
 
-/// A command with its options. Numbers are spelled with 1 to 10 decimal digits.
+/// A command with its options. On the command line, numbers are spelled with 1 to 10 decimal digits.
 #[derive(Debug, Drop)]
 pub enum Job {
     /// `run IMAGE`: runs an image.
@@ -27,7 +27,8 @@ pub struct Run {
     pub watchdog: u32,
     /// `--cycles`: the cycles to run at most, 1 to 1,000,000,000; 1,000,000 by default.
     pub cycles: u64,
-    /// `--dump ADDR:LEN`, with 1 to 8 hex digits for the address: the memory to show at the end.
+    /// `--dump ADDR:LEN`, with 1 to 8 hex digits for the address: the part of memory to show at the end; `None` where
+    /// the option is not given.
     pub dump: Option<Dump>,
 }
 
@@ -52,7 +53,7 @@ pub enum CoreChoice {
     Silent,
 }
 
-/// A part of memory, of 1 to 4,096 bytes, that ends at 2^32 at most.
+/// A part of memory, of 1 to 4,096 bytes, that ends at 2^32 at the latest.
 #[derive(Clone, Copy, Debug, PartialEq, Eq)]
 pub struct Dump {
     /// The address of the first byte.

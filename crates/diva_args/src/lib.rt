@@ -1,11 +1,15 @@
 //! The words of the command line, read as a job: a command with its options.
 //!
 //! The commands, their words and their options stand in one table, in the code and in the definitions; `clap` reads
-//! the words by it. What a word has to be beyond that, as a number in its range, is said here.
+//! the words by it. The rules on the values of options, such as the range of a number, are this crate's own.
 //!
-//! - `read`: the words to a job. `command`: the table, and `clap`'s command of it.
-//! - `values`: the texts of a command line as cores, numbers and addresses.
-//! - `job`: a job, in whose types the ranges hold. `file_name`: the name of a file. `fault`: why there is no job.
+//! - `read`: `read_words`, from words to a job.
+//! - `command`: the table of commands, and `clap`'s command of it.
+//! - `values`: the values of options as cores, numbers and parts of memory.
+//! - `job`: `Job` and its parts, whose types keep the ranges of the numbers.
+//! - `file_name`: `FileName`, the name of a file.
+//! - `fault`: `ArgsFault`, why there is no job.
+//! - `tests`: lines that are taken, and lines that are refused.
 #![tactic(auto)]
 
 mod command;

@@ -13,8 +13,10 @@ use crate::values::{core, dump, number};
 use clap::ArgMatches;
 use std::alloc::Global;
 
-/// The job that the words ask for, which are those after the program's name. `Usage` comes exactly where they ask for
-/// none, as help words do, and `Memory` for want of memory.
+/// The job that the words ask for. `words` are those after the program's name.
+///
+/// The error is `Usage` where the words are not a valid command line, as help words are not, and `Memory` where memory
+/// runs out.
 #[tactic(auto, using(crate::proofs::PlainLaw::plain_line), unfolding(crate::specs::Line::command_of))]
 pub fn read_words(alloc: Global, words: &[&str]) -> Result<Job, ArgsFault>
     ensures job { IfOk result (λ job. command_of (map (λ w. w.now) words.now) ≡ Some job) }
@@ -29,7 +31,7 @@ pub fn read_words(alloc: Global, words: &[&str]) -> Result<Job, ArgsFault>
     job(alloc, &matches)
 }
 
-// The matches of the words, where the command takes them.
+// The matches of the words, where `clap` takes them.
 fn matches<'a>(alloc: Global, words: &'a [&'a str]) -> Result<ArgMatches<'a>, ArgsFault>
     ensures matches { IfOk result (λ m. taken (map (λ w. w.now) words.entry.now)
         ≡ subcommand_rows_of m) }

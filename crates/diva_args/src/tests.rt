@@ -1,7 +1,9 @@
+// Lines that are taken, and lines that are refused.
 use crate::{ArgsFault, CoreChoice, Dump, Job, Run, read_words};
 use std::alloc::Global;
 use std::test::Fail;
 
+// The options of a line that is taken.
 fn run(alloc: Global, words: &[&str]) -> Result<Run, Fail> {
     let Job::Run(run) = read_words(alloc, words)?;
     Ok(run)

@@ -1,11 +1,11 @@
-// The texts of a command line as cores, numbers and addresses.
+// The values of options as cores, numbers and parts of memory.
 ghost use Rattle.std.specs.Prelude.{◌≡◌, ◌≤◌, IfSome, None, Some, option_map};
 ghost use Rattle.diva_args.specs.Values.{core_named, core_of, dump_of, dump_range_of, number_in_range, number_of};
 
 use crate::job::{CoreChoice, Dump};
 use diva_outside::{decimal, hex};
 
-/// The core of `--core`; the program's own where none is named.
+/// The core of `--core`: the program's own where the option is not given, and `None` where the word names no core.
 pub(crate) fn core(word: Option<&str>) -> Option<CoreChoice>
     ensures { result ≡ core_of (option_map (λ text. text.now) word.entry) }
 {
@@ -15,6 +15,7 @@ pub(crate) fn core(word: Option<&str>) -> Option<CoreChoice>
     }
 }
 
+// The core of that name.
 #[tactic(auto, unfolding(crate::specs::Values::core_named))]
 fn named_core(word: &str) -> Option<CoreChoice>
     ensures { result ≡ core_named word.now }
@@ -27,7 +28,8 @@ fn named_core(word: &str) -> Option<CoreChoice>
     }
 }
 
-/// The number from `least` to `most` that an option gives, or `otherwise` where it is not given.
+/// The number of an option: `otherwise` where the option is not given, and `None` where the word does not spell a
+/// number from `least` to `most`.
 pub(crate) fn number(word: Option<&str>, least: u32, most: u32, otherwise: u32) -> Option<u32>
     requires low { least ≤ otherwise }
     requires high { otherwise ≤ most }
@@ -41,6 +43,7 @@ pub(crate) fn number(word: Option<&str>, least: u32, most: u32, otherwise: u32) 
     }
 }
 
+// The number from `least` to `most` that the word spells.
 fn number_within(word: &str, least: u32, most: u32) -> Option<u32>
     ensures value { result ≡ number_in_range least most word.now }
     ensures in_range { IfSome result (λ n. (least ≤ n) × (n ≤ most)) }
@@ -53,7 +56,7 @@ fn number_within(word: &str, least: u32, most: u32) -> Option<u32>
     }
 }
 
-/// The memory of `--dump`, and none where it is not given.
+/// The memory of `--dump`: `Some(None)` where the option is not given, and `None` where the word is not `ADDR:LEN`.
 pub(crate) fn dump(word: Option<&str>) -> Option<Option<Dump>>
     ensures { result ≡ dump_of (option_map (λ text. text.now) word.entry) }
 {
@@ -63,7 +66,7 @@ pub(crate) fn dump(word: Option<&str>) -> Option<Option<Dump>>
     }
 }
 
-// `ADDR:LEN`
+// The memory of the word `ADDR:LEN`.
 #[tactic(auto, using(crate::proofs::ValueLemmas::no_colon), unfolding(crate::specs::Values::dump_range_of))]
 fn dump_range(word: &str) -> Option<Dump>
     ensures { result ≡ dump_range_of word.now }

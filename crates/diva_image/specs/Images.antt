@@ -1,4 +1,4 @@
--- The bytes of an image, and what is wrong with those that are none.
+-- The image that bytes are, and the first fault of bytes that are not an image.
 use Rattle.std.specs.Prelude.{ℕ, ◌+◌, ◌%◌, ◌^◌, ◌==◌, ◌&&◌, not, nat_lt, nat_le, nat_eq, Bool, List, length, drop, codes, Option, Some, None, if◌then◌else◌}
 use Rattle.std.specs.List.{starts_with}
 use Rattle.std.specs.Option.{option_or}
@@ -18,16 +18,18 @@ header_of bytes = record { base = word_at 8 bytes; size = word_at 12 bytes; entr
 abbrev pub is_aligned : ℕ → Bool
 is_aligned n = n % 4 == 0
 
+-- size is allowed, and memory ends at 2^32 at the latest
 abbrev pub is_size : ℕ → ℕ → Bool
 is_size base size = is_aligned size && nat_le 4 size && nat_le size (2 ^ 24) && nat_le (base + size) (2 ^ 32)
 
+-- entry is a place for an instruction in memory
 abbrev pub is_entry : ℕ → ℕ → ℕ → Bool
 is_entry base size entry = is_aligned entry && nat_le base entry && nat_lt entry (base + size)
 
 abbrev pub fault : ℕ → ℕ → Option Fault
 fault kind place = Some (record { kind = kind; place = place })
 
--- the faults of the first 24 bytes but for their numbers
+-- the first fault of the length, the letters and the version
 unfoldable pub start_fault : List ℕ → Option Fault
 start_fault bytes =
     -- 1, at the length: there are fewer than 24 bytes
@@ -37,19 +39,19 @@ start_fault bytes =
     -- 3: the version is not 1
     else (if not (word_at 4 bytes == 1) then fault 3 4 else None))
 
--- the faults of the numbers
+-- the first fault of the numbers
 unfoldable pub header_fault : Header → Option Fault
 header_fault h =
-    -- 4: base is no multiple of 4
+    -- 4: base is not a multiple of 4
     if not (is_aligned h.base) then fault 4 8
-    -- 5: size is no multiple of 4, not in 4 to 2 ^ 24, or base + size is past 2 ^ 32
+    -- 5: size is not a multiple of 4, not in 4 to 2^24, or base + size is past 2^32
     else (if not (is_size h.base h.size) then fault 5 12
-    -- 6: entry is no multiple of 4, below base, or not below base + size
+    -- 6: entry is not a multiple of 4, below base, or not below base + size
     else (if not (is_entry h.base h.size h.entry) then fault 6 16
     -- 7: length is more than size
     else (if nat_lt h.size h.len then fault 7 20 else None)))
 
--- the faults of the payload, which is to end where the file does
+-- the fault of a payload that does not end where the file does
 unfoldable pub length_fault : ℕ → ℕ → Option Fault
 length_fault length end =
     -- 8, at the length: it is cut short

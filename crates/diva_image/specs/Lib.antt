@@ -1,3 +1,4 @@
+-- What the contracts of this crate cite.
 pub mod Images
 pub mod Layout
 pub mod View

@@ -6,6 +6,7 @@ use Rattle.diva_image.specs.declared.fault.ImageFault.TheVariants.{Bad, Memory}
 use Rattle.diva_image.specs.Layout.{Layout}
 use Rattle.diva_image.specs.Images.{fault, fault_of, image_of}
 
+-- an image of the code as the definitions have it
 abbrev pub layout : Image → Layout
 layout i = record { base = i.base; size = i.size; entry = i.entry; payload = i.payload }
 

@@ -1,10 +1,10 @@
-// Why bytes are no image.
+// Why bytes are not an image.
 ghost use Rattle.std.specs.Prelude.{◌≡◌};
 ghost use Rattle.diva_image.specs.declared.fault.ImageFault.TheVariants.{Memory};
 
 use std::alloc::{AllocError, AllocFailed};
 
-/// What is wrong with the bytes, in the order in which it is tested.
+/// What is wrong with the bytes, in the order in which it is tested. The numbers are those of `ImageFault::Bad`.
 #[derive(Clone, Copy, Debug)]
 pub(crate) enum Kind {
     ShortHeader = 1,
@@ -18,31 +18,38 @@ pub(crate) enum Kind {
     TrailingBytes = 9,
 }
 
-/// A fault of the bytes: the number of its kind, and its place.
+/// A fault of the bytes: the number of its kind, and its place in the file.
 #[derive(Clone, Copy, Debug)]
 pub(crate) struct Fault {
+    /// The number of its kind, 1 to 9.
     pub kind: u8,
+    /// Where it is, in bytes from the start of the file.
     pub place: u32,
 }
 
-/// Why bytes were not read to an image.
+/// Why bytes are not an image.
 #[derive(Clone, Copy, Debug, PartialEq, Eq)]
 pub enum ImageFault {
-    /// Their first fault.
+    /// Their first fault. Places count bytes from the start of the file.
     ///
     /// | kind | where | place |
     /// |---|---|---|
     /// | 1 | fewer than 24 bytes | length of the file |
     /// | 2 | the first four bytes are not "DIVA" | 0 |
     /// | 3 | the version is not 1 | 4 |
-    /// | 4 | base is no multiple of 4 | 8 |
-    /// | 5 | size is no multiple of 4, not in 4 to 2^24, or base + size is past 2^32 | 12 |
-    /// | 6 | entry is no multiple of 4, or not in memory | 16 |
+    /// | 4 | base is not a multiple of 4 | 8 |
+    /// | 5 | size is not a multiple of 4, not in 4 to 2^24, or base + size is past 2^32 | 12 |
+    /// | 6 | entry is not a multiple of 4, or not in memory | 16 |
     /// | 7 | the payload is longer than memory | 20 |
     /// | 8 | the payload is cut short | length of the file |
     /// | 9 | bytes follow the payload | where they begin |
-    Bad { kind: u8, place: u32 },
-    /// There is no memory left for the image.
+    Bad {
+        /// Which fault it is, 1 to 9.
+        kind: u8,
+        /// Where it is.
+        place: u32,
+    },
+    /// Out of memory.
     Memory,
 }
 

@@ -1,4 +1,4 @@
-// The numbers of an image's header.
+// The numbers of an image's header, and their faults.
 ghost use Rattle.std.specs.Prelude.{◌≡◌, ◌≤◌, length, IsNone};
 
 use crate::fault::{Fault, Kind};
@@ -7,12 +7,16 @@ use byteorder::{ByteOrder, LittleEndian};
 /// The largest size of memory, in bytes.
 const LARGEST: u32 = 1 << 24;
 
-/// What follows the version.
+/// The numbers that follow the version.
 #[derive(Clone, Copy, Debug)]
 pub(crate) struct Header {
+    /// The first address of memory.
     pub base: u32,
+    /// How many bytes memory has.
     pub size: u32,
+    /// The address of the first instruction.
     pub entry: u32,
+    /// How many bytes the payload has.
     pub len: u32,
 }
 
@@ -20,6 +24,7 @@ impl Header {
     ghost use Rattle.diva_image.specs.Images.{header_of, is_size, is_entry, header_fault};
     ghost use Rattle.diva_image.specs.Layout.{IsLayout};
 
+    /// The numbers of a file of 24 bytes or more.
     pub fn of(bytes: &[u8]) -> Self
         requires { 24 ≤ length bytes.now }
         ensures { result ≡ header_of bytes.now }
@@ -32,6 +37,7 @@ impl Header {
         }
     }
 
+    // Whether size is allowed, and memory ends at 2^32 at the latest.
     fn has_size(&self) -> bool
         ensures { result ≡ is_size self.now.base self.now.size }
     {
@@ -41,6 +47,7 @@ impl Header {
             && u64::from(self.base) + u64::from(self.size) <= 1 << 32
     }
 
+    // Whether entry is a place for an instruction in memory.
     fn has_entry(&self) -> bool
         ensures { result ≡ is_entry self.now.base self.now.size self.now.entry }
     {
@@ -49,7 +56,7 @@ impl Header {
             && u64::from(self.entry) < u64::from(self.base) + u64::from(self.size)
     }
 
-    /// The first fault of the numbers.
+    /// The first fault of the numbers, `None` where they have none.
     #[tactic(auto, unfolding(crate::specs::Images::header_fault))]
     pub fn fault(&self) -> Option<Fault>
         ensures first { result ≡ header_fault self.now }

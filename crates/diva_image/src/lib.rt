@@ -3,9 +3,12 @@
 //! A file is the four letters "DIVA", then five numbers of four bytes each, the lowest byte first: the version,
 //! which is 1, base, size, entry and length. Then come exactly `length` bytes, which are loaded at base.
 //!
-//! - `image`: an image, in whose type its rules hold. `payload`: its bytes.
-//! - `reading`: bytes to an image or to their first fault. `header`: the header's numbers.
-//! - `fault`: the kinds of faults.
+//! - `image`: `Image`, whose type keeps the rules of an image.
+//! - `payload`: `Payload`, the bytes of an image.
+//! - `reading`: `read`, from bytes to an image or to their first fault.
+//! - `header`: the header's numbers, and their faults.
+//! - `fault`: `ImageFault`, why bytes are not an image.
+//! - `tests`: an image, and three faults of it.
 #![tactic(auto)]
 
 mod fault;

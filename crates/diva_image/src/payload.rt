@@ -18,18 +18,21 @@ impl Model for Payload {
 }
 
 impl Payload {
+    /// The payload of these bytes.
     pub fn new(bytes: Vec<u8>) -> Self
         ensures { result ≡ bytes.items }
     {
         Payload { bytes }
     }
 
+    /// The bytes.
     pub fn bytes(&self) -> &[u8]
         ensures { result.now ≡ self.now }
     {
         &self.bytes
     }
 
+    /// The bytes as a vector, which takes no memory.
     pub fn into_vec(self) -> Vec<u8>
         ensures { result.items ≡ self }
     {

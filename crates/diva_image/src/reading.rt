@@ -10,14 +10,16 @@ use crate::{Image, ImageFault, Payload};
 use byteorder::{ByteOrder, LittleEndian};
 use std::alloc::Global;
 
+/// The first bytes of a file.
 const MAGIC: &[u8; 4] = b"DIVA";
 
+/// The version that is read.
 const VERSION: u32 = 1;
 
 /// The length of the header, in bytes.
 const HEADER: usize = 24;
 
-/// The image of the bytes, or their first fault.
+/// The image of the bytes. The error is their first fault, or `Memory` where memory runs out.
 pub fn read(alloc: Global, bytes: &[u8]) -> Result<Image, ImageFault>
     ensures { Reads bytes.now result }
 {
@@ -33,6 +35,7 @@ pub fn read(alloc: Global, bytes: &[u8]) -> Result<Image, ImageFault>
     })
 }
 
+// The first fault of the bytes, `None` where they have none.
 #[tactic(auto, unfolding(crate::specs::Images::fault_of))]
 fn fault_of(bytes: &[u8]) -> Option<Fault>
     ensures first { result ≡ fault_of bytes.now }
@@ -48,6 +51,7 @@ fn fault_of(bytes: &[u8]) -> Option<Fault>
     length_fault(bytes.len(), 24 + header.len)
 }
 
+// The first fault of the length, the letters and the version.
 #[tactic(auto, unfolding(crate::specs::Images::start_fault))]
 fn start_fault(bytes: &[u8]) -> Option<Fault>
     ensures first { result ≡ start_fault bytes.now }
@@ -74,7 +78,7 @@ fn start_fault(bytes: &[u8]) -> Option<Fault>
     }
 }
 
-/// Whether a file of `len` bytes ends where its payload does.
+// The fault of a file of `len` bytes whose payload is to end at `end`.
 #[tactic(auto, unfolding(crate::specs::Images::length_fault))]
 fn length_fault(len: usize, end: u32) -> Option<Fault>
     ensures first { result ≡ length_fault len end }

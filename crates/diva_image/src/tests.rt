@@ -1,3 +1,4 @@
+// An image, and three faults of it.
 use crate::{ImageFault, read};
 use std::test::Fail;
 

@@ -2,6 +2,7 @@
 use Rattle.std.specs.Prelude.{ℕ, zero, suc, ◌≤◌, ◌+◌, ◌-◌, ◌*◌, ◌%◌, ◌^◌, ◌==◌, ◌&&◌, nat_le, Bool, List, [], ◌∷◌, length, take, slice_get, slice_set, Option, Some, None, option_and_then, option_map, if◌then◌else◌}
 use Rattle.std.specs.Int.{to_le_bytes, w32}
 
+-- the first address, and the bytes from there on
 pub record Bytes : Type 0 where
   pub base : ℕ
   pub items : List ℕ
@@ -15,16 +16,16 @@ pub record IsInside (m : Bytes) (addr n : ℕ) : Type 0 where
   pub from : m.base ≤ addr
   pub to : addr + n ≤ m.base + length m.items
 
--- the byte at an address, none outside
+-- the byte at an address, `None` outside
 abbrev pub byte_at : Bytes → ℕ → Option ℕ
 byte_at m addr = if nat_le m.base addr then slice_get m.items (addr - m.base) else None
 
--- the number that n bytes from an address on are, the lowest first; none where one of them is outside
+-- the number that n bytes from an address on are, the lowest first; `None` where one of them is outside
 abbrev pub number_at : Bytes → ℕ → ℕ → Option ℕ
 number_at m zero addr = Some 0
 number_at m (suc n) addr = option_and_then (λ low. option_map (λ high. low + 2 ^ 8 * high) (number_at m n (addr + 1))) (byte_at m addr)
 
--- the word at an address, none where the address is no multiple of 4 or a byte is outside
+-- the word at an address, `None` where the address is not a multiple of 4 or a byte is outside
 abbrev pub word_at : Bytes → ℕ → Option ℕ
 word_at m addr = if addr % 4 == 0 then number_at m 4 addr else None
 

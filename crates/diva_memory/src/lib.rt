@@ -1,7 +1,9 @@
 //! The memory of the machine: the bytes from a first address on.
 //!
-//! `Memory` is in `memory.rt`. What is inside, what a read gives and what a write changes is
-//! defined in `specs/Bytes.antt`, which the crates above cite for their states too.
+//! - `memory`: `Memory`, the bytes, and how they are read and written.
+//!
+//! What is inside, what a read gives and what a write changes is defined in `specs/Bytes.antt`,
+//! which the crates above cite for their states too.
 #![tactic(auto)]
 
 mod memory;

@@ -30,8 +30,8 @@ impl Model for Memory {
 impl Memory {
     ghost use Rattle.diva_memory.specs.Bytes.{IsInside, is_inside, byte_at, word_at, put, put_all};
 
-    /// Memory of `size` bytes from `base` on: the payload, and zeros behind it. The error is want of
-    /// memory.
+    /// Memory of `size` bytes from `base` on: the payload, and zeros behind it. It ends at 2^32 at
+    /// the latest, and the payload fits into it. The error: out of memory.
     pub fn new(alloc: Global, base: u32, size: u32, payload: &[u8]) -> Result<Self, AllocError>
         requires range { base + size ≤ 2 ^ 32 }
         requires fits { length payload.now ≤ size }
@@ -69,7 +69,7 @@ impl Memory {
             && u64::from(addr) + u64::from(n) <= u64::from(self.base) + self.bytes.len() as u64
     }
 
-    /// The byte at `addr`, `None` exactly where it is outside.
+    /// The byte at `addr`, `None` exactly where `addr` is outside.
     pub fn byte(&self, addr: u32) -> Option<u8>
         ensures value { result ≡ byte_at self.now addr }
         ensures inside { IsSome result ↔ IsInside self.now addr 1 }
@@ -78,7 +78,8 @@ impl Memory {
         self.bytes.get(at as usize).copied()
     }
 
-    /// The word at `addr`, `None` exactly where `addr` is no multiple of 4 or the word is outside.
+    /// The word at `addr`, `None` exactly where `addr` is not a multiple of 4 or the word is not
+    /// inside.
     pub fn word(&self, addr: u32) -> Option<u32>
         ensures value { result ≡ word_at self.now addr }
         ensures inside { IsSome result ↔ ((addr % 4 ≡ 0) × IsInside self.now addr 4) }
@@ -91,7 +92,7 @@ impl Memory {
         Some(LittleEndian::read_u32(bytes))
     }
 
-    /// Writes one byte.
+    /// Writes one byte, at an address that is inside.
     pub fn put(&mut self, addr: u32, b: u8)
         requires { IsInside self.old addr 1 }
         ensures value { self.new ≡ put self.old addr b }
@@ -102,7 +103,7 @@ impl Memory {
         self.bytes[at] = b;
     }
 
-    /// Writes bytes one after the other, from `addr` on.
+    /// Writes bytes one after the other, from `addr` on. All of these addresses are inside.
     pub fn put_all(&mut self, addr: u32, bytes: &[u8])
         requires { IsInside self.old addr (length bytes.now) }
         ensures value { self.new ≡ put_all self.old addr bytes.now }

@@ -7,6 +7,7 @@ use Rattle.diva_outside.specs.declared.files.LoadFault.{LoadFault}
 use Rattle.diva_outside.specs.declared.files.LoadFault.TheVariants.{Failed, TooLong, Memory}
 use Rattle.diva_outside.specs.declared.faults.Faults.{Faults}
 
+-- how often the files of this kind have failed
 abbrev pub faults_of : Faults → What → ℕ
 faults_of f Image = f.image
 faults_of f Script = f.script
@@ -25,7 +26,7 @@ raised_at f Tape = record f { tape = raised f.tape }
 raised_at f Source = record f { source = raised f.source }
 raised_at f Commands = record f { commands = raised f.commands }
 
--- a load that failed was counted, and nothing else was
+-- a load that answered `Failed` was counted, and no other
 abbrev pub Counts : {T : Type 0} → Faults → Faults → What → Result T LoadFault → Type 0
 Counts old new what (Ok bytes) = new ≡ old
 Counts old new what (Err Failed) = new ≡ raised_at old what

@@ -1,4 +1,4 @@
--- Files in memory of which some calls fail.
+-- Files in memory, where loads fail as a test asks for it.
 use Rattle.std.specs.Prelude.{ℕ, List, Option, Some, Result, Bool, ◌==◌, ◌&&◌, is_some, if◌then◌else◌}
 use Rattle.std.specs.List.{list_any}
 use Rattle.diva_outside.specs.Causes.{raised}
@@ -16,10 +16,11 @@ pub record FilesInMemory : Type 0 where
   pub calls : ℕ
   pub faults : Faults
 
--- the bytes of each name, all of them told
+-- the contents, which are known: the bytes of each name
 abbrev pub told_by : FilesInMemory → ToldFiles
 told_by m = Some (bytes_of m.files)
 
+-- how often loads of this kind of file have failed
 abbrev pub faults_in : FilesInMemory → What → ℕ
 faults_in m what = faults_of m.faults what
 
@@ -27,7 +28,7 @@ faults_in m what = faults_of m.faults what
 abbrev pub is_to_fail : FilesInMemory → Bool
 is_to_fail m = list_any (λ call. call == raised m.calls) m.fails
 
--- what a load answers, but for want of memory: the name is looked up before the call is
+-- what a load answers, unless memory runs out: the name is looked up before the call is
 abbrev pub load_of : FilesInMemory → List ℕ → ℕ → Result (List ℕ) LoadFault
 load_of m name limit = answer_to (bytes_of m.files name) (is_to_fail m) limit
 

@@ -1,4 +1,4 @@
--- A sink in memory of which some calls fail.
+-- A sink in memory, where puts fail as a test asks for it.
 use Rattle.std.specs.Prelude.{ℕ, ◌-◌, List, [], ◌∷◌, ◌++◌, length, take, min, ◌||◌, ◌==◌, nat_lt, Bool, Option, Some, None, is_some, unwrap_or, if◌then◌else◌}
 use Rattle.diva_outside.specs.Causes.{raised}
 use Rattle.diva_outside.specs.declared.mem_sink.Fail.{Fail}
@@ -11,7 +11,7 @@ pub record SinkInMemory : Type 0 where
   pub calls : ℕ
   pub faults : ℕ
 
--- how many bytes the call takes at most, where it is to fail
+-- how many bytes the call takes at most, `None` where it is not to fail
 abbrev pub takes_of : List Fail → ℕ → Option ℕ
 takes_of [] call = None
 takes_of (fail ∷ fails) call = if fail.call == call then Some fail.takes else takes_of fails call
@@ -20,7 +20,7 @@ takes_of (fail ∷ fails) call = if fail.call == call then Some fail.takes else 
 abbrev pub next_takes : SinkInMemory → Option ℕ
 next_takes s = takes_of s.fails (raised s.calls)
 
--- how many bytes of a piece are taken: all, but for what the call does not take and what does not fit
+-- how many bytes of a piece are taken: all of them, as far as the call takes them and they fit
 abbrev pub count_taken : SinkInMemory → List ℕ → ℕ
 count_taken s piece = min (min (unwrap_or (next_takes s) (length piece)) (length piece)) (s.room - length s.bytes)
 

@@ -4,7 +4,7 @@ use Rattle.std.specs.Cmp.Lexicographic.{pointwise}
 use Rattle.diva_outside.specs.declared.files.LoadFault.{LoadFault}
 use Rattle.diva_outside.specs.declared.files.LoadFault.TheVariants.{Failed, TooLong}
 
--- the bytes of the first file of that name
+-- the bytes of the first file of that name, `None` where no file has it
 abbrev pub bytes_of : List (List ℕ × List ℕ) → List ℕ → Option (List ℕ)
 bytes_of [] name = None
 bytes_of (file ∷ files) name = if pointwise nat_eq file.0 name then Some file.1 else bytes_of files name
@@ -14,11 +14,11 @@ abbrev pub or_empty : Option (List ℕ) → List ℕ
 or_empty None = []
 or_empty (Some bytes) = bytes
 
--- what a load of these bytes answers, but for want of memory
+-- what a load of these bytes answers, unless memory runs out
 abbrev pub answer_of : List ℕ → ℕ → Result (List ℕ) LoadFault
 answer_of bytes limit = if nat_lt limit (length bytes) then Err TooLong else Ok bytes
 
--- what a call of files of which some calls fail answers, where it found these bytes
+-- what a call answers that found these bytes or none, by whether it is to fail
 abbrev pub answer_to : Option (List ℕ) → Bool → ℕ → Result (List ℕ) LoadFault
 answer_to None fails limit = Err Failed
 answer_to (Some bytes) fails limit = if fails then Err Failed else answer_of bytes limit

@@ -4,7 +4,7 @@ use Rattle.std.specs.Char.{is_digit}
 use Rattle.std.specs.List.{list_all}
 use Rattle.std.specs.Str.Parse.{digits_value}
 
--- the number that one to `most` digits of a radix spell, or none
+-- the number that one to `most` digits of a radix spell, `None` where the word is something else
 abbrev pub number_of : ℕ → ℕ → List ℕ → Option ℕ
 number_of radix most word =
     if nat_le 1 (length word) && nat_le (length word) most && list_all (λ byte. is_digit byte radix) word

@@ -1,16 +1,16 @@
--- What a sink tells of the bytes that it took.
+-- What is known of the bytes that a sink took.
 use Rattle.std.specs.Prelude.{◌≡◌, ◌++◌, ◌≤◌, ℕ, List, Option, Result, OnOk, OnErr}
 use Rattle.std.specs.Io.KnownBytes.{Appends}
 use Rattle.diva_outside.specs.Causes.{Rose}
 
--- where it is told, a front of the piece was appended
+-- where the contents are known, a prefix of the piece was appended
 pub record AppendsPart (old new : Option (List ℕ)) (piece : List ℕ) : Type 0 where
   pub front : List ℕ
   pub rest : List ℕ
   pub whole : piece ≡ front ++ rest
   pub appended : Appends old new front
 
--- the piece was put: all of it, or a front of it where a fault was counted
+-- the piece was put: all of it, or a prefix of it and a fault was counted
 pub record Puts {E : Type 0} (piece : List ℕ) (old new : Option (List ℕ)) (before now : ℕ) (result : Result (Unit {0}) E) : Type 0 where
   pub later : before ≤ now
   pub ok : OnOk result (Appends old new piece)

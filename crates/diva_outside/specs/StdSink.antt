@@ -1,7 +1,7 @@
 -- A sink over a writer.
 use Rattle.std.specs.Prelude.{ℕ, List, Option}
 
--- the bytes of the writer, where they are known, and how many faults there were
+-- the contents of the writer, `None` where they are not known, and how many faults there were
 pub record SinkOver : Type 0 where
   pub bytes : Option (List ℕ)
   pub faults : ℕ

@@ -8,7 +8,7 @@ use std::io::Read;
 use std::marker::Model;
 use std::{fs, rt};
 
-/// Files of the operating system, by path. They tell no bytes. Each error of the system is a fault.
+/// The files of the operating system, by path. Their contents are not known. Each error of the system is a fault.
 #[derive(Drop)]
 pub struct DiskFiles<'a, R: rt::Files> {
     rt: &'a R,
@@ -26,6 +26,7 @@ impl<'a, R: rt::Files> Model for DiskFiles<'a, R> {
 impl<'a, R: rt::Files> DiskFiles<'a, R> {
     ghost use Rattle.diva_outside.specs.Faults.{no_faults};
 
+    /// The files that `rt` opens, with no fault so far.
     pub fn new(rt: &'a R) -> Self
         ensures { result ≡ no_faults }
     {
@@ -56,6 +57,7 @@ impl<R: rt::Files> Files for DiskFiles<'_, R> {
     }
 }
 
+// Opens the file and reads it.
 fn read_file<R: rt::Files>(
     rt: &R,
     alloc: Global,
@@ -68,7 +70,7 @@ fn read_file<R: rt::Files>(
     read_whole(&mut file, alloc, limit)
 }
 
-/// Reads to the end, or until there are more bytes than `limit`.
+// Reads to the end, or until there are more bytes than `limit`.
 fn read_whole<R: Read>(file: &mut R, alloc: Global, limit: usize) -> Result<Vec<u8>, LoadFault>
     ensures within { IfOk result (λ v. length v.items ≤ limit) }
     ensures whole { IfOk result (λ v. IfSome (R.remaining file.old) (λ bytes. v.items ≡ bytes)) }

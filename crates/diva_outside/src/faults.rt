@@ -18,6 +18,7 @@ impl Faults {
     ghost use Rattle.diva_outside.specs.declared.files.What.{What};
     ghost use Rattle.diva_outside.specs.Faults.{faults_of, no_faults, raised_at, Counts};
 
+    /// No fault of any kind.
     pub fn none() -> Self
         ensures { result ≡ no_faults }
     {
@@ -45,7 +46,7 @@ impl Faults {
         }
     }
 
-    /// Counts a load where it failed.
+    /// Counts a fault where the load answered `Failed`.
     pub fn count(&mut self, what: What, answer: &Result<Vec<u8>, LoadFault>)
         ensures counts { Counts self.old self.new what answer.now }
         ensures failed { IsErrOf answer.now LoadFault.Failed

@@ -7,24 +7,29 @@ ghost use Rattle.diva_outside.specs.Files.{Has, IsMissing, IsLonger};
 
 use std::alloc::{AllocError, AllocFailed, Global};
 
-/// What a file is loaded for.
+/// What a file is loaded for. So far only images are.
 #[derive(Clone, Copy, Debug, PartialEq, Eq)]
 pub enum What {
+    /// An image, from which a machine starts.
     Image,
+    /// A script of faults, which is laid over a core.
     Script,
+    /// A tape of claims, which a core plays.
     Tape,
+    /// The source text of a program.
     Source,
+    /// The commands of a debugging session.
     Commands,
 }
 
 /// Why a file was not loaded.
 #[derive(Clone, Copy, Debug, PartialEq, Eq)]
 pub enum LoadFault {
-    /// It is not there, or it could not be read.
+    /// There is no such file, or it could not be read.
     Failed,
-    /// It is longer than the limit.
+    /// The file has more bytes than the limit.
     TooLong,
-    /// There is no memory left for it.
+    /// Out of memory.
     Memory,
 }
 
@@ -46,16 +51,19 @@ impl<T: Drop> From<AllocFailed<T>> for LoadFault {
 
 /// Files that can be loaded.
 pub trait Files {
-    /// For each name its bytes or none, where that is told. An empty file has bytes: the empty list.
+    /// The contents, `None` where they are not known: for each name its bytes, or `None` where no file has that name.
+    /// An empty file has bytes, the empty list.
     ghost told: { Self → Option (List ℕ → Option (List ℕ)) };
 
     /// How often loads of each kind of file have failed.
     ghost faults: { Self → What → ℕ };
 
-    /// The whole file of that name, of at most `limit` bytes.
+    /// Loads the whole file of that name, which may have `limit` bytes at most. `what` is the kind of file for which a
+    /// failure is counted.
     ///
-    /// Where the bytes are told, a name without bytes answers `Failed` or `Memory`, and a file of more than
-    /// `limit` bytes answers `TooLong`, unless the load fails or finds no memory.
+    /// The error is `TooLong` where the file has more than `limit` bytes, `Memory` where memory runs out, and `Failed`
+    /// where there is no such file or the load fails otherwise. Where the contents are known, a name that no file has
+    /// is answered by `Failed` or `Memory`, and is not counted as a fault.
     fn load(
         &mut self,
         alloc: Global,
@@ -67,7 +75,7 @@ pub trait Files {
         ensures stays { told self.new ≡ told self.old }
         ensures later { (w : What) → faults self.old w ≤ faults self.new w }
 
-        // Ok is the whole file, where its bytes are told, and never longer than the limit.
+        // `Ok` is the whole file, where the contents are known, and never longer than the limit.
         ensures whole { IfOk result (λ v. Has (told self.old) name.now v.items) }
         ensures within { IfOk result (λ v. length v.items ≤ limit) }
 
@@ -76,7 +84,7 @@ pub trait Files {
         ensures failed { IsErrOf result LoadFault.Failed
             → Rose (faults self.old what) (faults self.new what) ⊎ IsMissing (told self.old) name.now }
 
-        // A name that has no bytes is no fault of the files.
+        // A name that no file has is not counted as a fault.
         ensures missing { IsMissing (told self.old) name.now
             → IsErrOf result LoadFault.Failed ⊎ IsErrOf result LoadFault.Memory }
         ensures uncounted { IsMissing (told self.old) name.now

@@ -1,14 +1,19 @@
 //! What a program meets outside itself: files that it loads, a sink that takes its text, and the lines and words
 //! of that text.
 //!
-//! - `files`: the trait `Files`, what a file is loaded for, and why it was not loaded.
-//! - `disk_files`, `mem_files`, `sure_files`: the files of the operating system, files in memory of which some
-//!   calls fail, and files in memory that never fail. `mem_file` is one file in memory, `faults` their counters.
+//! - `files`: the trait `Files`; `What` a file is loaded for, and `LoadFault`, why it was not loaded.
+//! - `disk_files`: `DiskFiles`, the files of the operating system.
+//! - `mem_files`: `MemFiles`, files in memory, where loads fail as a test asks for it.
+//! - `sure_files`: `SureFiles`, files in memory that never fail.
+//! - `mem_file`: `MemFile`, one file in memory, and how it is found and loaded.
+//! - `faults`: how often the files of each kind have failed.
 //! - `sink`: the trait `Sink`, and how lines are put into one.
-//! - `std_sink`, `mem_sink`, `sure_sink`: a sink over a writer, one in memory of which some calls fail, and one
-//!   that never fails.
-//! - `line`: a line of text, written piece by piece.
+//! - `std_sink`: `StdSink`, a sink over a writer.
+//! - `mem_sink`: `MemSink`, a sink in memory, where puts fail as a test asks for it.
+//! - `sure_sink`: `SureSink`, a sink that never fails.
+//! - `line`: `Line`, a line of text, written piece by piece.
 //! - `numbers`: the hex and decimal numbers that words spell.
+//! - `tests`: the files, the sinks and the numbers, each with a worked answer.
 #![tactic(auto)]
 
 mod disk_files;

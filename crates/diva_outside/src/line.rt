@@ -8,7 +8,7 @@ use arrayvec::ArrayVec;
 use itoa::Buffer;
 use std::marker::Model;
 
-/// A line of text of at most 128 bytes, written from left to right.
+/// A line of text of at most 128 bytes, written from left to right. What is appended has to fit.
 #[derive(Drop)]
 pub struct Line {
     text: ArrayVec<u8, 128>,
@@ -23,6 +23,7 @@ impl Model for Line {
 }
 
 impl Line {
+    /// An empty line.
     pub fn new() -> Self
         ensures { result ≡ [] }
     {
@@ -31,6 +32,7 @@ impl Line {
         }
     }
 
+    /// The bytes of the line.
     pub fn bytes(&self) -> &[u8]
         ensures bytes { result.now ≡ self.now }
         ensures short { length result.now ≤ 128 }
@@ -38,7 +40,7 @@ impl Line {
         self.text.as_slice()
     }
 
-    /// One more byte.
+    /// Appends a byte.
     pub fn push(&mut self, byte: u8)
         requires { length self.old < 128 }
         ensures bytes { self.new ≡ self.old ++ byte ∷ [] }
@@ -47,7 +49,7 @@ impl Line {
         self.text.push(byte);
     }
 
-    /// A text as it is.
+    /// Appends a text as it is.
     pub fn text(&mut self, text: &[u8])
         requires { length self.old + length text.now ≤ 128 }
         ensures bytes { self.new ≡ self.old ++ text.now }
@@ -56,7 +58,7 @@ impl Line {
         self.text.try_extend_from_slice(text).unwrap();
     }
 
-    /// The number in decimal digits, with no leading zeros: at most 20 digits.
+    /// Appends the number in decimal digits, with no leading zeros. There has to be room for 20 digits.
     pub fn decimal(&mut self, n: u64)
         requires { length self.old + 20 ≤ 128 }
         ensures bytes { self.new ≡ self.old ++ decimal n }
@@ -66,7 +68,7 @@ impl Line {
         self.text(buffer.format(n).as_bytes());
     }
 
-    /// The byte in two hex digits, in lower case.
+    /// Appends the byte in two hex digits, in lower case.
     pub fn hex_byte(&mut self, byte: u8)
         requires { length self.old + 2 ≤ 128 }
         ensures bytes { self.new ≡ self.old ++ hex_byte byte }
@@ -76,7 +78,7 @@ impl Line {
         self.push(hex_digit(byte % 16));
     }
 
-    /// Each byte in two hex digits.
+    /// Appends each byte in two hex digits, in lower case.
     pub fn hex_bytes(&mut self, bytes: &[u8])
         requires { length self.old + 2 * length bytes.now ≤ 128 }
         ensures bytes { self.new ≡ self.old ++ flat_map hex_byte bytes.now }
@@ -87,7 +89,7 @@ impl Line {
         }
     }
 
-    /// The number in eight hex digits, in lower case.
+    /// Appends the number in eight hex digits, in lower case.
     pub fn hex_word(&mut self, n: u32)
         requires { length self.old + 8 ≤ 128 }
         ensures bytes { self.new ≡ self.old ++ hex_word n }
@@ -97,6 +99,7 @@ impl Line {
     }
 }
 
+// The hex digit of a number below 16, in lower case.
 fn hex_digit(digit: u8) -> u8
     requires { digit < 16 }
     ensures { result ≡ digit_glyph false digit }

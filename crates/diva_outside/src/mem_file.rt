@@ -7,7 +7,7 @@ use crate::LoadFault;
 use std::alloc::Global;
 use std::marker::Model;
 
-/// A name and its bytes.
+/// A file in memory: a name and its bytes.
 #[derive(Drop)]
 pub struct MemFile {
     name: String,
@@ -25,18 +25,21 @@ impl Model for MemFile {
 impl MemFile {
     ghost use Rattle.std.specs.Prelude.{string_bytes};
 
+    /// The file of that name with these bytes.
     pub fn new(name: String, bytes: Vec<u8>) -> Self
         ensures { result ≡ (string_bytes name, bytes.items) }
     {
         MemFile { name, bytes }
     }
 
+    /// The file's name.
     pub fn name(&self) -> &str
         ensures { result.now ≡ self.now.0 }
     {
         self.name.as_str()
     }
 
+    /// The file's bytes.
     pub fn bytes(&self) -> &[u8]
         ensures { result.now ≡ self.now.1 }
     {
@@ -44,7 +47,7 @@ impl MemFile {
     }
 }
 
-/// The bytes of the first file of that name.
+/// The bytes of the first file of that name, `None` where no file has it.
 pub(crate) fn find<'a>(files: &'a [MemFile], name: &str) -> Option<&'a [u8]>
     ensures { option_copied result ≡ bytes_of files.now name.now }
 {
@@ -56,7 +59,7 @@ pub(crate) fn find<'a>(files: &'a [MemFile], name: &str) -> Option<&'a [u8]>
     None
 }
 
-/// The bytes, where they are `limit` at most.
+/// A copy of the bytes. The error is `TooLong` where there are more than `limit`, and else `Memory`.
 pub(crate) fn copy(alloc: Global, bytes: &[u8], limit: usize) -> Result<Vec<u8>, LoadFault>
     ensures ok { IfOk result (λ v. answer_of bytes.now limit ≡ Ok v.items) }
     ensures err { IfErr result (λ fault. fault ≢ LoadFault.Memory

@@ -1,4 +1,4 @@
-// Files in memory, of which some calls fail.
+// Files in memory, where loads fail as a test asks for it.
 ghost use Rattle.std.specs.Prelude.{◌≡◌, ◌==◌, ◌≤◌, ◌≢◌, ◌⊎◌, List, ℕ, Some, Ok, Err, IfOk, IfErr, IsErrOf, length};
 ghost use Rattle.diva_outside.specs.Causes.{Rose};
 ghost use Rattle.diva_outside.specs.Files.{Has, IsMissing, IsLonger};
@@ -12,9 +12,9 @@ use crate::{Files, LoadFault, MemFile, What};
 use std::alloc::Global;
 use std::marker::Model;
 
-/// Files that tell all of their bytes, for tests of what a program does when a load fails.
+/// Files in memory whose contents are known, for tests of what a program does when a load fails.
 ///
-/// Calls are counted from 1. A load of a name that is there fails where its call is listed.
+/// Calls of `load` are counted from 1. A call whose number is listed fails, if there is a file of its name.
 #[derive(Drop)]
 pub struct MemFiles {
     files: Vec<MemFile>,
@@ -34,6 +34,7 @@ impl Model for MemFiles {
 impl MemFiles {
     ghost use Rattle.diva_outside.specs.Faults.{no_faults};
 
+    /// These files, and the numbers of the calls of `load` that fail. No call has been made so far.
     pub fn new(files: Vec<MemFile>, fails: Vec<u64>) -> Self
         ensures { result ≡ record { files = files.items; fails = fails.items; calls = 0; faults = no_faults } }
     {
@@ -90,13 +91,14 @@ impl Files for MemFiles {
     }
 }
 
+// Whether the call is one of these.
 fn is_listed(calls: &[u64], call: u64) -> bool
     ensures { result ≡ list_any (λ c. c == call) calls.now }
 {
     calls.iter().any(|c| *c == call)
 }
 
-/// What a call answers that found these bytes.
+// What a call answers that found these bytes.
 fn answer(
     alloc: Global,
     found: Option<&[u8]>,

@@ -1,4 +1,4 @@
-// A sink in memory, of which some calls fail.
+// A sink in memory, where puts fail as a test asks for it.
 ghost use Rattle.std.specs.Prelude.{◌≡◌, ◌≤◌, ◌↔◌, ◌==◌, [], Some, IfOk, IsErr, IsTrue, length, vec_len, vec_capacity, min, find};
 ghost use Rattle.diva_outside.specs.Sink.{Puts};
 ghost use Rattle.diva_outside.specs.MemSink.{takes_of};
@@ -7,16 +7,18 @@ use crate::{Sink, SinkFailed};
 use std::alloc::{AllocError, Global};
 use std::marker::Model;
 
-/// The call of this number, from 1 on, fails and takes at most so many bytes of its piece.
+/// A call of `put` that is to fail.
 #[derive(Clone, Copy, Debug)]
 pub struct Fail {
+    /// The number of the call, from 1 on.
     pub call: u64,
+    /// How many bytes of its piece it takes at most.
     pub takes: usize,
 }
 
-/// A sink that tells all that it took, for tests of what a program does when a put fails.
+/// A sink in memory whose contents are known, for tests of what a program does when a put fails.
 ///
-/// It has a fixed room. A piece that does not fit is cut, and that is a fault too.
+/// It has room for a fixed number of bytes. A piece that does not fit is cut, and that is a fault too.
 #[derive(Drop)]
 pub struct MemSink {
     bytes: Vec<u8>,
@@ -38,6 +40,8 @@ impl Model for MemSink {
 }
 
 impl MemSink {
+    /// An empty sink with room for `room` bytes, and the calls that are to fail. Of two rows for one call the first
+    /// counts. The error: out of memory.
     pub fn new(alloc: Global, room: usize, fails: Vec<Fail>) -> Result<Self, AllocError>
         ensures { IfOk result (λ s. s ≡ record { bytes = []; room = room; fails = fails.items; calls = 0; faults = 0 }) }
     {
@@ -50,7 +54,7 @@ impl MemSink {
         })
     }
 
-    /// What was taken.
+    /// The bytes that were taken.
     pub fn bytes(&self) -> &[u8]
         ensures { result.now ≡ self.now.bytes }
     {
@@ -83,7 +87,7 @@ impl Sink for MemSink {
     }
 }
 
-/// How many bytes the call takes at most, where it is to fail.
+// How many bytes the call takes at most, `None` where it is not to fail.
 fn takes_of(fails: &[Fail], call: u64) -> Option<usize>
     ensures { result ≡ takes_of fails.now call }
 {

@@ -1,8 +1,8 @@
-// The numbers that words of a line spell.
+// The numbers that words spell.
 ghost use Rattle.std.specs.Prelude.{◌≡◌, ◌≤◌, ◌<◌, ◌^◌, length, IfSome};
 ghost use Rattle.diva_outside.specs.Numbers.{number_of, hex_of, decimal_of};
 
-/// The number that one to eight hex digits of either case spell; None exactly where the word is something else.
+/// The number that one to eight hex digits of either case spell, `None` exactly where the word is something else.
 #[tactic(auto, unfolding(crate::specs::Numbers::hex_of))]
 pub fn hex(word: &[u8]) -> Option<u32>
     ensures { result ≡ hex_of word.now }
@@ -13,7 +13,7 @@ pub fn hex(word: &[u8]) -> Option<u32>
     }
 }
 
-/// The number that one to ten decimal digits spell; None exactly where the word is something else.
+/// The number that one to ten decimal digits spell, `None` exactly where the word is something else.
 #[tactic(auto, unfolding(crate::specs::Numbers::decimal_of))]
 pub fn decimal(word: &[u8]) -> Option<u64>
     ensures { result ≡ decimal_of word.now }
@@ -21,6 +21,7 @@ pub fn decimal(word: &[u8]) -> Option<u64>
     number(word, 10, 10)
 }
 
+// The number that one to `most` digits of a radix spell.
 fn number(word: &[u8], radix: u32, most: usize) -> Option<u64>
     requires low { 2 ≤ radix }
     requires high { radix ≤ 16 }

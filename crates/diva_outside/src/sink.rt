@@ -5,24 +5,24 @@ ghost use Rattle.diva_outside.specs.Sink.{Puts};
 
 use crate::Line;
 
-/// A piece was not taken whole.
+/// A put failed: its piece was not taken whole.
 #[derive(Clone, Copy, Debug, PartialEq, Eq)]
 pub struct SinkFailed;
 
 /// What takes a program's text.
 pub trait Sink {
-    /// The bytes so far, where they are told.
+    /// The contents, which are the bytes taken so far; `None` where they are not known.
     ghost contents: { Self → Option (List ℕ) };
 
     /// How often the sink has failed.
     ghost faults: { Self → ℕ };
 
-    /// Appends the piece, or counts a fault and appends a front of it.
+    /// Appends the piece. Where that fails, a prefix of the piece was appended and a fault was counted.
     fn put(&mut self, piece: &[u8]) -> Result<(), SinkFailed>
         ensures { Puts piece.now (contents self.old) (contents self.new) (faults self.old) (faults self.new) result };
 }
 
-/// Puts lines, one after the other, until one fails.
+/// Puts lines, one after the other. Where one fails, a prefix of their text was appended, and no line after it is put.
 pub fn put_lines<S: Sink>(sink: &mut S, lines: &[Line]) -> Result<(), SinkFailed>
     ensures { Puts (concat lines.now)
         (S.contents sink.old) (S.contents sink.new) (S.faults sink.old) (S.faults sink.new) result }

@@ -7,8 +7,8 @@ use crate::{Sink, SinkFailed};
 use std::io::Write;
 use std::marker::Model;
 
-/// A sink that writes each piece through. It tells no bytes. Each error of the writer is a fault, and so is a
-/// write that takes nothing of what is left.
+/// A sink that writes each piece through to a writer. As a sink its contents are not known. Each error of the writer
+/// is a fault, and so is a write that takes nothing of what is left.
 #[derive(Drop)]
 pub struct StdSink<W: Write> {
     out: W,
@@ -24,6 +24,7 @@ impl<W: Write> Model for StdSink<W> {
 }
 
 impl<W: Write> StdSink<W> {
+    /// A sink over the writer, with no fault so far.
     pub fn new(out: W) -> Self
         ensures { result ≡ record { bytes = W.contents out; faults = 0 } }
     {
@@ -39,7 +40,7 @@ impl<W: Write> Sink for StdSink<W> {
     fn put(&mut self, piece: &[u8]) -> Result<(), SinkFailed>
         ensures puts { Puts piece.now None None self.old.faults self.new.faults result }
 
-        // The writer took what was put, where its bytes are known.
+        // The writer took what was put, where its contents are known.
         ensures written { Puts piece.now self.old.bytes self.new.bytes self.old.faults self.new.faults result }
     {
         let answer = write_whole(&mut self.out, piece);
@@ -50,7 +51,7 @@ impl<W: Write> Sink for StdSink<W> {
     }
 }
 
-/// Writes until the whole piece is taken.
+// Writes until the whole piece is taken.
 fn write_whole<W: Write>(out: &mut W, piece: &[u8]) -> Result<(), SinkFailed>
     ensures ok { OnOk result (Appends (W.contents out.old) (W.contents out.new) piece.now) }
     ensures err { OnErr result (AppendsPart (W.contents out.old) (W.contents out.new) piece.now) }

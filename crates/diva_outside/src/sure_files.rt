@@ -7,7 +7,7 @@ use crate::{Files, LoadFault, MemFile, What};
 use std::alloc::Global;
 use std::marker::Model;
 
-/// Files that tell all of their bytes and never fail. A name that is not among them is an empty file.
+/// Files in memory whose contents are known, and which never fail. A name that none of them has is an empty file.
 #[derive(Drop)]
 pub struct SureFiles {
     files: Vec<MemFile>,
@@ -20,6 +20,7 @@ impl Model for SureFiles {
 }
 
 impl SureFiles {
+    /// These files.
     pub fn new(files: Vec<MemFile>) -> Self
         ensures { result ≡ files.items }
     {

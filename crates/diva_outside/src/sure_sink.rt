@@ -3,7 +3,7 @@ ghost use Rattle.std.specs.Prelude.{None};
 
 use crate::{Sink, SinkFailed};
 
-/// A sink that never fails, and neither keeps nor tells its bytes.
+/// A sink that takes everything and keeps nothing: it never fails, and its contents are not known.
 #[derive(Clone, Copy, Debug)]
 pub struct SureSink;
 

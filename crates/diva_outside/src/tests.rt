@@ -1,3 +1,4 @@
+// The files, the sinks and the numbers, each with a worked answer.
 use crate::{
     DiskFiles, Fail, Files, LoadFault, MemFile, MemFiles, MemSink, Sink, SinkFailed, StdSink,
     SureFiles, What, decimal, hex,

@@ -11,7 +11,7 @@ store_bytes s = low_bytes s.width s.value
 abbrev pub bytes_of : Store → Bytes
 bytes_of s = record { base = s.addr; items = store_bytes s }
 
--- a store has none of the n bytes from an address on
+-- a store writes none of the n bytes from an address on
 abbrev pub is_apart : Store → ℕ → ℕ → Bool
 is_apart s addr n = nat_le (s.addr + s.width) addr || nat_le (addr + n) s.addr
 

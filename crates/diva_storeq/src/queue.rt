@@ -31,8 +31,7 @@ impl Model for StoreQueue {
 impl StoreQueue {
     ghost use Rattle.diva_storeq.specs.Stores.{bytes_of, is_apart, lay, laid};
 
-    /// An empty queue for at most `cap` stores. The error is want of memory, and no later call takes
-    /// any.
+    /// An empty queue for at most `cap` stores. The error: out of memory. No later call takes memory.
     pub fn new(alloc: Global, cap: usize) -> Result<Self, AllocError>
         ensures { IfOk result (λ q. q ≡ buffer [] cap) }
     {
@@ -57,7 +56,7 @@ impl StoreQueue {
         self.stores.len()
     }
 
-    /// Adds the youngest store.
+    /// Adds the youngest store. There is room for it, and it ends at 2^32 at the latest.
     pub fn push(&mut self, s: Store)
         requires room { length self.old.items < self.old.capacity }
         requires range { s.addr + s.width ≤ 2 ^ 32 }
@@ -73,7 +72,8 @@ impl StoreQueue {
         let _ = self.stores.try_push_back(s);
     }
 
-    /// Puts the oldest store to memory. Nothing happens where there is none.
+    /// Writes the oldest store to memory, where all its bytes are inside. Where there is no store,
+    /// nothing changes.
     #[tactic(auto, using(crate::proofs::Laying::lay_base, crate::proofs::Laying::lay_length))]
     pub fn drain(&mut self, memory: &mut Memory)
         requires { ForSome (slice_get self.old.items 0) (λ s. IsInside memory.old s.addr s.width) }
@@ -89,7 +89,8 @@ impl StoreQueue {
         }
     }
 
-    /// The byte at `addr` as it is once all stores are in memory, `None` exactly where it is outside.
+    /// The byte at `addr` as it is once all stores are in memory, `None` exactly where `addr` is
+    /// outside.
     pub fn byte(&self, memory: &Memory, addr: u32) -> Option<u8>
         ensures value { result ≡ byte_at (laid memory.now self.now.items) addr }
         ensures inside { IsSome result ↔ IsInside memory.now addr 1 }
@@ -101,8 +102,8 @@ impl StoreQueue {
         Some(byte)
     }
 
-    /// The word at `addr` as it is once all stores are in memory, `None` exactly where `addr` is no
-    /// multiple of 4 or the word is outside.
+    /// The word at `addr` as it is once all stores are in memory, `None` exactly where `addr` is not
+    /// a multiple of 4 or the word is not inside.
     #[inline]
     pub fn word(&self, memory: &Memory, addr: u32) -> Option<u32>
         ensures value { result ≡ word_at (laid memory.now self.now.items) addr }
@@ -130,7 +131,7 @@ impl StoreQueue {
         ]))
     }
 
-    /// Whether no store has one of the `n` bytes from `addr` on.
+    /// Whether no store writes one of the `n` bytes from `addr` on.
     fn is_apart(&self, addr: u32, n: u32) -> bool
         ensures { result ≡ list_all (λ s. is_apart s addr n) self.now.items }
     {

@@ -1,4 +1,4 @@
-// A load that meets a store on its way to memory.
+// A store over a byte of a word.
 use crate::{Store, StoreQueue};
 use diva_memory::Memory;
 use std::test::Fail;

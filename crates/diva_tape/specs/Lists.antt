@@ -1,4 +1,4 @@
--- What the simple cores hand over: in one call, and at each machine.
+-- What the simple cores hand over.
 use Rattle.std.specs.Prelude.{◌==◌, ◌&&◌, nat_lt, List, [], ◌∷◌, if◌then◌else◌}
 use Rattle.diva_isa.specs.State.{State}
 use Rattle.diva_isa.specs.Step.{record_of}
@@ -6,12 +6,14 @@ use Rattle.diva_isa.specs.declared.record.Record.{Record}
 use Rattle.diva_core.specs.Timed.{Timed}
 use Rattle.diva_core.specs.Told.{Notice, notice_of}
 
--- the due record where nothing is pending and there is room, else nothing
+-- Lockstep in one call: the due record where nothing is pending and there is room, else nothing
 abbrev pub lockstep_call : Notice → State → List Record
 lockstep_call told s = if (told.pending == 0) && nat_lt 0 told.room then record_of s ∷ [] else []
 
+-- Lockstep at each machine
 abbrev pub lockstep_list : Timed → List Record
 lockstep_list m = lockstep_call (notice_of m) m.arch
 
+-- Silent at each machine: nothing
 abbrev pub silent_list : Timed → List Record
 silent_list m = []

@@ -1,4 +1,4 @@
--- Programs that were worked out by hand, what is handed over as they run, and what is told of a run.
+-- Programs that were worked out by hand, what is handed over as they run, and what is looked at of a run.
 use Rattle.std.specs.Prelude.{ℕ, zero, suc, ◌+◌, ◌-◌, ◌==◌, ◌&&◌, List, [], ◌∷◌, ◌++◌, length, map, filter, flat_map, replicate, get_or, bit_xor, nat_lt, nat_le, if◌then◌else◌}
 use Rattle.std.specs.Int.{to_le_bytes, w32}
 use Rattle.diva_isa.specs.State.{State, reg_of, goes_on}
@@ -78,7 +78,7 @@ abbrev pub led_by : (Timed → List Record) → ℕ → Timed → Timed
 led_by rule zero m = m
 led_by rule (suc n) m = led_by rule n (cycle_of m (rule m))
 
--- what is told of a machine at its end
+-- what is looked at of a machine
 pub record Summary : Type 0 where
   pub end : ℕ
   pub count : ℕ
@@ -87,9 +87,11 @@ pub record Summary : Type 0 where
   pub silent : ℕ
   pub rows : List FlushRow
 
+-- the summary of a machine
 abbrev pub summary_of : Timed → Summary
 summary_of m = record { end = m.arch.end; count = m.count; cycles = m.cycles; flushes = m.flushes; silent = m.silent; rows = m.rows }
 
+-- the cycle in which a pending claim was accepted
 abbrev pub cycle_accepted : Waiting → ℕ
 cycle_accepted p = p.cycle
 
@@ -138,7 +140,7 @@ second_twice =
     let s = three_instructions in
     (due_behind 0 s ∷ []) ∷ (due_behind 1 s ∷ due_behind 1 s ∷ []) ∷ (due_behind 2 s ∷ []) ∷ []
 
--- right claims, but eight where two are accepted: those of three_instructions, the first and the last of them many times
+-- right claims, but eight in a cycle, of which two are accepted: those of three_instructions, the first and the last of them many times
 abbrev pub eight_at_once : List (List Record)
 eight_at_once =
     let s = three_instructions in

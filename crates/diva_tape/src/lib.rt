@@ -1,7 +1,7 @@
 //! The simple cores.
 //!
-//! - `lockstep`: `Lockstep`, which hands over one instruction at a time;
-//! - `silent`: `Silent`, which hands over nothing;
+//! - `lockstep`: `Lockstep`, which hands over one instruction at a time.
+//! - `silent`: `Silent`, which hands over nothing.
 //! - `worked`: runs that were worked out by hand, which the definitions give.
 //!
 //! `specs/Lists.antt` says what each core hands over, `specs/Programs.antt` which programs run.

@@ -5,8 +5,8 @@ ghost use Rattle.diva_isa.specs.Step.{record_of};
 use diva_core::{Claims, Core, Told, View};
 use diva_isa::record_of;
 
-/// A core that waits until nothing is pending, and then hands over the record of the committed
-/// state, read through the view. It is right always.
+/// A core that waits until nothing is pending and there is room, and then hands over the due record:
+/// that of the next instruction of the committed state, read through the view. It is always right.
 #[derive(Clone, Copy, Debug)]
 pub struct Lockstep;
 
@@ -23,7 +23,7 @@ impl Core for Lockstep {
     }
 }
 
-/// Puts the record of the committed state.
+// Hands over the due record.
 fn hand_over(view: &View<'_>, out: &mut Claims)
     requires { out.old ≡ [] }
     ensures { out.new ≡ record_of view.now ∷ [] }

@@ -1,4 +1,4 @@
-// A core that does nothing.
+// A core that hands over nothing.
 use diva_core::{Claims, Core, Told, View};
 
 /// A core that hands over nothing, ever.

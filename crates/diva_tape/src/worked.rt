@@ -1,5 +1,6 @@
-//! Runs that were worked out by hand. Each is a theorem about the definitions alone, and computing
-//! with them gives it: so the definitions mean what was meant.
+//! Runs that were worked out by hand. Each function has no body: its clauses are about the
+//! definitions, and computing with them gives the worked values. So the definitions mean what was
+//! meant.
 //!
 //! The machine's numbers are 2 claims accepted and judged in a cycle, 16 pending, 4 undrained
 //! stores and a watchdog's limit of 64 cycles, where no others are given.
@@ -32,14 +33,14 @@ pub fn misaligned_wins_over_outside()
         ≡ record { end = trap 4; count = 1; cycles = 7; flushes = 0; silent = 0; rows = [] } }
 {}
 
-/// A jump to an address that is no multiple of four traps, and writes no register.
+/// A jump to an address that is not a multiple of four traps, and writes no register.
 pub fn a_jump_to_no_multiple_of_four_traps()
     ensures step { step jump_to_six ≡ record jump_to_six { end = trap 0 } }
     ensures summary { summary_of (led_by lockstep_list 20 (new_timed defaults jump_to_six))
         ≡ record { end = trap 0; count = 1; cycles = 7; flushes = 0; silent = 0; rows = [] } }
 {}
 
-/// Behind the last word of memory there is none to fetch.
+/// A fetch behind the last word of memory traps.
 pub fn a_fetch_outside_memory_traps()
     ensures second { record_of (step one_word)
         ≡ record { pc = 4; word = 0; src1 = 0; src2 = 0; addr = 0; value = 0; next = 4; end = trap 1 } }
@@ -108,8 +109,8 @@ pub fn a_store_waits_for_room()
 
 // ---- right claims
 
-/// An instruction that is handed over alone commits six cycles later, and the next is accepted in
-/// the cycle after that.
+/// An instruction that is handed over by itself commits six cycles later, and the next is accepted
+/// in the cycle after that.
 pub fn three_instructions_in_lockstep()
     ensures accepted { acceptances lockstep_list 30 (new_timed defaults three_instructions)
         ≡ 1 ∷ 8 ∷ 15 ∷ [] }
@@ -141,7 +142,8 @@ pub fn claims_past_the_room_are_dropped()
 
 // ---- wrong claims
 
-/// A claim with one wrong bit flushes. The checker runs that instruction alone, for six cycles.
+/// A claim with one wrong bit flushes. That instruction then runs solo, on the checker's own values,
+/// for six cycles.
 pub fn a_flipped_value_flushes()
     ensures accepted { acceptances flipped_first 30 (new_timed defaults three_instructions)
         ≡ 1 ∷ 14 ∷ 21 ∷ [] }
@@ -175,8 +177,8 @@ pub fn a_claim_made_twice_flushes()
         } }
 {}
 
-/// A wrong claim that is judged in the very cycle in which the watchdog would fire: the claim is
-/// the cause. After it the watchdog fires for each instruction. Its limit is 16 cycles.
+/// A wrong claim that is judged in the very cycle in which the watchdog would flush: the claim is the
+/// cause. After it the watchdog flushes for each instruction. Its limit is 16 cycles.
 pub fn a_wrong_claim_comes_before_the_watchdog()
     ensures committed { commitments (handed late_and_wrong) 70 (new_timed (record defaults { limit = 16 }) three_instructions)
         ≡ 22 ∷ 44 ∷ 66 ∷ [] }
@@ -196,8 +198,8 @@ pub fn a_wrong_claim_comes_before_the_watchdog()
 
 // ---- silence
 
-/// Where nothing is handed over, the watchdog fires after 64 cycles and the instruction commits
-/// six cycles later: 70 for each, which is the bound.
+/// Where nothing is handed over, the watchdog flushes after 64 cycles and the instruction commits six
+/// cycles later: 70 for each, which is the bound.
 pub fn three_instructions_in_silence()
     ensures committed { commitments silent_list 220 (new_timed defaults three_instructions)
         ≡ 70 ∷ 140 ∷ 210 ∷ [] }
@@ -232,7 +234,7 @@ pub fn a_jump_to_itself_in_silence()
         } }
 {}
 
-/// A core that falls silent for 200 cycles, and then goes on where the machine is.
+/// A core falls silent for 200 cycles, and then goes on where the machine is.
 pub fn a_silence_of_200_cycles()
     ensures summary { summary_of (led_by (hushed 5 204 one_ahead) 300 (new_timed defaults jump_to_itself))
         ≡ record {

@@ -1,4 +1,4 @@
--- What a report tells of a machine.
+-- What a report says of a machine.
 use Rattle.std.proofs.Common.{◌≡◌}
 use Rattle.diva_core.specs.Timed.{Timed}
 use Rattle.diva_trace.specs.Text.{text_of, text_in, IsReportOf}

@@ -22,6 +22,7 @@ fields_text fields r = flat_map (λ field. codes " " ++ hex_word (field_of field
 unfoldable pub commit_line : ℕ → Record → List ℕ
 commit_line index r = decimal index ++ fields_text all_fields r ++ codes "\n"
 
+-- the name of a field
 abbrev pub field_name : Field → List ℕ
 field_name Pc = codes "pc"
 field_name Word = codes "word"
@@ -32,11 +33,12 @@ field_name Value = codes "value"
 field_name Next = codes "next"
 field_name End = codes "end"
 
--- the field in which a claim differed, with what was claimed and what was due; or the cycles without a commit
+-- the field in which a claim differed, with what was claimed and what was due; or the watchdog's limit
 abbrev pub cause_text : Cause → List ℕ
 cause_text (Differs d) = field_name d.field ++ codes " claimed " ++ hex_word d.claimed ++ codes " due " ++ hex_word d.due
 cause_text (Silent limit) = codes "silent " ++ decimal limit
 
+-- a flush: its cycle, the instructions committed by then, and its cause
 unfoldable pub flush_line : FlushRow → List ℕ
 flush_line row = codes "flush " ++ decimal row.cycle ++ codes " at " ++ decimal row.at ++ codes " " ++ cause_text row.cause ++ codes "\n"
 
@@ -49,9 +51,11 @@ end_line end =
     else if nat_lt end 256 then codes "end trap " ++ decimal (end - 1) ++ codes "\n"
     else codes "end halt " ++ decimal (end - 256) ++ codes "\n"
 
+-- the instructions committed
 unfoldable pub count_line : ℕ → List ℕ
 count_line n = codes "count " ++ decimal n ++ codes "\n"
 
+-- the cycles run
 unfoldable pub cycles_line : ℕ → List ℕ
 cycles_line n = codes "cycles " ++ decimal n ++ codes "\n"
 
@@ -59,7 +63,7 @@ cycles_line n = codes "cycles " ++ decimal n ++ codes "\n"
 unfoldable pub flushes_line : ℕ → ℕ → List ℕ
 flushes_line n silent = codes "flushes " ++ decimal n ++ codes " silent " ++ decimal silent ++ codes "\n"
 
--- how many bytes were put
+-- how many bytes the program put out
 unfoldable pub output_line : ℕ → List ℕ
 output_line n = codes "output " ++ decimal n ++ codes "\n"
 
@@ -79,6 +83,7 @@ registers_line regs first =
     register_text regs first ++ codes " " ++ register_text regs (first + 1) ++ codes " "
     ++ register_text regs (first + 2) ++ codes " " ++ register_text regs (first + 3) ++ codes "\n"
 
+-- the pc
 unfoldable pub pc_line : ℕ → List ℕ
 pc_line pc = codes "pc " ++ hex_word pc ++ codes "\n"
 

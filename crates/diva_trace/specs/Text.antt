@@ -16,6 +16,7 @@ numbered n line = map line (range_with_len 0 n)
 
 -- ---- the lines of each part
 
+-- a line for each flush
 abbrev pub flush_lines : List FlushRow → List (List ℕ)
 flush_lines rows = map flush_line rows
 
@@ -37,7 +38,7 @@ rows_text rows = concat (flush_lines rows)
 unfoldable pub summary_text : (end count cycles flushes silent : ℕ) → List ℕ
 summary_text end count cycles flushes silent = end_line end ++ count_line count ++ cycles_line cycles ++ flushes_line flushes silent
 
--- how many bytes were put, and the bytes
+-- how many bytes the program put out, and the bytes
 unfoldable pub output_text : List ℕ → List ℕ
 output_text bytes = output_line (length bytes) ++ concat (out_lines bytes)
 
@@ -45,18 +46,18 @@ output_text bytes = output_line (length bytes) ++ concat (out_lines bytes)
 unfoldable pub registers_text : (regs : List ℕ) (pc : ℕ) → List ℕ
 registers_text regs pc = concat (numbered 8 (λ n. registers_line regs (4 * n))) ++ pc_line pc
 
--- a stretch of memory
+-- a part of memory
 unfoldable pub dump_text : Bytes → Dump → List ℕ
 dump_text m dump = concat (dump_lines m dump)
 
--- the same where it is asked for
+-- the same, where it is asked for
 abbrev pub asked_text : Bytes → Option Dump → List ℕ
 asked_text m None = []
 asked_text m (Some dump) = dump_text m dump
 
 -- ---- the whole
 
--- the text of a run that left this machine
+-- the text of a run that ended at this machine
 abbrev pub text_of : Timed → Option Dump → List ℕ
 text_of m dump =
     rows_text m.rows
@@ -65,7 +66,7 @@ text_of m dump =
     ++ registers_text m.arch.regs m.arch.pc
     ++ asked_text (memory_of m.arch) dump
 
--- the same, of what a report tells of the machine
+-- the same, of what a report says of the machine
 abbrev pub text_in : Report → List ℕ
 text_in r =
     rows_text r.rows.now
@@ -74,7 +75,7 @@ text_in r =
     ++ registers_text r.view.now.regs r.view.now.pc
     ++ asked_text (memory_of r.view.now) r.dump
 
--- a report tells of the machine, through a view that shows its state as one that goes on
+-- a report says what the machine is, through a view that shows its state as one that goes on
 pub record IsReportOf (m : Timed) (r : Report) : Type 0 where
   pub rows : r.rows.now ≡ m.rows
   pub end : r.end ≡ m.arch.end

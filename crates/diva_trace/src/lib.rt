@@ -1,9 +1,10 @@
 //! The text that the program writes, line by line, and writers that put whole parts of it to a sink.
 //!
 //! - `lines`: one call for each line, which gives the line with its line feed.
-//! - `report`: what a run's text is made of, `Report`, and a stretch of memory that it ends with, `Dump`.
+//! - `report`: `Report`, what a run's text is made of, and `Dump`, a part of memory that is shown at its end.
 //! - `line_list`: lines that are made one at a time, and how they are put.
 //! - `writers`: the parts of a run's text, and the whole of it. Each line is one put, and no memory is taken.
+//! - `tests`: the text of a run, and some lines.
 //!
 //! `specs/` holds the lines (`Lines`), and the parts and the whole of a run's text (`Text`).
 #![tactic(auto)]

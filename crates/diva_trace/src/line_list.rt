@@ -14,13 +14,13 @@ pub(crate) trait LineList {
     fn count(&self) -> usize
         ensures { result ≡ length (lines self.now) };
 
-    /// The line at a place, from 0 on.
+    /// The line at a place below that number, from 0 on.
     fn line(&self, at: usize) -> Line
         requires { at < length (lines self.now) }
         ensures { result ≡ slice_index_or (lines self.now) at [] };
 }
 
-/// Puts the lines, one after the other, until one fails.
+/// Puts the lines, one after the other. Where one fails, no line after it is put.
 pub(crate) fn write_lines<L: LineList, S: Sink>(list: &L, sink: &mut S) -> Result<(), SinkFailed>
     ensures { Puts (concat (L.lines list.now))
         (S.contents sink.old) (S.contents sink.new) (S.faults sink.old) (S.faults sink.new) result }

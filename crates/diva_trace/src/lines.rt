@@ -8,7 +8,7 @@ use diva_core::{Cause, Field, FlushRow, View};
 use diva_isa::Record;
 use diva_outside::Line;
 
-/// A committed instruction: its number, from 0 on, and the fields of its record.
+/// A committed instruction: its number, from 0 on, and the eight fields of its record.
 #[tactic(auto, unfolding(crate::specs::Lines::commit_line))]
 pub fn commit_line(index: u64, r: &Record) -> Line
     ensures { result ≡ commit_line index r.now }
@@ -20,6 +20,7 @@ pub fn commit_line(index: u64, r: &Record) -> Line
     line
 }
 
+// Some fields of a record, a blank before each.
 fn push_fields(line: &mut Line, fields: &[Field], r: &Record)
     requires { length line.old + 9 * length fields.now ≤ 128 }
     ensures bytes { line.new ≡ line.old ++ fields_text fields.now r.now }
@@ -31,7 +32,7 @@ fn push_fields(line: &mut Line, fields: &[Field], r: &Record)
     }
 }
 
-/// A flush: its cycle, the instructions committed by then, and its cause.
+/// A flush: its cycle, the number of instructions committed by then, and its cause.
 #[tactic(auto, unfolding(crate::specs::Lines::flush_line))]
 pub fn flush_line(row: &FlushRow) -> Line
     ensures { result ≡ flush_line row.now }
@@ -47,6 +48,7 @@ pub fn flush_line(row: &FlushRow) -> Line
     line
 }
 
+// The field in which a claim differed, with what was claimed and what was due; or the watchdog's limit.
 fn push_cause(line: &mut Line, cause: &Cause)
     requires { length line.old + 60 ≤ 128 }
     ensures bytes { line.new ≡ line.old ++ cause_text cause.now }
@@ -67,6 +69,7 @@ fn push_cause(line: &mut Line, cause: &Cause)
     }
 }
 
+// The name of a field, in lower case.
 fn field_name(field: Field) -> &'static str
     ensures name { result.now ≡ field_name field }
     ensures short { length result.now ≤ 5 }
@@ -83,7 +86,7 @@ fn field_name(field: Field) -> &'static str
     }
 }
 
-/// How the machine ended: 0 where it goes on, 1 + a trap's number, or 256 + the status of a halt.
+/// How the machine ended. `end` is 0 where it goes on, 1 + a trap's number, or 256 + the status of a halt.
 #[tactic(auto, unfolding(crate::specs::Lines::end_line))]
 pub fn end_line(end: u32) -> Line
     ensures { result ≡ end_line end }
@@ -115,7 +118,7 @@ pub fn cycles_line(n: u64) -> Line
     number_line(b"cycles ", n)
 }
 
-/// The number of flushes, and of the silent ones among them.
+/// The number of flushes, and how many of them were silent.
 #[tactic(auto, unfolding(crate::specs::Lines::flushes_line))]
 pub fn flushes_line(n: u64, silent: u64) -> Line
     ensures { result ≡ flushes_line n silent }
@@ -129,14 +132,14 @@ pub fn flushes_line(n: u64, silent: u64) -> Line
     line
 }
 
-/// The number of bytes that were put.
+/// The number of bytes that the program put out.
 pub fn output_line(n: u32) -> Line
     ensures { result ≡ output_line n }
 {
     output_len_line(u64::from(n))
 }
 
-/// The same of any number of bytes.
+/// The same, of any number of bytes.
 #[tactic(auto, unfolding(crate::specs::Lines::output_line))]
 pub(crate) fn output_len_line(n: u64) -> Line
     ensures { result ≡ output_line n }
@@ -144,7 +147,7 @@ pub(crate) fn output_len_line(n: u64) -> Line
     number_line(b"output ", n)
 }
 
-/// A name of at most 80 bytes, and a number.
+// A name of at most 80 bytes, and a number.
 fn number_line(name: &[u8], n: u64) -> Line
     requires { length name.now ≤ 80 }
     ensures { result ≡ name.now ++ decimal n ++ codes "\n" }
@@ -156,7 +159,7 @@ fn number_line(name: &[u8], n: u64) -> Line
     line
 }
 
-/// 1 to 32 of the bytes that were put.
+/// 1 to 32 of the bytes that the program put out.
 #[tactic(auto, unfolding(crate::specs::Lines::out_line))]
 pub fn out_line(bytes: &[u8]) -> Line
     requires some { 1 ≤ length bytes.now }
@@ -182,7 +185,7 @@ pub fn pc_line(pc: u32) -> Line
     line
 }
 
-/// Four registers, from a multiple of 4 on.
+/// Four registers, from `first` on, which is a multiple of 4 below 32.
 #[tactic(auto, unfolding(crate::specs::Lines::registers_line))]
 pub fn registers_line(view: &View<'_>, first: u8) -> Line
     requires in_range { first ≤ 28 }
@@ -201,6 +204,7 @@ pub fn registers_line(view: &View<'_>, first: u8) -> Line
     line
 }
 
+// A register's name, and the word in it.
 fn push_register(line: &mut Line, view: &View<'_>, n: u8)
     requires in_range { n < 32 }
     requires room { length line.old + 30 ≤ 128 }
@@ -213,7 +217,8 @@ fn push_register(line: &mut Line, view: &View<'_>, n: u8)
     line.hex_word(view.reg(n));
 }
 
-/// 1 to 32 bytes of memory, from an address on. A byte outside is shown as two dots.
+/// The `n` bytes from `addr` on: 1 to 32 of them, which end at 2^32 at the latest. A byte outside memory is shown as
+/// two dots.
 #[tactic(auto, using(crate::proofs::Numbered::flat_map_range_more), unfolding(crate::specs::Lines::mem_line))]
 pub fn mem_line(view: &View<'_>, addr: u32, n: u32) -> Line
     requires some { 1 ≤ n }
@@ -232,6 +237,7 @@ pub fn mem_line(view: &View<'_>, addr: u32, n: u32) -> Line
     line
 }
 
+// A byte of memory, or two dots.
 fn push_byte(line: &mut Line, byte: Option<u8>)
     requires { length line.old + 2 ≤ 128 }
     ensures bytes { line.new ≡ line.old ++ byte_text byte }

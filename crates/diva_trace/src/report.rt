@@ -1,12 +1,12 @@
 // What a run's text is made of.
 use diva_core::{FlushRow, View};
 
-/// A stretch of memory that is to be shown.
+/// A part of memory that is to be shown.
 #[derive(Clone, Copy, Debug, PartialEq, Eq)]
 pub struct Dump {
-    /// Its first address.
+    /// The address of the first byte.
     pub addr: u32,
-    /// How many bytes it has.
+    /// The number of bytes.
     pub len: u32,
 }
 
@@ -21,14 +21,14 @@ pub struct Report<'a> {
     pub count: u64,
     /// The cycles run.
     pub cycles: u64,
-    /// All flushes, those that are not kept among them.
+    /// All flushes, also those that are not kept.
     pub flushes: u64,
-    /// The flushes for want of a commit.
+    /// The silent flushes among them: those where the watchdog's limit was reached without a commit.
     pub silent: u64,
-    /// The bytes that were put.
+    /// The bytes that the program put out.
     pub output: &'a [u8],
     /// The registers, the pc and memory.
     pub view: &'a View<'a>,
-    /// The stretch of memory to show at the end, if any.
+    /// The part of memory to show at the end; `None` where none is asked for.
     pub dump: Option<Dump>,
 }

@@ -1,3 +1,4 @@
+// The text of a run, and some lines.
 use crate::{Dump, Report, commit_line, end_line, flushes_line, write_run};
 use diva_core::{Cause, Diff, Field, FlushRow, Output, View};
 use diva_isa::{Record, Regs};
@@ -6,6 +7,7 @@ use diva_outside::{MemSink, put_lines};
 use diva_storeq::StoreQueue;
 use std::test::Fail;
 
+/// A flush of each cause.
 const ROWS: [FlushRow; 2] = [
     FlushRow {
         cycle: 7,
@@ -23,6 +25,7 @@ const ROWS: [FlushRow; 2] = [
     },
 ];
 
+/// The text of a run with these flushes.
 const RUN: &str = "\
 flush 7 at 0 value claimed 00000004 due 00000005
 flush 64 at 0 silent 64
@@ -44,6 +47,7 @@ pc 00000008
 mem 0000003c 00000000........
 ";
 
+/// Lines that this run does not have.
 const LINES: &str = "\
 0 00000000 00500093 00000000 00000000 00000000 00000005 00000004 00000000
 end trap 4
@@ -51,6 +55,7 @@ end none
 flushes 1 silent 0
 ";
 
+/// The record of `addi x1, x0, 5`, the first instruction.
 const FIRST: Record = Record {
     pc: 0,
     word: 0x0050_0093,

@@ -15,6 +15,7 @@ use crate::report::{Dump, Report};
 use diva_core::{FlushRow, View};
 use diva_outside::{Line, Sink, SinkFailed, put_lines};
 
+// The lines of some flushes.
 #[derive(Drop)]
 struct FlushLines<'a> {
     rows: &'a [FlushRow],
@@ -34,6 +35,7 @@ impl LineList for FlushLines<'_> {
     }
 }
 
+// The lines of the bytes that the program put out, 32 bytes a line, the last one shorter.
 #[derive(Drop)]
 struct OutLines<'a> {
     bytes: &'a [u8],
@@ -56,6 +58,7 @@ impl LineList for OutLines<'_> {
     }
 }
 
+// The lines of a part of memory, 16 bytes a line, the last one shorter.
 #[derive(Drop)]
 struct DumpLines<'a> {
     view: &'a View<'a>,
@@ -84,7 +87,7 @@ impl LineList for DumpLines<'_> {
     }
 }
 
-/// Puts the flushes, in order.
+/// Puts the flushes, in order. Where a put fails, a prefix of their text was appended.
 #[tactic(auto, unfolding(crate::specs::Text::rows_text))]
 pub fn write_rows<S: Sink>(rows: &[FlushRow], sink: &mut S) -> Result<(), SinkFailed>
     ensures { Puts (rows_text rows.now)
@@ -93,7 +96,7 @@ pub fn write_rows<S: Sink>(rows: &[FlushRow], sink: &mut S) -> Result<(), SinkFa
     write_lines(&FlushLines { rows }, sink)
 }
 
-/// Puts how the run ended, and its counts.
+/// Puts how the run ended, and its counts. Where a put fails, a prefix of that text was appended.
 #[tactic(auto, unfolding(crate::specs::Text::summary_text))]
 pub fn write_summary<S: Sink>(report: &Report<'_>, sink: &mut S) -> Result<(), SinkFailed>
     ensures { Puts (summary_text report.now.end report.now.count report.now.cycles report.now.flushes report.now.silent)
@@ -110,7 +113,7 @@ pub fn write_summary<S: Sink>(report: &Report<'_>, sink: &mut S) -> Result<(), S
     )
 }
 
-/// Puts the number of bytes that were put, and the bytes.
+/// Puts how many bytes the program put out, and the bytes. Where a put fails, a prefix of that text was appended.
 #[tactic(auto, unfolding(crate::specs::Text::output_text))]
 pub fn write_output<S: Sink>(bytes: &[u8], sink: &mut S) -> Result<(), SinkFailed>
     ensures { Puts (output_text bytes.now)
@@ -120,7 +123,7 @@ pub fn write_output<S: Sink>(bytes: &[u8], sink: &mut S) -> Result<(), SinkFaile
     write_lines(&OutLines { bytes }, sink)
 }
 
-/// Puts the registers and the pc.
+/// Puts the registers and the pc. Where a put fails, a prefix of that text was appended.
 #[tactic(auto, unfolding(crate::specs::Text::registers_text))]
 pub fn write_registers<S: Sink>(view: &View<'_>, sink: &mut S) -> Result<(), SinkFailed>
     ensures { Puts (registers_text view.now.regs view.now.pc)
@@ -142,7 +145,7 @@ pub fn write_registers<S: Sink>(view: &View<'_>, sink: &mut S) -> Result<(), Sin
     )
 }
 
-/// Puts a stretch of memory that ends at 2^32 at the latest.
+/// Puts a part of memory that ends at 2^32 at the latest. Where a put fails, a prefix of that text was appended.
 #[tactic(auto, unfolding(crate::specs::Text::dump_text))]
 pub fn write_dump<S: Sink>(view: &View<'_>, dump: Dump, sink: &mut S) -> Result<(), SinkFailed>
     requires { dump.addr + dump.len ≤ 2 ^ 32 }
@@ -152,8 +155,8 @@ pub fn write_dump<S: Sink>(view: &View<'_>, dump: Dump, sink: &mut S) -> Result<
     write_lines(&DumpLines { view, dump }, sink)
 }
 
-/// Puts the whole text of a run: the flushes, the summary, the output, the registers and the pc, and where it
-/// is asked for a stretch of memory that ends at 2^32 at the latest.
+/// Puts the whole text of a run: the flushes, the summary, the output, the registers and the pc, and, where it is
+/// asked for, a part of memory that ends at 2^32 at the latest. Where a put fails, a prefix of that text was appended.
 pub fn write_run<S: Sink>(report: &Report<'_>, sink: &mut S) -> Result<(), SinkFailed>
     requires { ForSome report.now.dump (λ d. d.addr + d.len ≤ 2 ^ 32) }
     ensures text { Puts (text_in report.now)
@@ -164,6 +167,7 @@ pub fn write_run<S: Sink>(report: &Report<'_>, sink: &mut S) -> Result<(), SinkF
     write_parts(report, sink)
 }
 
+// The whole text, of what the report says.
 fn write_parts<S: Sink>(report: &Report<'_>, sink: &mut S) -> Result<(), SinkFailed>
     requires { ForSome report.now.dump (λ d. d.addr + d.len ≤ 2 ^ 32) }
     ensures { Puts (text_in report.now)

@@ -1,7 +1,7 @@
--- How long nothing has committed, and for how long that may go on.
+-- For how long nothing has committed, and for how long that may go on.
 use Rattle.std.specs.Prelude.{ℕ, ◌+◌, ◌-◌, ◌^◌, ◌&&◌, min, nat_le, not, Bool, if◌then◌else◌}
 
--- both in cycles
+-- the limit, and the cycles without a commit
 pub record Watch : Type 0 where
   pub limit : ℕ
   pub idle : ℕ
@@ -14,6 +14,6 @@ raised idle = min (idle + 1) (2 ^ 32 - 1)
 abbrev pub ticked : Watch → Bool → Watch
 ticked w committed = record w { idle = if committed then 0 else raised w.idle }
 
--- the machine must flush: the limit is reached, and no instruction runs alone
+-- the machine must flush: the limit is reached, and no instruction runs solo
 abbrev pub barks : Watch → Bool → Bool
 barks w solo = nat_le w.limit w.idle && not solo

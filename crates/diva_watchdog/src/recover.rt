@@ -5,6 +5,6 @@
 pub enum Recover {
     /// The instructions that the core hands over.
     Running,
-    /// One instruction alone, on the checker's own values, since the cycle of this number.
+    /// One instruction, which runs solo, on the checker's own values, since the cycle of this number.
     Solo(u64),
 }

@@ -3,7 +3,7 @@ ghost use Rattle.std.specs.Prelude.{◌≡◌, ◌≤◌, ◌↔◌, IsTrue, fal
 
 use std::marker::Model;
 
-/// A count of the cycles since the last commit, with its limit.
+/// A count of the cycles without a commit, and the limit at which it calls for a flush, in cycles.
 #[derive(Clone, Copy, Debug)]
 pub struct Watchdog {
     limit: u32,
@@ -23,7 +23,7 @@ impl Model for Watchdog {
 impl Watchdog {
     ghost use Rattle.diva_watchdog.specs.Watch.{barks, ticked};
 
-    /// A watchdog that calls for a flush after `w` cycles without a commit.
+    /// A watchdog that calls for a flush after `w` cycles without a commit. None have passed so far.
     pub fn new(w: u32) -> Self
         ensures { result ≡ record { limit = w; idle = 0 } }
     {
@@ -37,16 +37,16 @@ impl Watchdog {
         self.limit
     }
 
-    /// How many cycles there were since the last commit.
+    /// How many cycles have passed without a commit.
     pub fn idle(&self) -> u32
         ensures { result ≡ self.now.idle }
     {
         self.idle
     }
 
-    /// Ends a cycle in which something `committed` or nothing did, and in which an instruction runs
-    /// alone (`solo`) or none does. Answers whether the machine must flush. The count of cycles stays
-    /// at its last value, `u32::MAX`.
+    /// Ends a cycle: `committed` says whether an instruction committed in it, and `solo` whether one
+    /// runs solo. The answer is whether the machine must flush, which it must where the count has
+    /// reached the limit and no instruction runs solo. The count stays at its last value, `u32::MAX`.
     pub fn tick(&mut self, committed: bool, solo: bool) -> bool
         ensures ticked { self.new ≡ ticked self.old committed }
         ensures value { result ≡ barks self.new solo }

@@ -1,3 +1,4 @@
+-- The command with the leaves of the table is the one that the definitions have.
 use Rattle.std.proofs.Common.{◌∙◌, ap}
 use Rattle.std.proofs.lemmas.Result.{IfOk-weaker}
 use Rattle.clap.specs.Simple.{App}

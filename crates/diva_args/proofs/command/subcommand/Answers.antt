@@ -1,3 +1,4 @@
+-- One positional or option more is one rule more.
 use Rattle.std.proofs.Common.{[], map}
 use Rattle.clap.specs.Walk.{texts}
 use Rattle.diva_args.proofs.CommandLemmas.{loop_more}

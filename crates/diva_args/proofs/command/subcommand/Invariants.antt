@@ -1,3 +1,4 @@
+-- The positionals so far, and then the options so far, are rules of the subcommand.
 use Rattle.std.proofs.Common.{take, map, ◌++◌, []}
 use Rattle.clap.specs.Walk.{texts}
 use Rattle.diva_args.specs.Command.{option_rule, positional_rule}

@@ -1,3 +1,4 @@
+-- One leaf more is one subcommand more.
 use Rattle.std.proofs.Common.{◌∙◌, ap₂}
 use Rattle.clap.specs.Simple.{app_of, with_subcommand}
 use Rattle.diva_args.proofs.CommandLemmas.{leaf_more}

@@ -1,3 +1,4 @@
+-- The leaves so far are subcommands.
 use Rattle.std.proofs.Common.{◌≡◌, take, map}
 use Rattle.clap.specs.Simple.{app_of}
 use Rattle.diva_args.specs.Command.{with_subcommands}

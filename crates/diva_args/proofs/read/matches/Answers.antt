@@ -1,3 +1,4 @@
+-- What `clap` promises of a simple command, for this one.
 use Rattle.std.proofs.Common.{◌≡◌, sym, subst, true}
 use Rattle.clap.specs.Simple.{App, app_of}
 use Rattle.clap.specs.Faults.{is_simple_and_free}

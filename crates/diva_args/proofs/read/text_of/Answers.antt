@@ -1,3 +1,4 @@
+-- The text that `clap` finds is the first value in the rows.
 use Rattle.std.proofs.Common.{◌∙◌}
 use Rattle.clap.proofs.WalkLemmas.{first_value-rows}
 use Rattle.clap.specs.Matches.{found_of}

@@ -1,3 +1,4 @@
+-- What was read so far is within the limit; what may still be read grows shorter.
 use Rattle.std.proofs.Common.{◌≤◌, ◌-◌, vec_len}
 use Rattle.std.specs.Io.KnownBytes.{Consumes}
 use Rattle.diva_outside.proofs.disk_files.read_whole.Given as goal

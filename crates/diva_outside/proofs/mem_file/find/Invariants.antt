@@ -1,3 +1,4 @@
+-- The files so far have another name.
 use Rattle.std.proofs.Common.{◌≡◌, drop}
 use Rattle.diva_outside.specs.Named.{bytes_of}
 use Rattle.diva_outside.proofs.mem_file.find.Given as goal

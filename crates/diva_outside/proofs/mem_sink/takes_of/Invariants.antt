@@ -1,3 +1,4 @@
+-- The rows so far are for other calls.
 use Rattle.std.proofs.Common.{◌≡◌, drop}
 use Rattle.diva_outside.specs.MemSink.{takes_of}
 use Rattle.diva_outside.proofs.mem_sink.takes_of.Given as goal

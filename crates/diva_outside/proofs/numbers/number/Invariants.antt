@@ -1,3 +1,4 @@
+-- The digits so far are digits of the radix, and the number is what they spell.
 use Rattle.std.proofs.Common.{◌≡◌, ◌<◌, ◌^◌, drop}
 use Rattle.std.specs.Char.{is_digit}
 use Rattle.std.specs.List.{list_all}

@@ -1,3 +1,4 @@
+-- One line more was put, or a prefix of it.
 use Rattle.std.proofs.Common.{ℕ, arith}
 use Rattle.diva_outside.proofs.Sinks.{puts_then, puts_cut, concat_more, concat_parts}
 use Rattle.diva_outside.proofs.sink.put_lines.Goals as goal

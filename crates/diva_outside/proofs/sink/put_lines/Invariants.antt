@@ -1,3 +1,4 @@
+-- What was put, line by line.
 use Rattle.std.proofs.Common.{Ok, take}
 use Rattle.std.specs.List.{concat}
 use Rattle.diva_outside.specs.Sink.{Puts}

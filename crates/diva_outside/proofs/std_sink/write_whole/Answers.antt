@@ -1,3 +1,4 @@
+-- A write that takes some bytes more, and what was taken where a write fails.
 use Rattle.std.proofs.Common.{◌+◌, arith}
 use Rattle.diva_outside.proofs.Sinks.{appends_more, appends_kept, part_taken}
 use Rattle.diva_outside.proofs.std_sink.write_whole.Goals as goal

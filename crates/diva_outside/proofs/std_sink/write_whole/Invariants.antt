@@ -1,3 +1,4 @@
+-- What was taken so far is a prefix of the piece, and the writer took it; what is left grows shorter.
 use Rattle.std.proofs.Common.{◌≤◌, ◌-◌, length, take}
 use Rattle.std.specs.Io.KnownBytes.{Appends}
 use Rattle.diva_outside.proofs.std_sink.write_whole.Given as goal

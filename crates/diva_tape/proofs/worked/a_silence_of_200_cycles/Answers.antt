@@ -1,3 +1,4 @@
+-- Computing with the definitions gives the worked values.
 use Rattle.std.proofs.Common.{refl}
 use Rattle.diva_decode.specs.Table.{row_of}
 use Rattle.diva_isa.specs.Step.{record_of, apply, step}

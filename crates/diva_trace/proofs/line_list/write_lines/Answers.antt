@@ -1,3 +1,4 @@
+-- One line more was put, or a prefix of it.
 use Rattle.std.proofs.Common.{◌≡◌, ◌<◌, ◌∙◌, ℕ, List, [], length, get_or, arith}
 use Rattle.std.proofs.lemmas.List.{get_or_default}
 use Rattle.diva_outside.proofs.Sinks.{puts_then, puts_cut, concat_more, concat_parts}

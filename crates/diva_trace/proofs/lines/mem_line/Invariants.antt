@@ -1,3 +1,4 @@
+-- The bytes so far are written, two digits or dots each.
 use Rattle.std.proofs.Common.{◌≡◌, ◌+◌, ◌*◌, ◌++◌, length}
 use Rattle.std.specs.List.{flat_map, range_with_len}
 use Rattle.diva_memory.specs.Bytes.{byte_at}

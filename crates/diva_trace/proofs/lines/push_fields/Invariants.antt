@@ -1,3 +1,4 @@
+-- The fields so far are written, nine bytes each.
 use Rattle.std.proofs.Common.{◌≡◌, ◌+◌, ◌*◌, ◌++◌, length, take}
 use Rattle.diva_trace.specs.Lines.{fields_text}
 use Rattle.diva_trace.proofs.lines.push_fields.Given as goal

@@ -1,3 +1,4 @@
+-- What was put where the first line fails, and where it does not.
 use Rattle.std.proofs.lemmas.Result.{err_from_is_err_and}
 use Rattle.diva_outside.proofs.Sinks.{puts_then, puts_cut}
 use Rattle.diva_trace.specs.Text.{output_text}

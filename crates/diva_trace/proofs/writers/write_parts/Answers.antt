@@ -1,3 +1,4 @@
+-- What was put where each part fails, and where none does.
 use Rattle.std.proofs.lemmas.Result.{err_from_is_err_and}
 use Rattle.diva_outside.proofs.Sinks.{puts_then, puts_cut}
 use Rattle.diva_trace.proofs.writers.write_parts.Goals as goal

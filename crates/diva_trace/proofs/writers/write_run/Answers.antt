@@ -1,3 +1,4 @@
+-- The text of a report is the text of the machine of which it is a report.
 use Rattle.diva_trace.proofs.Reports.{text_in_is}
 use Rattle.diva_trace.proofs.writers.write_run.Goals as goal
 

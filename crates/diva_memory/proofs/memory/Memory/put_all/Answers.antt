@@ -1,3 +1,4 @@
+-- A copy into the middle of the bytes writes them one by one, and nothing beside them.
 use Rattle.std.proofs.Common.{◌≡◌, ◌≤◌, ◌<◌, ◌⊎◌, sym, subst, slice_get, ◌+◌, ◌-◌, List, ℕ, length, arith, ap}
 use Rattle.std.proofs.lemmas.Grind.{common_steps}
 use Rattle.std.proofs.lemmas.List.{with_items_is}

@@ -1,3 +1,4 @@
+-- The bytes so far are written, two digits each.
 use Rattle.std.proofs.Common.{◌≡◌, ◌*◌, ◌+◌, ◌++◌, length, take}
 use Rattle.std.specs.List.{flat_map}
 use Rattle.diva_outside.specs.Text.{hex_byte}

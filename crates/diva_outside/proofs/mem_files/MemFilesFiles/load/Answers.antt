@@ -1,3 +1,4 @@
+-- The error is the one of the definition.
 use Rattle.std.proofs.Common.{◌≡◌, rules}
 use Rattle.std.specs.Option.{option_copied}
 use Rattle.diva_outside.specs.Named.{answer_to}

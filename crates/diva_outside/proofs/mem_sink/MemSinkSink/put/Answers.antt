@@ -1,3 +1,4 @@
+-- A put that fails took a prefix of its piece.
 use Rattle.std.proofs.Common.{rules}
 use Rattle.diva_outside.proofs.Sinks.{part_taken}
 use Rattle.diva_outside.proofs.mem_sink.MemSinkSink.put.Goals as goal

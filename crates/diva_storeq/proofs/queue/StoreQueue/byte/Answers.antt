@@ -1,3 +1,4 @@
+-- One store more is laid over the byte, and a byte outside stays outside.
 use Rattle.std.proofs.Common.{◌≡◌, None, sym, rules, map}
 use Rattle.std.proofs.lemmas.List.{map-append}
 use Rattle.diva_memory.specs.Bytes.{byte_at}

@@ -1,3 +1,4 @@
+-- The byte under the stores so far.
 use Rattle.std.proofs.Common.{◌≡◌, Some, map}
 use Rattle.diva_memory.specs.Bytes.{byte_at}
 use Rattle.diva_storeq.specs.Stores.{laid}

@@ -1,3 +1,4 @@
+-- The word is made of its four bytes.
 use Rattle.std.proofs.Common.{◌≡◌, ◌+◌, ◌%◌, Some, sym, arith}
 use Rattle.std.proofs.lemmas.Grind.{common_steps}
 use Rattle.diva_memory.specs.Bytes.{byte_at}

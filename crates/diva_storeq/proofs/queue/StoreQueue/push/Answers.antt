@@ -1,3 +1,4 @@
+-- One store more is laid over the others.
 use Rattle.std.proofs.Common.{◌≡◌, [], ◌∷◌, ◌++◌, arith}
 use Rattle.std.proofs.lemmas.Grind.{common_steps}
 use Rattle.diva_storeq.proofs.Laying.{laid_push, laid_push_covered, laid_push_others}

@@ -1,3 +1,4 @@
+-- A word with no store over it is that of memory, and a word outside stays outside.
 use Rattle.std.proofs.Common.{◌≡◌, None, sym, ◌∙◌, rules}
 use Rattle.diva_memory.specs.Bytes.{word_at}
 use Rattle.diva_storeq.proofs.Laying.{laid_apart, laid_word_none}

@@ -1,3 +1,4 @@
+-- The line at a place is that of its 32 bytes, or of those that are left.
 use Rattle.std.proofs.Common.{◌<◌, length}
 use Rattle.std.proofs.lemmas.List.{take_rest}
 use Rattle.std.specs.Int.{div_ceil}
