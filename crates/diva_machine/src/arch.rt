@@ -62,18 +62,21 @@ impl Arch {
         })
     }
 
+    /// The state as a core reads it.
     pub fn view(&self) -> View<'_>
         ensures { result ≡ record self.now.state { end = 0 } }
     {
         View::new(&self.regs, self.pc, &self.memory, &self.queue, &self.output)
     }
 
+    /// The pc.
     pub fn pc(&self) -> u32
         ensures { result ≡ self.now.state.pc }
     {
         self.pc
     }
 
+    /// What the program put: at most 65,536 bytes.
     pub fn output(&self) -> &[u8]
         ensures bytes { result.now ≡ self.now.state.output }
         ensures most { length result.now ≤ 65536 }
@@ -81,12 +84,14 @@ impl Arch {
         self.output.bytes()
     }
 
+    /// Whether the state has not ended.
     pub fn goes_on(&self) -> bool
         ensures { result ≡ goes_on self.now.state }
     {
         self.end == 0
     }
 
+    /// How the state has ended, if it has.
     pub fn ended(&self) -> End
         ensures value { result ≡ end_of self.now.state.end }
         ensures number { end_number result ≡ self.now.state.end }

@@ -30,6 +30,7 @@ impl Model for Log {
 }
 
 impl Log {
+    /// A log without rows. The one error is that memory runs out.
     pub fn new(alloc: Global) -> Result<Self, AllocError>
         ensures { IfOk result (λ l. l ≡ record { rows = []; newest = None; flushes = 0; silent = 0 }) }
     {
@@ -41,6 +42,7 @@ impl Log {
         })
     }
 
+    /// Counts one more flush, and keeps its row where there is room for it.
     pub fn add(&mut self, row: FlushRow)
         requires flushes { self.old.flushes < 2 ^ 63 }
         requires silent { self.old.silent < 2 ^ 63 }
@@ -59,24 +61,28 @@ impl Log {
         }
     }
 
+    /// The rows that are kept, in order.
     pub fn rows(&self) -> &[FlushRow]
         ensures { result.now ≡ self.now.rows }
     {
         &self.rows
     }
 
+    /// The row of the newest flush.
     pub fn newest(&self) -> Option<FlushRow>
         ensures { result ≡ self.now.newest }
     {
         self.newest
     }
 
+    /// How many flushes came.
     pub fn flushes(&self) -> u64
         ensures { result ≡ self.now.flushes }
     {
         self.flushes
     }
 
+    /// How many of them were silent.
     pub fn silent(&self) -> u64
         ensures { result ≡ self.now.silent }
     {

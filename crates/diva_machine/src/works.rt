@@ -116,6 +116,7 @@ impl Works {
         self.pending.entry(at)
     }
 
+    /// Whether the machine has not ended.
     pub fn goes_on(&self) -> bool
         ensures { result ≡ goes_on self.now.timed.arch }
     {
