@@ -1,5 +1,5 @@
-//! What arithmetic, branches and loads came to in `qemu-riscv32`, an emulator of the RISC-V
-//! instruction set that is independent of this repository. None of the numbers is of its code.
+// What arithmetic, branches and loads came to in `qemu-riscv32`, an emulator of the RISC-V
+// instruction set that is independent of this repository. None of the numbers comes from our code.
 mod branches;
 mod immediates;
 mod loads;
@@ -46,6 +46,7 @@ struct Sheet {
 fn compare(rt: &impl Abort, sheets: &[Sheet], seconds: &[u32]) {
     for sheet in sheets {
         let op = sheet.op;
+        assert_eq!(rt; sheet.grid.len(), FIRSTS.len() * seconds.len(), "{op:?}");
         let mut results = sheet.grid.iter();
         for &a in &FIRSTS {
             for &b in seconds {
@@ -74,6 +75,7 @@ fn results_of_an_emulator(rt: HostRuntime) {
 fn branches_and_loads_of_an_emulator(rt: HostRuntime) {
     for branch in &BRANCHES {
         let op = branch.op;
+        assert_eq!(rt; branch.grid.len(), FIRSTS.len(), "{op:?}");
         for (&a, row) in FIRSTS.iter().zip(branch.grid) {
             for (&b, &taken) in COMPARED.iter().zip(row) {
                 assert_eq!(rt; branch_taken(op, a, b), taken, "{op:?} {a:08x} {b:08x}");
