@@ -1,5 +1,5 @@
 // Cores of the tests' own.
-use diva_core::{Claims, Core, Told, View};
+use diva_core::{Claim, Claims, Core, Told, View};
 use diva_isa::{Record, record_of};
 use diva_tape::Lockstep;
 
@@ -39,6 +39,36 @@ impl Core for Late {
     fn cycle(&mut self, told: &Told, view: &View<'_>, out: &mut Claims) {
         if told.cycle >= self.first {
             Lockstep.cycle(told, view, out);
+        }
+    }
+}
+
+/// Hands over given lists, whatever they claim: each of them in its cycle and in those that follow, up
+/// to the next one's. The cycles rise.
+#[derive(Clone, Copy, Debug)]
+pub(crate) struct Lists<'a> {
+    pub lists: &'a [(u64, &'a [Claim])],
+}
+
+impl Lists<'_> {
+    fn list(&self, cycle: u64) -> &[Claim] {
+        match self.lists.iter().rev().find(|(first, _)| *first <= cycle) {
+            Some((_, list)) => list,
+            None => &[],
+        }
+    }
+}
+
+impl Core for Lists<'_> {
+    ghost use Rattle.std.specs.Prelude.{⊤};
+
+    ghost gives = { λ before told state list after. ⊤ };
+
+    fn cycle(&mut self, told: &Told, _view: &View<'_>, out: &mut Claims) {
+        for &claim in self.list(told.cycle) {
+            if out.len() < Claims::MOST {
+                out.push(claim);
+            }
         }
     }
 }

@@ -1,13 +1,17 @@
 //! Tests that go across crates: whole runs of the program, calls of the machine with cores of the
 //! tests' own, and the answers of outside tools.
 //!
-//! - `programs`: small programs, and the image files that they are;
-//! - `cores`: a core that claims a wrong value once, and one that begins late;
+//! - `programs`: small programs, the image files that they are, and the records of one of them;
+//! - `cores`: a core that claims a wrong value once, one that begins late, and one that hands over
+//!   the lists that it is given;
 //! - `runs`: command lines over files and a sink in memory, with the status and the text that are
-//!   due: `runs/tables` has the programs that are run, `runs/refusals` what is not run;
+//!   due: `runs/tables` has the programs that are run, `runs/texts` writes the text that is due, and
+//!   `runs/refusals` has what is not run, or is written in part;
 //! - `calls`: calls of a machine's parts, and of a machine that is driven;
+//! - `lists`: several claims in a cycle, right and wrong ones, and what each cycle commits:
+//!   `lists/tables` has the lists;
 //! - `vectors`: what arithmetic, branches and loads came to in an emulator that is not of this
-//!   repository.
+//!   repository: operations on two `registers` and on `immediates`, `branches` and `loads`.
 //!
 //! What is due was worked out by hand from the rules, or came from the outside tool; none of it is
 //! taken from what this repository's code answered.
@@ -17,6 +21,8 @@
 mod calls;
 #[cfg(test)]
 mod cores;
+#[cfg(test)]
+mod lists;
 #[cfg(test)]
 mod programs;
 #[cfg(test)]

@@ -1,4 +1,5 @@
-// Small programs, and the image files that they are.
+// Small programs, the image files that they are, and the records of one of them.
+use diva_isa::Record;
 use std::alloc::Global;
 use std::test::Fail;
 
@@ -22,6 +23,45 @@ pub(crate) const FIVE_FILE: [u8; 36] = [
     0x44, 0x49, 0x56, 0x41, 0x01, 0, 0, 0, 0, 0, 0, 0, 0x40, 0, 0, 0, 0, 0, 0, 0, 0x0c, 0, 0, 0,
     0x93, 0x00, 0x50, 0x00, 0x93, 0x08, 0xd0, 0x05, 0x73, 0, 0, 0,
 ];
+
+/// A record whose fields are all 0.
+pub(crate) const NOTHING: Record = Record {
+    pc: 0,
+    word: 0,
+    src1: 0,
+    src2: 0,
+    addr: 0,
+    value: 0,
+    next: 0,
+    end: 0,
+};
+
+/// The record of the first instruction of `FIVE`, `addi x1, x0, 5`.
+pub(crate) const ADDS: Record = Record {
+    word: 0x0050_0093,
+    value: 5,
+    next: 4,
+    ..NOTHING
+};
+
+/// The record of the second, `addi x17, x0, 93`.
+pub(crate) const ASKS: Record = Record {
+    pc: 4,
+    word: 0x05d0_0893,
+    value: 93,
+    next: 8,
+    ..NOTHING
+};
+
+/// The record of the third, `ecall`: it reads x17 and x10, and ends.
+pub(crate) const HALTS: Record = Record {
+    pc: 8,
+    word: 0x0000_0073,
+    src1: 93,
+    next: 8,
+    end: 256,
+    ..NOTHING
+};
 
 /// `jal x0, 0`, which goes on for ever.
 pub(crate) const LOOP: Program = Program {
