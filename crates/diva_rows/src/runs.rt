@@ -1,16 +1,18 @@
-//! Command lines over files and a sink in memory, with the status and the text that are due.
+// Command lines over files and a sink in memory, with the status and the text that are due.
 mod refusals;
 mod tables;
 mod texts;
 
-use crate::cores::Flipped;
-use crate::programs::{FIVE_FILE, Program, image_file};
+use crate::cores::{Flipped, Lists};
+use crate::programs::{ASKS, FIVE_FILE, HALTS, Program, image_file};
 use diva_cli::top;
+use diva_core::Core;
+use diva_isa::Record;
 use diva_outside::{Fail as SinkFail, MemFile, MemFiles, MemSink};
 use std::alloc::Global;
 use std::process::Abort;
 use std::test::Fail;
-use tables::{CHATTER, ROWS, TRAPS};
+use tables::{CHATTER, DIFFERING, ROWS, TRAPS};
 use texts::{registers_text, text_due};
 
 /// The bytes that a sink takes, more than any of these runs writes.
@@ -39,8 +41,7 @@ impl Outside {
     }
 }
 
-/// Runs the program on a command line, over the file `a.diva` and with `Flipped` as its own core,
-/// and compares status and text.
+/// Runs the program as `compare_by` does, with `Flipped` as its own core.
 fn compare(
     rt: &impl Abort,
     line: &str,
@@ -48,14 +49,30 @@ fn compare(
     status: u8,
     text: &str,
 ) -> Result<(), Fail> {
+    compare_by(rt, &mut Flipped, line, outside, status, text)
+}
+
+/// Runs the program on a command line, over the file `a.diva` and with this core as its own, and
+/// compares status and text. An empty word is written `''` in the line.
+fn compare_by<C: Core>(
+    rt: &impl Abort,
+    core: &mut C,
+    line: &str,
+    outside: Outside,
+    status: u8,
+    text: &str,
+) -> Result<(), Fail> {
     let alloc = outside.alloc;
-    let words: Vec<&str> = line.split_whitespace().collect(alloc)?;
+    let mut words = Vec::new(alloc);
+    for word in line.split_whitespace() {
+        words.push(if word == "''" { "" } else { word })?;
+    }
     let mut file = Vec::new(alloc);
     file.push(MemFile::new(String::from_str(alloc, "a.diva")?, outside.file))?;
     let mut files = MemFiles::new(file, outside.load_fails);
     let mut sink = MemSink::new(alloc, outside.room, outside.put_fails)?;
     assert_eq!(rt;
-        top(alloc, &words, &mut files, &mut sink, &mut Flipped),
+        top(alloc, &words, &mut files, &mut sink, core),
         status,
         "{line}"
     );
@@ -121,4 +138,34 @@ fn output_that_is_full(rt: HostRuntime) -> Result<(), Fail> {
     let text = format!(in alloc; "{counts}{output}{registers}pc 00000008\n")?;
     let outside = Outside::sound(alloc, image_file(alloc, CHATTER)?);
     compare(&rt, "run a.diva --core lockstep", outside, 3, text.as_str())
+}
+
+/// A claim of cycle 1 that differs flushes in cycle 7, and names the first field in which it does.
+/// The checker's own instruction commits in cycle 13, and the two claims of cycle 14 in 20.
+#[test]
+fn fields_that_differ(rt: HostRuntime) -> Result<(), Fail> {
+    let alloc = rt.alloc();
+    let counts = "end halt 0\ncount 3\ncycles 20\nflushes 1 silent 0\noutput 0\n";
+    let registers = registers_text(alloc, &[(1, 5), (17, 0x5d)])?;
+    for &(field, claim, due) in &DIFFERING {
+        let text = format!(in alloc;
+            "flush 7 at 0 {field} {due}\n{counts}{registers}pc 00000008\n"
+        )?;
+        let lists: [(u64, &[Record]); 4] = [
+            (1, &[claim]),
+            (2, &[]),
+            (14, &[ASKS, HALTS]),
+            (15, &[]),
+        ];
+        let outside = Outside::sound(alloc, Vec::from_slice(alloc, &FIVE_FILE)?);
+        compare_by(
+            &rt,
+            &mut Lists { lists: &lists },
+            "run a.diva",
+            outside,
+            0,
+            text.as_str(),
+        )?;
+    }
+    Ok(())
 }

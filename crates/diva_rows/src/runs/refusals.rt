@@ -4,16 +4,17 @@ use crate::programs::FIVE_FILE;
 use diva_outside::Fail as SinkFail;
 use std::test::Fail;
 
-/// What is written where the words are no command line.
+/// What is written where the words are not a valid command line.
 const USAGE: &str = "\
 usage: diva run|tape IMAGE, debug IMAGE COMMANDS, asm SRC, dis IMAGE, soak SEED LENGTH
 ";
 
-/// Words that are no command line, and a file that is not there or whose load fails.
+/// Words that are not a valid command line, and a file that is not there or whose load fails. A
+/// name may be any word: the last four name files that are not there.
 #[test]
 fn lines_that_are_not_run(rt: HostRuntime) -> Result<(), Fail> {
     let alloc = rt.alloc();
-    let rows: [(&str, &[u64], u8, &str); 7] = [
+    let rows: [(&str, &[u64], u8, &str); 11] = [
         ("", &[], 2, USAGE),
         ("run", &[], 2, USAGE),
         ("run a.diva --width 5", &[], 2, USAGE),
@@ -21,6 +22,10 @@ fn lines_that_are_not_run(rt: HostRuntime) -> Result<(), Fail> {
         ("walk a.diva", &[], 2, USAGE),
         ("run b.diva", &[], 8, "unreadable image\n"),
         ("run a.diva", &[1], 8, "unreadable image\n"),
+        ("run ''", &[], 8, "unreadable image\n"),
+        ("run -", &[], 8, "unreadable image\n"),
+        ("run -- -x", &[], 8, "unreadable image\n"),
+        ("run --width 2 -- -x", &[], 8, "unreadable image\n"),
     ];
     for (line, fails, status, text) in rows {
         let outside = Outside {

@@ -1,5 +1,6 @@
 // Programs that are run, and the text that is due.
-use crate::programs::{FIVE, LOOP, Program};
+use crate::programs::{ADDS, FIVE, LOOP, Program};
+use diva_isa::Record;
 
 /// A run of one program.
 pub(super) struct Row {
@@ -40,7 +41,7 @@ output 0
 };
 
 /// Runs of programs that don't trap, but for one that runs past its memory.
-pub(super) static ROWS: [Row; 18] = [
+pub(super) static ROWS: [Row; 19] = [
     ONE_BY_ONE,
     ONE_FLUSH,
     Row {
@@ -214,6 +215,26 @@ output 0
         rest: "pc 00000010\n",
         ..ONE_BY_ONE
     },
+    // 16 MiB: lui x1, 0x1000; addi x2, x0, 85; sw x2, -4(x1) into the last word, which lw x3, -4(x1)
+    // then loads; the halt
+    Row {
+        line: "run a.diva --core lockstep --dump fffff8:10",
+        program: Program {
+            size: 0x100_0000,
+            words: &[
+                0x0100_00b7,
+                0x0550_0113,
+                0xfe20_ae23,
+                0xffc0_a183,
+                0x05d0_0893,
+                0x0000_0073,
+            ],
+        },
+        counts: "end halt 0\ncount 6\ncycles 42\nflushes 0 silent 0\noutput 0\n",
+        registers: &[(1, 0x100_0000), (2, 0x55), (3, 0x55), (17, 0x5d)],
+        rest: "pc 00000014\nmem 00fffff8 0000000055000000....\n",
+        ..ONE_BY_ONE
+    },
     // addi x0, x0, 0, and no word behind it
     Row {
         program: Program {
@@ -226,6 +247,83 @@ output 0
         rest: "pc 00000004\n",
         ..ONE_BY_ONE
     },
+];
+
+/// A claim that differs from the due record of `FIVE` in every field.
+const ALL: Record = Record {
+    pc: 4,
+    word: 0x13,
+    src1: 1,
+    src2: 2,
+    addr: 3,
+    value: 6,
+    next: 8,
+    end: 1,
+};
+
+/// Claims that differ in one field and in all behind it: the field, the claim, and what the flush's
+/// row says of them.
+pub(super) static DIFFERING: [(&str, Record, &str); 8] = [
+    ("pc", ALL, "claimed 00000004 due 00000000"),
+    (
+        "word",
+        Record { pc: 0, ..ALL },
+        "claimed 00000013 due 00500093",
+    ),
+    (
+        "src1",
+        Record {
+            pc: 0,
+            word: ADDS.word,
+            ..ALL
+        },
+        "claimed 00000001 due 00000000",
+    ),
+    (
+        "src2",
+        Record {
+            pc: 0,
+            word: ADDS.word,
+            src1: 0,
+            ..ALL
+        },
+        "claimed 00000002 due 00000000",
+    ),
+    (
+        "addr",
+        Record {
+            addr: 3,
+            value: 6,
+            next: 8,
+            end: 1,
+            ..ADDS
+        },
+        "claimed 00000003 due 00000000",
+    ),
+    (
+        "value",
+        Record {
+            value: 6,
+            next: 8,
+            end: 1,
+            ..ADDS
+        },
+        "claimed 00000006 due 00000005",
+    ),
+    (
+        "next",
+        Record {
+            next: 8,
+            end: 1,
+            ..ADDS
+        },
+        "claimed 00000008 due 00000004",
+    ),
+    (
+        "end",
+        Record { end: 1, ..ADDS },
+        "claimed 00000001 due 00000000",
+    ),
 ];
 
 /// The number of a trap, and the word of the one instruction of a program that ends by it.
