@@ -14,15 +14,17 @@ use std::alloc::{AllocError, Global};
 use std::process::ExitCode;
 use std::{env, io};
 
-/// The status for want of memory.
+/// The status where memory runs out.
 const NO_MEMORY: u8 = 10;
 
 /// What became of the process's own words.
 #[derive(Drop)]
 enum Words {
+    /// The words, without the program's name.
     Given(Vec<String>),
-    /// A word is no text, so the words are no command line.
+    /// One of the words is not UTF-8, so they are not a valid command line.
     NoText,
+    /// Memory ran out while they were taken.
     NoMemory,
 }
 
@@ -52,7 +54,7 @@ fn own_words(rt: &HostRuntime) -> Words {
     }
 }
 
-/// The words as texts that are lent.
+/// The words, each borrowed as a text.
 fn borrowed(alloc: Global, words: &[String]) -> Result<Vec<&str>, AllocError>
     ensures { IfOk result (λ texts. map (λ text. text.now) texts.items ≡ map string_bytes words.now) }
 {

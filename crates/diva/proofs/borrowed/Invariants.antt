@@ -1,3 +1,4 @@
+-- What the loop of `borrowed` keeps: the texts so far are those of the words so far.
 use Rattle.std.proofs.Common.{◌≡◌, take, map}
 use Rattle.std.specs.String.{string_bytes}
 use Rattle.diva.proofs.borrowed.Given as goal
