@@ -46,7 +46,6 @@ struct Sheet {
 fn compare(rt: &impl Abort, sheets: &[Sheet], seconds: &[u32]) {
     for sheet in sheets {
         let op = sheet.op;
-        assert_eq!(rt; sheet.grid.len(), FIRSTS.len() * seconds.len(), "{op:?}");
         let mut results = sheet.grid.iter();
         for &a in &FIRSTS {
             for &b in seconds {
@@ -54,6 +53,7 @@ fn compare(rt: &impl Abort, sheets: &[Sheet], seconds: &[u32]) {
                 assert_eq!(rt; Some(alu(op, a, b)), due, "{op:?} {a:08x} {b:08x}");
             }
         }
+        assert_eq!(rt; results.next(), None, "{op:?}");
         for &(a, b, result) in sheet.others {
             assert_eq!(rt; alu(op, a, b), result, "{op:?} {a:08x} {b:08x}");
         }
