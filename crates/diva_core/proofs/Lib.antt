@@ -1,4 +1,5 @@
 pub mod Adding
+pub mod Calming
 pub mod Commits
 pub mod Cycling
 pub mod Differing
@@ -6,6 +7,7 @@ pub mod Ending
 pub mod Holding
 pub mod Judging
 pub mod Keeping
+pub mod Listing
 pub mod Outcomes
 pub mod Pacing
 pub mod Phases

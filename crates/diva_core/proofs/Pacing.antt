@@ -10,7 +10,9 @@ use Rattle.diva_core.specs.Machine.{IsMachine}
 use Rattle.diva_core.specs.Headline.{Rises, AddsRows, WillCount, KeepsPace, AreCommitted, Drives}
 use Rattle.diva_core.proofs.Progressing.{progress, run-rises, run-stays}
 use Rattle.diva_core.proofs.Reaching.{run-pace}
+use Rattle.diva_core.specs.Right.{StaysCalm}
 use Rattle.diva_core.proofs.Adding.{run-adds}
+use Rattle.diva_core.proofs.Listing.{run_calm}
 use Rattle.diva_core.proofs.Turning.{IsLog-run, Turns-none, Turns-more}
 use Rattle.diva_core.proofs.Outcomes.{cycle-cycles, records_by}
 use Rattle.diva_core.proofs.Keeping.{stays}
@@ -40,7 +42,7 @@ module _ {C : Type 0} (gives : Meaning C) (m : Timed) (core : C) (last : Timed) 
   turns-pace = subst (KeepsPace m) (sym reached) (run-pace m lists inv)
 
   pub turns-drive : Drives gives m core last final
-  turns-drive = record { turns = t; commits = are_committed m lists inv; rows = subst (AddsRows m lists) (sym reached) (run-adds lists m inv) }
+  turns-drive = record { turns = t; commits = are_committed m lists inv; rows = subst (AddsRows m lists) (sym reached) (run-adds lists m inv); calm = λ calm right. subst (StaysCalm m) (sym reached) (run_calm m lists inv calm right) }
 
   -- one turn more
   pub turns-next :

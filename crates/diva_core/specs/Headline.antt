@@ -12,6 +12,7 @@ use Rattle.diva_core.specs.Difference.{field_of, first_difference}
 use Rattle.diva_core.specs.Timed.{Timed, Waiting, depth, rows_kept}
 use Rattle.diva_core.specs.Cycle.{cycle_of, kept, number, is_silent, run_of}
 use Rattle.diva_core.specs.Log.{Meaning, Turns, lists_of}
+use Rattle.diva_core.specs.Right.{AreRight, IsCalm, StaysCalm}
 
 -- ---- counted: the count rises, and the state has moved by as many steps
 pub record Rises (m last : Timed) : Type 0 where
@@ -165,8 +166,9 @@ HasPace m = m.cycles / (m.sizes.limit + depth) ≤ m.count
 -- ---- a drive
 
 -- turns lead from a machine and a core to others, and of the lists of their log it holds what each cycle committed and which
--- rows it added
+-- rows it added; where each is right for its machine, a calm machine is not flushed
 pub record Drives {C : Type 0} (gives : Meaning C) (m : Timed) (core : C) (last : Timed) (final : C) : Type 0 where
   pub turns : Turns gives m core last final
   pub commits : AreCommitted m (lists_of turns.log)
   pub rows : AddsRows m (lists_of turns.log) last
+  pub calm : IsCalm m → AreRight m (lists_of turns.log) → StaysCalm m last

@@ -5,4 +5,5 @@ pub mod Headline
 pub mod Log
 pub mod Machine
 pub mod Timed
+pub mod Right
 pub mod Told

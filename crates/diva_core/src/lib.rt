@@ -11,7 +11,8 @@
 //! `specs/` holds the timed machine that contracts speak of: the machine and what a core is told of
 //! it (`Timed`, `Told`), its cycle phase by phase (`Cycle`), first differences (`Difference`), what is
 //! noted of pending claims (`Entries`), turns of a machine and a core (`Log`), what holds between
-//! cycles (`Machine`), and the words of what a cycle, a turn and a drive promise (`Headline`).
+//! cycles (`Machine`), right lists and calm machines (`Right`), and the words of what a cycle, a turn and a
+//! drive promise (`Headline`).
 //! `proofs/` has the laws that follow.
 #![tactic(auto)]
 

@@ -9,6 +9,7 @@ ghost use Rattle.diva_core.specs.Told.{notice_of};
 ghost use Rattle.diva_core.specs.Cycle.{begun, cycle_of, drained};
 ghost use Rattle.diva_core.specs.Machine.{IsMachine};
 ghost use Rattle.diva_core.specs.Headline.{dues, Rises, ByClaims, ByItself, IsJudged, SameLog, AddsRow, HasPace, WillCount};
+ghost use Rattle.diva_core.specs.Right.{IsRight, IsCalm, StaysCalm};
 ghost use Rattle.diva_machine.specs.Start.{start_of};
 ghost use Rattle.diva_machine.specs.Shown.{end_of, end_number, waiting_of};
 
@@ -54,6 +55,7 @@ impl Machine {
         ensures last { IfOk result (λ m. m.last ≡ []) }
         ensures counts { IfOk result (λ m. WillCount m.timed) }
         ensures paced { IfOk result (λ m. HasPace m.timed) }
+        ensures calm { IfOk result (λ m. IsCalm m.timed) }
     {
         let works = Works::new(alloc, image, config)?;
         Ok(Machine { works })
@@ -181,7 +183,7 @@ impl Machine {
     /// Runs one cycle on what a core handed over. On an ended machine nothing changes but `last`,
     /// which is then empty.
     #[inline(always)]
-    #[tactic(auto, using(diva_core::proofs::Keeping::stays, diva_core::proofs::Outcomes::rises, diva_core::proofs::Outcomes::logs, diva_core::proofs::Outcomes::records_by, diva_core::proofs::Pacing::will_count, diva_core::proofs::Progressing::has_pace))]
+    #[tactic(auto, using(diva_core::proofs::Keeping::stays, diva_core::proofs::Outcomes::rises, diva_core::proofs::Outcomes::logs, diva_core::proofs::Outcomes::records_by, diva_core::proofs::Pacing::will_count, diva_core::proofs::Progressing::has_pace, diva_core::proofs::Calming::stays_calm))]
     pub fn cycle(&mut self, list: &Claims)
         requires { self.old.timed.cycles < 2 ^ 60 }
         // It is the cycle of the definition, in every part.
@@ -200,6 +202,10 @@ impl Machine {
         ensures sound { IsMachine self.new.timed }
         ensures counts { WillCount self.new.timed }
         ensures paced { HasPace self.new.timed }
+
+        // A right list leaves a calm machine calm, and leads to no flush.
+        ensures calm { IsCalm self.old.timed → IsRight self.old.timed list.now
+            → StaysCalm self.old.timed self.new.timed }
 
         // Nothing ready is held up.
         ensures drained { (drained (begun self.old.timed)).owed < self.old.timed.sizes.stores }

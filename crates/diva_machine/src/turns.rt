@@ -5,6 +5,7 @@ ghost use Rattle.diva_core.specs.Told.{notice_of};
 ghost use Rattle.diva_core.specs.Cycle.{cycle_of};
 ghost use Rattle.diva_core.specs.Machine.{IsMachine};
 ghost use Rattle.diva_core.specs.Headline.{AddsRow, ByClaims, ByItself, Drives, HasPace, KeepsPace, Rises, SameLog, WillCount, dues};
+ghost use Rattle.diva_core.specs.Right.{IsRight, IsCalm, StaysCalm};
 
 use crate::ends::Drive;
 use crate::machine::Machine;
@@ -29,6 +30,9 @@ pub fn turn<C: Core>(m: &mut Machine, core: &mut C, list: &mut Claims)
     ensures sound { IsMachine m.new.timed }
     ensures counts { WillCount m.new.timed }
     ensures paced { HasPace m.new.timed }
+
+    // A right list leaves a calm machine calm, and leads to no flush.
+    ensures calm { IsCalm m.old.timed → IsRight m.old.timed list.new → StaysCalm m.old.timed m.new.timed }
 {
     list.clear();
     if m.goes_on() {
@@ -43,6 +47,7 @@ pub fn drive<C: Core>(m: &mut Machine, core: &mut C, budget: u64) -> Drive
     requires { m.old.timed.cycles + budget ≤ 2 ^ 60 }
     // Machine and core are reached by turns, one for each cycle. In each cycle equal claims committed,
     // or the checker's own instruction, and each row of the log is that of a cycle, with its cause.
+    // Where each list is right for its machine, a calm machine is not flushed.
     ensures drives { Drives C.gives m.old.timed core.old m.new.timed core.new }
     ensures ended { (result ≡ Drive.Ended) ↔ (goes_on m.new.timed.arch ≡ false) }
     ensures budget { (result ≡ Drive.Budget)

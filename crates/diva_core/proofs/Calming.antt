@@ -1,0 +1,170 @@
+-- A right list leaves a calm machine calm, and its flushes as they were.
+use Rattle.std.proofs.Common.{◌≡◌, ℕ, zero, suc, ◌+◌, ◌<◌, ◌≤◌, true, List, [], ◌∷◌, ◌++◌, map, take, length, Some, None, refl, ap, sym, ◌∙◌, arith, inl, inr, subst, slice_get}
+use Rattle.std.proofs.lemmas.List.{length-map, map-append}
+use Rattle.std.proofs.lemmas.Bool.{true≢false, le-leb, lt-ltb, cases_lt}
+use Rattle.std.proofs.lemmas.Option.{none-some, same_Some}
+use Rattle.diva_isa.specs.State.{State, goes_on}
+use Rattle.diva_isa.specs.declared.record.Record.{Record}
+use Rattle.diva_isa.specs.Step.{record_of, step, steps}
+use Rattle.diva_core.specs.Difference.{field_of}
+use Rattle.diva_core.specs.Timed.{Timed, Waiting, room_of, is_due}
+use Rattle.diva_core.specs.Cycle.{cycle_of, accepted_in}
+use Rattle.diva_core.specs.Machine.{IsMachine, ArePast}
+use Rattle.diva_core.specs.Right.{AreDue, IsRight, wait_by, claim_of, IsCalmRunning, IsCalm, StaysCalm}
+use Rattle.diva_core.proofs.Commits.{Commits}
+use Rattle.diva_core.proofs.Differing.{difference-some}
+use Rattle.diva_core.proofs.Steps.{steps-shift, steps-add}
+use Rattle.diva_core.proofs.Cycling.{Cycled, cycled, Differed, idled, ran, barks, differed, ended, finished, waited, taken}
+use Rattle.diva_core.proofs.Outcomes.{by-cases}
+use Rattle.diva_core.proofs.Keeping.{length-commits, stays}
+
+-- ---- due claims, by recursion
+
+abbrev pub AreDueFrom : State → List Record → Type 0
+AreDueFrom s [] = Unit {0}
+AreDueFrom s (p ∷ rest) = (goes_on s ≡ true → p ≡ record_of s) × AreDueFrom (step s) rest
+
+pub due_at : (s : State) (xs : List Record) → AreDueFrom s xs → AreDue s xs
+due_at s [] a j h on = absurd (omega arith)
+due_at s (p ∷ xs) a zero h on = ap Some (a.0 on)
+due_at s (p ∷ xs) a (suc j) h on = due_at (step s) xs a.1 j (omega arith) (ap goes_on (steps-shift j s) ∙ on) ∙ ap (λ t. Some (record_of t)) (steps-shift j s)
+
+pub due_from : (s : State) (xs : List Record) → AreDue s xs → AreDueFrom s xs
+due_from s [] f = tt
+due_from s (p ∷ xs) f =
+    (λ on. same_Some _ _ (f zero (omega arith) on), due_from (step s) xs (λ j h on. f (suc j) (omega arith) (ap goes_on (sym (steps-shift j s)) ∙ on) ∙ ap (λ t. Some (record_of t)) (sym (steps-shift j s))))
+
+AreDueFrom-append : (s : State) (xs ys : List Record) → AreDueFrom s xs → AreDueFrom (steps (length xs) s) ys → AreDueFrom s (xs ++ ys)
+AreDueFrom-append s [] ys a b = b
+AreDueFrom-append s (p ∷ xs) ys a b = (a.0, AreDueFrom-append (step s) xs ys a.1 (subst (λ t. AreDueFrom t ys) (sym (steps-shift (length xs) s)) b))
+
+-- what is left after commits is due
+AreDueFrom-commits : (k : ℕ) (s : State) (c : ℕ) (xs rest : List Waiting) → Commits k s c xs rest → AreDueFrom s (map claim_of xs) → AreDueFrom (steps k s) (map claim_of rest)
+AreDueFrom-commits zero s c xs rest h a = subst (λ r. AreDueFrom s (map claim_of r)) (sym h) a
+AreDueFrom-commits (suc k) s c [] rest h a = absurd h
+AreDueFrom-commits (suc k) s c (p ∷ xs) rest h a = subst (λ t. AreDueFrom t (map claim_of rest)) (steps-shift k s) (AreDueFrom-commits k (step s) c xs rest h.2 a.1)
+
+pub claims-taken : (c : ℕ) (xs : List Record) → map claim_of (map (accepted_in c) xs) ≡ xs
+claims-taken c [] = refl
+claims-taken c (p ∷ xs) = ap (λ r. p ∷ r) (claims-taken c xs)
+
+-- what waits after a cycle is due
+AreDueFrom-more :
+    (b : Timed) (list : List Record) (k : ℕ) (rest : List Waiting)
+    → Commits k b.arch (b.cycles + 1) b.pending rest
+    → AreDueFrom b.arch (map claim_of b.pending)
+    → AreDueFrom (steps (length b.pending) b.arch) (take (room_of b) list)
+    → AreDueFrom (steps k b.arch) (map claim_of (rest ++ taken b list))
+AreDueFrom-more b list k rest h a r =
+    rw (map-append, claims-taken) (AreDueFrom-append (steps k b.arch) (map claim_of rest) (take (room_of b) list) (AreDueFrom-commits k b.arch (b.cycles + 1) b.pending rest h a) (subst (λ t. AreDueFrom t (take (room_of b) list)) (ap (λ n. steps n b.arch) (lengths k rest h) ∙ steps-add k (length rest) b.arch ∙ ap (λ n. steps n (steps k b.arch)) (sym (length-map rest claim_of))) r))
+  where
+    lengths : (k : ℕ) (rest : List Waiting) → Commits k b.arch (b.cycles + 1) b.pending rest → length b.pending ≡ k + length rest
+    lengths k rest h = let e = length-commits k b.arch (b.cycles + 1) b.pending rest h in omega arith
+
+-- the wait of a machine in which the front claim was accepted in the past
+wait-most : (m : Timed) (xs : List Waiting) → ArePast m.cycles xs → wait_by m xs ≤ 7
+wait-most m [] a = omega arith
+wait-most m (p ∷ xs) a = let e = a.0 in omega arith
+
+-- a calm machine flushes for no claim
+pub no-difference : (b n : Timed) (d : Differed b n) → AreDueFrom b.arch (map claim_of b.pending) → ⊥
+no-difference b n r a =
+    let front : AreDueFrom (steps r.k b.arch) (map claim_of (r.p ∷ r.rest)) = AreDueFrom-commits r.k b.arch (b.cycles + 1) b.pending (r.p ∷ r.rest) r.claims a in
+    let same : r.p.claim ≡ record_of (steps r.k b.arch) = front.0 (ap goes_on (sym r.base.stepped) ∙ r.on) in
+    let differs = difference-some r.p.claim (record_of n.arch) r.d r.first in
+    differs.differ (differs.claims ∙ ap (field_of r.d.field) (same ∙ ap record_of (sym r.base.stepped)) ∙ sym differs.dues)
+
+AreDueFrom-at : (s t : State) (xs ys : List Waiting) → s ≡ t → xs ≡ ys → AreDueFrom t (map claim_of ys) → AreDueFrom s (map claim_of xs)
+AreDueFrom-at s t xs ys e f a = rw (e, f) a
+
+pub wait-least : (b : Timed) (xs : List Waiting) → ((p : Waiting) (rest : List Waiting) → xs ≡ p ∷ rest → b.cycles + 1 < p.cycle + 6) → 2 ≤ wait_by b xs
+wait-least b [] young = omega arith
+wait-least b (p ∷ rest) young = let y = young p rest refl in omega arith
+
+-- one cycle less is to wait
+wait-after :
+    (b n : Timed) (xs : List Waiting) (zs : List Record) (limit : ℕ)
+    → n.cycles ≡ b.cycles + 1
+    → ((p : Waiting) (rest : List Waiting) → xs ≡ p ∷ rest → b.cycles + 1 < p.cycle + 6)
+    → (xs ≡ [] → zs ≡ [] → b.idle + 7 < limit)
+    → b.idle + wait_by b xs ≤ limit
+    → b.idle + 1 + wait_by n (xs ++ map (accepted_in (b.cycles + 1)) zs) ≤ limit
+wait-after b n [] [] limit c young empty w = let h = empty refl refl in omega arith
+wait-after b n [] (z ∷ zs) limit c young empty w = omega arith
+wait-after b n (p ∷ xs) zs limit c young empty w = let y = young p xs refl in omega arith
+
+pub room-some : (b : Timed) → IsMachine b → b.solo ≡ None → goes_on b.arch ≡ true → b.pending ≡ [] → 1 ≤ room_of b
+room-some b inv none on e = rw (none, on, e) (let w = inv.sizes.width_low in let q = inv.sizes.window_low in omega arith)
+
+pub take-none : (r : ℕ) (list : List Record) → 1 ≤ r → take r list ≡ [] → list ≡ []
+take-none zero list h e = absurd (omega arith)
+take-none (suc r) [] h e = refl
+take-none (suc r) (p ∷ list) h e = absurd (grind arith)
+
+due-is : (b : Timed) → IsMachine b → b.solo ≡ None → goes_on b.arch ≡ true → b.pending ≡ [] → b.sizes.limit ≤ b.idle + 7 → is_due b ≡ true
+due-is b inv none on e h = rw (le-leb b.sizes.limit (b.idle + 7) h, lt-ltb 0 (room_of b) (room-some b inv none on e), e) refl
+
+not-due : (b : Timed) (list : List Record) → IsMachine b → goes_on b.arch ≡ true → b.solo ≡ None → IsRight b list → b.pending ≡ [] → take (room_of b) list ≡ [] → b.idle + 7 < b.sizes.limit
+not-due b list inv on none right e t =
+    elim (cases_lt (b.idle + 7) b.sizes.limit) [
+      | inl h ↦ h
+      | inr h ↦ absurd (right.prompt (due-is b inv none on e h) (take-none (room_of b) list (room-some b inv none on e) t))
+    ]
+
+calm-cases : (b : Timed) (list : List Record) (n : Timed) → IsMachine b → IsMachine n → goes_on b.arch ≡ true → IsCalmRunning b → IsRight b list → Cycled b list n → StaysCalm b n
+calm-cases b list n inv after on quiet right (idled r) =
+    let l : n.sizes.limit ≡ b.sizes.limit = ap (λ z. z.limit) r.base.sizes in
+    record {
+      calm = λ still. record {
+        running = r.solo;
+        claims = due_at _ _ (AreDueFrom-at n.arch b.arch n.pending (b.pending ++ taken b list) r.base.stepped r.pending (AreDueFrom-more b list 0 b.pending refl (due_from _ _ quiet.claims) (due_from _ _ right.claims)));
+        waits = rw (r.idle, r.pending, l) (wait-after b n b.pending (take (room_of b) list) b.sizes.limit r.base.cycles r.young (not-due b list inv on r.was right) quiet.waits);
+      };
+      flushes = r.log.flushes;
+      silent = r.log.silent;
+    }
+calm-cases b list n inv after on quiet right (ran r) =
+    let most = wait-most n n.pending after.past in
+    let low = after.sizes.limit_low in
+    record {
+      calm = λ still. record {
+        running = r.solo;
+        claims = due_at _ _ (AreDueFrom-at n.arch (steps (suc r.k) b.arch) n.pending (r.rest ++ taken b list) r.base.stepped r.pending (AreDueFrom-more b list (suc r.k) r.rest r.claims (due_from _ _ quiet.claims) (due_from _ _ right.claims)));
+        waits = (let i = r.idle in omega arith);
+      };
+      flushes = r.log.flushes;
+      silent = r.log.silent;
+    }
+calm-cases b list n inv after on quiet right (barks r) =
+    absurd (let w = quiet.waits in let two = wait-least b b.pending r.young in let i = r.idle in let late = r.late in omega arith)
+calm-cases b list n inv after on quiet right (differed r) = absurd (no-difference b n r (due_from _ _ quiet.claims))
+calm-cases b list n inv after on quiet right (ended r) = record { calm = λ still. absurd (true≢false (sym still ∙ r.off)); flushes = r.log.flushes; silent = r.log.silent }
+calm-cases b list n inv after on quiet right (finished r) = absurd (none-some _ (sym quiet.running ∙ r.since))
+calm-cases b list n inv after on quiet right (waited r) = absurd (none-some _ (sym quiet.running ∙ r.since))
+
+pub stays_calm : (m : Timed) (list : List Record) → IsMachine m → IsCalm m → IsRight m list → StaysCalm m (cycle_of m list)
+stays_calm m list inv calm right =
+    by-cases (StaysCalm m) m list inv (λ on c. calm-cases m list _ inv (stays m list inv) on (calm on) right c) (λ off. record { calm = calm; flushes = refl; silent = refl })
+
+-- what is left when the instruction that ran alone commits
+pub record Fresh (n : Timed) : Type 0 where
+  pub calm : IsCalm n
+  pub pending : n.pending ≡ []
+
+fresh-cases : (b : Timed) (list : List Record) (n : Timed) (start : ℕ) → IsMachine n → b.solo ≡ Some start → b.cycles + 1 ≡ start + 6 → Cycled b list n → Fresh n
+fresh-cases b list n start after some sixth (idled r) = absurd (none-some _ (sym r.was ∙ some))
+fresh-cases b list n start after some sixth (ran r) = absurd (none-some _ (sym r.was ∙ some))
+fresh-cases b list n start after some sixth (barks r) = absurd (none-some _ (sym r.was ∙ some))
+fresh-cases b list n start after some sixth (differed r) = absurd (none-some _ (sym r.was ∙ some))
+fresh-cases b list n start after some sixth (ended r) = absurd (none-some _ (sym r.was ∙ some))
+fresh-cases b list n start after some sixth (finished r) =
+    let most = wait-most n n.pending after.past in
+    let low = after.sizes.limit_low in
+    record {
+      calm = λ still. record { running = r.solo; claims = due_at _ _ (subst (λ xs. AreDueFrom n.arch (map claim_of xs)) (sym r.pending) tt); waits = (let i = r.idle in omega arith) };
+      pending = r.pending;
+    }
+fresh-cases b list n start after some sixth (waited r) = absurd (r.early (sixth ∙ ap (λ z. z + 6) (same_Some _ _ (sym some ∙ r.since))))
+
+pub solo_fresh : (m : Timed) (list : List Record) (start : ℕ) → IsMachine m → goes_on m.arch ≡ true → m.solo ≡ Some start → m.cycles + 1 ≡ start + 6 → Fresh (cycle_of m list)
+solo_fresh m list start inv on some sixth = fresh-cases m list _ start (stays m list inv) some sixth (cycled m list inv on)

@@ -1,0 +1,52 @@
+-- Right lists, and calm machines: those in which no right list leads to a flush.
+use Rattle.std.specs.Prelude.{ℕ, ◌≡◌, ◌≢◌, ◌<◌, ◌≤◌, ◌+◌, ◌-◌, List, [], ◌∷◌, length, take, map, true, Some, None, max, slice_get}
+use Rattle.diva_isa.specs.State.{State, goes_on}
+use Rattle.diva_isa.specs.declared.record.Record.{Record}
+use Rattle.diva_isa.specs.Step.{record_of, steps}
+use Rattle.diva_core.specs.Timed.{Timed, Waiting, depth, room_of, is_due}
+use Rattle.diva_core.specs.Cycle.{cycle_of}
+
+-- claim by claim, a list is what the table gives from a state on: the claim at place j is the record that is due after j
+-- steps. Where the machine ends before, any claim is right
+abbrev pub AreDue : State → List Record → Type 0
+AreDue s claims =
+    (j : ℕ) → j < length claims → goes_on (steps j s) ≡ true → slice_get claims j ≡ Some (record_of (steps j s))
+
+-- a list is right for a machine: the claims that there is room for are due behind those that are pending, and it is not
+-- empty where a claim has to be handed over
+pub record IsRight (m : Timed) (list : List Record) : Type 0 where
+  pub claims : AreDue (steps (length m.pending) m.arch) (take (room_of m) list)
+  pub prompt : is_due m ≡ true → list ≢ []
+
+-- each list of a run is right for the machine that it is handed to
+abbrev pub AreRight : Timed → List (List Record) → Type 0
+AreRight m [] = Unit {0}
+AreRight m (list ∷ rest) = IsRight m list × AreRight (cycle_of m list) rest
+
+-- how many cycles it takes at most until a claim can commit: those until the oldest pending claim is ready, one at least;
+-- where nothing is pending a claim is accepted in the next cycle, and is ready six cycles later
+abbrev pub wait_by : Timed → List Waiting → ℕ
+wait_by m [] = depth + 1
+wait_by m (p ∷ rest) = max 1 ((p.cycle + depth) - m.cycles)
+
+abbrev pub wait_of : Timed → ℕ
+wait_of m = wait_by m m.pending
+
+abbrev pub claim_of : Waiting → Record
+claim_of p = p.claim
+
+-- no instruction runs solo, what is pending is due, and a commit can come before the watchdog barks
+pub record IsCalmRunning (m : Timed) : Type 0 where
+  pub running : m.solo ≡ None
+  pub claims : AreDue m.arch (map claim_of m.pending)
+  pub waits : m.idle + wait_of m ≤ m.sizes.limit
+
+-- a machine is calm: it has ended, or it runs as above
+abbrev pub IsCalm : Timed → Type 0
+IsCalm m = goes_on m.arch ≡ true → IsCalmRunning m
+
+-- no flush came between two machines, and the later one is calm
+pub record StaysCalm (m last : Timed) : Type 0 where
+  pub calm : IsCalm last
+  pub flushes : last.flushes ≡ m.flushes
+  pub silent : last.silent ≡ m.silent
