@@ -11,10 +11,9 @@ use diva_isa::record_of;
 pub struct Lockstep;
 
 impl Core for Lockstep {
-    ghost use Rattle.std.specs.Prelude.{◌≡◌};
-    ghost use Rattle.diva_tape.specs.Lists.{lockstep_call};
+    ghost use Rattle.diva_tape.specs.Lists.{IsLockstepCall};
 
-    ghost gives = { λ before told state list after. list ≡ lockstep_call told state };
+    ghost gives = { IsLockstepCall };
 
     fn cycle(&mut self, told: &Told, view: &View<'_>, out: &mut Claims) {
         if told.pending == 0 && told.room > 0 {
