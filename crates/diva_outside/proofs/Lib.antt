@@ -1,3 +1,4 @@
 -- The lemmas of this crate.
 pub mod Radix
 pub mod Sinks
+pub mod Splitting

@@ -2,6 +2,7 @@
 pub mod Causes
 pub mod Faults
 pub mod Files
+pub mod Lines
 pub mod MemFiles
 pub mod MemSink
 pub mod Named
@@ -9,3 +10,4 @@ pub mod Numbers
 pub mod Sink
 pub mod StdSink
 pub mod Text
+pub mod Words

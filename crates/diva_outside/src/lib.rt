@@ -12,6 +12,7 @@
 //! - `mem_sink`: `MemSink`, a sink in memory, where puts fail as a test asks for it.
 //! - `sure_sink`: `SureSink`, a sink that never fails.
 //! - `line`: `Line`, a line of text, written piece by piece.
+//! - `text_lines`: `lines`, the lines of a text. `line_words`: `words`, the words of a line.
 //! - `numbers`: the hex and decimal numbers that words spell.
 //! - `tests`: the files, the sinks and the numbers, each with a worked answer.
 #![tactic(auto)]
@@ -20,6 +21,7 @@ mod disk_files;
 mod faults;
 mod files;
 mod line;
+mod line_words;
 mod mem_file;
 mod mem_files;
 mod mem_sink;
@@ -30,10 +32,12 @@ mod sure_files;
 mod sure_sink;
 #[cfg(test)]
 mod tests;
+mod text_lines;
 
 pub use disk_files::DiskFiles;
 pub use files::{Files, LoadFault, What};
 pub use line::Line;
+pub use line_words::{LineWords, words};
 pub use mem_file::MemFile;
 pub use mem_files::MemFiles;
 pub use mem_sink::{Fail, MemSink};
@@ -42,3 +46,4 @@ pub use sink::{Sink, SinkFailed, put_lines};
 pub use std_sink::StdSink;
 pub use sure_files::SureFiles;
 pub use sure_sink::SureSink;
+pub use text_lines::{TextLines, lines};
