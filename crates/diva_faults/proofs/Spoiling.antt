@@ -1,0 +1,98 @@
+-- Turns of a core under a script, seen as turns of the core that was lent.
+use Rattle.std.proofs.Common.{◌≡◌, ℕ, List, [], ◌∷◌, length, refl, sym, ◌∙◌, ap, subst, arith}
+use Rattle.diva_isa.specs.State.{State}
+use Rattle.diva_isa.specs.declared.record.Record.{Record}
+use Rattle.diva_core.specs.Cycle.{cycle_of}
+use Rattle.diva_core.specs.Log.{Meaning, IsLog, Turns}
+use Rattle.diva_core.specs.Timed.{Timed}
+use Rattle.diva_core.specs.Told.{Notice, notice_of}
+use Rattle.diva_faults.specs.declared.rows.Row.{Row}
+use Rattle.diva_faults.specs.declared.faulty.Faulty.{Faulty}
+use Rattle.diva_faults.specs.Lists.{scripted}
+use Rattle.diva_faults.specs.Spoiled.{IsSpoiled, IsSpoiledCall, spoiled, spoiled_call, inside, lent_name, rows_in}
+
+-- ---- no rows
+
+pub scripted-none : (now : ℕ) (list : List Record) → scripted [] now list ≡ list
+unfolding scripted
+scripted-none now list = refl
+
+module _ {C : Type 0} (gives : Meaning C) (before : C) (told : Notice) (s : State) (list : List Record) (after : C) where
+  pub spoiled-none : gives before told s list after → spoiled [] gives before told s list after
+  spoiled-none given = record { inner = list; given = given; laid = sym (scripted-none told.cycle list) }
+
+  pub none-spoiled : spoiled [] gives before told s list after → gives before told s list after
+  none-spoiled h =
+      let P : List Record → Type 0 = λ l. gives before told s l after in
+      subst P (sym (h.laid ∙ scripted-none told.cycle h.inner)) h.given
+
+-- ---- logs of a core that has another one inside
+
+-- each call of the outer core is one of the inner core, where the outer core keeps a fact
+pub record IsOver {A B : Type 0} (outer : Meaning A) (inner : Meaning B) (within : A → B) (Keeps : A → Type 0) : Type 0 where
+  pub call : (before : A) (told : Notice) (s : State) (list : List Record) (after : A) → Keeps before → outer before told s list after
+      → Keeps after × inner (within before) told s list (within after)
+
+-- what a log of the outer core gives
+pub record IsLedWithin {A B : Type 0} (inner : Meaning B) (within : A → B) (Keeps : A → Type 0) (m : Timed) (core : A) (log : List (List Record × A)) (last : Timed) (final : A) : Type 0 where
+  pub turns : List (List Record × B)
+  pub good : IsLog inner m (within core) turns last (within final)
+  pub many : length turns ≡ length log
+  pub keeps : Keeps final
+
+module _ {A B : Type 0} (outer : Meaning A) (inner : Meaning B) (within : A → B) (Keeps : A → Type 0) (over : IsOver outer inner within Keeps) where
+  IsLog-within : (m : Timed) (core : A) (log : List (List Record × A)) (last : Timed) (final : A)
+      → Keeps core → IsLog outer m core log last final
+      → IsLedWithin inner within Keeps m core log last final
+  IsLog-within m core [] last final keeps h =
+      record { turns = []; good = (h.0, ap within h.1); many = refl; keeps = subst Keeps (sym h.1) keeps }
+  IsLog-within m core (turn ∷ rest) last final keeps h =
+      let one : Keeps turn.1 × inner (within core) (notice_of m) m.arch turn.0 (within turn.1) = over.call core (notice_of m) m.arch turn.0 turn.1 keeps h.1.0 in
+      let more : IsLedWithin inner within Keeps (cycle_of m turn.0) turn.1 rest last final = IsLog-within (cycle_of m turn.0) turn.1 rest last final one.0 h.1.1 in
+      record { turns = (turn.0, within turn.1) ∷ more.turns; good = (h.0, (one.1, more.good)); many = (let e = more.many in omega arith); keeps = more.keeps }
+
+  -- the turns of the outer core are turns of the inner core
+  pub Turns-within : (m : Timed) (core : A) (last : Timed) (final : A)
+      → Keeps core → Turns outer m core last final
+      → Turns inner m (within core) last (within final) × Keeps final
+  Turns-within m core last final keeps t =
+      let led = IsLog-within m core t.log last final keeps t.good in
+      (record { log = led.turns; good = led.good; each = (let e = t.each in let f = led.many in omega arith) }, led.keeps)
+
+-- ---- a core under a script
+
+-- what it keeps: the rows of its script, and the reference to the core that was lent
+record Keeps {C : Type 0} (rows : List Row) (name : ℕ) (f : Faulty C) : Type 0 where
+  script : rows_in f ≡ rows
+  core : lent_name f ≡ name
+
+one_call :
+    {C : Type 0} (gives : Meaning C) (rows : List Row) (name : ℕ) (before : Faulty C) (told : Notice) (s : State) (list : List Record) (after : Faulty C)
+    → Keeps rows name before → spoiled_call gives before told s list after
+    → Keeps rows name after × spoiled rows gives (inside before) told s list (inside after)
+one_call gives rows name before told s list after keeps h = (
+  record { script = h.same_script ∙ keeps.script; core = h.same_core ∙ keeps.core },
+  record { inner = h.spoils.inner; given = h.spoils.given; laid = h.spoils.laid ∙ ap (λ rows. scripted rows told.cycle h.spoils.inner) keeps.script },
+)
+
+-- the turns of a core under a script, told of the core that was lent: `after` is what its owner has where the loan is over
+pub Turns-spoiled :
+    {C : Type 0} (gives : Meaning C) (rows : List Row) (m : Timed) (core : C) (f : Faulty C) (last : Timed) (final : Faulty C) (after : C)
+    → inside f ≡ core
+    → rows_in f ≡ rows
+    → (lent_name f ≡ lent_name final → after ≡ inside final)
+    → Turns (spoiled_call gives) m f last final
+    → Turns (spoiled rows gives) m core last after
+Turns-spoiled {C} gives rows m core f last final after lent script ends t =
+    let w : Turns (spoiled rows gives) m (inside f) last (inside final) × Keeps rows (lent_name f) final =
+    Turns-within (spoiled_call gives) (spoiled rows gives) inside (Keeps rows (lent_name f)) (record { call = one_call gives rows (lent_name f) }) m f last final (record { script = script; core = refl }) t in
+    rw (← lent, ends (sym w.1.core)) w.0
+
+-- without rows, the turns of a core are its turns under the script, and the other way round
+pub Turns-none : {C : Type 0} (gives : Meaning C) (m : Timed) (core : C) (last : Timed) (after : C) → Turns gives m core last after → Turns (spoiled [] gives) m core last after
+Turns-none gives m core last after t =
+    (Turns-within gives (spoiled [] gives) (λ c. c) (λ _. Unit {0}) (record { call = λ before told s list after k h. (tt, spoiled-none gives before told s list after h) }) m core last after tt t).0
+
+pub none-Turns : {C : Type 0} (gives : Meaning C) (m : Timed) (core : C) (last : Timed) (after : C) → Turns (spoiled [] gives) m core last after → Turns gives m core last after
+none-Turns gives m core last after t =
+    (Turns-within (spoiled [] gives) gives (λ c. c) (λ _. Unit {0}) (record { call = λ before told s list after k h. (tt, none-spoiled gives before told s list after h) }) m core last after tt t).0

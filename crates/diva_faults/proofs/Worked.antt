@@ -1,0 +1,23 @@
+-- Scripts and lists that were worked out by hand.
+use Rattle.std.proofs.Common.{◌≡◌, ℕ, List, [], ◌∷◌, refl}
+use Rattle.std.specs.Prelude.{codes, Result, Ok, Err}
+use Rattle.diva_core.specs.declared.differences.Field.TheVariants.{Value}
+use Rattle.diva_isa.specs.declared.record.Record.{Record}
+use Rattle.diva_outside.specs.Lines.{LineFault}
+use Rattle.diva_outside.specs.Numbers.{decimal_of, hex_of}
+use Rattle.diva_outside.specs.Words.{words_in}
+use Rattle.diva_faults.specs.declared.rows.Change.TheVariants.{Flip, Double}
+use Rattle.diva_faults.specs.declared.rows.Row.TheVariants.{Lane, Hush}
+use Rattle.diva_faults.specs.declared.rows.Row.{Row}
+use Rattle.diva_faults.specs.Lists.{scripted}
+use Rattle.diva_faults.specs.Reading.{number_in, hex_in, field_in, flip_in, set_in, change_in, lane_in, hush_in, part_in, row_in, line_in, script_of}
+
+abbrev Script : Type 0
+Script = Result (List Row) LineFault
+
+abbrev fault : ℕ → ℕ → Script
+fault line kind = Err (record { line = line; kind = kind })
+
+hush_in_cycle_0 : script_of (codes "at 0 hush 3") ≡ fault 1 2
+unfolding script_of line_in row_in number_in words_in decimal_of
+hush_in_cycle_0 = refl

@@ -1,0 +1,12 @@
+use Rattle.std.proofs.Common.{sym, arith}
+use Rattle.diva_faults.proofs.Laying.{before_first, behind_end}
+use Rattle.diva_faults.proofs.schedule.Schedule.lay.Goals as goal
+use Rattle.diva_faults.proofs.schedule.Schedule.lay.Goals.{else-self-cycle-via-then-self-cycle+else-cycle-self, else-self-cycle-via-else-self-cycle}
+
+pub returns-else-self-cycle : goal.returns-else-self-cycle
+returns-else-self-cycle c =
+    rw (← c.self.view_is)
+    (elim c.else-self-cycle.branch [
+      | else-self-cycle-via-then-self-cycle+else-cycle-self w ↦ sym (behind_end c.args.cycle c.self.inside.end c.self.inside.rows.items c.args.list.now c.self.invariant.ends (omega arith))
+      | else-self-cycle-via-else-self-cycle w ↦ sym (before_first c.args.cycle c.self.inside.first c.self.inside.rows.items c.args.list.now c.self.invariant.begins (omega arith))
+    ])

@@ -1,0 +1,7 @@
+pub mod Gives
+pub mod Kinds
+pub mod Lists
+pub mod Reading
+pub mod Rows
+pub mod Schedules
+pub mod Spoiled

@@ -1,0 +1,53 @@
+-- What a script makes of the list that a core hands over.
+use Rattle.std.specs.Prelude.{ℕ, ◌+◌, ◌^◌, ◌==◌, ◌&&◌, nat_le, nat_lt, bit_xor, Bool, false, List, [], ◌∷◌, ◌++◌, length, take, drop, fold, slice_get, Option, Some, None, if◌then◌else◌}
+use Rattle.std.specs.List.{list_any}
+use Rattle.diva_isa.specs.declared.record.Record.{Record}
+use Rattle.diva_core.specs.declared.differences.Field.{Field}
+use Rattle.diva_core.specs.declared.differences.Field.TheVariants.{Pc, Word, Src1, Src2, Addr, Value, Next, End}
+use Rattle.diva_core.specs.Difference.{field_of}
+use Rattle.diva_faults.specs.declared.rows.Change.{Change}
+use Rattle.diva_faults.specs.declared.rows.Change.TheVariants.{Flip, Set, Lose, Double}
+use Rattle.diva_faults.specs.declared.rows.Row.{Row}
+use Rattle.diva_faults.specs.declared.rows.Row.TheVariants.{Lane, Hush}
+use Rattle.diva_faults.specs.Rows.{row_cycle}
+
+-- a record with another value in a field
+abbrev pub with_field : Field → ℕ → Record → Record
+with_field Pc value r = record r { pc = value }
+with_field Word value r = record r { word = value }
+with_field Src1 value r = record r { src1 = value }
+with_field Src2 value r = record r { src2 = value }
+with_field Addr value r = record r { addr = value }
+with_field Value value r = record r { value = value }
+with_field Next value r = record r { next = value }
+with_field End value r = record r { end = value }
+
+-- what stands in the place of a claim after a change, in a list of `count` claims
+abbrev pub changed : Change → (count : ℕ) → Record → List Record
+changed (Flip field bit) count claim = with_field field (bit_xor (field_of field claim) (2 ^ bit)) claim ∷ []
+changed (Set field value) count claim = with_field field value claim ∷ []
+changed Lose count claim = []
+changed Double count claim = if count == 8 then claim ∷ [] else claim ∷ claim ∷ []
+
+-- the list with the claim in a lane changed, if there is one
+abbrev pub change_at : Change → ℕ → List Record → Option Record → List Record
+change_at change lane list None = list
+change_at change lane list (Some claim) = take lane list ++ changed change (length list) claim ++ drop (lane + 1) list
+
+-- the list after a row; a hush does nothing yet
+abbrev pub laid : Row → List Record → List Record
+laid (Lane cycle lane change) list = change_at change lane list (slice_get list lane)
+laid (Hush cycle cycles) list = list
+
+-- the list after a row in the cycle `now`
+abbrev pub laid_in : (now : ℕ) → List Record → Row → List Record
+laid_in now list row = if row_cycle row == now then laid row list else list
+
+-- the row is a hush that lasts in the cycle `now`
+abbrev pub is_hush_in : (now : ℕ) → Row → Bool
+is_hush_in now (Lane cycle lane change) = false
+is_hush_in now (Hush cycle cycles) = nat_le cycle now && nat_lt now (cycle + cycles)
+
+-- the list after the rows of a script in the cycle `now`: first those that change lanes, in their order, and then the hushes
+unfoldable pub scripted : List Row → (now : ℕ) → List Record → List Record
+scripted rows now list = if list_any (is_hush_in now) rows then [] else fold (laid_in now) list rows

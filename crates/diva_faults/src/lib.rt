@@ -1,0 +1,27 @@
+//! Fault scripts: what is to go wrong in a core, cycle by cycle.
+//!
+//! - `rows`: what a row of a script does, `Row` and `Change`.
+//! - `script`: the rows of a text, `Script`. `reading`: how they are read, line by line and word by word. `fault`: why a
+//!   text is no script, `ScriptFault`.
+//! - `faulty`: a core under a script, `Faulty`. `laws`: what holds of every script.
+//! - `schedule`: the rows of a script by cycle. `lanes`: what a row makes of a list.
+//!
+//! `specs/Reading.antt` has the script of a text, `specs/Lists.antt` what a script makes of a list, `specs/Spoiled.antt`
+//! what a core under a script means.
+#![tactic(auto)]
+
+mod fault;
+mod faulty;
+mod lanes;
+pub mod laws;
+mod reading;
+mod rows;
+mod schedule;
+mod script;
+#[cfg(test)]
+mod tests;
+
+pub use fault::ScriptFault;
+pub use faulty::Faulty;
+pub use rows::{Change, Row};
+pub use script::Script;

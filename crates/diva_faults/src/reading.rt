@@ -1,0 +1,260 @@
+// The rows of a text, or its first fault.
+ghost use Rattle.std.specs.Prelude.{◌≡◌, ◌≤◌, ◌<◌, length, bit_and, find, IfOk, IfErr, IfSome, Ok};
+ghost use Rattle.std.specs.List.{All};
+ghost use Rattle.std.specs.Str.{bytes_eq};
+ghost use Rattle.diva_core.specs.Difference.{all_fields};
+ghost use Rattle.diva_outside.specs.Words.{words_of};
+ghost use Rattle.diva_faults.specs.declared.fault.ScriptFault.TheVariants.{Bad};
+ghost use Rattle.diva_faults.specs.Gives.{IsFirstFault};
+ghost use Rattle.diva_faults.specs.Kinds.{number_of_kind};
+ghost use Rattle.diva_faults.specs.Reading.{and_no_more, change_in, field_in, first_by, flip_in, hex_in, hush_in, lane_in, line_in, number_in, others_of, part_in, row_in, script_of, set_in};
+ghost use Rattle.diva_faults.specs.Rows.{field_name, IsChange, IsCycle, IsRow, IsWithin};
+
+use crate::fault::{Kind, ScriptFault};
+use crate::rows::{Change, Row};
+use diva_core::Field;
+use diva_outside::{LineWords, decimal, hex, lines, words};
+use std::alloc::Global;
+
+/// The most rows that a script has.
+const MOST_ROWS: usize = 4096;
+
+/// The rows of a text in their order, or its first fault.
+#[tactic(auto, unfolding(crate::specs::Reading::script_of))]
+pub(crate) fn read_rows(alloc: Global, text: &[u8]) -> Result<Vec<Row>, ScriptFault>
+    ensures rows { IfOk result (λ rows. script_of text.now ≡ Ok rows.items) }
+    ensures ranges { IfOk result (λ rows. All IsRow rows.items) }
+    ensures fault { IfErr result (IsFirstFault (script_of text.now)) }
+{
+    let mut rows = Vec::new(alloc);
+    let mut number = 0;
+    for line in lines(text) {
+        number += 1;
+        match line_in(line) {
+            Ok(Some(row)) => {
+                if rows.len() == MOST_ROWS {
+                    return Err(bad(number, Kind::RowCount));
+                }
+                if rows.push(row).is_err() {
+                    return Err(ScriptFault::Memory);
+                }
+            }
+            Ok(None) => {}
+            Err(kind) => return Err(bad(number, kind)),
+        }
+    }
+    Ok(rows)
+}
+
+/// The row of a line, if it has words.
+#[tactic(auto, unfolding(crate::specs::Reading::line_in))]
+fn line_in(line: &[u8]) -> Result<Option<Row>, Kind>
+    ensures row { result ≡ line_in (words_of line.now) }
+    ensures ranges { IfOk result (λ row. IfSome row IsRow) }
+{
+    let mut words = words(line);
+    match words.next() {
+        Some(word) => Ok(Some(row_in(word, &mut words)?)),
+        None => Ok(None),
+    }
+}
+
+/// `at C`, and what follows.
+#[tactic(auto, unfolding(crate::specs::Reading::row_in))]
+fn row_in(word: &[u8], words: &mut LineWords<'_>) -> Result<Row, Kind>
+    ensures row { result ≡ row_in word.now words.old }
+    ensures ranges { IfOk result IsRow }
+{
+    if !is_word(word, b"at") {
+        return Err(Kind::Keyword);
+    }
+    let cycle = first_number(words, 1, 1_000_000_000)?;
+    part_in(cycle, words)
+}
+
+/// After `at C`: `lane L` and a change, or `hush K`.
+#[tactic(auto, unfolding(crate::specs::Reading::part_in))]
+fn part_in(cycle: u32, words: &mut LineWords<'_>) -> Result<Row, Kind>
+    requires { IsCycle cycle }
+    ensures row { result ≡ part_in cycle words.old }
+    ensures ranges { IfOk result IsRow }
+{
+    let Some(word) = words.next() else {
+        return Err(Kind::WordCount);
+    };
+    if is_word(word, b"lane") {
+        lane_in(cycle, words)
+    } else if is_word(word, b"hush") {
+        hush_in(cycle, words)
+    } else {
+        Err(Kind::Keyword)
+    }
+}
+
+/// After `hush`: K.
+#[tactic(auto, unfolding(crate::specs::Reading::hush_in))]
+fn hush_in(cycle: u32, words: &mut LineWords<'_>) -> Result<Row, Kind>
+    requires { IsCycle cycle }
+    ensures row { result ≡ hush_in cycle words.old }
+    ensures ranges { IfOk result IsRow }
+{
+    let cycles = first_number(words, 1, 1_000_000_000)?;
+    no_more(words)?;
+    Ok(Row::Hush { cycle, cycles })
+}
+
+/// After `lane`: L and a change.
+#[tactic(auto, unfolding(crate::specs::Reading::lane_in))]
+fn lane_in(cycle: u32, words: &mut LineWords<'_>) -> Result<Row, Kind>
+    requires { IsCycle cycle }
+    ensures row { result ≡ lane_in cycle words.old }
+    ensures ranges { IfOk result IsRow }
+{
+    let lane = first_number(words, 0, 7)? as u8;
+    let change = change_in(words)?;
+    Ok(Row::Lane {
+        cycle,
+        lane,
+        change,
+    })
+}
+
+/// `flip FIELD B`, `set FIELD H`, `lose` or `double`.
+#[tactic(auto, unfolding(crate::specs::Reading::change_in))]
+fn change_in(words: &mut LineWords<'_>) -> Result<Change, Kind>
+    ensures change { result ≡ change_in words.old }
+    ensures ranges { IfOk result IsChange }
+{
+    let Some(word) = words.next() else {
+        return Err(Kind::WordCount);
+    };
+    if is_word(word, b"flip") {
+        flip_in(words)
+    } else if is_word(word, b"set") {
+        set_in(words)
+    } else if is_word(word, b"lose") {
+        no_more(words)?;
+        Ok(Change::Lose)
+    } else if is_word(word, b"double") {
+        no_more(words)?;
+        Ok(Change::Double)
+    } else {
+        Err(Kind::Keyword)
+    }
+}
+
+/// After `flip`: FIELD B.
+#[tactic(auto, unfolding(crate::specs::Reading::flip_in))]
+fn flip_in(words: &mut LineWords<'_>) -> Result<Change, Kind>
+    ensures change { result ≡ flip_in words.old }
+    ensures ranges { IfOk result IsChange }
+{
+    let field = first_field(words)?;
+    let bit = first_number(words, 0, 31)? as u8;
+    no_more(words)?;
+    Ok(Change::Flip { field, bit })
+}
+
+/// After `set`: FIELD H.
+#[tactic(auto, unfolding(crate::specs::Reading::set_in))]
+fn set_in(words: &mut LineWords<'_>) -> Result<Change, Kind>
+    ensures change { result ≡ set_in words.old }
+    ensures ranges { IfOk result IsChange }
+{
+    let field = first_field(words)?;
+    let value = first_hex(words)?;
+    no_more(words)?;
+    Ok(Change::Set { field, value })
+}
+
+/// The next word as a decimal number from `low` to `high`.
+#[tactic(auto, unfolding(crate::specs::Reading::number_in))]
+fn first_number(words: &mut LineWords<'_>, low: u32, high: u32) -> Result<u32, Kind>
+    ensures number { result ≡ first_by (number_in low high) words.old }
+    ensures others { words.new ≡ others_of words.old }
+    ensures range { IfOk result (IsWithin low high) }
+{
+    let Some(word) = words.next() else {
+        return Err(Kind::WordCount);
+    };
+    match decimal(word) {
+        Some(number) if u64::from(low) <= number && number <= u64::from(high) => Ok(number as u32),
+        _ => Err(Kind::Number),
+    }
+}
+
+/// The next word as a number of one to eight hex digits.
+#[tactic(auto, unfolding(crate::specs::Reading::hex_in))]
+fn first_hex(words: &mut LineWords<'_>) -> Result<u32, Kind>
+    ensures number { result ≡ first_by hex_in words.old }
+    ensures others { words.new ≡ others_of words.old }
+{
+    match words.next() {
+        Some(word) => hex(word).ok_or(Kind::Number),
+        None => Err(Kind::WordCount),
+    }
+}
+
+/// The next word as a field's name.
+#[tactic(auto, unfolding(crate::specs::Reading::field_in))]
+fn first_field(words: &mut LineWords<'_>) -> Result<Field, Kind>
+    ensures field { result ≡ first_by field_in words.old }
+    ensures others { words.new ≡ others_of words.old }
+{
+    match words.next() {
+        Some(word) => field_named(word).ok_or(Kind::FieldName),
+        None => Err(Kind::WordCount),
+    }
+}
+
+/// The field of a name.
+fn field_named(word: &[u8]) -> Option<Field>
+    ensures { result ≡ find (λ field. bytes_eq word.now (field_name field)) all_fields }
+{
+    Field::ALL
+        .iter()
+        .copied()
+        .find(|field| is_word(word, field_name(*field)))
+}
+
+/// How a script names a field.
+fn field_name(field: Field) -> &'static [u8]
+    ensures { result.now ≡ field_name field }
+{
+    match field {
+        Field::Pc => b"pc",
+        Field::Word => b"word",
+        Field::Src1 => b"src1",
+        Field::Src2 => b"src2",
+        Field::Addr => b"addr",
+        Field::Value => b"value",
+        Field::Next => b"next",
+        Field::End => b"end",
+    }
+}
+
+fn is_word(word: &[u8], name: &[u8]) -> bool
+    ensures { result ≡ bytes_eq word.now name.now }
+{
+    word == name
+}
+
+/// There is no further word.
+fn no_more(words: &mut LineWords<'_>) -> Result<(), Kind>
+    ensures { result ≡ and_no_more tt words.old }
+{
+    match words.next() {
+        Some(_) => Err(Kind::WordCount),
+        None => Ok(()),
+    }
+}
+
+/// The fault of a line.
+fn bad(line: u64, kind: Kind) -> ScriptFault
+    ensures { result ≡ Bad line (number_of_kind kind) }
+{
+    ScriptFault::Bad {
+        line,
+        kind: kind.number(),
+    }
+}

@@ -1,0 +1,84 @@
+// What the rows of a script do.
+ghost use Rattle.std.specs.Prelude.{◌≡◌};
+ghost use Rattle.diva_faults.specs.Rows.{row_cycle, IsRow};
+ghost use Rattle.diva_faults.specs.Schedules.{end_of, hush_end};
+
+use diva_core::Field;
+
+/// What is done to the claim in a lane.
+#[derive(Clone, Copy, Debug, PartialEq, Eq)]
+pub enum Change {
+    /// One bit of a field is inverted.
+    Flip {
+        /// The field.
+        field: Field,
+        /// The bit: 0 to 31, 0 being the lowest.
+        bit: u8,
+    },
+    /// A field gets a value.
+    Set {
+        /// The field.
+        field: Field,
+        /// The value.
+        value: u32,
+    },
+    /// The claim is removed, and those behind it close up.
+    Lose,
+    /// A copy stands directly behind the claim, but in a list of eight.
+    Double,
+}
+
+/// One row of a script.
+#[derive(Clone, Copy, Debug, PartialEq, Eq)]
+pub enum Row {
+    /// The claim in a lane of one cycle's list is changed. A lane at or past the list's end has none.
+    Lane {
+        /// The cycle: 1 to 1,000,000,000.
+        cycle: u32,
+        /// The lane: 0 to 7, 0 being the first claim of the list.
+        lane: u8,
+        /// What is done to the claim.
+        change: Change,
+    },
+    /// Nothing is handed over in some cycles: their lists are emptied, after all that other rows do.
+    Hush {
+        /// The first of these cycles: 1 to 1,000,000,000.
+        cycle: u32,
+        /// How many there are: 1 to 1,000,000,000.
+        cycles: u32,
+    },
+}
+
+impl Row {
+    /// The cycle that the row names.
+    pub(crate) fn cycle(&self) -> u32
+        ensures { result ≡ row_cycle self.now }
+    {
+        match self {
+            Row::Lane { cycle, .. } => *cycle,
+            Row::Hush { cycle, .. } => *cycle,
+        }
+    }
+
+    /// The cycle behind the last one that the row touches.
+    pub(crate) fn end(&self) -> u32
+        requires { IsRow self.now }
+        ensures { result ≡ end_of self.now }
+    {
+        match self {
+            Row::Lane { cycle, .. } => cycle + 1,
+            Row::Hush { cycle, cycles } => cycle + cycles,
+        }
+    }
+
+    /// The cycle behind the last one of a hush, 0 for another row.
+    pub(crate) fn hush_end(&self) -> u32
+        requires { IsRow self.now }
+        ensures { result ≡ hush_end self.now }
+    {
+        match self {
+            Row::Lane { .. } => 0,
+            Row::Hush { .. } => self.end(),
+        }
+    }
+}

@@ -1,0 +1,180 @@
+// The rows of a script by cycle.
+ghost use Rattle.std.specs.Prelude.{◌≡◌, ◌+◌, ◌≤◌, ◌<◌, ℕ, [], length, take, fold, slice_index, nat_lt, IfOk};
+ghost use Rattle.std.specs.List.{All};
+ghost use Rattle.std.specs.List.Sorted.{IsNonDecreasingBy, IsPartitionPoint};
+ghost use Rattle.diva_faults.specs.Lists.{laid, scripted};
+ghost use Rattle.diva_faults.specs.Rows.{row_cycle, IsRow};
+ghost use Rattle.diva_faults.specs.Schedules.{AreLike, end_of, hush_end, latest_end};
+
+use crate::rows::Row;
+use diva_core::Claims;
+use std::alloc::{AllocError, Global};
+use std::marker::Model;
+
+/// The rows of a script in the order of their cycles, those of one cycle in the file's order.
+///
+/// A cycle before the first that a row touches, or behind the last, costs two comparisons; any other costs two binary
+/// searches and the rows that name it.
+#[derive(Debug, Drop)]
+pub(crate) struct Schedule {
+    rows: Vec<Row>,
+    /// Beside each row, the cycle behind the last one of the hushes up to it, 0 where there is none.
+    hush_ends: Vec<u32>,
+    /// The first cycle that a row touches.
+    first: u64,
+    /// The cycle behind the last one that a row touches.
+    end: u64,
+}
+
+impl Model for Schedule {
+    ghost use Rattle.std.specs.Prelude.{List};
+    ghost use Rattle.diva_faults.specs.declared.rows.Row.{Row};
+    ghost use Rattle.diva_faults.specs.Schedules.{IsSchedule};
+
+    ghost Value = { List Row };
+
+    ghost view = { λ s. s.rows.items };
+
+    ghost invariant = { λ s. IsSchedule s.rows.items s.hush_ends.items s.first s.end };
+}
+
+impl Schedule {
+    /// The schedule of no rows.
+    pub(crate) fn none(alloc: Global) -> Self
+        ensures { result ≡ [] }
+    {
+        Schedule {
+            rows: Vec::new(alloc),
+            hush_ends: Vec::new(alloc),
+            first: u64::MAX,
+            end: 0,
+        }
+    }
+
+    /// The schedule of some rows.
+    pub(crate) fn new(alloc: Global, rows: &[Row]) -> Result<Self, AllocError>
+        requires { All IsRow rows.now }
+        ensures { IfOk result (λ schedule. AreLike schedule rows.now) }
+    {
+        let rows = by_cycle(alloc, rows)?;
+        let hush_ends = hush_ends_of(alloc, &rows)?;
+        let first = first_of(&rows);
+        let end = end_of(&rows);
+        Ok(Schedule {
+            rows,
+            hush_ends,
+            first,
+            end,
+        })
+    }
+
+    /// Lays the rows of a cycle over a list.
+    #[inline]
+    pub(crate) fn lay(&self, cycle: u64, list: &mut Claims)
+        ensures { list.new ≡ scripted self.now cycle list.old }
+    {
+        if self.first <= cycle && cycle < self.end {
+            self.lay_found(cycle, list);
+        }
+    }
+
+    /// The same, by looking the rows up.
+    #[inline(never)]
+    fn lay_found(&self, cycle: u64, list: &mut Claims)
+        ensures { list.new ≡ scripted self.now cycle list.old }
+    {
+        let begun = begun_by(&self.rows, cycle);
+        let rows = &self.rows[..begun];
+        let earlier = begun_before(rows, cycle);
+        lay_all(&rows[earlier..], list);
+        if self.is_hushed(begun, cycle) {
+            list.clear();
+        }
+    }
+
+    /// Whether one of the first `begun` rows is a hush that ends behind a cycle.
+    fn is_hushed(&self, begun: usize, cycle: u64) -> bool
+        requires { begun ≤ length self.now }
+        ensures { result ≡ nat_lt cycle (latest_end (take begun self.now)) }
+    {
+        begun > 0 && cycle < u64::from(self.hush_ends[begun - 1])
+    }
+}
+
+/// The rows in the order of their cycles, those of one cycle in the order that they have.
+fn by_cycle(alloc: Global, rows: &[Row]) -> Result<Vec<Row>, AllocError>
+    requires { All IsRow rows.now }
+    ensures ranges { IfOk result (λ sorted. All IsRow sorted.items) }
+    ensures sorted { IfOk result (λ sorted. IsNonDecreasingBy row_cycle sorted.items) }
+    ensures same { IfOk result (λ sorted. AreLike sorted.items rows.now) }
+{
+    let mut sorted = rows.to_vec(alloc)?;
+    sorted.sort_by_key(|row| row.cycle())?;
+    Ok(sorted)
+}
+
+/// How many rows name a cycle or an earlier one.
+fn begun_by(rows: &[Row], cycle: u64) -> usize
+    requires { IsNonDecreasingBy row_cycle rows.now }
+    ensures within { result ≤ length rows.now }
+    ensures begun { IsPartitionPoint (λ row. row_cycle row ≤ cycle) (λ row. cycle < row_cycle row) rows.now result }
+{
+    rows.partition_point(|row| u64::from(row.cycle()) <= cycle)
+}
+
+/// How many rows name a cycle before another.
+fn begun_before(rows: &[Row], cycle: u64) -> usize
+    requires { IsNonDecreasingBy row_cycle rows.now }
+    ensures within { result ≤ length rows.now }
+    ensures begun { IsPartitionPoint (λ row. row_cycle row < cycle) (λ row. cycle ≤ row_cycle row) rows.now result }
+{
+    rows.partition_point(|row| u64::from(row.cycle()) < cycle)
+}
+
+/// Lays rows over a list, one after another.
+fn lay_all(rows: &[Row], list: &mut Claims)
+    requires { All IsRow rows.now }
+    ensures { list.new ≡ fold (λ list row. laid row list) list.old rows.now }
+{
+    for row in rows {
+        row.lay(list);
+    }
+}
+
+/// Beside each row, the latest end of the hushes up to it.
+fn hush_ends_of(alloc: Global, rows: &[Row]) -> Result<Vec<u32>, AllocError>
+    requires { All IsRow rows.now }
+    ensures beside { IfOk result (λ ends. length ends.items ≡ length rows.now) }
+    ensures latest { IfOk result (λ ends. (k : ℕ) → k < length rows.now → slice_index ends.items k ≡ latest_end (take (k + 1) rows.now)) }
+{
+    let mut ends = Vec::new(alloc);
+    let mut latest = 0;
+    for row in rows {
+        latest = latest.max(row.hush_end());
+        ends.push(latest)?;
+    }
+    Ok(ends)
+}
+
+/// The first cycle that a row touches.
+fn first_of(rows: &[Row]) -> u64
+    ensures { All (λ row. result ≤ row_cycle row) rows.now }
+{
+    let mut first = u64::MAX;
+    for row in rows {
+        first = first.min(u64::from(row.cycle()));
+    }
+    first
+}
+
+/// The cycle behind the last one that a row touches.
+fn end_of(rows: &[Row]) -> u64
+    requires { All IsRow rows.now }
+    ensures { All (λ row. end_of row ≤ result) rows.now }
+{
+    let mut end = 0;
+    for row in rows {
+        end = end.max(u64::from(row.end()));
+    }
+    end
+}

@@ -1,0 +1,90 @@
+// A script, as it is read.
+ghost use Rattle.std.specs.Prelude.{◌≡◌, [], Ok, IfOk, IfErr};
+ghost use Rattle.std.specs.List.{All};
+ghost use Rattle.diva_faults.specs.Gives.{IsFirstFault};
+ghost use Rattle.diva_faults.specs.Lists.{scripted};
+ghost use Rattle.diva_faults.specs.Reading.{script_of};
+ghost use Rattle.diva_faults.specs.Rows.{IsRow};
+
+use crate::fault::ScriptFault;
+use crate::reading::read_rows;
+use crate::rows::Row;
+use crate::schedule::Schedule;
+use diva_core::Claims;
+use std::alloc::{AllocError, Global};
+use std::marker::Model;
+
+/// The rows of a script: at most 4,096, in the order of the file.
+///
+/// No call but `read` takes memory.
+#[derive(Debug, Drop)]
+pub struct Script {
+    rows: Vec<Row>,
+    schedule: Schedule,
+}
+
+impl Model for Script {
+    ghost use Rattle.std.specs.Prelude.{List};
+    ghost use Rattle.std.specs.List.{All};
+    ghost use Rattle.diva_faults.specs.declared.rows.Row.{Row};
+    ghost use Rattle.diva_faults.specs.Rows.{IsRow};
+    ghost use Rattle.diva_faults.specs.Schedules.{AreLike};
+
+    ghost Value = { List Row };
+
+    ghost view = { λ s. s.rows.items };
+
+    ghost invariant = { λ s. All IsRow s.rows.items × AreLike s.schedule s.rows.items };
+}
+
+impl Script {
+    /// The script of a text, or its first fault.
+    ///
+    /// Lines without words are skipped. Every other line is a row: `at C lane L flip FIELD B`, `at C lane L set FIELD H`,
+    /// `at C lane L lose`, `at C lane L double` or `at C hush K`. C and K are 1 to 1,000,000,000, L is 0 to 7, B is 0 to
+    /// 31, all decimal; H is hex; FIELD is pc, word, src1, src2, addr, value, next or end.
+    pub fn read(alloc: Global, bytes: &[u8]) -> Result<Self, ScriptFault>
+        ensures rows { IfOk result (λ script. script_of bytes.now ≡ Ok script) }
+        ensures fault { IfErr result (IsFirstFault (script_of bytes.now)) }
+    {
+        let rows = read_rows(alloc, bytes)?;
+        match Script::of(alloc, rows) {
+            Ok(script) => Ok(script),
+            Err(_) => Err(ScriptFault::Memory),
+        }
+    }
+
+    /// The script that has no rows.
+    pub fn none(alloc: Global) -> Self
+        ensures { result ≡ [] }
+    {
+        Script {
+            rows: Vec::new(alloc),
+            schedule: Schedule::none(alloc),
+        }
+    }
+
+    /// The rows, in the order of the file.
+    pub fn rows(&self) -> &[Row]
+        ensures value { result.now ≡ self.now }
+        ensures ranges { All IsRow result.now }
+    {
+        &self.rows
+    }
+
+    /// Lays the rows of a cycle over the list of that cycle.
+    #[inline]
+    pub(crate) fn lay(&self, cycle: u64, list: &mut Claims)
+        ensures { list.new ≡ scripted self.now cycle list.old }
+    {
+        self.schedule.lay(cycle, list);
+    }
+
+    fn of(alloc: Global, rows: Vec<Row>) -> Result<Self, AllocError>
+        requires { All IsRow rows.items }
+        ensures { IfOk result (λ script. script ≡ rows.items) }
+    {
+        let schedule = Schedule::new(alloc, &rows)?;
+        Ok(Script { rows, schedule })
+    }
+}
