@@ -15,8 +15,8 @@ abbrev pub run : Leaf
 run = record {
   name = codes "run";
   positionals = codes "IMAGE" ∷ [];
-  options = codes "core" ∷ codes "width" ∷ codes "window" ∷ codes "stores" ∷ codes "watchdog"
-      ∷ codes "cycles" ∷ codes "dump" ∷ [];
+  options = codes "core" ∷ codes "script" ∷ codes "width" ∷ codes "window" ∷ codes "stores"
+      ∷ codes "watchdog" ∷ codes "cycles" ∷ codes "dump" ∷ [];
 }
 
 abbrev pub leaves : List Leaf

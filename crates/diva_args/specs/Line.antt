@@ -24,13 +24,14 @@ taken words = unless (fault_of diva words) (subcommand_of diva words)
 
 -- ---- jobs, by the value of each positional and option
 
-abbrev pub run_with : Option Text → Option CoreChoice → Option ℕ → Option ℕ → Option ℕ
+abbrev pub run_with : Option Text → Option CoreChoice → (script : Option Text) → Option ℕ → Option ℕ → Option ℕ
     → Option ℕ → Option ℕ → Option (Option DumpRange) → Option RunOptions
-run_with image core width window stores watchdog cycles dump =
+run_with image core script width window stores watchdog cycles dump =
     option_and_then (λ i. option_and_then (λ c. option_and_then (λ n. option_and_then (λ q.
     option_and_then (λ s. option_and_then (λ w. option_and_then (λ y. option_map (λ d. record {
       image = i;
       core = c;
+      script = script;
       width = n;
       window = q;
       stores = s;
@@ -39,11 +40,12 @@ run_with image core width window stores watchdog cycles dump =
       dump = d;
     }) dump) cycles) watchdog) stores) window) width) core) image
 
--- `run`; the image is the word as it is
+-- `run`; the image and the script are named by the words as they are
 unfoldable pub run_from : (Text → Option Text) → Option RunOptions
 run_from value = run_with
     (value (codes "IMAGE"))
     (core_of (value (codes "core")))
+    (value (codes "script"))
     (number_of 1 4 2 (value (codes "width")))
     (number_of 8 64 16 (value (codes "window")))
     (number_of 1 6 4 (value (codes "stores")))

@@ -17,6 +17,7 @@ pub record IsDump (addr len : ℕ) : Type 0 where
 pub record RunOptions : Type 0 where
   pub image : List ℕ
   pub core : CoreChoice
+  pub script : Option (List ℕ)
   pub width : ℕ
   pub window : ℕ
   pub stores : ℕ

@@ -22,7 +22,7 @@ static LEAVES: [Leaf; 1] = [Leaf {
     name: "run",
     positionals: &["IMAGE"],
     options: &[
-        "core", "width", "window", "stores", "watchdog", "cycles", "dump",
+        "core", "script", "width", "window", "stores", "watchdog", "cycles", "dump",
     ],
 }];
 

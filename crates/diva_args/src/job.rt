@@ -17,6 +17,9 @@ pub struct Run {
     pub image: FileName,
     /// `--core`: the core that the checker watches; the program's own where none is named.
     pub core: CoreChoice,
+    /// `--script`: the name of the file whose rows are laid over what the core hands over. It is the word as it is; with
+    /// no such word nothing is laid over.
+    pub script: Option<FileName>,
     /// `--width`: the claims accepted and judged in a cycle at most, 1 to 4; 2 by default.
     pub width: u32,
     /// `--window`: the claims pending at most, 8 to 64; 16 by default.
@@ -37,7 +40,7 @@ impl Model for Run {
 
     ghost Value = { RunOptions };
 
-    ghost view = { λ r. record { image = r.image; core = r.core; width = r.width; window = r.window; stores = r.stores; watchdog = r.watchdog; cycles = r.cycles; dump = r.dump } };
+    ghost view = { λ r. record { image = r.image; core = r.core; script = r.script; width = r.width; window = r.window; stores = r.stores; watchdog = r.watchdog; cycles = r.cycles; dump = r.dump } };
 
     ghost invariant = { λ r. IsRun r.width r.window r.stores r.watchdog r.cycles };
 }

@@ -11,7 +11,7 @@ use crate::file_name::FileName;
 use crate::job::{Job, Run};
 use crate::values::{core, dump, number};
 use clap::ArgMatches;
-use std::alloc::Global;
+use std::alloc::{AllocError, Global};
 
 /// The job that the words ask for. `words` are those after the program's name.
 ///
@@ -93,6 +93,7 @@ fn run(alloc: Global, found: &ArgMatches<'_>) -> Result<Run, ArgsFault>
     Ok(Run {
         image: FileName::new(alloc, image)?,
         core,
+        script: name_of(alloc, text_of(found, "script"))?,
         width,
         window,
         stores,
@@ -100,6 +101,16 @@ fn run(alloc: Global, found: &ArgMatches<'_>) -> Result<Run, ArgsFault>
         cycles: u64::from(cycles),
         dump,
     })
+}
+
+// The name that the words give for an option.
+fn name_of(alloc: Global, text: Option<&str>) -> Result<Option<FileName>, AllocError>
+    ensures { IfOk result (λ name. name ≡ option_map (λ text. text.now) text.entry) }
+{
+    match text {
+        Some(text) => Ok(Some(FileName::new(alloc, text)?)),
+        None => Ok(None),
+    }
 }
 
 // The text that the words give for a positional or an option.

@@ -9,11 +9,19 @@ fn run(alloc: Global, words: &[&str]) -> Result<Run, Fail> {
     Ok(run)
 }
 
+fn script_in(run: &Run) -> Option<&str> {
+    match &run.script {
+        Some(name) => Some(name.as_str()),
+        None => None,
+    }
+}
+
 #[test]
 fn lines_that_are_taken(rt: HostRuntime) -> Result<(), Fail> {
     let plain = run(rt.alloc(), &["run", "p1.diva"])?;
     assert_eq!(rt; plain.image.as_str(), "p1.diva");
     assert_eq!(rt; plain.core, CoreChoice::Own);
+    assert_eq!(rt; script_in(&plain), None);
     assert_eq!(rt; (plain.width, plain.window, plain.stores), (2, 16, 4));
     assert_eq!(rt; (plain.watchdog, plain.cycles), (64, 1_000_000));
     assert_eq!(rt; plain.dump, None);
@@ -29,6 +37,8 @@ fn lines_that_are_taken(rt: HostRuntime) -> Result<(), Fail> {
         "6",
         "--core",
         "silent",
+        "--script",
+        "faults.txt",
         "--watchdog",
         "1024",
         "--width",
@@ -38,6 +48,7 @@ fn lines_that_are_taken(rt: HostRuntime) -> Result<(), Fail> {
     ];
     let full = run(rt.alloc(), &words)?;
     assert_eq!(rt; full.core, CoreChoice::Silent);
+    assert_eq!(rt; script_in(&full), Some("faults.txt"));
     assert_eq!(rt; (full.width, full.window, full.stores), (1, 8, 6));
     assert_eq!(rt; (full.watchdog, full.cycles), (1024, 1_000_000_000));
     assert_eq!(rt; full.dump, Some(Dump { addr: 0x3c, len: 8 }));
@@ -61,7 +72,7 @@ fn any_word_is_a_name(rt: HostRuntime) -> Result<(), Fail> {
 
 #[test]
 fn lines_that_are_refused(rt: HostRuntime) {
-    let lines: [&[&str]; 20] = [
+    let lines: [&[&str]; 22] = [
         &[],
         &["run"],
         &["run", "a", "b"],
@@ -76,6 +87,8 @@ fn lines_that_are_refused(rt: HostRuntime) {
         &["run", "a", "--trace"],
         &["run", "a", "--core", "scalar"],
         &["run", "a", "--core", "own", "--core", "own"],
+        &["run", "a", "--script"],
+        &["run", "a", "--script", "b", "--script", "b"],
         &["run", "a", "--width", "5"],
         &["run", "a", "--cycles", "0"],
         &["run", "a", "--dump", "8"],
