@@ -1,3 +1,5 @@
-pub mod Answering
+-- The lemmas of this crate.
 pub mod Handing
 pub mod Running
+pub mod Preparing
+pub mod Working

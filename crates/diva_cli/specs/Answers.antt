@@ -1,77 +1,52 @@
--- What each status of the program says.
-use Rattle.std.specs.Prelude.{◌≡◌, ◌⊎◌, ◌≤◌, ◌<◌, ℕ, List, length, Option, Some, None}
-use Rattle.std.specs.Io.KnownBytes.{Appends}
-use Rattle.diva_outside.specs.Causes.{Rose}
-use Rattle.diva_outside.specs.Files.{ToldFiles, IsTold}
-use Rattle.diva_outside.specs.Sink.{AppendsPart}
+-- What the program answers, and why: its text, with the status that goes with it where the text was written whole.
+-- `command` is the job that the words ask for, if any; `before` and `now` are the files' counts of faults.
+use Rattle.std.specs.Prelude.{◌≡◌, ℕ, Option, Some, None, IfSome}
+use Rattle.diva_outside.specs.Files.{ToldFiles}
 use Rattle.diva_outside.specs.Text.{Text}
-use Rattle.diva_image.specs.Images.{fault_of}
-use Rattle.diva_core.specs.Timed.{Timed}
+use Rattle.diva_outside.specs.declared.files.What.{What}
 use Rattle.diva_core.specs.Log.{Meaning}
-use Rattle.diva_args.specs.declared.job.Job.TheVariants.{Run}
-use Rattle.diva_args.specs.Options.{RunOptions}
-use Rattle.diva_args.specs.Line.{command_of}
-use Rattle.diva_cli.specs.Due.{HasRun, IsDue, file_limit}
+use Rattle.diva_args.specs.declared.job.Job.{Job}
+use Rattle.diva_cli.specs.Lines.{usage_line}
+use Rattle.diva_cli.specs.Wanted.{Wanted, FileBytes, AreSound, wanted}
+use Rattle.diva_cli.specs.Stops.{StopsAt, IsUnread, IsRefused}
+use Rattle.diva_cli.specs.Texts.{HasText}
 
--- status 0: the image ran and halted, and the run's whole text was written
-pub record HasHalted {C : Type 0} (gives : Meaning C) (words : List Text) (told : ToldFiles) (core after : C)
-    (old new : Option Text) : Type 0 where
-  pub last : Timed
-  pub text : Text
-  pub run : HasRun gives words told core after last text
-  pub halted : 256 ≤ last.arch.end
-  pub written : Appends old new text
+-- the words are not a valid command line
+pub record IsMisused (command : Option Job) (text : Text) : Type 0 where
+  pub none : command ≡ None
+  pub line : text ≡ usage_line
 
--- status 3: the image ran and trapped, and the run's whole text was written
-pub record HasTrapped {C : Type 0} (gives : Meaning C) (words : List Text) (told : ToldFiles) (core after : C)
-    (old new : Option Text) : Type 0 where
-  pub last : Timed
-  pub text : Text
-  pub run : HasRun gives words told core after last text
-  pub trapped : (0 < last.arch.end) × (last.arch.end < 256)
-  pub written : Appends old new text
+-- the loading of the job's files stopped at one, of which this holds
+pub record HasStopped (command : Option Job) (contents : ToldFiles) (this : Wanted → Type 0) : Type 0 where
+  pub job : Job
+  pub named : command ≡ Some job
+  pub first : StopsAt contents this (wanted job)
 
--- status 4: the image ran for exactly the cycles asked for and goes on, and the run's whole text was written
-pub record IsUnfinished {C : Type 0} (gives : Meaning C) (words : List Text) (told : ToldFiles) (core after : C)
-    (old new : Option Text) : Type 0 where
-  pub last : Timed
-  pub text : Text
-  pub run : HasRun gives words told core after last text
-  pub goes_on : last.arch.end ≡ 0
-  pub cycles : last.cycles ≡ run.options.cycles
-  pub written : Appends old new text
+-- the first file that can't be used can't be read
+abbrev pub HasUnread : Option Job → ToldFiles → (before now : What → ℕ) → Text → Type 0
+HasUnread command contents before now text = HasStopped command contents (IsUnread contents before now text)
 
--- statuses 2, 5 and 8: nothing was run, no core was asked, and just the one line was written
-pub record HasLine {C : Type 0} (cause : Text → Type 0) (core after : C) (old new : Option Text) : Type 0 where
-  pub text : Text
-  pub caused : cause text
-  pub unasked : after ≡ core
-  pub written : Appends old new text
+-- the first file that can't be used is refused
+abbrev pub HasRefused : Option Job → ToldFiles → Text → Type 0
+HasRefused command contents text = HasStopped command contents (IsRefused contents text)
 
--- status 9: the sink's count of faults rose, and a prefix of the text was written
-pub record IsCut {C : Type 0} (gives : Meaning C) (words : List Text) (told : ToldFiles) (before now : ℕ)
-    (core after : C) (old new : Option Text) (faults faults' : ℕ) : Type 0 where
-  pub rose : Rose faults faults'
-  pub status : ℕ
-  pub text : Text
-  pub due : IsDue gives words told before now core after status text
-  pub written : AppendsPart old new text
+-- all files are sound, and the text is that of the job
+pub record HasDone {C : Type 0} (gives : Meaning C) (command : Option Job) (contents : ToldFiles) (core after : C)
+    (status : Option ℕ) (text : Text) : Type 0 where
+  pub job : Job
+  pub named : command ≡ Some job
+  pub bytes : FileBytes
+  pub sound : AreSound contents (wanted job) bytes
+  pub means : HasText gives job bytes core after status text
 
--- status 10: memory ran out, no core was asked, and nothing was written
-pub record HasNoMemory {C : Type 0} (core after : C) (old new : Option Text) : Type 0 where
-  pub unasked : after ≡ core
-  pub written : new ≡ old
-
--- the words name an image of which the files tell the bytes, no more than a file may have and with no fault
-pub record CanRun (words : List Text) (told : ToldFiles) : Type 0 where
-  pub options : RunOptions
-  pub named : command_of words ≡ Some (Run options)
-  pub bytes : List ℕ
-  pub held : IsTold told options.image bytes
-  pub short : length bytes ≤ file_limit
-  pub sound : fault_of bytes ≡ None
-
--- the statuses that there are
-abbrev pub IsStatus : ℕ → Type 0
-IsStatus status =
-    (status ≡ 0) ⊎ (status ≡ 2) ⊎ (status ≡ 3) ⊎ (status ≡ 4) ⊎ (status ≡ 5) ⊎ (status ≡ 8) ⊎ (status ≡ 9) ⊎ (status ≡ 10)
+-- ---- one of these is the answer; no core was asked but where a job is done
+pub data IsAnswer {C : Type 0} (gives : Meaning C) (command : Option Job) (contents : ToldFiles) (before now : What → ℕ)
+    (core after : C) (status : Option ℕ) (text : Text) : Type 0 where
+  misused : IsMisused command text → after ≡ core → IfSome status (λ s. s ≡ 2)
+      → IsAnswer gives command contents before now core after status text
+  unread : HasUnread command contents before now text → after ≡ core → IfSome status (λ s. s ≡ 8)
+      → IsAnswer gives command contents before now core after status text
+  refused : HasRefused command contents text → after ≡ core → IfSome status (λ s. s ≡ 5)
+      → IsAnswer gives command contents before now core after status text
+  done : HasDone gives command contents core after status text
+      → IsAnswer gives command contents before now core after status text

@@ -1,6 +1,10 @@
+-- What the contracts of this crate cite.
 pub mod Lines
+pub mod Wanted
+pub mod Stops
 pub mod Driven
-pub mod Due
+pub mod Runs
+pub mod Texts
 pub mod Answers
-pub mod Outcomes
-pub mod Told
+pub mod Statuses
+pub mod Parts

@@ -1,14 +1,20 @@
 // The whole program, from the words to the status.
-ghost use Rattle.std.specs.Prelude.{◌≡◌, ◌⊎◌, map, None};
+ghost use Rattle.std.specs.Prelude.{◌≡◌, ◌⊎◌, map, None, Some};
 ghost use Rattle.diva_outside.specs.Causes.{Rose};
+ghost use Rattle.diva_outside.specs.declared.files.What.{What};
 ghost use Rattle.diva_args.specs.Line.{command_of};
-ghost use Rattle.diva_cli.specs.Due.{IsMisused, IsUnread, IsRefused};
-ghost use Rattle.diva_cli.specs.Answers.{HasHalted, HasTrapped, IsUnfinished, HasLine, IsCut, HasNoMemory, CanRun, IsStatus};
+ghost use Rattle.diva_cli.specs.Texts.{IsDone};
+ghost use Rattle.diva_cli.specs.Answers.{IsMisused, HasUnread, HasRefused};
+ghost use Rattle.diva_cli.specs.Statuses.{HasWorked, HasLine, IsCut, HasNoMemory, CanWork, HasEnded, IsStatus};
+ghost use Rattle.diva_cli.specs.Parts.{Answers, status_of};
 
-use crate::outcome::prepare;
-use crate::telling::tell;
+use crate::lines::usage_line;
+use crate::run::run;
+use crate::stop::Failure;
+use crate::writing::write_line;
+use diva_args::{ArgsFault, Job, read_words};
 use diva_core::Core;
-use diva_outside::{Files, Sink, What};
+use diva_outside::{Files, Sink};
 use std::alloc::Global;
 
 /// Runs the program on the words of its command line (without its name) over the files, the sink
@@ -20,8 +26,8 @@ use std::alloc::Global;
 /// | 2 | the words are not a valid command line; the usage line is written |
 /// | 3 | the run trapped |
 /// | 4 | exactly the cycles asked for were run, and the machine goes on |
-/// | 5 | the image is refused by its first fault, or is too long; a line says so |
-/// | 8 | the image can't be read; a line says so |
+/// | 5 | the first file that can't be used has a fault, or is too long; a line says so |
+/// | 8 | the first file that can't be used can't be read; a line says so |
 /// | 9 | the sink failed; a prefix of the text was written |
 /// | 10 | memory ran out; nothing was written |
 pub fn top<F: Files, S: Sink, C: Core>(
@@ -33,48 +39,88 @@ pub fn top<F: Files, S: Sink, C: Core>(
 ) -> u8
     ensures status { IsStatus result }
 
-    // Whatever the core hands over, what a run writes is the text of a machine whose committed
+    // The job is done: all its files are sound, and its whole text was written. Whatever the core
+    // hands over and a script makes of it, the text of a run is that of a machine whose committed
     // state is the table's after the counted instructions, from the state of the image's bytes.
-    ensures halted { result ≡ 0
-        → HasHalted C.gives (map (λ w. w.now) words.now) (F.told files.old) core.old core.new
-        (S.contents sink.old) (S.contents sink.new) }
-    ensures trapped { result ≡ 3
-        → HasTrapped C.gives (map (λ w. w.now) words.now) (F.told files.old) core.old core.new
-        (S.contents sink.old) (S.contents sink.new) }
-    ensures unfinished { result ≡ 4
-        → IsUnfinished C.gives (map (λ w. w.now) words.now) (F.told files.old) core.old core.new
-        (S.contents sink.old) (S.contents sink.new) }
+    ensures worked { IsDone result
+        → HasWorked C.gives (command_of (map (λ w. w.now) words.now)) (F.told files.old)
+        core.old core.new (S.contents sink.old) (S.contents sink.new) result }
 
-    // Nothing is run: the words, the image's first fault, or the files' count of faults says why.
+    // Nothing is run: the words, the first file's fault, or the files' count of faults says why.
     ensures misused { result ≡ 2
-        → HasLine (IsMisused (map (λ w. w.now) words.now)) core.old core.new
+        → HasLine (IsMisused (command_of (map (λ w. w.now) words.now))) core.old core.new
         (S.contents sink.old) (S.contents sink.new) }
     ensures refused { result ≡ 5
-        → HasLine (IsRefused (map (λ w. w.now) words.now) (F.told files.old)) core.old core.new
-        (S.contents sink.old) (S.contents sink.new) }
+        → HasLine (HasRefused (command_of (map (λ w. w.now) words.now)) (F.told files.old))
+        core.old core.new (S.contents sink.old) (S.contents sink.new) }
     ensures unread { result ≡ 8
-        → HasLine (IsUnread (map (λ w. w.now) words.now) (F.told files.old)
-        (F.faults files.old What.Image) (F.faults files.new What.Image)) core.old core.new
-        (S.contents sink.old) (S.contents sink.new) }
+        → HasLine (HasUnread (command_of (map (λ w. w.now) words.now)) (F.told files.old)
+        (F.faults files.old) (F.faults files.new))
+        core.old core.new (S.contents sink.old) (S.contents sink.new) }
 
     // The sink's count of faults rose; memory ran out.
     ensures cut { result ≡ 9
-        → IsCut C.gives (map (λ w. w.now) words.now) (F.told files.old)
-        (F.faults files.old What.Image) (F.faults files.new What.Image) core.old core.new
+        → IsCut C.gives (command_of (map (λ w. w.now) words.now)) (F.told files.old)
+        (F.faults files.old) (F.faults files.new) core.old core.new
         (S.contents sink.old) (S.contents sink.new) (S.faults sink.old) (S.faults sink.new) }
     ensures memory { result ≡ 10
         → HasNoMemory core.old core.new (S.contents sink.old) (S.contents sink.new) }
 
-    // Words that are not a valid command line are answered by the usage line, and a sound image is run.
+    // Words that are not a valid command line are answered by the usage line, and a job whose files
+    // are sound is done.
     ensures usage { command_of (map (λ w. w.now) words.now) ≡ None
         → (result ≡ 2) ⊎ ((result ≡ 9) ⊎ (result ≡ 10)) }
-    ensures complete { CanRun (map (λ w. w.now) words.now) (F.told files.old)
-        → (Rose (F.faults files.old What.Image) (F.faults files.new What.Image) → ⊥)
+    ensures complete { CanWork (command_of (map (λ w. w.now) words.now)) (F.told files.old)
+        → ((what : What) → Rose (F.faults files.old what) (F.faults files.new what) → ⊥)
         → (Rose (S.faults sink.old) (S.faults sink.new) → ⊥)
-        → (result ≡ 0) ⊎ ((result ≡ 3) ⊎ ((result ≡ 4) ⊎ (result ≡ 10))) }
+        → HasEnded (command_of (map (λ w. w.now) words.now)) result ⊎ (result ≡ 10) }
 {
-    match prepare(alloc, words, files, core) {
-        Ok(outcome) => tell(&outcome, sink),
-        Err(_) => 10,
+    status_of(answer(alloc, words, files, sink, core))
+}
+
+/// The status that the program ends with.
+fn status_of(answered: Result<u8, Failure>) -> u8
+    ensures { result ≡ status_of answered }
+{
+    match answered {
+        Ok(status) => status,
+        Err(Failure::Cut) => 9,
+        Err(Failure::Memory) => 10,
+    }
+}
+
+/// Does the job that the words ask for, or writes the usage line.
+fn answer<F: Files, S: Sink, C: Core>(
+    alloc: Global,
+    words: &[&str],
+    files: &mut F,
+    sink: &mut S,
+    core: &mut C,
+) -> Result<u8, Failure>
+    ensures { Answers C.gives (command_of (map (λ w. w.now) words.now)) (F.told files.old)
+        (F.faults files.old) (F.faults files.new) core.old core.new
+        (S.contents sink.old) (S.contents sink.new) (S.faults sink.old) (S.faults sink.new) result }
+{
+    match read_words(alloc, words) {
+        Ok(job) => work(alloc, job, files, sink, core),
+        Err(ArgsFault::Usage) => write_line(&usage_line(), 2, sink),
+        Err(ArgsFault::Memory) => Err(Failure::Memory),
+    }
+}
+
+/// Does a job: an arm for each command.
+fn work<F: Files, S: Sink, C: Core>(
+    alloc: Global,
+    job: Job,
+    files: &mut F,
+    sink: &mut S,
+    core: &mut C,
+) -> Result<u8, Failure>
+    ensures { Answers C.gives (Some job) (F.told files.old) (F.faults files.old)
+        (F.faults files.new) core.old core.new (S.contents sink.old) (S.contents sink.new)
+        (S.faults sink.old) (S.faults sink.new) result }
+{
+    match job {
+        Job::Run(options) => run(alloc, options, files, sink, core),
     }
 }

@@ -1,0 +1,44 @@
+-- What a command answers, from what was loaded for it and what was written of it.
+use Rattle.std.proofs.Common.{ℕ, List, Option, Some, Result, Ok, Err, refl}
+use Rattle.diva_outside.specs.Files.{ToldFiles}
+use Rattle.diva_outside.specs.declared.files.What.{What}
+use Rattle.diva_core.specs.Log.{Meaning}
+use Rattle.diva_args.specs.declared.job.Job.{Job}
+use Rattle.diva_cli.specs.declared.stop.Stop.{Stop}
+use Rattle.diva_cli.specs.declared.stop.Stop.TheVariants.{Memory, Unread, Refused}
+use Rattle.diva_cli.specs.declared.stop.Failure.{Failure}
+use Rattle.diva_cli.specs.declared.stop.Failure.TheVariants.{Cut, Memory as NoMemory}
+use Rattle.diva_cli.specs.Wanted.{FileBytes, AreSound, wanted}
+use Rattle.diva_cli.specs.Answers.{unread, refused, done}
+use Rattle.diva_cli.specs.Parts.{Stops, WritesStop, WritesText, Answers}
+
+module _ {C : Type 0} (gives : Meaning C) (contents : ToldFiles) (before now : What → ℕ) (core : C) (old new : Option (List ℕ)) (faults faults' : ℕ) where
+  -- the files are sound, and the job's text was written
+  pub done_answers : (job : Job) (bytes : FileBytes) (after : C) (result : Result ℕ Failure)
+      → AreSound contents (wanted job) bytes
+      → WritesText gives job bytes core after old new faults faults' result
+      → Answers gives (Some job) contents before now core after old new faults faults' result
+  done_answers job bytes after (Ok status) sound w =
+      record { text = w.text; answer = done (record { job = job; named = refl; bytes = bytes; sound = sound; means = w.means }); written = w.written }
+  done_answers job bytes after (Err Cut) sound w =
+      record { rose = w.rose; text = w.text; answer = done (record { job = job; named = refl; bytes = bytes; sound = sound; means = w.means }); written = w.written }
+  done_answers job bytes after (Err NoMemory) sound w = absurd w
+
+  -- the loading stopped, and a line was written of it
+  pub stop_answers : (job : Job) (stop : Stop) (result : Result ℕ Failure)
+      → Stops contents before now (wanted job) stop
+      → WritesStop stop old new faults faults' result
+      → Answers gives (Some job) contents before now core core old new faults faults' result
+  stop_answers job Memory (Ok status) s w = let e = w.0 in cc
+  stop_answers job Memory (Err Cut) s w = let e = w.0 in cc
+  stop_answers job Memory (Err NoMemory) s w = record { unasked = refl; written = w.1 }
+  stop_answers job (Unread what) (Ok status) s w =
+      record { text = _; answer = unread (record { job = job; named = refl; first = s }) refl w.0; written = w.1 }
+  stop_answers job (Unread what) (Err Cut) s w =
+      record { rose = w.0; text = _; answer = unread (record { job = job; named = refl; first = s }) refl tt; written = w.1 }
+  stop_answers job (Unread what) (Err NoMemory) s w = absurd w
+  stop_answers job (Refused what kind place) (Ok status) s w =
+      record { text = _; answer = refused (record { job = job; named = refl; first = s }) refl w.0; written = w.1 }
+  stop_answers job (Refused what kind place) (Err Cut) s w =
+      record { rose = w.0; text = _; answer = refused (record { job = job; named = refl; first = s }) refl tt; written = w.1 }
+  stop_answers job (Refused what kind place) (Err NoMemory) s w = absurd w

@@ -1,0 +1,125 @@
+-- What the parts of the program promise one another.
+use Rattle.std.specs.Prelude.{◌≡◌, ◌≤◌, ◌+◌, ℕ, true, List, [], Option, Some, None, Result, Ok, Err}
+use Rattle.std.specs.Io.KnownBytes.{Appends}
+use Rattle.diva_outside.specs.Causes.{Rose}
+use Rattle.diva_outside.specs.Files.{ToldFiles}
+use Rattle.diva_outside.specs.Sink.{AppendsPart}
+use Rattle.diva_outside.specs.Text.{Text}
+use Rattle.diva_outside.specs.declared.files.What.{What}
+use Rattle.diva_outside.specs.declared.files.What.TheVariants.{Image, Script}
+use Rattle.diva_image.specs.Images.{image_of}
+use Rattle.diva_core.specs.Timed.{Timed, Sizes, new_timed}
+use Rattle.diva_isa.specs.State.{goes_on}
+use Rattle.diva_core.specs.Log.{Meaning, Turns}
+use Rattle.diva_machine.specs.Start.{start_of}
+use Rattle.diva_faults.specs.declared.rows.Row.{Row}
+use Rattle.diva_faults.specs.Reading.{script_of}
+use Rattle.diva_args.specs.declared.job.Job.{Job}
+use Rattle.diva_cli.specs.declared.loading.Ready.{Ready}
+use Rattle.diva_cli.specs.declared.stop.Stop.{Stop}
+use Rattle.diva_cli.specs.declared.stop.Stop.TheVariants.{Memory, Unread, Refused}
+use Rattle.diva_cli.specs.declared.stop.Failure.{Failure}
+use Rattle.diva_cli.specs.declared.stop.Failure.TheVariants.{Cut, Memory as NoMemory}
+use Rattle.diva_cli.specs.Lines.{unreadable_line, refused_line}
+use Rattle.diva_cli.specs.Wanted.{Wanted, FileBytes, IsSound, AreSound, file, machine_files}
+use Rattle.diva_cli.specs.Runs.{AreRows}
+use Rattle.diva_cli.specs.Stops.{StopsAt, IsUnread, IsRefused}
+use Rattle.diva_cli.specs.Texts.{HasText}
+use Rattle.diva_cli.specs.Answers.{IsAnswer}
+use Rattle.diva_cli.specs.Statuses.{IsCut, HasNoMemory}
+
+-- ---- loading
+
+-- why the loading of these files stopped
+abbrev pub Stops : ToldFiles → (before now : What → ℕ) → List Wanted → Stop → Type 0
+Stops contents before now ws Memory = Unit {0}
+Stops contents before now ws (Unread what) = StopsAt contents (IsUnread contents before now (unreadable_line what)) ws
+Stops contents before now ws (Refused what kind place) = StopsAt contents (IsRefused contents (refused_line what kind place)) ws
+
+-- the file is sound, and this holds of its bytes
+pub record Holds (contents : ToldFiles) (w : Wanted) (this : List ℕ → Type 0) : Type 0 where
+  pub bytes : List ℕ
+  pub sound : IsSound contents w bytes
+  pub holds : this bytes
+
+-- the rows are those of the script of this name, and none where there is no name
+abbrev pub HoldsRows : ToldFiles → Option (List ℕ) → List Row → Type 0
+HoldsRows contents None script = script ≡ []
+HoldsRows contents (Some name) script = Holds contents (file Script name) (λ bytes. script_of bytes ≡ Ok script)
+
+-- the machine is new and begins with the image of these bytes, and the script has their rows
+pub record IsReady (sizes : Sizes) (script : Option (List ℕ)) (bytes : FileBytes) (ready : Ready) : Type 0 where
+  pub begun : ready.machine.timed ≡ new_timed sizes (start_of (image_of (bytes Image)))
+  pub rows : AreRows script (bytes Script) ready.script
+
+-- the same, of the bytes of sound files with these names
+pub record HoldsReady (contents : ToldFiles) (image : List ℕ) (script : Option (List ℕ)) (sizes : Sizes) (ready : Ready) : Type 0 where
+  pub bytes : FileBytes
+  pub sound : AreSound contents (machine_files image script) bytes
+  pub is : IsReady sizes script bytes ready
+
+-- ---- driving
+
+-- a core took turns with a machine, until that ended or the budget's cycles were run
+pub record IsDrivenFor {D : Type 0} (gives : Meaning D) (budget : ℕ) (m : Timed) (core : D) (last : Timed) (after : D) : Type 0 where
+  pub turns : Turns gives m core last after
+  pub most : last.cycles ≤ m.cycles + budget
+  pub whole : goes_on last.arch ≡ true → last.cycles ≡ m.cycles + budget
+
+-- ---- writing
+
+-- a line was written, with its status; or a prefix of it
+abbrev pub WritesLine : Text → (due : ℕ) → (old new : Option Text) → (faults faults' : ℕ) → Result ℕ Failure → Type 0
+WritesLine line due old new faults faults' (Ok status) = (status ≡ due) × Appends old new line
+WritesLine line due old new faults faults' (Err Cut) = Rose faults faults' × AppendsPart old new line
+WritesLine line due old new faults faults' (Err NoMemory) = ⊥
+
+-- the line of a stop was written, and nothing where memory ran out
+abbrev pub WritesStop : Stop → (old new : Option Text) → (faults faults' : ℕ) → Result ℕ Failure → Type 0
+WritesStop Memory old new faults faults' result = (result ≡ Err NoMemory) × (new ≡ old)
+WritesStop (Unread what) old new faults faults' result = WritesLine (unreadable_line what) 8 old new faults faults' result
+WritesStop (Refused what kind place) old new faults faults' result =
+    WritesLine (refused_line what kind place) 5 old new faults faults' result
+
+pub record WritesWhole {C : Type 0} (gives : Meaning C) (job : Job) (bytes : FileBytes) (core after : C)
+    (old new : Option Text) (status : ℕ) : Type 0 where
+  pub text : Text
+  pub means : HasText gives job bytes core after (Some status) text
+  pub written : Appends old new text
+
+pub record WritesPart {C : Type 0} (gives : Meaning C) (job : Job) (bytes : FileBytes) (core after : C)
+    (old new : Option Text) (faults faults' : ℕ) : Type 0 where
+  pub rose : Rose faults faults'
+  pub text : Text
+  pub means : HasText gives job bytes core after None text
+  pub written : AppendsPart old new text
+
+-- the text of a job was written, with its status; or a prefix of it
+abbrev pub WritesText : {C : Type 0} → Meaning C → Job → FileBytes → (core after : C) → (old new : Option Text)
+    → (faults faults' : ℕ) → Result ℕ Failure → Type 0
+WritesText gives job bytes core after old new faults faults' (Ok status) = WritesWhole gives job bytes core after old new status
+WritesText gives job bytes core after old new faults faults' (Err Cut) = WritesPart gives job bytes core after old new faults faults'
+WritesText gives job bytes core after old new faults faults' (Err NoMemory) = ⊥
+
+-- ---- the answer
+
+pub record WritesAnswer {C : Type 0} (gives : Meaning C) (command : Option Job) (contents : ToldFiles) (before now : What → ℕ)
+    (core after : C) (old new : Option Text) (status : ℕ) : Type 0 where
+  pub text : Text
+  pub answer : IsAnswer gives command contents before now core after (Some status) text
+  pub written : Appends old new text
+
+-- the answer was written, with its status; or a prefix of it; or memory ran out
+abbrev pub Answers : {C : Type 0} → Meaning C → Option Job → ToldFiles → (before now : What → ℕ) → (core after : C)
+    → (old new : Option Text) → (faults faults' : ℕ) → Result ℕ Failure → Type 0
+Answers gives command contents before now core after old new faults faults' (Ok status) =
+    WritesAnswer gives command contents before now core after old new status
+Answers gives command contents before now core after old new faults faults' (Err Cut) =
+    IsCut gives command contents before now core after old new faults faults'
+Answers gives command contents before now core after old new faults faults' (Err NoMemory) = HasNoMemory core after old new
+
+-- the status that the program ends with
+abbrev pub status_of : Result ℕ Failure → ℕ
+status_of (Ok status) = status
+status_of (Err Cut) = 9
+status_of (Err NoMemory) = 10

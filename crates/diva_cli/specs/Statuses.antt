@@ -1,0 +1,70 @@
+-- What each status of the program says.
+use Rattle.std.specs.Prelude.{◌≡◌, ◌⊎◌, ◌≤◌, ℕ, List, [], ◌∷◌, length, Option, Some, None}
+use Rattle.std.specs.Io.KnownBytes.{Appends}
+use Rattle.diva_outside.specs.Causes.{Rose}
+use Rattle.diva_outside.specs.Files.{ToldFiles, IsTold}
+use Rattle.diva_outside.specs.Sink.{AppendsPart}
+use Rattle.diva_outside.specs.Text.{Text}
+use Rattle.diva_outside.specs.declared.files.What.{What}
+use Rattle.diva_core.specs.Log.{Meaning}
+use Rattle.diva_args.specs.declared.job.Job.{Job}
+use Rattle.diva_cli.specs.Wanted.{Wanted, wanted, IsFaultless, file_limit}
+use Rattle.diva_cli.specs.Texts.{CanEnd}
+use Rattle.diva_cli.specs.Answers.{HasDone, IsAnswer}
+
+-- the statuses that there are
+abbrev pub IsStatus : ℕ → Type 0
+IsStatus status =
+    (status ≡ 0) ⊎ (status ≡ 2) ⊎ (status ≡ 3) ⊎ (status ≡ 4) ⊎ (status ≡ 5) ⊎ (status ≡ 8) ⊎ (status ≡ 9) ⊎ (status ≡ 10)
+
+-- statuses 0, 3 and 4: all files are sound, and the job's whole text was written, with the status that goes with it
+pub record HasWorked {C : Type 0} (gives : Meaning C) (command : Option Job) (contents : ToldFiles) (core after : C)
+    (old new : Option Text) (status : ℕ) : Type 0 where
+  pub text : Text
+  pub done : HasDone gives command contents core after (Some status) text
+  pub written : Appends old new text
+
+-- statuses 2, 5 and 8: nothing was run, no core was asked, and just the one line was written
+pub record HasLine {C : Type 0} (cause : Text → Type 0) (core after : C) (old new : Option Text) : Type 0 where
+  pub text : Text
+  pub caused : cause text
+  pub unasked : after ≡ core
+  pub written : Appends old new text
+
+-- status 9: the sink's count of faults rose, and a prefix of the answer's text was written
+pub record IsCut {C : Type 0} (gives : Meaning C) (command : Option Job) (contents : ToldFiles) (before now : What → ℕ)
+    (core after : C) (old new : Option Text) (faults faults' : ℕ) : Type 0 where
+  pub rose : Rose faults faults'
+  pub text : Text
+  pub answer : IsAnswer gives command contents before now core after None text
+  pub written : AppendsPart old new text
+
+-- status 10: memory ran out, no core was asked, and nothing was written
+pub record HasNoMemory {C : Type 0} (core after : C) (old new : Option Text) : Type 0 where
+  pub unasked : after ≡ core
+  pub written : new ≡ old
+
+-- ---- completeness
+
+-- the file's contents are known, no more than a file may have and with no fault
+pub record IsHeld (contents : ToldFiles) (w : Wanted) : Type 0 where
+  pub bytes : List ℕ
+  pub held : IsTold contents w.name bytes
+  pub short : length bytes ≤ file_limit
+  pub faultless : IsFaultless w.what bytes
+
+abbrev pub AreHeld : ToldFiles → List Wanted → Type 0
+AreHeld contents [] = Unit {0}
+AreHeld contents (w ∷ ws) = IsHeld contents w × AreHeld contents ws
+
+-- the words ask for a job all of whose files are held
+pub record CanWork (command : Option Job) (contents : ToldFiles) : Type 0 where
+  pub job : Job
+  pub named : command ≡ Some job
+  pub held : AreHeld contents (wanted job)
+
+-- the status is one that goes with the whole text of the job
+pub record HasEnded (command : Option Job) (status : ℕ) : Type 0 where
+  pub job : Job
+  pub named : command ≡ Some job
+  pub ends : CanEnd job status

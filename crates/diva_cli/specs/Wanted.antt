@@ -1,0 +1,63 @@
+-- The files that a job wants, in the order in which they are loaded, and what is wrong with their bytes.
+use Rattle.std.specs.Prelude.{◌≡◌, ◌≤◌, ℕ, List, [], ◌∷◌, length, Option, Some, None, Err, IsOk}
+use Rattle.diva_outside.specs.Files.{ToldFiles, Has}
+use Rattle.diva_outside.specs.declared.files.What.{What}
+use Rattle.diva_outside.specs.declared.files.What.TheVariants.{Image, Script}
+use Rattle.diva_image.specs.Images.{fault, fault_of}
+use Rattle.diva_faults.specs.Reading.{script_of}
+use Rattle.diva_args.specs.declared.job.Job.{Job}
+use Rattle.diva_args.specs.declared.job.Job.TheVariants.{Run}
+
+-- the most bytes that a file may have
+abbrev pub file_limit : ℕ
+file_limit = 16777240
+
+-- a file that is wanted: what it is for, and its name
+pub record Wanted : Type 0 where
+  pub what : What
+  pub name : List ℕ
+
+abbrev pub file : What → List ℕ → Wanted
+file what name = record { what = what; name = name }
+
+-- the same, where a name is given
+abbrev pub file_if : What → Option (List ℕ) → List Wanted
+file_if what None = []
+file_if what (Some name) = file what name ∷ []
+
+-- what a machine begins with, and then what is laid over its core
+abbrev pub machine_files : (image : List ℕ) → (script : Option (List ℕ)) → List Wanted
+machine_files image script = file Image image ∷ file_if Script script
+
+-- ---- the files of each command, in the order in which they are loaded
+abbrev pub wanted : Job → List Wanted
+wanted (Run options) = machine_files options.image options.script
+
+-- ---- the first fault of a file's bytes, by what the file is for; no command wants the others yet
+
+abbrev pub IsFaultless : What → List ℕ → Type 0
+IsFaultless Image bytes = fault_of bytes ≡ None
+IsFaultless Script bytes = IsOk (script_of bytes)
+IsFaultless _ bytes = ⊥
+
+abbrev pub HasFault : What → List ℕ → (kind place : ℕ) → Type 0
+HasFault Image bytes kind place = fault_of bytes ≡ fault kind place
+HasFault Script bytes kind line = script_of bytes ≡ Err (record { line = line; kind = kind })
+HasFault _ bytes kind place = ⊥
+
+-- ---- files that can be used
+
+-- the file has these bytes, where its contents are known; they are no more than a file may have, and have no fault
+pub record IsSound (contents : ToldFiles) (w : Wanted) (bytes : List ℕ) : Type 0 where
+  pub has : Has contents w.name bytes
+  pub short : length bytes ≤ file_limit
+  pub faultless : IsFaultless w.what bytes
+
+-- the bytes of the file of each kind; nothing is said of a kind that is not wanted
+abbrev pub FileBytes : Type 0
+FileBytes = What → List ℕ
+
+-- each of these files is sound, and has these bytes
+abbrev pub AreSound : ToldFiles → List Wanted → FileBytes → Type 0
+AreSound contents [] bytes = Unit {0}
+AreSound contents (w ∷ ws) bytes = IsSound contents w (bytes w.what) × AreSound contents ws bytes

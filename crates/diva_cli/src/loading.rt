@@ -1,0 +1,171 @@
+// Files, loaded and read: a function for each kind of file, and one for what they come to.
+ghost use Rattle.std.specs.Prelude.{◌≡◌, ◌≤◌, ◌∷◌, [], length, IfOk, IfErr, Ok};
+ghost use Rattle.diva_outside.specs.Files.{Has};
+ghost use Rattle.diva_image.specs.Images.{image_of};
+ghost use Rattle.diva_image.specs.View.{layout};
+ghost use Rattle.diva_faults.specs.Reading.{script_of};
+ghost use Rattle.diva_cli.specs.Wanted.{file, file_if, file_limit, machine_files};
+ghost use Rattle.diva_cli.specs.Parts.{Stops, Holds, HoldsReady, HoldsRows};
+
+use crate::stop::Stop;
+use diva_args::FileName;
+use diva_faults::{Script, ScriptFault};
+use diva_image::{Image, ImageFault, read};
+use diva_machine::{Config, Machine};
+use diva_outside::{Files, LoadFault, What};
+use std::alloc::Global;
+
+/// The most bytes that a file may have: the largest payload and an image's header.
+const FILE_LIMIT: usize = 16_777_240;
+
+/// What a command needs that drives a machine.
+#[derive(Drop)]
+pub(crate) struct Ready {
+    /// A new machine that begins with the image.
+    pub machine: Machine,
+    /// What is laid over its core.
+    pub script: Script,
+}
+
+/// A machine that begins with the image of this name, and the script of the other name, if there is
+/// one. All memory that they ever need is taken.
+pub(crate) fn make_ready<F: Files>(
+    alloc: Global,
+    files: &mut F,
+    image: &FileName,
+    script: &Option<FileName>,
+    config: Config,
+) -> Result<Ready, Stop>
+    ensures stays { F.told files.new ≡ F.told files.old }
+    ensures later { (w : What) → F.faults files.old w ≤ F.faults files.new w }
+    ensures ready { IfOk result (HoldsReady (F.told files.old) image.now script.now config) }
+    ensures stopped { IfErr result (λ stop. Stops (F.told files.old) (F.faults files.old)
+        (F.faults files.new) (machine_files image.now script.now) stop) }
+{
+    let (image, script) = match load_machine_files(alloc, files, image, script) {
+        Ok(loaded) => loaded,
+        Err(stop) => return Err(stop),
+    };
+    match Machine::new(alloc, &image, config) {
+        Ok(machine) => Ok(Ready { machine, script }),
+        Err(_) => Err(Stop::Memory),
+    }
+}
+
+/// The image of this name, and then the script of the other name, if there is one.
+fn load_machine_files<F: Files>(
+    alloc: Global,
+    files: &mut F,
+    image: &FileName,
+    script: &Option<FileName>,
+) -> Result<(Image, Script), Stop>
+    ensures stays { F.told files.new ≡ F.told files.old }
+    ensures later { (w : What) → F.faults files.old w ≤ F.faults files.new w }
+    ensures image { IfOk result (λ loaded. Holds (F.told files.old)
+        (file What.Image image.now) (λ bytes. image_of bytes ≡ layout loaded.0)) }
+    ensures script { IfOk result (λ loaded. HoldsRows (F.told files.old) script.now loaded.1) }
+    ensures stopped { IfErr result (λ stop. Stops (F.told files.old) (F.faults files.old)
+        (F.faults files.new) (machine_files image.now script.now) stop) }
+{
+    let image = match load_image(alloc, files, image) {
+        Ok(image) => image,
+        Err(stop) => return Err(stop),
+    };
+    let script = match load_script_if(alloc, files, script) {
+        Ok(script) => script,
+        Err(stop) => return Err(stop),
+    };
+    Ok((image, script))
+}
+
+/// The image of this name.
+fn load_image<F: Files>(alloc: Global, files: &mut F, name: &FileName) -> Result<Image, Stop>
+    ensures stays { F.told files.new ≡ F.told files.old }
+    ensures later { (w : What) → F.faults files.old w ≤ F.faults files.new w }
+    ensures holds { IfOk result (λ image. Holds (F.told files.old)
+        (file What.Image name.now) (λ bytes. image_of bytes ≡ layout image)) }
+    ensures stopped { IfErr result (λ stop. Stops (F.told files.old) (F.faults files.old)
+        (F.faults files.new) (file What.Image name.now ∷ []) stop) }
+{
+    let bytes = match load(alloc, files, What::Image, name) {
+        Ok(bytes) => bytes,
+        Err(stop) => return Err(stop),
+    };
+    match read(alloc, &bytes) {
+        Ok(image) => Ok(image),
+        Err(ImageFault::Bad { kind, place }) => Err(Stop::Refused {
+            what: What::Image,
+            kind,
+            place: u64::from(place),
+        }),
+        Err(ImageFault::Memory) => Err(Stop::Memory),
+    }
+}
+
+/// The script of this name, and one without rows where there is no name.
+fn load_script_if<F: Files>(
+    alloc: Global,
+    files: &mut F,
+    name: &Option<FileName>,
+) -> Result<Script, Stop>
+    ensures stays { F.told files.new ≡ F.told files.old }
+    ensures later { (w : What) → F.faults files.old w ≤ F.faults files.new w }
+    ensures holds { IfOk result (HoldsRows (F.told files.old) name.now) }
+    ensures stopped { IfErr result (λ stop. Stops (F.told files.old) (F.faults files.old)
+        (F.faults files.new) (file_if What.Script name.now) stop) }
+{
+    match name {
+        Some(name) => load_script(alloc, files, name),
+        None => Ok(Script::none(alloc)),
+    }
+}
+
+/// The script of this name.
+fn load_script<F: Files>(alloc: Global, files: &mut F, name: &FileName) -> Result<Script, Stop>
+    ensures stays { F.told files.new ≡ F.told files.old }
+    ensures later { (w : What) → F.faults files.old w ≤ F.faults files.new w }
+    ensures holds { IfOk result (λ script. Holds (F.told files.old)
+        (file What.Script name.now) (λ bytes. script_of bytes ≡ Ok script)) }
+    ensures stopped { IfErr result (λ stop. Stops (F.told files.old) (F.faults files.old)
+        (F.faults files.new) (file What.Script name.now ∷ []) stop) }
+{
+    let bytes = match load(alloc, files, What::Script, name) {
+        Ok(bytes) => bytes,
+        Err(stop) => return Err(stop),
+    };
+    match Script::read(alloc, &bytes) {
+        Ok(script) => Ok(script),
+        Err(ScriptFault::Bad { line, kind }) => Err(Stop::Refused {
+            what: What::Script,
+            kind,
+            place: line,
+        }),
+        Err(ScriptFault::Memory) => Err(Stop::Memory),
+    }
+}
+
+/// The bytes of a file.
+fn load<F: Files>(
+    alloc: Global,
+    files: &mut F,
+    what: What,
+    name: &FileName,
+) -> Result<Vec<u8>, Stop>
+    ensures stays { F.told files.new ≡ F.told files.old }
+    ensures later { (w : What) → F.faults files.old w ≤ F.faults files.new w }
+    ensures has { IfOk result (λ bytes. Has (F.told files.old) name.now bytes.items) }
+    ensures short { IfOk result (λ bytes. length bytes.items ≤ file_limit) }
+    ensures stopped { IfErr result (λ stop. Stops (F.told files.old) (F.faults files.old)
+        (F.faults files.new) (file what name.now ∷ []) stop) }
+{
+    match files.load(alloc, what, name.as_str(), FILE_LIMIT) {
+        Ok(bytes) => Ok(bytes),
+        Err(LoadFault::Failed) => Err(Stop::Unread(what)),
+        Err(LoadFault::TooLong) => Err(Stop::Refused {
+            what,
+            kind: 0,
+            place: FILE_LIMIT as u64,
+        }),
+        Err(LoadFault::Memory) => Err(Stop::Memory),
+    }
+}

@@ -1,0 +1,91 @@
+// What is written, and the status that goes with it. No memory is taken.
+ghost use Rattle.std.specs.Prelude.{◌≡◌, ◌⊎◌, ◌+◌, ◌≤◌, ◌<◌, ◌^◌};
+ghost use Rattle.std.specs.Option.{ForSome};
+ghost use Rattle.diva_trace.specs.Text.{text_of};
+ghost use Rattle.diva_outside.specs.Sink.{Puts};
+ghost use Rattle.diva_cli.specs.Runs.{shown_dump};
+ghost use Rattle.diva_cli.specs.Parts.{WritesLine, WritesStop};
+
+use crate::lines::{refused_line, unreadable_line};
+use crate::stop::{Failure, Stop};
+use diva_machine::{End, Machine};
+use diva_outside::{Line, Sink, SinkFailed};
+use diva_trace::{Dump, Report, write_run};
+
+/// Writes a line, and answers its status.
+pub(crate) fn write_line<S: Sink>(line: &Line, status: u8, sink: &mut S) -> Result<u8, Failure>
+    ensures { WritesLine line.now status
+        (S.contents sink.old) (S.contents sink.new) (S.faults sink.old) (S.faults sink.new) result }
+{
+    match sink.put(line.bytes()) {
+        Ok(()) => Ok(status),
+        Err(_) => Err(Failure::Cut),
+    }
+}
+
+/// Writes why the files of a job can't be used, and answers the status that goes with it. Where
+/// memory ran out nothing is written.
+pub(crate) fn write_stop<S: Sink>(stop: Stop, sink: &mut S) -> Result<u8, Failure>
+    ensures { WritesStop stop
+        (S.contents sink.old) (S.contents sink.new) (S.faults sink.old) (S.faults sink.new) result }
+{
+    match stop {
+        Stop::Memory => Err(Failure::Memory),
+        Stop::Unread(what) => write_line(&unreadable_line(what), 8, sink),
+        Stop::Refused { what, kind, place } => {
+            write_line(&refused_line(what, kind, place), 5, sink)
+        }
+    }
+}
+
+/// Writes what a run left, line by line.
+pub(crate) fn write_finished<S: Sink>(
+    machine: &Machine,
+    dump: Option<diva_args::Dump>,
+    sink: &mut S,
+) -> Result<(), SinkFailed>
+    ensures { Puts (text_of machine.now.timed (shown_dump dump))
+        (S.contents sink.old) (S.contents sink.new) (S.faults sink.old) (S.faults sink.new) result }
+{
+    let report = Report {
+        rows: machine.log(),
+        end: machine.ended().number(),
+        count: machine.count(),
+        cycles: machine.cycles(),
+        flushes: machine.flushes(),
+        silent: machine.silent(),
+        output: machine.output(),
+        view: &machine.view(),
+        dump: shown_dump(dump),
+    };
+    write_run(&report, sink)
+}
+
+fn shown_dump(asked: Option<diva_args::Dump>) -> Option<Dump>
+    ensures shown { result ≡ shown_dump asked }
+    ensures range { ForSome result (λ d. d.addr + d.len ≤ 2 ^ 32) }
+{
+    match asked {
+        Some(dump) => Some(Dump {
+            addr: dump.addr,
+            len: dump.len,
+        }),
+        None => None,
+    }
+}
+
+/// The status that says how a machine ended: 0 where it halted, 3 where it trapped, 4 where it goes
+/// on.
+pub(crate) fn end_status(machine: &Machine) -> u8
+    ensures halted { result ≡ 0 → 256 ≤ machine.now.timed.arch.end }
+    ensures trapped { result ≡ 3
+        → (0 < machine.now.timed.arch.end) × (machine.now.timed.arch.end < 256) }
+    ensures goes_on { result ≡ 4 → machine.now.timed.arch.end ≡ 0 }
+    ensures one { (result ≡ 0) ⊎ ((result ≡ 3) ⊎ (result ≡ 4)) }
+{
+    match machine.ended() {
+        End::Halt(_) => 0,
+        End::Trap(_) => 3,
+        End::GoesOn => 4,
+    }
+}
