@@ -6,7 +6,8 @@
 //!   the lists that it is given;
 //! - `runs`: command lines over files and a sink in memory, with the status and the text that are
 //!   due: `runs/tables` has the programs that are run, `runs/texts` writes the text that is due, and
-//!   `runs/refusals` has what is not run, or is written in part;
+//!   `runs/refusals` has what is not run, or is written in part, and `runs/scripts` scripts that are
+//!   refused;
 //! - `calls`: calls of a machine's parts, and of a machine that is driven;
 //! - `lists`: several claims in a cycle, right and wrong ones, and what each cycle commits:
 //!   `lists/tables` has the lists;

@@ -1,5 +1,6 @@
 // Command lines over files and a sink in memory, with the status and the text that are due.
 mod refusals;
+mod scripts;
 mod tables;
 mod texts;
 
@@ -18,22 +19,25 @@ use texts::{registers_text, text_due};
 /// The bytes that a sink takes, more than any of these runs writes.
 const ROOM: usize = 1 << 18;
 
-/// The one file that is there, and how loads of it and the sink fail.
+/// The files that are there, an image `a.diva` and a script `a.script`, and how loads of them and the sink
+/// fail.
 #[derive(Drop)]
 struct Outside {
     alloc: Global,
     file: Vec<u8>,
+    script: Vec<u8>,
     load_fails: Vec<u64>,
     room: usize,
     put_fails: Vec<SinkFail>,
 }
 
 impl Outside {
-    /// A file with these bytes, where nothing fails.
+    /// An image with these bytes and an empty script, where nothing fails.
     fn sound(alloc: Global, file: Vec<u8>) -> Self {
         Outside {
             alloc,
             file,
+            script: Vec::new(alloc),
             load_fails: Vec::new(alloc),
             room: ROOM,
             put_fails: Vec::new(alloc),
@@ -52,7 +56,7 @@ fn compare(
     compare_by(rt, &mut Flipped, line, outside, status, text)
 }
 
-/// Runs the program on a command line, over the file `a.diva` and with this core as its own, and
+/// Runs the program on a command line, over `a.diva` and `a.script` and with this core as its own, and
 /// compares status and text. An empty word is written `''` in the line.
 fn compare_by<C: Core>(
     rt: &impl Abort,
@@ -67,9 +71,11 @@ fn compare_by<C: Core>(
     for word in line.split_whitespace() {
         words.push(if word == "''" { "" } else { word })?;
     }
-    let mut file = Vec::new(alloc);
-    file.push(MemFile::new(String::from_str(alloc, "a.diva")?, outside.file))?;
-    let mut files = MemFiles::new(file, outside.load_fails);
+    let mut there = Vec::new(alloc);
+    for (name, bytes) in [("a.diva", outside.file), ("a.script", outside.script)] {
+        there.push(MemFile::new(String::from_str(alloc, name)?, bytes))?;
+    }
+    let mut files = MemFiles::new(there, outside.load_fails);
     let mut sink = MemSink::new(alloc, outside.room, outside.put_fails)?;
     assert_eq!(rt;
         top(alloc, &words, &mut files, &mut sink, core),
@@ -104,7 +110,10 @@ fn programs_that_run(rt: HostRuntime) -> Result<(), Fail> {
     let five = Outside::sound(alloc, Vec::from_slice(alloc, &FIVE_FILE)?);
     compare(&rt, "run a.diva --core lockstep", five, 0, FIVE_TEXT)?;
     for row in &ROWS {
-        let outside = Outside::sound(alloc, image_file(alloc, row.program)?);
+        let outside = Outside {
+            script: Vec::from_slice(alloc, row.script)?,
+            ..Outside::sound(alloc, image_file(alloc, row.program)?)
+        };
         let text = text_due(alloc, row)?;
         compare(&rt, row.line, outside, row.status, text.as_str())?;
     }

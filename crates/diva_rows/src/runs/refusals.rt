@@ -14,7 +14,7 @@ usage: diva run|tape IMAGE, debug IMAGE COMMANDS, asm SRC, dis IMAGE, soak SEED 
 #[test]
 fn lines_that_are_not_run(rt: HostRuntime) -> Result<(), Fail> {
     let alloc = rt.alloc();
-    let rows: [(&str, &[u64], u8, &str); 11] = [
+    let rows: [(&str, &[u64], u8, &str); 14] = [
         ("", &[], 2, USAGE),
         ("run", &[], 2, USAGE),
         ("run a.diva --width 5", &[], 2, USAGE),
@@ -22,6 +22,19 @@ fn lines_that_are_not_run(rt: HostRuntime) -> Result<(), Fail> {
         ("walk a.diva", &[], 2, USAGE),
         ("run b.diva", &[], 8, "unreadable image\n"),
         ("run a.diva", &[1], 8, "unreadable image\n"),
+        (
+            "run a.diva --script b.script",
+            &[],
+            8,
+            "unreadable script\n",
+        ),
+        (
+            "run a.diva --script a.script",
+            &[2],
+            8,
+            "unreadable script\n",
+        ),
+        ("run b.diva --script b.script", &[], 8, "unreadable image\n"),
         ("run ''", &[], 8, "unreadable image\n"),
         ("run -", &[], 8, "unreadable image\n"),
         ("run -- -x", &[], 8, "unreadable image\n"),

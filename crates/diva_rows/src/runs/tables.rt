@@ -4,8 +4,10 @@ use diva_isa::Record;
 
 /// A run of one program.
 pub(super) struct Row {
-    /// The command line; the program's file is `a.diva`.
+    /// The command line; the program's file is `a.diva`, and the script's `a.script`.
     pub line: &'static str,
+    /// The script's bytes.
+    pub script: &'static [u8],
     pub program: Program,
     pub status: u8,
     /// The text before the registers.
@@ -19,6 +21,7 @@ pub(super) struct Row {
 /// `FIVE` claimed one by one: its claims are of the cycles 1, 8 and 15, and commit in 7, 14 and 21.
 const ONE_BY_ONE: Row = Row {
     line: "run a.diva --core lockstep",
+    script: b"",
     program: FIVE,
     status: 0,
     counts: "end halt 0\ncount 3\ncycles 21\nflushes 0 silent 0\noutput 0\n",
@@ -26,24 +29,69 @@ const ONE_BY_ONE: Row = Row {
     rest: "pc 00000008\n",
 };
 
-/// `FIVE` by the program's own core, whose first claim is wrong.
-const ONE_FLUSH: Row = Row {
-    line: "run a.diva --core own",
-    counts: "\
+/// The text before the registers where the first claim of `FIVE` is wrong.
+const FLUSHED: &str = "\
 flush 7 at 0 value claimed 00000004 due 00000005
 end halt 0
 count 3
 cycles 27
 flushes 1 silent 0
 output 0
-",
+";
+
+/// `FIVE` by the program's own core, whose first claim is wrong.
+const ONE_FLUSH: Row = Row {
+    line: "run a.diva --core own",
+    counts: FLUSHED,
     ..ONE_BY_ONE
 };
 
 /// Runs of programs that don't trap, but for one that runs past its memory.
-pub(super) static ROWS: [Row; 19] = [
+pub(super) static ROWS: [Row; 24] = [
     ONE_BY_ONE,
     ONE_FLUSH,
+    // The first claim is made wrong: the flush of cycle 7, the checker's own instruction in cycle 13, and
+    // claims in cycles 14 and 21.
+    Row {
+        line: "run a.diva --core lockstep --script a.script",
+        script: b"at 1 lane 0 flip value 0\n",
+        counts: FLUSHED,
+        ..ONE_BY_ONE
+    },
+    // The program's own core makes that claim wrong itself; the script puts it right.
+    Row {
+        line: "run a.diva --script a.script",
+        script: b"at 1 lane 0 flip value 0\n",
+        ..ONE_BY_ONE
+    },
+    // The first claim is lost, and comes in cycle 2.
+    Row {
+        line: "run a.diva --script a.script --core lockstep",
+        script: b"at 1 lane 0 lose",
+        counts: "end halt 0\ncount 3\ncycles 22\nflushes 0 silent 0\noutput 0\n",
+        ..ONE_BY_ONE
+    },
+    // Nothing comes up to cycle 100: the watchdog's flush of cycle 64, the checker's own instruction in
+    // cycle 70, and claims in cycles 101 and 108.
+    Row {
+        line: "run a.diva --core lockstep --script a.script",
+        script: b"at 1 hush 100",
+        counts: "\
+flush 64 at 0 silent 64
+end halt 0
+count 3
+cycles 114
+flushes 1 silent 1
+output 0
+",
+        ..ONE_BY_ONE
+    },
+    // A script without rows changes nothing.
+    Row {
+        line: "run a.diva --core lockstep --script a.script",
+        script: b"\n# at 1 hush 100 \xff\n\t \r\n",
+        ..ONE_BY_ONE
+    },
     Row {
         line: "run a.diva",
         ..ONE_FLUSH
@@ -106,6 +154,7 @@ mem 00000010 00000000
     },
     Row {
         line: "run a.diva --core silent --cycles 140",
+        script: b"",
         program: LOOP,
         status: 4,
         counts: "\
