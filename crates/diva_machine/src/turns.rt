@@ -13,6 +13,7 @@ use diva_core::{Claims, Core};
 
 /// Asks the core once and runs one cycle; the list is then what was handed over. On an ended
 /// machine the core is not asked, and the list is empty.
+#[tactic(auto, using(diva_core::proofs::Outcomes::rises, diva_core::proofs::Outcomes::logs, diva_core::proofs::Keeping::stays, diva_core::proofs::Pacing::will_count, diva_core::proofs::Progressing::has_pace, diva_core::proofs::Calming::stays_calm))]
 pub fn turn<C: Core>(m: &mut Machine, core: &mut C, list: &mut Claims)
     requires { m.old.timed.cycles < 2 ^ 60 }
     ensures cycled { m.new.timed ≡ cycle_of m.old.timed list.new }
@@ -34,10 +35,26 @@ pub fn turn<C: Core>(m: &mut Machine, core: &mut C, list: &mut Claims)
     // A right list leaves a calm machine calm, and leads to no flush.
     ensures calm { IsCalm m.old.timed → IsRight m.old.timed list.new → StaysCalm m.old.timed m.new.timed }
 {
-    list.clear();
     if m.goes_on() {
-        core.cycle(&m.told(), &m.view(), list);
+        turn_on(m, core, list);
+    } else {
+        list.clear();
+        m.cycle(list);
     }
+}
+
+/// A turn of a machine that goes on.
+#[inline(always)]
+fn turn_on<C: Core>(m: &mut Machine, core: &mut C, list: &mut Claims)
+    requires on { goes_on m.old.timed.arch ≡ true }
+    requires cycles { m.old.timed.cycles < 2 ^ 60 }
+    ensures cycled { m.new.timed ≡ cycle_of m.old.timed list.new }
+    ensures last { m.new.last ≡ dues (m.new.timed.count - m.old.timed.count) m.old.timed.arch }
+    ensures asked { C.gives core.old (notice_of m.old.timed) m.old.timed.arch list.new core.new }
+    ensures commits { ByClaims m.old.timed m.new.last ⊎ ByItself m.old.timed m.new.last }
+{
+    list.clear();
+    core.cycle(&m.told(), &m.view(), list);
     m.cycle(list);
 }
 
@@ -71,7 +88,7 @@ pub fn drive<C: Core>(m: &mut Machine, core: &mut C, budget: u64) -> Drive
     }
     let mut list = Claims::new();
     for _ in 0..budget {
-        turn(m, core, &mut list);
+        turn_on(m, core, &mut list);
         if !m.goes_on() {
             return Drive::Ended;
         }

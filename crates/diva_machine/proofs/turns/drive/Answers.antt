@@ -1,6 +1,5 @@
 use Rattle.std.proofs.Common.{◌≡◌, true, sym, ◌∙◌, arith}
 use Rattle.diva_isa.specs.State.{goes_on}
-use Rattle.diva_core.specs.Log.{Turns}
 use Rattle.diva_core.proofs.Outcomes.{cycle-cycles}
 use Rattle.diva_core.proofs.Pacing.{turns-rise, turns-stay, turns-drive, turns-pace, turns-next, drives_none, will_count}
 use Rattle.diva_core.proofs.Progressing.{has_pace}
@@ -17,7 +16,7 @@ pub returns-then-not-goes_on-2-clause-drives : goal.returns-then-not-goes_on-2-c
 returns-then-not-goes_on-2-clause-drives g c =
     let inv = c.loop.invariant in
     turns-drive g.C.Core.gives _ _ _ _ inv.sound
-    (rw c.turn.ensures.cycled (turns-next g.C.Core.gives _ _ _ _ inv.sound inv.turns c.turn.new.list c.turn.new.core inv.on (c.turn.ensures.asked inv.on)))
+    (rw c.turn_on.ensures.cycled (turns-next g.C.Core.gives _ _ _ _ inv.sound inv.turns c.turn_on.new.list c.turn_on.new.core inv.on c.turn_on.ensures.asked))
 
 pub returns-then-not-goes_on-2-clause-rises : goal.returns-then-not-goes_on-2-clause-rises
 returns-then-not-goes_on-2-clause-rises g c = turns-rise g.C.Core.gives _ _ _ _ c.loop.invariant.sound (returns-then-not-goes_on-2-clause-drives g c).turns
@@ -28,21 +27,21 @@ returns-then-not-goes_on-2-clause-pace g c = turns-pace g.C.Core.gives _ _ _ _ c
 pub returns-then-not-goes_on-2-clause-within : goal.returns-then-not-goes_on-2-clause-within
 returns-then-not-goes_on-2-clause-within g c =
     let inv = c.loop.invariant in
-    let next = cycle-cycles c.loop.m.timed c.turn.new.list (turns-stay g.C.Core.gives _ _ _ _ inv.sound inv.turns) inv.on in
-    rw c.turn.ensures.cycled (let l = c.loop-test.true in omega arith)
+    let next = cycle-cycles c.loop.m.timed c.turn_on.new.list (turns-stay g.C.Core.gives _ _ _ _ inv.sound inv.turns) inv.on in
+    rw c.turn_on.ensures.cycled (let l = c.loop-test.true in omega arith)
 
 -- ---- a turn after which it goes on
 
 pub loop-preserved : goal.loop-preserved
 loop-preserved g c =
     let inv = c.loop.invariant in
-    let next = cycle-cycles c.loop.m.timed c.turn.new.list (turns-stay g.C.Core.gives _ _ _ _ inv.sound inv.turns) inv.on in
-    let on : goes_on c.turn.new.m.timed.arch ≡ true = sym c.goes_on-in-loop.ensures.value ∙ c.if-not-goes_on-2.false in
+    let next = cycle-cycles c.loop.m.timed c.turn_on.new.list (turns-stay g.C.Core.gives _ _ _ _ inv.sound inv.turns) inv.on in
+    let on : goes_on c.turn_on.new.m.timed.arch ≡ true = sym c.goes_on-in-loop.ensures.value ∙ c.if-not-goes_on-2.false in
     record {
-      turns = rw c.turn.ensures.cycled (turns-next g.C.Core.gives _ _ _ _ inv.sound inv.turns c.turn.new.list c.turn.new.core inv.on (c.turn.ensures.asked inv.on));
+      turns = rw c.turn_on.ensures.cycled (turns-next g.C.Core.gives _ _ _ _ inv.sound inv.turns c.turn_on.new.list c.turn_on.new.core inv.on c.turn_on.ensures.asked);
       on = on;
       began = inv.began;
-      cycles = rw c.turn.ensures.cycled (omega arith);
+      cycles = rw c.turn_on.ensures.cycled (omega arith);
       sound = inv.sound;
     }
 

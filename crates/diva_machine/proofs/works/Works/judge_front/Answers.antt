@@ -1,4 +1,4 @@
-use Rattle.std.proofs.Common.{◌≡◌, ◌+◌, ◌==◌, map, true, Some, None, ap, sym, ◌∙◌, arith, slice_get}
+use Rattle.std.proofs.Common.{◌≡◌, ◌+◌, ◌==◌, map, true, Some, None, ap, sym, ◌∙◌, slice_get}
 use Rattle.diva_isa.specs.Step.{record_of, apply}
 use Rattle.diva_core.specs.Difference.{first_difference}
 use Rattle.diva_core.specs.Cycle.{committed, puts_store}
