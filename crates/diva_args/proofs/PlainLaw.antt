@@ -1,12 +1,13 @@
 -- On a plain line the job is read off the words.
-use Rattle.std.proofs.Common.{◌≡◌, ◌∙◌, ◌&&◌, ◌||◌, ℕ, Bool, true, false, not, List, [], ◌∷◌, ◌++◌, map, refl, ap, subst, Some, arith}
-use Rattle.std.specs.List.{Contains, flat_map, list_all, slice_index_or}
+use Rattle.std.proofs.Common.{◌≡◌, ◌∙◌, ◌&&◌, ◌||◌, Bool, true, false, not, List, [], ◌∷◌, ◌++◌, map, refl, ap, subst, Some}
+use Rattle.std.specs.List.{Contains, flat_map, list_all}
 use Rattle.std.specs.Str.{bytes_eq}
+use Rattle.std.proofs.lemmas.List.Elements.{All-contains, All-from_recursion}
 use Rattle.std.proofs.lemmas.Slice.Eq.{bytes_eq-Decides}
 use Rattle.clap.specs.Walk.{Text, nothing_held, walked}
 use Rattle.clap.specs.Simple.{Shape, argument_words, built}
 use Rattle.clap.proofs.WalkLemmas.{both}
-use Rattle.diva_args.specs.Command.{Leaf, diva, leaves, run}
+use Rattle.diva_args.specs.Command.{Leaf, diva, leaves, run, tape}
 use Rattle.diva_args.specs.Line.{command_of, job_from, taken, values_of}
 use Rattle.diva_args.specs.Plain.{IsPlainLine, PlainLine, are_distinct, given_in, has_text, is_plain_word, job_on, names_in, option_words, value_in}
 use Rattle.diva_args.proofs.PlainSteps.{Stands, first_given, given_row}
@@ -32,11 +33,18 @@ run_sound = record {
   distinct = refl;
 }
 
+tape_sound : IsSound tape
+unfolding diva walked
+tape_sound = record {
+  enters = record { walk_is = refl; turn = refl; sub = refl; label = refl; bare = refl; negates = refl };
+  places = (refl, refl, refl, tt);
+  names = refl;
+  apart = refl;
+  distinct = refl;
+}
+
 each_sound : (l : Leaf) → Contains leaves l → IsSound l
-each_sound l listed =
-    let first : listed.0 ≡ 0 = omega (arith, listed.1) in
-    let same : run ≡ l = subst (λ (k : ℕ). slice_index_or leaves k l ≡ l) first listed.2 in
-    subst IsSound same run_sound
+each_sound l listed = All-contains IsSound leaves l (All-from_recursion IsSound leaves (run_sound, (tape_sound, tt))) listed
 
 -- ---- names and words
 

@@ -11,16 +11,27 @@ pub record Leaf : Type 0 where
 
 -- ---- the table
 
+-- the options of what runs an image
+abbrev pub setup_options : List Text
+setup_options = codes "core" ∷ codes "script" ∷ codes "tape" ∷ codes "width" ∷ codes "window"
+    ∷ codes "stores" ∷ codes "watchdog" ∷ []
+
 abbrev pub run : Leaf
 run = record {
   name = codes "run";
   positionals = codes "IMAGE" ∷ [];
-  options = codes "core" ∷ codes "script" ∷ codes "width" ∷ codes "window" ∷ codes "stores"
-      ∷ codes "watchdog" ∷ codes "cycles" ∷ codes "dump" ∷ [];
+  options = setup_options ++ codes "cycles" ∷ codes "dump" ∷ [];
+}
+
+abbrev pub tape : Leaf
+tape = record {
+  name = codes "tape";
+  positionals = codes "IMAGE" ∷ [];
+  options = setup_options ++ codes "cycles" ∷ [];
 }
 
 abbrev pub leaves : List Leaf
-leaves = run ∷ []
+leaves = run ∷ tape ∷ []
 
 -- ---- the same for `clap`
 

@@ -7,7 +7,7 @@ use Rattle.clap.specs.Simple.{subcommand_of}
 use Rattle.clap.specs.Faults.{fault_of}
 use Rattle.clap.specs.Kinds.{Kinds}
 use Rattle.diva_args.specs.Command.{diva}
-use Rattle.diva_args.specs.Options.{DumpRange, RunOptions}
+use Rattle.diva_args.specs.Options.{DumpRange, RunOptions, Setup, TapeOptions}
 use Rattle.diva_args.specs.Values.{core_of, dump_of, number_of}
 use Rattle.diva_args.specs.declared.job.CoreChoice.{CoreChoice}
 use Rattle.diva_args.specs.declared.job.Job.{Job}
@@ -24,11 +24,11 @@ taken words = unless (fault_of diva words) (subcommand_of diva words)
 
 -- ---- jobs, by the value of each positional and option
 
-abbrev pub run_with : Option Text → Option CoreChoice → (script : Option Text) → Option ℕ → Option ℕ → Option ℕ
-    → Option ℕ → Option ℕ → Option (Option DumpRange) → Option RunOptions
-run_with image core script width window stores watchdog cycles dump =
+abbrev pub setup_with : Option Text → Option CoreChoice → (script : Option Text) → Option ℕ → Option ℕ → Option ℕ
+    → Option ℕ → Option Setup
+setup_with image core script width window stores watchdog =
     option_and_then (λ i. option_and_then (λ c. option_and_then (λ n. option_and_then (λ q.
-    option_and_then (λ s. option_and_then (λ w. option_and_then (λ y. option_map (λ d. record {
+    option_and_then (λ s. option_map (λ w. record {
       image = i;
       core = c;
       script = script;
@@ -36,27 +36,44 @@ run_with image core script width window stores watchdog cycles dump =
       window = q;
       stores = s;
       watchdog = w;
-      cycles = y;
-      dump = d;
-    }) dump) cycles) watchdog) stores) window) width) core) image
+    }) watchdog) stores) window) width) core) image
 
--- `run`; the image and the script are named by the words as they are
-unfoldable pub run_from : (Text → Option Text) → Option RunOptions
-run_from value = run_with
+-- what commands have in common that run an image; files are named by the words as they are
+unfoldable pub setup_from : (Text → Option Text) → Option Setup
+setup_from value = setup_with
     (value (codes "IMAGE"))
-    (core_of (value (codes "core")))
+    (core_of (value (codes "core")) (value (codes "tape")))
     (value (codes "script"))
     (number_of 1 4 2 (value (codes "width")))
     (number_of 8 64 16 (value (codes "window")))
     (number_of 1 6 4 (value (codes "stores")))
     (number_of 16 1024 64 (value (codes "watchdog")))
-    (number_of 1 1000000000 1000000 (value (codes "cycles")))
-    (dump_of (value (codes "dump")))
+
+-- the cycles to run at most
+unfoldable pub cycles_from : (Text → Option Text) → Option ℕ
+cycles_from value = number_of 1 1000000000 1000000 (value (codes "cycles"))
+
+abbrev pub run_with : Option Setup → Option ℕ → Option (Option DumpRange) → Option RunOptions
+run_with setup cycles dump = option_and_then (λ s. option_and_then (λ c. option_map (λ d.
+    record { setup = s; cycles = c; dump = d }) dump) cycles) setup
+
+-- `run`
+unfoldable pub run_from : (Text → Option Text) → Option RunOptions
+run_from value = run_with (setup_from value) (cycles_from value) (dump_of (value (codes "dump")))
+
+abbrev pub tape_with : Option Setup → Option ℕ → Option TapeOptions
+tape_with setup cycles = option_and_then (λ s. option_map (λ c.
+    record { setup = s; cycles = c }) cycles) setup
+
+-- `tape`
+unfoldable pub tape_from : (Text → Option Text) → Option TapeOptions
+tape_from value = tape_with (setup_from value) (cycles_from value)
 
 -- the job of the command of this name
 abbrev pub job_from : Text → (Text → Option Text) → Option Job
 job_from name value =
     if bytes_eq name (codes "run") then option_map job.Run (run_from value)
+    else if bytes_eq name (codes "tape") then option_map job.Tape (tape_from value)
     else None
 
 -- the first value of each positional and option in the matches

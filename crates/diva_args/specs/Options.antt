@@ -13,8 +13,8 @@ pub record IsDump (addr len : ℕ) : Type 0 where
   pub len_high : len ≤ 4096
   pub end : addr + len ≤ 2 ^ 32
 
--- `run IMAGE` with its options
-pub record RunOptions : Type 0 where
+-- what commands have in common that run an image: the image, the core, the script, and the numbers of the machine
+pub record Setup : Type 0 where
   pub image : List ℕ
   pub core : CoreChoice
   pub script : Option (List ℕ)
@@ -22,11 +22,9 @@ pub record RunOptions : Type 0 where
   pub window : ℕ
   pub stores : ℕ
   pub watchdog : ℕ
-  pub cycles : ℕ
-  pub dump : Option DumpRange
 
--- the ranges of the numbers of `run`
-pub record IsRun (width window stores watchdog cycles : ℕ) : Type 0 where
+-- the ranges of those numbers
+pub record IsSetup (width window stores watchdog : ℕ) : Type 0 where
   pub width_low : 1 ≤ width
   pub width_high : width ≤ 4
   pub window_low : 8 ≤ window
@@ -35,5 +33,19 @@ pub record IsRun (width window stores watchdog cycles : ℕ) : Type 0 where
   pub stores_high : stores ≤ 6
   pub watchdog_low : 16 ≤ watchdog
   pub watchdog_high : watchdog ≤ 1024
-  pub cycles_low : 1 ≤ cycles
-  pub cycles_high : cycles ≤ 1000000000
+
+-- the range of the cycles to run at most
+pub record IsBudget (cycles : ℕ) : Type 0 where
+  pub low : 1 ≤ cycles
+  pub high : cycles ≤ 1000000000
+
+-- `run IMAGE` with its options
+pub record RunOptions : Type 0 where
+  pub setup : Setup
+  pub cycles : ℕ
+  pub dump : Option DumpRange
+
+-- `tape IMAGE` with its options
+pub record TapeOptions : Type 0 where
+  pub setup : Setup
+  pub cycles : ℕ

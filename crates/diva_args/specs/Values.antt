@@ -7,19 +7,24 @@ use Rattle.clap.specs.Walk.{Text}
 use Rattle.diva_outside.specs.Numbers.{decimal_of, hex_of}
 use Rattle.diva_args.specs.Options.{DumpRange}
 use Rattle.diva_args.specs.declared.job.CoreChoice.{CoreChoice}
-use Rattle.diva_args.specs.declared.job.CoreChoice.TheVariants.{Own, Lockstep, Silent}
+use Rattle.diva_args.specs.declared.job.CoreChoice.TheVariants.{Own, Lockstep, Scalar, Silent, Tape}
 
+-- the core of this name, for one that takes no tape
 unfoldable pub core_named : Text → Option CoreChoice
 core_named word =
     if bytes_eq word (codes "own") then Some Own
     else if bytes_eq word (codes "lockstep") then Some Lockstep
+    else if bytes_eq word (codes "scalar") then Some Scalar
     else if bytes_eq word (codes "silent") then Some Silent
     else None
 
--- the core of `--core`
-abbrev pub core_of : Option Text → Option CoreChoice
-core_of None = Some Own
-core_of (Some word) = core_named word
+-- the core of `--core` and `--tape`: a tape is given exactly where the core is `tape`
+abbrev pub core_of : (core tape : Option Text) → Option CoreChoice
+core_of None None = Some Own
+core_of None (Some tape) = None
+core_of (Some word) None = core_named word
+core_of (Some word) (Some tape) =
+    if bytes_eq word (codes "tape") then Some (Tape tape) else None
 
 -- the number that the word spells, where it is within these bounds
 abbrev pub within : ℕ → ℕ → ℕ → Option ℕ

@@ -18,13 +18,22 @@ pub(crate) struct Leaf {
 }
 
 // The commands of the program.
-static LEAVES: [Leaf; 1] = [Leaf {
-    name: "run",
-    positionals: &["IMAGE"],
-    options: &[
-        "core", "script", "width", "window", "stores", "watchdog", "cycles", "dump",
-    ],
-}];
+static LEAVES: [Leaf; 2] = [
+    Leaf {
+        name: "run",
+        positionals: &["IMAGE"],
+        options: &[
+            "core", "script", "tape", "width", "window", "stores", "watchdog", "cycles", "dump",
+        ],
+    },
+    Leaf {
+        name: "tape",
+        positionals: &["IMAGE"],
+        options: &[
+            "core", "script", "tape", "width", "window", "stores", "watchdog", "cycles",
+        ],
+    },
+];
 
 /// The whole command, over words without the program's name. The error: out of memory.
 pub(crate) fn command<'a>(alloc: Global) -> Result<Command<'a>, AllocError>

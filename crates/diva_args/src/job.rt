@@ -5,17 +5,19 @@ use std::marker::Model;
 /// A command with its options. On the command line, numbers are spelled with 1 to 10 decimal digits.
 #[derive(Debug, Drop)]
 pub enum Job {
-    /// `run IMAGE`: runs an image.
-    Run(Run),
+    /// `run IMAGE`: runs an image, and shows how it ended.
+    Run(RunOptions),
+    /// `tape IMAGE`: runs an image, and writes down the lists that were handed over.
+    Tape(TapeOptions),
 }
 
-/// The image to run, on what machine, and for how long.
+/// What commands have in common that run an image: the image, the core, the script, and the numbers of the machine.
 #[derive(Debug, Drop)]
-pub struct Run {
+pub struct Setup {
     /// `IMAGE`: the name of the image's file. It is the word as it is, which may be empty or `-`. A longer name that
     /// begins with `-` has to stand behind the word `--`.
     pub image: FileName,
-    /// `--core`: the core that the checker watches; the program's own where none is named.
+    /// `--core` with `--tape`: the core that the checker watches; the program's own where neither is given.
     pub core: CoreChoice,
     /// `--script`: the name of the file whose rows are laid over what the core hands over. It is the word as it is; with
     /// no such word nothing is laid over.
@@ -28,47 +30,92 @@ pub struct Run {
     pub stores: u32,
     /// `--watchdog`: the watchdog's limit in cycles, 16 to 1,024; 64 by default.
     pub watchdog: u32,
+}
+
+impl Model for Setup {
+    ghost use Rattle.diva_args.specs.Options.{IsSetup};
+    ghost use Rattle.diva_args.specs.Options as value;
+
+    ghost Value = { value.Setup };
+
+    ghost view = { λ s. record { image = s.image; core = s.core; script = s.script; width = s.width; window = s.window; stores = s.stores; watchdog = s.watchdog } };
+
+    ghost invariant = { λ s. IsSetup s.width s.window s.stores s.watchdog };
+}
+
+/// `run IMAGE` with its options.
+#[derive(Debug, Drop)]
+pub struct RunOptions {
+    /// The image, its core and its machine.
+    pub setup: Setup,
     /// `--cycles`: the cycles to run at most, 1 to 1,000,000,000; 1,000,000 by default.
     pub cycles: u64,
     /// `--dump ADDR:LEN`, with 1 to 8 hex digits for the address: the part of memory to show at the end; `None` where
     /// the option is not given.
-    pub dump: Option<Dump>,
+    pub dump: Option<DumpRange>,
 }
 
-impl Model for Run {
-    ghost use Rattle.diva_args.specs.Options.{RunOptions, IsRun};
+impl Model for RunOptions {
+    ghost use Rattle.diva_args.specs.Options.{IsBudget};
+    ghost use Rattle.diva_args.specs.Options as value;
 
-    ghost Value = { RunOptions };
+    ghost Value = { value.RunOptions };
 
-    ghost view = { λ r. record { image = r.image; core = r.core; script = r.script; width = r.width; window = r.window; stores = r.stores; watchdog = r.watchdog; cycles = r.cycles; dump = r.dump } };
+    ghost view = { λ r. record { setup = r.setup; cycles = r.cycles; dump = r.dump } };
 
-    ghost invariant = { λ r. IsRun r.width r.window r.stores r.watchdog r.cycles };
+    ghost invariant = { λ r. IsBudget r.cycles };
+}
+
+/// `tape IMAGE` with its options.
+#[derive(Debug, Drop)]
+pub struct TapeOptions {
+    /// The image, its core and its machine.
+    pub setup: Setup,
+    /// `--cycles`: the cycles to run at most, 1 to 1,000,000,000; 1,000,000 by default.
+    pub cycles: u64,
+}
+
+impl Model for TapeOptions {
+    ghost use Rattle.diva_args.specs.Options.{IsBudget};
+    ghost use Rattle.diva_args.specs.Options as value;
+
+    ghost Value = { value.TapeOptions };
+
+    ghost view = { λ t. record { setup = t.setup; cycles = t.cycles } };
+
+    ghost invariant = { λ t. IsBudget t.cycles };
 }
 
 /// The core that the checker watches.
-#[derive(Clone, Copy, Debug, PartialEq, Eq)]
+#[derive(Debug, Drop)]
 pub enum CoreChoice {
     /// `own`: the core that the program hands in.
     Own,
     /// `lockstep`: one right claim at a time.
     Lockstep,
+    /// `scalar`: right claims, one in each cycle that has room for it.
+    Scalar,
     /// `silent`: no claim, ever.
     Silent,
+    /// `tape`: the lists in the file that `--tape` names, which is given for this core and for no other. The name is the
+    /// word as it is, which may be empty.
+    Tape(FileName),
 }
 
 /// A part of memory, of 1 to 4,096 bytes, that ends at 2^32 at the latest.
 #[derive(Clone, Copy, Debug, PartialEq, Eq)]
-pub struct Dump {
+pub struct DumpRange {
     /// The address of the first byte.
     pub addr: u32,
     /// The number of bytes, 1 to 4,096.
     pub len: u32,
 }
 
-impl Model for Dump {
-    ghost use Rattle.diva_args.specs.Options.{DumpRange, IsDump};
+impl Model for DumpRange {
+    ghost use Rattle.diva_args.specs.Options.{IsDump};
+    ghost use Rattle.diva_args.specs.Options as value;
 
-    ghost Value = { DumpRange };
+    ghost Value = { value.DumpRange };
 
     ghost view = { λ d. record { addr = d.addr; len = d.len } };
 

@@ -1,14 +1,16 @@
 // From words to a job.
-ghost use Rattle.std.specs.Prelude.{◌≡◌, IfOk, None, Some, map, option_and_then, option_map};
+ghost use Rattle.std.specs.Prelude.{◌≡◌, IfOk, IfSome, None, Some, map, option_and_then, option_map};
 ghost use Rattle.clap.specs.Walk.{rows_of};
 ghost use Rattle.clap.specs.Words.{found_of, subcommand_rows_of};
-ghost use Rattle.diva_args.specs.Line.{command_of, job_of, run_from, taken, values_of};
+ghost use Rattle.diva_args.specs.Line.{command_of, cycles_from, job_of, run_from, setup_from};
+ghost use Rattle.diva_args.specs.Line.{taken, tape_from, values_of};
+ghost use Rattle.diva_args.specs.Options.{IsBudget};
 ghost use Rattle.diva_args.specs.Plain.{IsPlainLine, PlainLine, job_on};
 
 use crate::command::command;
 use crate::fault::ArgsFault;
 use crate::file_name::FileName;
-use crate::job::{Job, Run};
+use crate::job::{Job, RunOptions, Setup, TapeOptions};
 use crate::values::{core, dump, number};
 use clap::ArgMatches;
 use std::alloc::{AllocError, Global};
@@ -54,22 +56,57 @@ fn job(alloc: Global, matches: &ArgMatches<'_>) -> Result<Job, ArgsFault>
     };
     match name {
         "run" => Ok(Job::Run(run(alloc, found)?)),
+        "tape" => Ok(Job::Tape(tape(alloc, found)?)),
         _ => Err(ArgsFault::Usage),
     }
 }
 
 // `run IMAGE` with its options.
 #[tactic(auto, unfolding(crate::specs::Line::run_from))]
-fn run(alloc: Global, found: &ArgMatches<'_>) -> Result<Run, ArgsFault>
+fn run(alloc: Global, found: &ArgMatches<'_>) -> Result<RunOptions, ArgsFault>
     ensures run { IfOk result (λ run.
         run_from (values_of (rows_of (found_of found.now))) ≡ Some run) }
     ensures usage { result ≡ Err ArgsFault.Usage
         → run_from (values_of (rows_of (found_of found.now))) ≡ None }
 {
-    let Some(image) = text_of(found, "IMAGE") else {
+    let setup = setup(alloc, found)?;
+    let Some(cycles) = cycles(found) else {
         return Err(ArgsFault::Usage);
     };
-    let Some(core) = core(text_of(found, "core")) else {
+    let Some(dump) = dump(text_of(found, "dump")) else {
+        return Err(ArgsFault::Usage);
+    };
+    Ok(RunOptions {
+        setup,
+        cycles,
+        dump,
+    })
+}
+
+// `tape IMAGE` with its options.
+#[tactic(auto, unfolding(crate::specs::Line::tape_from))]
+fn tape(alloc: Global, found: &ArgMatches<'_>) -> Result<TapeOptions, ArgsFault>
+    ensures tape { IfOk result (λ tape.
+        tape_from (values_of (rows_of (found_of found.now))) ≡ Some tape) }
+    ensures usage { result ≡ Err ArgsFault.Usage
+        → tape_from (values_of (rows_of (found_of found.now))) ≡ None }
+{
+    let setup = setup(alloc, found)?;
+    let Some(cycles) = cycles(found) else {
+        return Err(ArgsFault::Usage);
+    };
+    Ok(TapeOptions { setup, cycles })
+}
+
+// What commands have in common that run an image.
+#[tactic(auto, unfolding(crate::specs::Line::setup_from))]
+fn setup(alloc: Global, found: &ArgMatches<'_>) -> Result<Setup, ArgsFault>
+    ensures setup { IfOk result (λ setup.
+        setup_from (values_of (rows_of (found_of found.now))) ≡ Some setup) }
+    ensures usage { result ≡ Err ArgsFault.Usage
+        → setup_from (values_of (rows_of (found_of found.now))) ≡ None }
+{
+    let Some(image) = text_of(found, "IMAGE") else {
         return Err(ArgsFault::Usage);
     };
     let Some(width) = number(text_of(found, "width"), 1, 4, 2) else {
@@ -84,23 +121,27 @@ fn run(alloc: Global, found: &ArgMatches<'_>) -> Result<Run, ArgsFault>
     let Some(watchdog) = number(text_of(found, "watchdog"), 16, 1024, 64) else {
         return Err(ArgsFault::Usage);
     };
-    let Some(cycles) = number(text_of(found, "cycles"), 1, 1_000_000_000, 1_000_000) else {
-        return Err(ArgsFault::Usage);
-    };
-    let Some(dump) = dump(text_of(found, "dump")) else {
-        return Err(ArgsFault::Usage);
-    };
-    Ok(Run {
+    Ok(Setup {
         image: FileName::new(alloc, image)?,
-        core,
+        core: core(alloc, text_of(found, "core"), text_of(found, "tape"))?,
         script: name_of(alloc, text_of(found, "script"))?,
         width,
         window,
         stores,
         watchdog,
-        cycles: u64::from(cycles),
-        dump,
     })
+}
+
+// The cycles to run at most.
+#[tactic(auto, unfolding(crate::specs::Line::cycles_from))]
+fn cycles(found: &ArgMatches<'_>) -> Option<u64>
+    ensures value { result ≡ cycles_from (values_of (rows_of (found_of found.now))) }
+    ensures in_range { IfSome result IsBudget }
+{
+    match number(text_of(found, "cycles"), 1, 1_000_000_000, 1_000_000) {
+        Some(cycles) => Some(u64::from(cycles)),
+        None => None,
+    }
 }
 
 // The name that the words give for an option.

@@ -1,16 +1,37 @@
 // Lines that are taken, and lines that are refused.
-use crate::{ArgsFault, CoreChoice, Dump, Job, Run, read_words};
+use crate::{ArgsFault, CoreChoice, DumpRange, FileName, Job, RunOptions, TapeOptions, read_words};
 use std::alloc::Global;
 use std::test::Fail;
 
-// The options of a line that is taken.
-fn run(alloc: Global, words: &[&str]) -> Result<Run, Fail> {
-    let Job::Run(run) = read_words(alloc, words)?;
-    Ok(run)
+// The options of a line of `run` that is taken.
+fn run(alloc: Global, words: &[&str]) -> Result<RunOptions, Fail> {
+    match read_words(alloc, words)? {
+        Job::Run(options) => Ok(options),
+        Job::Tape(_) => Err(Fail::new("this is a line of tape")),
+    }
 }
 
-fn script_in(run: &Run) -> Option<&str> {
-    match &run.script {
+// The options of a line of `tape` that is taken.
+fn tape(alloc: Global, words: &[&str]) -> Result<TapeOptions, Fail> {
+    match read_words(alloc, words)? {
+        Job::Tape(options) => Ok(options),
+        Job::Run(_) => Err(Fail::new("this is a line of run")),
+    }
+}
+
+// The name of a core, and its tape.
+fn core_words(core: &CoreChoice) -> (&str, Option<&str>) {
+    match core {
+        CoreChoice::Own => ("own", None),
+        CoreChoice::Lockstep => ("lockstep", None),
+        CoreChoice::Scalar => ("scalar", None),
+        CoreChoice::Silent => ("silent", None),
+        CoreChoice::Tape(name) => ("tape", Some(name.as_str())),
+    }
+}
+
+fn text_in(name: &Option<FileName>) -> Option<&str> {
+    match name {
         Some(name) => Some(name.as_str()),
         None => None,
     }
@@ -18,13 +39,17 @@ fn script_in(run: &Run) -> Option<&str> {
 
 #[test]
 fn lines_that_are_taken(rt: HostRuntime) -> Result<(), Fail> {
-    let plain = run(rt.alloc(), &["run", "p1.diva"])?;
-    assert_eq!(rt; plain.image.as_str(), "p1.diva");
-    assert_eq!(rt; plain.core, CoreChoice::Own);
-    assert_eq!(rt; script_in(&plain), None);
-    assert_eq!(rt; (plain.width, plain.window, plain.stores), (2, 16, 4));
-    assert_eq!(rt; (plain.watchdog, plain.cycles), (64, 1_000_000));
-    assert_eq!(rt; plain.dump, None);
+    let RunOptions {
+        setup,
+        cycles,
+        dump,
+    } = run(rt.alloc(), &["run", "p1.diva"])?;
+    assert_eq!(rt; setup.image.as_str(), "p1.diva");
+    assert_eq!(rt; core_words(&setup.core), ("own", None));
+    assert_eq!(rt; text_in(&setup.script), None);
+    assert_eq!(rt; (setup.width, setup.window, setup.stores), (2, 16, 4));
+    assert_eq!(rt; (setup.watchdog, cycles), (64, 1_000_000));
+    assert_eq!(rt; dump, None);
 
     let words = [
         "run",
@@ -46,12 +71,56 @@ fn lines_that_are_taken(rt: HostRuntime) -> Result<(), Fail> {
         "--window",
         "08",
     ];
-    let full = run(rt.alloc(), &words)?;
-    assert_eq!(rt; full.core, CoreChoice::Silent);
-    assert_eq!(rt; script_in(&full), Some("faults.txt"));
-    assert_eq!(rt; (full.width, full.window, full.stores), (1, 8, 6));
-    assert_eq!(rt; (full.watchdog, full.cycles), (1024, 1_000_000_000));
-    assert_eq!(rt; full.dump, Some(Dump { addr: 0x3c, len: 8 }));
+    let RunOptions {
+        setup,
+        cycles,
+        dump,
+    } = run(rt.alloc(), &words)?;
+    assert_eq!(rt; core_words(&setup.core), ("silent", None));
+    assert_eq!(rt; text_in(&setup.script), Some("faults.txt"));
+    assert_eq!(rt; (setup.width, setup.window, setup.stores), (1, 8, 6));
+    assert_eq!(rt; (setup.watchdog, cycles), (1024, 1_000_000_000));
+    assert_eq!(rt; dump, Some(DumpRange { addr: 0x3c, len: 8 }));
+    Ok(())
+}
+
+#[test]
+fn lines_of_tape(rt: HostRuntime) -> Result<(), Fail> {
+    let TapeOptions { setup, cycles } = tape(rt.alloc(), &["tape", "p", "--cycles", "9"])?;
+    assert_eq!(rt; setup.image.as_str(), "p");
+    assert_eq!(rt; core_words(&setup.core), ("own", None));
+    assert_eq!(rt; (setup.width, cycles), (2, 9));
+
+    let words = [
+        "tape", "p", "--script", "s", "--tape", "t", "--core", "tape",
+    ];
+    let TapeOptions { setup, .. } = tape(rt.alloc(), &words)?;
+    assert_eq!(rt; core_words(&setup.core), ("tape", Some("t")));
+    assert_eq!(rt; text_in(&setup.script), Some("s"));
+    Ok(())
+}
+
+#[test]
+fn cores_and_their_tapes(rt: HostRuntime) -> Result<(), Fail> {
+    let lines: [(&[&str], (&str, Option<&str>)); 5] = [
+        (&["run", "p", "--core", "lockstep"], ("lockstep", None)),
+        (&["run", "p", "--core", "scalar"], ("scalar", None)),
+        (
+            &["run", "p", "--core", "tape", "--tape", "t"],
+            ("tape", Some("t")),
+        ),
+        (
+            &["run", "p", "--core", "tape", "--tape="],
+            ("tape", Some("")),
+        ),
+        (
+            &["run", "p", "--core=tape", "--tape=x"],
+            ("tape", Some("x")),
+        ),
+    ];
+    for (words, core) in lines {
+        assert_eq!(rt; core_words(&run(rt.alloc(), words)?.setup.core), core);
+    }
     Ok(())
 }
 
@@ -65,14 +134,18 @@ fn any_word_is_a_name(rt: HostRuntime) -> Result<(), Fail> {
         (&["run", "--", "--help"], "--help"),
     ];
     for (words, name) in lines {
-        assert_eq!(rt; run(rt.alloc(), words)?.image.as_str(), name, "{name}");
+        assert_eq!(rt;
+            run(rt.alloc(), words)?.setup.image.as_str(),
+            name,
+            "{name}"
+        );
     }
     Ok(())
 }
 
 #[test]
 fn lines_that_are_refused(rt: HostRuntime) {
-    let lines: [&[&str]; 22] = [
+    let lines: [&[&str]; 27] = [
         &[],
         &["run"],
         &["run", "a", "b"],
@@ -85,8 +158,11 @@ fn lines_that_are_refused(rt: HostRuntime) {
         &["run", "-x"],
         &["run", "a", "--", "-x"],
         &["run", "a", "--trace"],
-        &["run", "a", "--core", "scalar"],
+        &["run", "a", "--core", "vector"],
         &["run", "a", "--core", "own", "--core", "own"],
+        &["run", "a", "--core", "tape"],
+        &["run", "a", "--tape", "t"],
+        &["run", "a", "--core", "lockstep", "--tape", "t"],
         &["run", "a", "--script"],
         &["run", "a", "--script", "b", "--script", "b"],
         &["run", "a", "--width", "5"],
@@ -95,6 +171,8 @@ fn lines_that_are_refused(rt: HostRuntime) {
         &["run", "a", "--dump", "0:0"],
         &["run", "a", "--dump", "123456789:1"],
         &["run", "a", "--dump", "fffffffc:5"],
+        &["tape"],
+        &["tape", "a", "--dump", "0:4"],
     ];
     for line in lines {
         let answer = read_words(rt.alloc(), line);

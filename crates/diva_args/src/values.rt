@@ -1,28 +1,44 @@
 // The values of options as cores, numbers and parts of memory.
-ghost use Rattle.std.specs.Prelude.{◌≡◌, ◌≤◌, IfSome, None, Some, option_map};
+ghost use Rattle.std.specs.Prelude.{◌≡◌, ◌≤◌, IfOk, IfSome, None, Some, option_map};
 ghost use Rattle.diva_args.specs.Values.{core_named, core_of, dump_of, dump_range_of, number_in_range, number_of};
 
-use crate::job::{CoreChoice, Dump};
+use crate::fault::ArgsFault;
+use crate::file_name::FileName;
+use crate::job::{CoreChoice, DumpRange};
 use diva_outside::{decimal, hex};
+use std::alloc::Global;
 
-/// The core of `--core`: the program's own where the option is not given, and `None` where the word names no core.
-pub(crate) fn core(word: Option<&str>) -> Option<CoreChoice>
-    ensures { result ≡ core_of (option_map (λ text. text.now) word.entry) }
+/// The core of `--core` and `--tape`: the program's own where neither is given.
+///
+/// The error is `Usage` where `name` is not the name of a core, or a tape is given with another core than `tape`, or
+/// none with that one; and `Memory` where memory runs out.
+pub(crate) fn core(
+    alloc: Global,
+    name: Option<&str>,
+    tape: Option<&str>,
+) -> Result<CoreChoice, ArgsFault>
+    ensures core { IfOk result (λ core. core_of (option_map (λ text. text.now) name.entry)
+        (option_map (λ text. text.now) tape.entry) ≡ Some core) }
+    ensures usage { result ≡ Err ArgsFault.Usage → core_of (option_map (λ text. text.now) name.entry)
+        (option_map (λ text. text.now) tape.entry) ≡ None }
 {
-    match word {
-        Some(word) => named_core(word),
-        None => Some(CoreChoice::Own),
+    match (name, tape) {
+        (None, None) => Ok(CoreChoice::Own),
+        (Some(name), None) => named_core(name).ok_or(ArgsFault::Usage),
+        (Some("tape"), Some(tape)) => Ok(CoreChoice::Tape(FileName::new(alloc, tape)?)),
+        (_, Some(_)) => Err(ArgsFault::Usage),
     }
 }
 
-// The core of that name.
+// The core of that name, for one that takes no tape.
 #[tactic(auto, unfolding(crate::specs::Values::core_named))]
-fn named_core(word: &str) -> Option<CoreChoice>
-    ensures { result ≡ core_named word.now }
+fn named_core(name: &str) -> Option<CoreChoice>
+    ensures { result ≡ core_named name.now }
 {
-    match word {
+    match name {
         "own" => Some(CoreChoice::Own),
         "lockstep" => Some(CoreChoice::Lockstep),
+        "scalar" => Some(CoreChoice::Scalar),
         "silent" => Some(CoreChoice::Silent),
         _ => None,
     }
@@ -57,7 +73,7 @@ fn number_within(word: &str, least: u32, most: u32) -> Option<u32>
 }
 
 /// The memory of `--dump`: `Some(None)` where the option is not given, and `None` where the word is not `ADDR:LEN`.
-pub(crate) fn dump(word: Option<&str>) -> Option<Option<Dump>>
+pub(crate) fn dump(word: Option<&str>) -> Option<Option<DumpRange>>
     ensures { result ≡ dump_of (option_map (λ text. text.now) word.entry) }
 {
     match word {
@@ -68,14 +84,14 @@ pub(crate) fn dump(word: Option<&str>) -> Option<Option<Dump>>
 
 // The memory of the word `ADDR:LEN`.
 #[tactic(auto, using(crate::proofs::ValueLemmas::no_colon), unfolding(crate::specs::Values::dump_range_of))]
-fn dump_range(word: &str) -> Option<Dump>
+fn dump_range(word: &str) -> Option<DumpRange>
     ensures { result ≡ dump_range_of word.now }
 {
     let (addr, len) = word.split_once(':')?;
     let addr = hex(addr.as_bytes())?;
     let len = number_within(len, 1, 4096)?;
     if u64::from(addr) + u64::from(len) <= 1 << 32 {
-        Some(Dump { addr, len })
+        Some(DumpRange { addr, len })
     } else {
         None
     }
