@@ -33,10 +33,9 @@ pub struct Setup {
 }
 
 impl Model for Setup {
-    ghost use Rattle.diva_args.specs.Options.{IsSetup};
-    ghost use Rattle.diva_args.specs.Options as value;
+    ghost use Rattle.diva_args.specs.Options.{IsSetup, Setup};
 
-    ghost Value = { value.Setup };
+    ghost Value = { Setup };
 
     ghost view = { λ s. record { image = s.image; core = s.core; script = s.script; width = s.width; window = s.window; stores = s.stores; watchdog = s.watchdog } };
 
@@ -56,10 +55,9 @@ pub struct RunOptions {
 }
 
 impl Model for RunOptions {
-    ghost use Rattle.diva_args.specs.Options.{IsBudget};
-    ghost use Rattle.diva_args.specs.Options as value;
+    ghost use Rattle.diva_args.specs.Options.{IsBudget, RunOptions};
 
-    ghost Value = { value.RunOptions };
+    ghost Value = { RunOptions };
 
     ghost view = { λ r. record { setup = r.setup; cycles = r.cycles; dump = r.dump } };
 
@@ -76,10 +74,9 @@ pub struct TapeOptions {
 }
 
 impl Model for TapeOptions {
-    ghost use Rattle.diva_args.specs.Options.{IsBudget};
-    ghost use Rattle.diva_args.specs.Options as value;
+    ghost use Rattle.diva_args.specs.Options.{IsBudget, TapeOptions};
 
-    ghost Value = { value.TapeOptions };
+    ghost Value = { TapeOptions };
 
     ghost view = { λ t. record { setup = t.setup; cycles = t.cycles } };
 
@@ -112,10 +109,9 @@ pub struct DumpRange {
 }
 
 impl Model for DumpRange {
-    ghost use Rattle.diva_args.specs.Options.{IsDump};
-    ghost use Rattle.diva_args.specs.Options as value;
+    ghost use Rattle.diva_args.specs.Options.{DumpRange, IsDump};
 
-    ghost Value = { value.DumpRange };
+    ghost Value = { DumpRange };
 
     ghost view = { λ d. record { addr = d.addr; len = d.len } };
 

@@ -138,10 +138,8 @@ fn cycles(found: &ArgMatches<'_>) -> Option<u64>
     ensures value { result ≡ cycles_from (values_of (rows_of (found_of found.now))) }
     ensures in_range { IfSome result IsBudget }
 {
-    match number(text_of(found, "cycles"), 1, 1_000_000_000, 1_000_000) {
-        Some(cycles) => Some(u64::from(cycles)),
-        None => None,
-    }
+    let cycles = number(text_of(found, "cycles"), 1, 1_000_000_000, 1_000_000)?;
+    Some(u64::from(cycles))
 }
 
 // The name that the words give for an option.
