@@ -79,6 +79,13 @@ impl View<'_> {
         self.regs.get(n)
     }
 
+    /// The registers.
+    pub fn regs(&self) -> &Regs
+        ensures { result.now ≡ self.now.regs }
+    {
+        self.regs
+    }
+
     /// The byte at an address, `None` exactly outside memory.
     pub fn byte(&self, addr: u32) -> Option<u8>
         ensures { result ≡ byte_of self.now addr }

@@ -1,7 +1,8 @@
 // The record of a state's next instruction, and each part of it by itself.
 
 ghost use Rattle.std.specs.Prelude.{◌≡◌, ◌*◌, ◌%◌, ◌^◌, ◌<◌, IfSome};
-ghost use Rattle.diva_decode.specs.Table.{HasRegisters};
+ghost use Rattle.std.specs.Option.{option_and_then};
+ghost use Rattle.diva_decode.specs.Table.{HasRegisters, row_of};
 ghost use Rattle.diva_isa.specs.State.{word_of};
 ghost use Rattle.diva_isa.specs.Kind.{kind, size};
 ghost use Rattle.diva_isa.specs.Step.{call, ended, going, halt, load, outcome, outcome_of, record_of, source1, source2, source1_of, source2_of, address_of, store, to_target, trap};
@@ -23,16 +24,33 @@ const HALT: u32 = 93;
 /// 2.0.)
 ///
 /// `specs/Step.antt` has a table of it, kind by kind.
-#[tactic(auto, unfolding(crate::specs::Step::record_of))]
 pub fn record_of<L: Look>(state: &L) -> Record
     ensures { result ≡ record_of (L.shows state.now) }
 {
     let fetched = fetch(state);
-    let word = fetched.unwrap_or(0);
-    let form = match fetched {
+    record_by(state, fetched, form_of(fetched))
+}
+
+/// What a fetched word says, `None` where there is none or it is not one of the table.
+pub fn form_of(fetched: Option<u32>) -> Option<Instr>
+    ensures form { result ≡ option_and_then row_of fetched }
+    ensures registers { IfSome result HasRegisters }
+{
+    match fetched {
         Some(word) => decode(word),
         None => None,
-    };
+    }
+}
+
+/// The same record, where the word of the next instruction was fetched already: `form` is what it says.
+#[tactic(auto, unfolding(crate::specs::Step::record_of))]
+pub fn record_by<L: Look>(state: &L, fetched: Option<u32>, form: Option<Instr>) -> Record
+    requires word { let s = L.shows state.now in fetched ≡ word_of s s.pc }
+    requires form { form ≡ option_and_then row_of fetched }
+    requires registers { IfSome form HasRegisters }
+    ensures { result ≡ record_of (L.shows state.now) }
+{
+    let word = fetched.unwrap_or(0);
     let sources = sources(state, form);
     let r = Record {
         pc: state.pc(),

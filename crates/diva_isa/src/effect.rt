@@ -1,11 +1,12 @@
 // What a record does besides moving the pc.
 
-ghost use Rattle.std.specs.Prelude.{◌≡◌};
-ghost use Rattle.diva_isa.specs.Step.{effect_of, HasRegister};
+ghost use Rattle.std.specs.Prelude.{◌≡◌, IfSome};
+ghost use Rattle.diva_decode.specs.Table.{HasRegisters};
+ghost use Rattle.diva_isa.specs.Step.{effect_by, effect_of, HasRegister};
 
 use crate::kind::{Kind, Width, kind_of};
 use crate::record::Record;
-use diva_decode::decode;
+use diva_decode::{Instr, decode};
 
 /// The service that puts a byte, as ECALL asks for it by x17.
 pub(crate) const PUT: u32 = 1;
@@ -42,7 +43,15 @@ pub fn effect_of(r: &Record) -> Effect
     ensures effect { result ≡ effect_of r.now }
     ensures register { HasRegister result }
 {
-    let Some(i) = decode(r.word) else {
+    effect_by(decode(r.word), r)
+}
+
+/// The same of a record whose word was decoded already: `form` is what it says.
+pub fn effect_by(form: Option<Instr>, r: &Record) -> Effect
+    ensures effect { result ≡ effect_by form r.now }
+    ensures register { IfSome form HasRegisters → HasRegister result }
+{
+    let Some(i) = form else {
         return Effect::Nothing;
     };
     match kind_of(i.op) {
