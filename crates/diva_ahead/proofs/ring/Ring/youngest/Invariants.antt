@@ -1,0 +1,7 @@
+use Rattle.std.proofs.Common.{◌≡◌, Some, map}
+use Rattle.diva_isa.specs.State.{State, byte_of}
+use Rattle.diva_ahead.specs.Effects.{with_effects}
+use Rattle.diva_ahead.proofs.ring.Ring.youngest.Given as goal
+
+abbrev pub invariant-loop-effect : goal.invariant-loop-effect
+invariant-loop-effect l = (s : State) → byte_of s l.addr ≡ Some l.byte → byte_of (with_effects s (map (λ e. e.now) l.yielded)) l.addr ≡ Some l.youngest

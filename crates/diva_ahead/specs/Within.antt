@@ -1,0 +1,12 @@
+-- Where stores lie.
+use Rattle.std.specs.Prelude.{ℕ, ◌+◌, ◌≤◌, ⊤}
+use Rattle.diva_isa.specs.Kind.{size}
+use Rattle.diva_isa.specs.declared.effect.Effect.{Effect}
+use Rattle.diva_isa.specs.declared.effect.Effect.TheVariants.{Nothing, Writes, Stores, Puts}
+
+-- what an effect stores lies at addresses from low on, before high
+abbrev pub IsWithin : (low high : ℕ) → Effect → Type 0
+IsWithin low high Nothing = ⊤
+IsWithin low high (Writes rd value) = ⊤
+IsWithin low high (Stores width addr value) = (low ≤ addr) × (addr + size width ≤ high)
+IsWithin low high (Puts byte) = ⊤

@@ -1,0 +1,163 @@
+// Where a core stands that runs ahead of the machine.
+ghost use Rattle.std.specs.Prelude.{◌≡◌, ◌<◌, ◌≤◌, length, IfOk};
+ghost use Rattle.diva_isa.specs.State.{State};
+ghost use Rattle.diva_isa.specs.Step.{record_of};
+ghost use Rattle.diva_ahead.specs.Lead.{begun, handed, is_epoch, new_lead, seen, synced, trimmed};
+
+use crate::ring::Ring;
+use crate::stand::Stand;
+use diva_core::{Told, View};
+use diva_isa::{Effect, Record, Regs, effect_of, record_of};
+use std::alloc::{AllocError, Global};
+use std::marker::Model;
+
+/// What a core keeps that runs ahead of the machine: its registers, pc and output length, and what it handed over.
+#[derive(Drop)]
+pub struct Ahead {
+    epoch: Option<u64>,
+    regs: Regs,
+    pc: u32,
+    out_len: u32,
+    ring: Ring,
+    stopped: bool,
+}
+
+impl Model for Ahead {
+    ghost use Rattle.diva_ahead.specs.Lead.{Lead};
+
+    ghost Value = { Lead };
+
+    ghost view = { λ a. record {
+      epoch = a.epoch;
+      regs = a.regs;
+      pc = a.pc;
+      out_len = a.out_len;
+      ring = a.ring;
+      stopped = a.stopped;
+    } };
+
+    ghost use Rattle.std.specs.Prelude.{◌<◌, ◌^◌};
+
+    ghost invariant = { λ a. a.out_len < 2 ^ 32 };
+}
+
+impl Ahead {
+    /// A core that has not taken the machine's state yet. The one error is that memory runs out, and no later call takes
+    /// any.
+    pub fn new(alloc: Global) -> Result<Self, AllocError>
+        ensures { IfOk result (λ a. a ≡ new_lead) }
+    {
+        Ok(Ahead {
+            epoch: None,
+            regs: Regs::new(),
+            pc: 0,
+            out_len: 0,
+            ring: Ring::new(alloc)?,
+            stopped: false,
+        })
+    }
+
+    /// Whether the core's state is of this epoch.
+    pub fn is_of(&self, epoch: u64) -> bool
+        ensures { result ≡ is_epoch self.now.epoch epoch }
+    {
+        match self.epoch {
+            Some(own) => own == epoch,
+            None => false,
+        }
+    }
+
+    /// The core's registers.
+    pub fn regs(&self) -> &Regs
+        ensures { result.now ≡ self.now.regs }
+    {
+        &self.regs
+    }
+
+    /// The address of the core's next instruction.
+    pub fn pc(&self) -> u32
+        ensures { result ≡ self.now.pc }
+    {
+        self.pc
+    }
+
+    /// How many bytes were put, by what was handed over too.
+    pub fn out_len(&self) -> u32
+        ensures { result ≡ self.now.out_len }
+    {
+        self.out_len
+    }
+
+    /// What the records did that were handed over.
+    pub fn ring(&self) -> &Ring
+        ensures { result.now ≡ self.now.ring }
+    {
+        &self.ring
+    }
+
+    /// Whether a record that ends was handed over.
+    pub fn stopped(&self) -> bool
+        ensures { result ≡ self.now.stopped }
+    {
+        self.stopped
+    }
+
+    /// Takes the machine's state where the epoch that is told differs from the core's own.
+    pub fn sync(&mut self, told: &Told, view: &View<'_>)
+        ensures { self.new ≡ synced self.old told.now view.now }
+    {
+        if !self.is_of(told.epoch) {
+            self.begin(told, view);
+        }
+    }
+
+    // Takes the machine's state.
+    #[tactic(auto, unfolding(crate::specs::Lead::begun))]
+    fn begin(&mut self, told: &Told, view: &View<'_>)
+        ensures { self.new ≡ begun told.now view.now }
+    {
+        self.epoch = Some(told.epoch);
+        self.regs = *view.regs();
+        self.pc = view.pc();
+        self.out_len = view.out_len();
+        self.ring.clear();
+        self.stopped = false;
+    }
+
+    /// Drops what is no longer pending.
+    #[tactic(auto, unfolding(crate::specs::Lead::trimmed))]
+    pub fn trim(&mut self, told: &Told)
+        ensures trimmed { self.new ≡ trimmed self.old told.now }
+        ensures few { length self.new.ring ≤ told.now.pending }
+    {
+        self.ring.trim(told.pending as usize);
+    }
+
+    /// The record of the core's own state.
+    pub fn next(&self, view: &View<'_>) -> Record
+        ensures { result ≡ record_of (seen self.now view.now) }
+    {
+        record_of(&Stand { ahead: self, view })
+    }
+
+    /// Notes that a record was handed over, and does what it says. There is room in the ring.
+    #[tactic(auto, using(crate::proofs::Handing::handed_is), unfolding(crate::specs::Effects::done_by))]
+    pub fn hand_over(&mut self, r: &Record)
+        requires { length self.old.ring < 64 }
+        ensures { (s : State) → self.new ≡ handed self.old s r.now }
+    {
+        self.stopped = r.end != 0;
+        if r.end != 0 {
+            self.ring.push(Effect::Nothing);
+            return;
+        }
+        let effect = effect_of(r);
+        self.ring.push(effect);
+        self.pc = r.next;
+        match effect {
+            Effect::Writes { rd, value } => self.regs.set(rd, value),
+            Effect::Puts(_) => self.out_len = self.out_len.saturating_add(1),
+            Effect::Nothing | Effect::Stores { .. } => {}
+        }
+    }
+}

@@ -1,0 +1,19 @@
+//! What a core that runs ahead of the machine keeps.
+//!
+//! - `ahead`: where such a core stands, `Ahead`.
+//! - `ring`: what it handed over, laid over the machine's memory, `Ring`.
+//! - `effects`: which bytes of memory one record changes.
+//! - `stand`: the core's own state, to read.
+//!
+//! `specs/Effects.antt` says what records do one after the other, `specs/Lead.antt` what the core keeps and how it
+//! changes. `proofs/` has what follows: that such a core sees the state to which its claims lead.
+#![tactic(auto)]
+
+mod ahead;
+mod effects;
+mod ring;
+mod stand;
+
+pub use ahead::Ahead;
+pub use effects::{byte_in, done_by, is_apart};
+pub use ring::Ring;

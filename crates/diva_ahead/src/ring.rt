@@ -1,0 +1,173 @@
+// What the records that a core handed over did, the oldest first.
+ghost use Rattle.std.specs.Prelude.{◌≡◌, ◌≤◌, ◌<◌, ◌+◌, ◌-◌, ◌%◌, [], ◌∷◌, ◌++◌, length, drop, IfOk, IsSome, IsTrue, Some, true};
+ghost use Rattle.std.specs.List.{list_all};
+ghost use Rattle.diva_isa.specs.State.{State, byte_of, word_of};
+ghost use Rattle.diva_ahead.specs.Effects.{is_apart, with_effects};
+
+use crate::effects::{byte_in, is_apart, is_store};
+use circular_buffer::HeapCircularBuffer;
+use diva_core::View;
+use diva_isa::Effect;
+use std::alloc::{AllocError, Global};
+use std::marker::Model;
+
+/// What the records did that were handed over, the oldest first: at most 64.
+///
+/// Most reads of memory meet none of its stores. So the ring counts them, and knows an interval of addresses in which
+/// they all lie: a read outside of that looks through no effect.
+#[derive(Drop)]
+pub struct Ring {
+    effects: HeapCircularBuffer<Effect>,
+    /// How many of the effects are stores.
+    stores: usize,
+    /// The lowest address of the interval, and the first behind it.
+    low: u32,
+    high: u64,
+}
+
+impl Model for Ring {
+    ghost use Rattle.std.specs.Prelude.{List, ◌≡◌, count_by};
+    ghost use Rattle.std.specs.List.{All};
+    ghost use Rattle.diva_isa.specs.declared.effect.Effect.{Effect};
+    ghost use Rattle.diva_ahead.specs.Effects.{is_store};
+    ghost use Rattle.diva_ahead.specs.Within.{IsWithin};
+
+    ghost Value = { List Effect };
+
+    ghost view = { λ r. r.effects.items };
+
+    ghost invariant = { λ r.
+        (r.effects.capacity ≡ 64) × (r.stores ≡ count_by is_store r.effects.items) × All (IsWithin r.low r.high) r.effects.items };
+}
+
+impl Ring {
+    /// The most effects that a ring holds.
+    pub const MOST: usize = 64;
+
+    /// An empty ring. The one error is that memory runs out, and no later call takes any.
+    pub fn new(alloc: Global) -> Result<Self, AllocError>
+        ensures { IfOk result (λ r. r ≡ []) }
+    {
+        Ok(Ring {
+            effects: HeapCircularBuffer::with_capacity(alloc, Self::MOST)?,
+            stores: 0,
+            low: 0,
+            high: 0,
+        })
+    }
+
+    /// Keeps the youngest `most`.
+    #[tactic(auto, using(crate::proofs::Clear::drop_next))]
+    pub fn trim(&mut self, most: usize)
+        ensures { self.new ≡ drop (length self.old - most) self.old }
+    {
+        for _ in most..self.effects.len() {
+            self.drop_oldest();
+        }
+    }
+
+    // Drops the oldest, where there is one.
+    fn drop_oldest(&mut self)
+        ensures { self.new ≡ drop 1 self.old }
+    {
+        if let Some(effect) = self.effects.pop_front() {
+            if is_store(&effect) {
+                self.stores -= 1;
+            }
+        }
+    }
+
+    /// Drops all.
+    pub fn clear(&mut self)
+        ensures { self.new ≡ [] }
+    {
+        self.effects.clear();
+        self.stores = 0;
+    }
+
+    /// Adds the youngest. There is room for it.
+    pub fn push(&mut self, effect: Effect)
+        requires { length self.old < 64 }
+        ensures { self.new ≡ self.old ++ effect ∷ [] }
+    {
+        if let Effect::Stores { width, addr, .. } = effect {
+            let end = u64::from(addr) + u64::from(width.size());
+            if self.stores == 0 {
+                self.low = addr;
+                self.high = end;
+            } else {
+                self.low = self.low.min(addr);
+                self.high = self.high.max(end);
+            }
+            self.stores += 1;
+        }
+        let _ = self.effects.try_push_back(effect);
+    }
+
+    /// The byte at an address of the view's memory with all effects laid over it, `None` exactly outside.
+    #[tactic(auto, using(crate::proofs::Laying::effects_none, crate::proofs::Laying::effects_byte))]
+    pub fn byte(&self, view: &View<'_>, addr: u32) -> Option<u8>
+        ensures { result ≡ byte_of (with_effects view.now self.now) addr }
+    {
+        let byte = view.byte(addr)?;
+        if self.is_clear(addr, 1) {
+            return Some(byte);
+        }
+        Some(self.youngest(addr, byte))
+    }
+
+    // The byte that the youngest store has for an address, or else the one that memory has.
+    fn youngest(&self, addr: u32, byte: u8) -> u8
+        ensures { (s : State) → byte_of s addr ≡ Some byte → byte_of (with_effects s self.now) addr ≡ Some result }
+    {
+        let mut youngest = byte;
+        for effect in self.effects.iter() {
+            youngest = byte_in(effect, addr).unwrap_or(youngest);
+        }
+        youngest
+    }
+
+    /// The word at an address of the view's memory with all effects laid over it, `None` where the address is no multiple
+    /// of 4 or outside.
+    #[inline]
+    #[tactic(auto, using(crate::proofs::Laying::effects_word_none, crate::proofs::Laying::effects_word))]
+    pub fn word(&self, view: &View<'_>, addr: u32) -> Option<u32>
+        ensures { result ≡ word_of (with_effects view.now self.now) addr }
+    {
+        let word = view.word(addr)?;
+        if self.is_clear(addr, 4) || self.is_apart(addr, 4) {
+            return Some(word);
+        }
+        self.overlaid(view, addr)
+    }
+
+    // The same, byte by byte: few reads meet a store in flight.
+    #[cold]
+    fn overlaid(&self, view: &View<'_>, addr: u32) -> Option<u32>
+        requires { IsSome (word_of view.now addr) }
+        ensures { result ≡ word_of (with_effects view.now self.now) addr }
+    {
+        Some(u32::from_le_bytes([
+            self.byte(view, addr)?,
+            self.byte(view, addr + 1)?,
+            self.byte(view, addr + 2)?,
+            self.byte(view, addr + 3)?,
+        ]))
+    }
+
+    // Whether the `n` bytes from an address on are outside the interval of the stores.
+    fn is_clear(&self, addr: u32, n: u32) -> bool
+        ensures { IsTrue result → list_all (λ e. is_apart e addr n) self.now ≡ true }
+    {
+        self.stores == 0
+            || u64::from(addr) + u64::from(n) <= u64::from(self.low)
+            || self.high <= u64::from(addr)
+    }
+
+    // Whether no store has one of the `n` bytes from an address on.
+    fn is_apart(&self, addr: u32, n: u32) -> bool
+        ensures { result ≡ list_all (λ e. is_apart e addr n) self.now }
+    {
+        self.effects.iter().all(|effect| is_apart(effect, addr, n))
+    }
+}

@@ -1,0 +1,39 @@
+// The core's own state, to read.
+ghost use Rattle.std.specs.Prelude.{◌≡◌};
+
+use crate::ahead::Ahead;
+use diva_core::View;
+use diva_isa::Look;
+
+/// The core's own registers, pc and output length, over the machine's memory with what the core did laid over it.
+#[derive(Drop)]
+pub struct Stand<'a> {
+    pub ahead: &'a Ahead,
+    pub view: &'a View<'a>,
+}
+
+impl Look for Stand<'_> {
+    ghost use Rattle.diva_ahead.specs.Lead.{seen};
+
+    ghost shows = { λ x. seen x.ahead.now x.view.now };
+
+    fn pc(&self) -> u32 {
+        self.ahead.pc()
+    }
+
+    fn reg(&self, n: u8) -> u32 {
+        self.ahead.regs().get(n)
+    }
+
+    fn byte(&self, addr: u32) -> Option<u8> {
+        self.ahead.ring().byte(self.view, addr)
+    }
+
+    fn word(&self, addr: u32) -> Option<u32> {
+        self.ahead.ring().word(self.view, addr)
+    }
+
+    fn out_len(&self) -> u32 {
+        self.ahead.out_len()
+    }
+}
