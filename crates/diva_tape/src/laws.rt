@@ -1,11 +1,17 @@
 //! Laws of the simple cores over whole histories of turns. Each function has no body: its clause is
 //! about the definitions.
-ghost use Rattle.std.specs.Prelude.{List};
+ghost use Rattle.std.specs.Prelude.{ℕ, ◌≡◌, ◌+◌, List, Some, true, false};
 ghost use Rattle.diva_isa.specs.declared.record.Record.{Record};
-ghost use Rattle.diva_core.specs.Timed.{Timed};
-ghost use Rattle.diva_core.specs.Log.{IsLog, lists_of};
+ghost use Rattle.diva_core.specs.Timed.{Timed, depth};
+ghost use Rattle.diva_ahead.specs.Lead.{Lead, is_epoch};
+ghost use Rattle.diva_core.specs.Cycle.{cycle_of};
+ghost use Rattle.diva_core.specs.Log.{FollowRule, IsLog, lists_of};
+ghost use Rattle.diva_core.specs.Machine.{IsMachine};
 ghost use Rattle.diva_core.specs.Right.{AreRight};
+ghost use Rattle.diva_core.specs.Told.{notice_of};
+ghost use Rattle.diva_isa.specs.State.{goes_on};
 ghost use Rattle.diva_tape.specs.Lists.{IsLockstepCall};
+ghost use Rattle.diva_tape.specs.Scalar.{IsScalarCall, MayLead, scalar_list};
 ghost use Rattle.diva_tape.specs.declared.lockstep.Lockstep.{Lockstep};
 
 /// `Lockstep` is always right: in each of its histories, from any machine, each list is right for the
@@ -14,4 +20,22 @@ ghost use Rattle.diva_tape.specs.declared.lockstep.Lockstep.{Lockstep};
 pub fn lockstep_is_right()
     ensures { (m last : Timed) (before after : Lockstep) (log : List (List Record × Lockstep))
         → IsLog IsLockstepCall m before log last after → AreRight m (lists_of log) }
+{}
+
+/// `Scalar` is right where it may lead: in each of its histories from such a machine, each list is that of the record
+/// behind the pending claims, and so it is right for the machine that it is handed to.
+pub fn scalar_is_right()
+    ensures lists { (m last : Timed) (before after : Lead) (log : List (List Record × Lead))
+        → MayLead m before → IsLog IsScalarCall m before log last after → FollowRule scalar_list m (lists_of log) }
+    ensures right { (m last : Timed) (before after : Lead) (log : List (List Record × Lead))
+        → MayLead m before → IsLog IsScalarCall m before log last after → AreRight m (lists_of log) }
+{}
+
+/// A solo instruction that commits leaves a machine at which `Scalar` may lead, if `Scalar` did not take the machine's
+/// epoch before: while it runs there is no room, and so `Scalar` takes none.
+pub fn scalar_may_lead_again()
+    ensures { (m : Timed) (before after : Lead) (list : List Record) (start : ℕ)
+        → IsMachine m → goes_on m.arch ≡ true → m.solo ≡ Some start → m.cycles + 1 ≡ start + depth
+        → is_epoch before.epoch m.flushes ≡ false → IsScalarCall before (notice_of m) m.arch list after
+        → MayLead (cycle_of m list) after }
 {}

@@ -1,0 +1,50 @@
+-- What the core `Scalar` hands over, and what it keeps.
+use Rattle.std.specs.Prelude.{◌≡◌, ◌==◌, nat_lt, ◌&&◌, false, List, [], ◌∷◌, length, if◌then◌else◌}
+use Rattle.diva_isa.specs.State.{State, goes_on}
+use Rattle.diva_isa.specs.Step.{record_of, steps}
+use Rattle.diva_isa.specs.declared.record.Record.{Record}
+use Rattle.diva_core.specs.Timed.{Timed, room_of}
+use Rattle.diva_core.specs.Machine.{IsMachine}
+use Rattle.diva_core.specs.Right.{IsCalm}
+use Rattle.diva_core.specs.Told.{Notice}
+use Rattle.diva_ahead.specs.Lead.{Lead, is_epoch, new_lead, handed, seen, synced, trimmed}
+
+-- a new core, which has not taken a machine's state yet
+abbrev pub new_scalar : Lead
+new_scalar = new_lead
+
+-- what a call hands over, and the core after it
+pub record ScalarCall : Type 0 where
+  pub list : List Record
+  pub core : Lead
+
+-- the record of its own state, unless it has handed over one that ends
+abbrev pub next_call : Lead → State → ScalarCall
+next_call lead s =
+    if lead.stopped then record { list = []; core = lead }
+    else record { list = record_of (seen lead s) ∷ []; core = handed lead s (record_of (seen lead s)) }
+
+-- one call: where there is no room nothing happens; else the core takes a new epoch, drops what is no longer pending, and
+-- hands over
+unfoldable pub scalar_call : Lead → Notice → State → ScalarCall
+scalar_call lead told s =
+    if told.room == 0 then record { list = []; core = lead } else next_call (trimmed (synced lead told s) told) s
+
+-- the meaning of Scalar: the list and the core after are those of its call
+pub record IsScalarCall (before : Lead) (told : Notice) (s : State) (list : List Record) (after : Lead) : Type 0 where
+  pub lists : list ≡ (scalar_call before told s).list
+  pub keeps : after ≡ (scalar_call before told s).core
+
+-- Scalar at each machine, as long as it is right: the record that is due behind the pending claims, where there is room and
+-- the machine goes on behind them
+abbrev pub scalar_list : Timed → List Record
+scalar_list m =
+    let s = steps (length m.pending) m.arch in
+    if nat_lt 0 (room_of m) && goes_on s then record_of s ∷ [] else []
+
+-- Scalar may lead from a machine on: it is calm, nothing is pending, and Scalar has not taken its epoch
+pub record MayLead (m : Timed) (core : Lead) : Type 0 where
+  pub machine : IsMachine m
+  pub calm : IsCalm m
+  pub pending : m.pending ≡ []
+  pub epoch : is_epoch core.epoch m.flushes ≡ false
