@@ -39,14 +39,14 @@ effect_out t (Stores width addr value) n h l = out_kept t.output n h l
 effect_out t (Puts byte) n h l = ap (λ (k : ℕ). min k (2 ^ 32 - 1)) (length-append t.output (byte ∷ []) ∙ ap (λ (k : ℕ). k + 1) l)
 
 -- the state behind a record that goes on, or ends
-abbrev behind : Bool → State → Effect → (next end : ℕ) → State
+abbrev pub behind : Bool → State → Effect → (next end : ℕ) → State
 behind b t e next end = if b then record (with_effect t e) { pc = next } else record t { end = end }
 
-behind_regs : (b : Bool) (t : State) (e : Effect) (next end : ℕ) → (behind b t e next end).regs ≡ regs_after t.regs (if b then e else Nothing)
+pub behind_regs : (b : Bool) (t : State) (e : Effect) (next end : ℕ) → (behind b t e next end).regs ≡ regs_after t.regs (if b then e else Nothing)
 behind_regs true t e next end = effect_regs t e
 behind_regs false t e next end = refl
 
-behind_pc : (b : Bool) (t : State) (e : Effect) (next end : ℕ) → (behind b t e next end).pc ≡ (if b then next else t.pc)
+pub behind_pc : (b : Bool) (t : State) (e : Effect) (next end : ℕ) → (behind b t e next end).pc ≡ (if b then next else t.pc)
 behind_pc true t e next end = refl
 behind_pc false t e next end = refl
 

@@ -2,3 +2,4 @@
 pub mod Laying
 pub mod Clear
 pub mod Handing
+pub mod Leading
