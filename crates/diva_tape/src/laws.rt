@@ -2,16 +2,16 @@
 //! about the definitions.
 ghost use Rattle.std.specs.Prelude.{ℕ, ◌≡◌, ◌+◌, List, Some, true, false};
 ghost use Rattle.diva_isa.specs.declared.record.Record.{Record};
-ghost use Rattle.diva_core.specs.Timed.{Timed, depth};
+ghost use Rattle.diva_core.specs.Timed.{Timed, Sizes, depth, new_timed};
 ghost use Rattle.diva_ahead.specs.Lead.{Lead, is_epoch};
 ghost use Rattle.diva_core.specs.Cycle.{cycle_of};
 ghost use Rattle.diva_core.specs.Log.{FollowRule, IsLog, lists_of};
-ghost use Rattle.diva_core.specs.Machine.{IsMachine};
+ghost use Rattle.diva_core.specs.Machine.{IsMachine, IsSizes};
 ghost use Rattle.diva_core.specs.Right.{AreRight};
 ghost use Rattle.diva_core.specs.Told.{notice_of};
-ghost use Rattle.diva_isa.specs.State.{goes_on};
+ghost use Rattle.diva_isa.specs.State.{State, goes_on};
 ghost use Rattle.diva_tape.specs.Lists.{IsLockstepCall};
-ghost use Rattle.diva_tape.specs.Scalar.{IsScalarCall, MayLead, scalar_list};
+ghost use Rattle.diva_tape.specs.Scalar.{IsScalarCall, MayLead, new_scalar, scalar_list};
 ghost use Rattle.diva_tape.specs.declared.lockstep.Lockstep.{Lockstep};
 
 /// `Lockstep` is always right: in each of its histories, from any machine, each list is right for the
@@ -22,17 +22,22 @@ pub fn lockstep_is_right()
         → IsLog IsLockstepCall m before log last after → AreRight m (lists_of log) }
 {}
 
-/// `Scalar` is right where it may lead: in each of its histories from such a machine, each list is that of the record
-/// behind the pending claims, and so it is right for the machine that it is handed to.
+/// `Scalar` is right where it may lead: in each of its histories from such a machine on, each list has the one record that
+/// is due behind the pending claims, and so it is right for the machine that it is handed to. A calm machine that `Scalar`
+/// drives is then never flushed.
+///
+/// It may lead from its making on.
+#[tactic(auto, using(crate::proofs::Following::scalar_history, crate::proofs::Following::scalar_history_right, crate::proofs::Following::new_leads))]
 pub fn scalar_is_right()
     ensures lists { (m last : Timed) (before after : Lead) (log : List (List Record × Lead))
         → MayLead m before → IsLog IsScalarCall m before log last after → FollowRule scalar_list m (lists_of log) }
     ensures right { (m last : Timed) (before after : Lead) (log : List (List Record × Lead))
         → MayLead m before → IsLog IsScalarCall m before log last after → AreRight m (lists_of log) }
+    ensures new { (sizes : Sizes) (s : State) → IsSizes sizes → MayLead (new_timed sizes s) new_scalar }
 {}
 
-/// A solo instruction that commits leaves a machine at which `Scalar` may lead, if `Scalar` did not take the machine's
-/// epoch before: while it runs there is no room, and so `Scalar` takes none.
+/// And it may lead again from the machine on that is left where a solo instruction commits, if it did not take the epoch
+/// before: while that runs there is no room, and so `Scalar` takes none.
 pub fn scalar_may_lead_again()
     ensures { (m : Timed) (before after : Lead) (list : List Record) (start : ℕ)
         → IsMachine m → goes_on m.arch ≡ true → m.solo ≡ Some start → m.cycles + 1 ≡ start + depth
