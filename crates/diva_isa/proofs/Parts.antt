@@ -1,10 +1,10 @@
 -- The parts of the due record, one after the other.
-use Rattle.std.proofs.Common.{◌≡◌, ℕ, Option, Some, None, refl}
-use Rattle.std.specs.Option.{is_some, unwrap_or}
+use Rattle.std.proofs.Common.{◌≡◌, ℕ, Option, Some, None, refl, ap, sym, ◌∙◌}
+use Rattle.std.specs.Option.{is_some, option_and_then, unwrap_or}
 use Rattle.diva_decode.specs.declared.instr.Instr.{Instr}
 use Rattle.diva_decode.specs.Table.{row_of}
 use Rattle.diva_isa.specs.State.{State, word_of}
-use Rattle.diva_isa.specs.Step.{record_of, fetched, source1_of, source2_of, address_of, outcome_of, whole}
+use Rattle.diva_isa.specs.Step.{record_of, fetched, source1_of, source2_of, address_of, outcome_of, whole, effect_by, effect_of}
 use Rattle.diva_isa.specs.declared.record.Record.{Record}
 
 -- what is known of the record of a state, where o is its word and form what the word says
@@ -34,3 +34,11 @@ pc_is s = (parts s).pc
 
 pub word_is : (s : State) → (record_of s).word ≡ unwrap_or (word_of s s.pc) 0
 word_is s = (parts s).word
+
+-- what the due record does is read off its word as it was fetched
+effect_by_word : (o : Option ℕ) (r : Record) → r.word ≡ unwrap_or o 0 → effect_by (option_and_then row_of o) r ≡ effect_of r
+effect_by_word None r h = ap (λ (form : Option Instr). effect_by form r) (sym row_of_zero ∙ ap row_of (sym h))
+effect_by_word (Some w) r h = ap (λ (n : ℕ). effect_by (row_of n) r) (sym h)
+
+pub effect_is : (s : State) → effect_by (option_and_then row_of (word_of s s.pc)) (record_of s) ≡ effect_of (record_of s)
+effect_is s = effect_by_word (word_of s s.pc) (record_of s) (word_is s)

@@ -189,10 +189,10 @@ fn store<L: Look>(state: &L, r: &Record, width: Width) -> Outcome
     if r.addr % width.size() != 0 {
         return trapped(r.pc, Trap::StoreMisaligned);
     }
-    match number(state, r.addr, width) {
-        Some(_) => going(r.pc, low_bytes(r.src2, width)),
-        None => trapped(r.pc, Trap::StoreOutside),
+    if !state.has(r.addr, width) {
+        return trapped(r.pc, Trap::StoreOutside);
     }
+    going(r.pc, low_bytes(r.src2, width))
 }
 
 fn low_bytes(word: u32, width: Width) -> u32

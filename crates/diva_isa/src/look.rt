@@ -1,7 +1,11 @@
 // A state that can be read.
 
-ghost use Rattle.std.specs.Prelude.{◌≡◌, ◌<◌, length};
-ghost use Rattle.diva_isa.specs.State.{State, byte_of, reg_of, word_of};
+ghost use Rattle.std.specs.Prelude.{◌≡◌, ◌<◌, ◌%◌, length};
+ghost use Rattle.std.specs.Option.{is_some};
+ghost use Rattle.diva_isa.specs.Kind.{size};
+ghost use Rattle.diva_isa.specs.State.{State, byte_of, number_of, reg_of, word_of};
+
+use crate::kind::Width;
 
 /// A state that can be read: its pc, registers and memory, and of its output the length.
 pub trait Look {
@@ -36,6 +40,20 @@ pub trait Look {
             self.byte(addr + 2)?,
             self.byte(addr + 3)?,
         ]))
+    }
+
+    /// Whether all bytes of this width from an address on are inside memory. The address is a multiple of the width.
+    ///
+    /// They are read, unless an implementation has a shorter way.
+    fn has(&self, addr: u32, width: Width) -> bool
+        requires { addr % size width ≡ 0 }
+        ensures { result ≡ is_some (number_of (shows self.now) (size width) addr) }
+    {
+        match width {
+            Width::Byte => self.byte(addr).is_some(),
+            Width::Half => self.byte(addr).is_some() && self.byte(addr + 1).is_some(),
+            Width::Word => self.word(addr).is_some(),
+        }
     }
 
     /// How many bytes the output holds.
