@@ -3,7 +3,7 @@ use Rattle.std.proofs.Common.{◌≡◌, ◌<◌, ℕ, zero, suc, ◌+◌, ◌%�
 use Rattle.std.proofs.lemmas.Grind.{common_steps}
 use Rattle.std.proofs.lemmas.Bool.Decides.{nat_tests}
 use Rattle.std.specs.List.{list_all}
-use Rattle.std.specs.Option.{unwrap_or, option_and_then, option_map}
+use Rattle.std.specs.Option.{is_some, unwrap_or, option_and_then, option_map}
 use Rattle.diva_memory.specs.Bytes.{Bytes, byte_at, low_bytes, put_all}
 use Rattle.diva_memory.proofs.Writing.{over, put_all_base, put_all_byte, same_number}
 use Rattle.diva_isa.specs.State.{State, byte_of, memory_of, number_of, word_of}
@@ -110,3 +110,29 @@ test_none false p q f h = refl
 
 pub effects_word_none : (s : State) (effects : List Effect) (a : ℕ) → word_of s a ≡ None → word_of (with_effects s effects) a ≡ None
 effects_word_none s effects a h = test_none (a % 4 == 0) (number_of s 4 a) (number_of (with_effects s effects) 4 a) (number_none s effects 4 a) h
+
+-- ---- the effects take no byte away
+
+some_or : (p q r t : Option ℕ) → is_some p ≡ is_some q → is_some r ≡ is_some t → is_some (option_and_then (λ low. option_map (λ high. low + 2 ^ 8 * high) r) p) ≡ is_some (option_and_then (λ low. option_map (λ high. low + 2 ^ 8 * high) t) q)
+some_or None None r t f g = refl
+some_or None (Some c) r t f g = absurd (cc)
+some_or (Some b) None r t f g = absurd (cc)
+some_or (Some b) (Some c) None None f g = refl
+some_or (Some b) (Some c) None (Some e) f g = absurd (cc)
+some_or (Some b) (Some c) (Some d) None f g = absurd (cc)
+some_or (Some b) (Some c) (Some d) (Some e) f g = refl
+
+over_there : (x y : Option ℕ) → is_some (over x y) ≡ is_some x
+over_there None y = refl
+over_there (Some b) None = refl
+over_there (Some b) (Some c) = refl
+
+byte_there : (s : State) (effects : List Effect) (a : ℕ) → is_some (byte_of (with_effects s effects) a) ≡ is_some (byte_of s a)
+byte_there s [] a = refl
+byte_there s (e ∷ effects) a =
+    byte_there (with_effect s e) effects a ∙ ap is_some (effect_byte s e a) ∙ over_there (byte_of s a) (byte_in e a)
+
+pub effects_there : (s : State) (effects : List Effect) (n a : ℕ) → is_some (number_of (with_effects s effects) n a) ≡ is_some (number_of s n a)
+effects_there s effects zero a = refl
+effects_there s effects (suc n) a =
+    some_or (byte_of (with_effects s effects) a) (byte_of s a) (number_of (with_effects s effects) n (a + 1)) (number_of s n (a + 1)) (byte_there s effects a) (effects_there s effects n (a + 1))

@@ -1,13 +1,13 @@
 // Where a core stands that runs ahead of the machine.
 ghost use Rattle.std.specs.Prelude.{◌≡◌, ◌<◌, ◌≤◌, length, IfOk};
 ghost use Rattle.diva_isa.specs.State.{State};
-ghost use Rattle.diva_isa.specs.Step.{record_of};
+ghost use Rattle.diva_isa.specs.Step.{HasRegister, effect_of, record_of};
 ghost use Rattle.diva_ahead.specs.Lead.{begun, handed, is_epoch, new_lead, seen, synced, trimmed};
 
 use crate::ring::Ring;
 use crate::stand::Stand;
 use diva_core::{Told, View};
-use diva_isa::{Effect, Record, Regs, effect_of, record_of};
+use diva_isa::{Effect, Record, Regs, effect_by, fetch, form_of, record_by};
 use std::alloc::{AllocError, Global};
 use std::marker::Model;
 
@@ -133,17 +133,26 @@ impl Ahead {
         self.ring.trim(told.pending as usize);
     }
 
-    /// The record of the core's own state.
-    pub fn next(&self, view: &View<'_>) -> Record
-        ensures { result ≡ record_of (seen self.now view.now) }
+    /// Hands over the record of the core's own state: gives it, and stands behind it. There is room in the ring.
+    pub fn advance(&mut self, view: &View<'_>) -> Record
+        requires { length self.old.ring < 64 }
+        ensures record { result ≡ record_of (seen self.old view.now) }
+        ensures core { (s : State) → self.new ≡ handed self.old s result }
     {
-        record_of(&Stand { ahead: self, view })
+        let stand = Stand { ahead: self, view };
+        let fetched = fetch(&stand);
+        let form = form_of(fetched);
+        let record = record_by(&stand, fetched, form);
+        self.hand_over(&record, effect_by(form, &record));
+        record
     }
 
-    /// Notes that a record was handed over, and does what it says. There is room in the ring.
+    /// Stands behind a record that is handed over, by its effect. There is room in the ring.
     #[tactic(auto, using(crate::proofs::Handing::handed_is), unfolding(crate::specs::Effects::done_by))]
-    pub fn hand_over(&mut self, r: &Record)
-        requires { length self.old.ring < 64 }
+    pub fn hand_over(&mut self, r: &Record, effect: Effect)
+        requires room { length self.old.ring < 64 }
+        requires effect { effect ≡ effect_of r.now }
+        requires register { HasRegister effect }
         ensures { (s : State) → self.new ≡ handed self.old s r.now }
     {
         self.stopped = r.end != 0;
@@ -151,7 +160,6 @@ impl Ahead {
             self.ring.push(Effect::Nothing);
             return;
         }
-        let effect = effect_of(r);
         self.ring.push(effect);
         self.pc = r.next;
         match effect {

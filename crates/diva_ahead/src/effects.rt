@@ -1,23 +1,8 @@
-// What one record does, and which bytes of memory that changes.
+// Which bytes of memory an effect changes.
 ghost use Rattle.std.specs.Prelude.{◌≡◌};
-ghost use Rattle.diva_decode.specs.Table.{HasRegisters, row_of};
-ghost use Rattle.diva_isa.specs.Step.{HasRegister};
-ghost use Rattle.diva_ahead.specs.Effects.{byte_in, done_by, is_apart, is_store};
+ghost use Rattle.diva_ahead.specs.Effects.{byte_in, is_apart, is_store};
 
-use diva_isa::{Effect, Record, effect_of};
-
-/// What a record does besides moving the pc; one that ends does nothing.
-#[tactic(auto, unfolding(crate::specs::Effects::done_by))]
-pub fn done_by(r: &Record) -> Effect
-    ensures effect { result ≡ done_by r.now }
-    ensures register { HasRegister result }
-{
-    if r.end == 0 {
-        effect_of(r)
-    } else {
-        Effect::Nothing
-    }
-}
+use diva_isa::Effect;
 
 /// Whether an effect is a store.
 pub fn is_store(effect: &Effect) -> bool

@@ -147,12 +147,17 @@ impl Ring {
         requires { IsSome (word_of view.now addr) }
         ensures { result ≡ word_of (with_effects view.now self.now) addr }
     {
-        Some(u32::from_le_bytes([
-            self.byte(view, addr)?,
-            self.byte(view, addr + 1)?,
-            self.byte(view, addr + 2)?,
-            self.byte(view, addr + 3)?,
-        ]))
+        let mut byte0 = view.byte(addr)?;
+        let mut byte1 = view.byte(addr + 1)?;
+        let mut byte2 = view.byte(addr + 2)?;
+        let mut byte3 = view.byte(addr + 3)?;
+        for effect in self.effects.iter() {
+            byte0 = byte_in(effect, addr).unwrap_or(byte0);
+            byte1 = byte_in(effect, addr + 1).unwrap_or(byte1);
+            byte2 = byte_in(effect, addr + 2).unwrap_or(byte2);
+            byte3 = byte_in(effect, addr + 3).unwrap_or(byte3);
+        }
+        Some(u32::from_le_bytes([byte0, byte1, byte2, byte3]))
     }
 
     // Whether the `n` bytes from an address on are outside the interval of the stores.

@@ -3,7 +3,7 @@ ghost use Rattle.std.specs.Prelude.{◌≡◌};
 
 use crate::ahead::Ahead;
 use diva_core::View;
-use diva_isa::Look;
+use diva_isa::{Look, Width};
 
 /// The core's own registers, pc and output length, over the machine's memory with what the core did laid over it.
 #[derive(Drop)]
@@ -31,6 +31,11 @@ impl Look for Stand<'_> {
 
     fn word(&self, addr: u32) -> Option<u32> {
         self.ahead.ring().word(self.view, addr)
+    }
+
+    #[tactic(auto, using(crate::proofs::Laying::effects_there))]
+    fn has(&self, addr: u32, width: Width) -> bool {
+        self.view.has(addr, width)
     }
 
     fn out_len(&self) -> u32 {

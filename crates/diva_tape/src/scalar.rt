@@ -43,9 +43,7 @@ impl Scalar {
         if self.ahead.stopped() {
             return;
         }
-        let record = self.ahead.next(view);
-        self.ahead.hand_over(&record);
-        out.push(record);
+        out.push(self.ahead.advance(view));
     }
 }
 
