@@ -1,13 +1,16 @@
 -- Programs that were worked out by hand, what is handed over as they run, and what is looked at of a run.
 use Rattle.std.specs.Prelude.{ℕ, zero, suc, ◌+◌, ◌-◌, ◌==◌, ◌&&◌, List, [], ◌∷◌, ◌++◌, length, map, filter, flat_map, replicate, get_or, bit_xor, nat_lt, nat_le, if◌then◌else◌}
 use Rattle.std.specs.Int.{to_le_bytes, w32}
-use Rattle.diva_isa.specs.State.{State, reg_of, goes_on}
+use Rattle.diva_isa.specs.State.{State, reg_of}
 use Rattle.diva_isa.specs.Step.{record_of, steps}
 use Rattle.diva_isa.specs.declared.record.Record.{Record}
 use Rattle.diva_core.specs.declared.flushes.FlushRow.{FlushRow}
-use Rattle.diva_core.specs.Timed.{Timed, Sizes, Waiting, room_of}
+use Rattle.diva_core.specs.Timed.{Timed, Sizes, Waiting, new_timed}
 use Rattle.diva_core.specs.Cycle.{cycle_of}
+use Rattle.diva_core.specs.Told.{notice_of}
+use Rattle.diva_ahead.specs.Lead.{Lead}
 use Rattle.diva_tape.specs.Lists.{lockstep_list}
+use Rattle.diva_tape.specs.Scalar.{new_scalar, scalar_call}
 
 -- ---- programs
 
@@ -112,12 +115,6 @@ commitments rule (suc n) m = let after = cycle_of m (rule m) in replicate (after
 abbrev pub handed : List (List Record) → Timed → List Record
 handed lists m = get_or lists m.cycles []
 
--- one right claim in each cycle, where there is room: the record behind what is pending
-abbrev pub one_ahead : Timed → List Record
-one_ahead m =
-    let s = steps (length m.pending) m.arch in
-    if nat_lt 0 (room_of m) && goes_on s then record_of s ∷ [] else []
-
 -- a rule that falls silent in the cycles from first to last
 abbrev pub hushed : (first last : ℕ) → (Timed → List Record) → Timed → List Record
 hushed first last rule m = if nat_le first (m.cycles + 1) && nat_le (m.cycles + 1) last then [] else rule m
@@ -161,3 +158,23 @@ abbrev pub stale_word : List (List Record)
 stale_word =
     let s = store_over_next_word in
     [] ∷ [] ∷ (due_behind 0 s ∷ due_behind 1 s ∷ []) ∷ (due_behind 2 s ∷ record { pc = 12; word = 0x00000013; src1 = 0; src2 = 0; addr = 0; value = 0; next = 16; end = 0 } ∷ []) ∷ []
+
+-- ---- the core Scalar, and a machine
+
+pub record Driven : Type 0 where
+  pub machine : Timed
+  pub core : Lead
+
+-- one turn: the machine's cycle with what the call hands over
+abbrev pub turn_of : Driven → Driven
+turn_of d =
+    let call = scalar_call d.core (notice_of d.machine) d.machine.arch in
+    record { machine = cycle_of d.machine call.list; core = call.core }
+
+abbrev pub turns_of : ℕ → Driven → Driven
+turns_of zero d = d
+turns_of (suc n) d = turns_of n (turn_of d)
+
+-- a new machine with the numbers above, and a new core
+abbrev pub new_driven : State → Driven
+new_driven s = record { machine = new_timed defaults s; core = new_scalar }

@@ -4,7 +4,7 @@
 //! - `silent`: `Silent`, which hands over nothing.
 //! - `scalar`: `Scalar`, which hands over one instruction in each cycle, ahead of the machine.
 //! - `laws`: what the histories of a core have in common.
-//! - `worked`: runs that were worked out by hand, which the definitions give.
+//! - `worked`, `worked_scalar`: runs that were worked out by hand, which the definitions give.
 //!
 //! `specs/Lists.antt` says what each core hands over (`specs/Scalar.antt` what `Scalar` does), `specs/Programs.antt` which programs run.
 #![tactic(auto)]
@@ -14,6 +14,7 @@ mod lockstep;
 mod scalar;
 mod silent;
 pub mod worked;
+pub mod worked_scalar;
 
 pub use lockstep::Lockstep;
 pub use scalar::Scalar;

@@ -11,8 +11,9 @@ ghost use Rattle.diva_core.specs.Timed.{new_timed};
 ghost use Rattle.diva_isa.specs.State.{reg_of};
 ghost use Rattle.diva_isa.specs.Step.{halt, trap, record_of, step, steps};
 ghost use Rattle.diva_tape.specs.Lists.{lockstep_list, silent_list};
+ghost use Rattle.diva_tape.specs.Scalar.{scalar_list};
 ghost use Rattle.diva_tape.specs.Programs.{defaults, led_by, summary_of, acceptances, commitments, registers};
-ghost use Rattle.diva_tape.specs.Programs.{handed, one_ahead, hushed, flipped_first, second_twice, eight_at_once, two_at_once, late_and_wrong, stale_word};
+ghost use Rattle.diva_tape.specs.Programs.{handed, hushed, flipped_first, second_twice, eight_at_once, two_at_once, late_and_wrong, stale_word};
 ghost use Rattle.diva_tape.specs.Programs.{three_instructions, jump_to_itself, one_word, misaligned_load_outside, jump_to_six, write_to_x0, division_by_zero, least_by_minus_one, store_then_load, store_over_next_word, two_stores};
 
 // ---- single instructions
@@ -52,7 +53,7 @@ pub fn a_fetch_outside_memory_traps()
 pub fn a_write_to_x0_is_ignored()
     ensures value { (record_of write_to_x0).value ≡ 7 }
     ensures registers { registers (0 ∷ 1 ∷ []) (steps 2 write_to_x0) ≡ 0 ∷ 0 ∷ [] }
-    ensures summary { summary_of (led_by one_ahead 20 (new_timed defaults write_to_x0))
+    ensures summary { summary_of (led_by scalar_list 20 (new_timed defaults write_to_x0))
         ≡ record { end = halt 0; count = 4; cycles = 10; flushes = 0; silent = 0; rows = [] } }
 {}
 
@@ -72,14 +73,14 @@ pub fn the_least_number_divided_by_minus_one()
 pub fn a_store_in_flight_is_seen_by_a_load()
     ensures registers { registers (1 ∷ 2 ∷ []) (steps 3 store_then_load)
         ≡ 0x00000055 ∷ 0x44335511 ∷ [] }
-    ensures summary { summary_of (led_by one_ahead 20 (new_timed defaults store_then_load))
+    ensures summary { summary_of (led_by scalar_list 20 (new_timed defaults store_then_load))
         ≡ record { end = halt 0; count = 5; cycles = 11; flushes = 0; silent = 0; rows = [] } }
 {}
 
 /// A store over the next instruction's word is seen by its fetch at once.
 pub fn a_store_over_the_next_word()
     ensures end { (steps 4 store_over_next_word).end ≡ halt 0 }
-    ensures summary { summary_of (led_by one_ahead 20 (new_timed defaults store_over_next_word))
+    ensures summary { summary_of (led_by scalar_list 20 (new_timed defaults store_over_next_word))
         ≡ record { end = halt 0; count = 4; cycles = 10; flushes = 0; silent = 0; rows = [] } }
 {}
 
@@ -124,11 +125,11 @@ pub fn three_instructions_in_lockstep()
 
 /// Claims that follow one another by a cycle commit so.
 pub fn three_instructions_one_by_one()
-    ensures accepted { acceptances one_ahead 20 (new_timed defaults three_instructions)
+    ensures accepted { acceptances scalar_list 20 (new_timed defaults three_instructions)
         ≡ 1 ∷ 2 ∷ 3 ∷ [] }
-    ensures committed { commitments one_ahead 20 (new_timed defaults three_instructions)
+    ensures committed { commitments scalar_list 20 (new_timed defaults three_instructions)
         ≡ 7 ∷ 8 ∷ 9 ∷ [] }
-    ensures summary { summary_of (led_by one_ahead 20 (new_timed defaults three_instructions))
+    ensures summary { summary_of (led_by scalar_list 20 (new_timed defaults three_instructions))
         ≡ record { end = halt 0; count = 3; cycles = 9; flushes = 0; silent = 0; rows = [] } }
 {}
 
@@ -236,7 +237,7 @@ pub fn a_jump_to_itself_in_silence()
 
 /// A core falls silent for 200 cycles, and then goes on where the machine is.
 pub fn a_silence_of_200_cycles()
-    ensures summary { summary_of (led_by (hushed 5 204 one_ahead) 300 (new_timed defaults jump_to_itself))
+    ensures summary { summary_of (led_by (hushed 5 204 scalar_list) 300 (new_timed defaults jump_to_itself))
         ≡ record {
           end = 0;
           count = 96;

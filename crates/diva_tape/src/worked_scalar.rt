@@ -1,0 +1,33 @@
+//! Runs under the core `Scalar`, call by call, that were worked out by hand. Each function has no body, as in `worked`.
+ghost use Rattle.std.specs.Prelude.{◌≡◌, [], ◌∷◌};
+ghost use Rattle.diva_isa.specs.Step.{halt};
+ghost use Rattle.diva_tape.specs.Programs.{Driven, new_driven, registers, summary_of, turns_of};
+ghost use Rattle.diva_tape.specs.Programs.{store_over_next_word, store_then_load, three_instructions, write_to_x0};
+
+/// Claims follow one another by a cycle, and the first commits in cycle 7.
+pub fn three_instructions_by_scalar()
+    ensures { let last = turns_of 20 (new_driven three_instructions) in summary_of last.machine
+        ≡ record { end = halt 0; count = 3; cycles = 9; flushes = 0; silent = 0; rows = [] } }
+{}
+
+/// x0 stays 0 in the core's own registers too.
+pub fn a_write_to_x0_by_scalar()
+    ensures summary { let last = turns_of 20 (new_driven write_to_x0) in summary_of last.machine
+        ≡ record { end = halt 0; count = 4; cycles = 10; flushes = 0; silent = 0; rows = [] } }
+    ensures registers { let last = turns_of 20 (new_driven write_to_x0) in
+        registers (1 ∷ []) last.machine.arch ≡ 0 ∷ [] }
+{}
+
+/// A load of the word sees the byte that was stored in the call before.
+pub fn a_store_in_flight_by_scalar()
+    ensures summary { let last = turns_of 20 (new_driven store_then_load) in summary_of last.machine
+        ≡ record { end = halt 0; count = 5; cycles = 11; flushes = 0; silent = 0; rows = [] } }
+    ensures registers { let last = turns_of 20 (new_driven store_then_load) in
+        registers (1 ∷ 2 ∷ []) last.machine.arch ≡ 0x00000055 ∷ 0x44335511 ∷ [] }
+{}
+
+/// So does the fetch behind a store over the next word.
+pub fn a_store_over_the_next_word_by_scalar()
+    ensures { let last = turns_of 20 (new_driven store_over_next_word) in summary_of last.machine
+        ≡ record { end = halt 0; count = 4; cycles = 10; flushes = 0; silent = 0; rows = [] } }
+{}
