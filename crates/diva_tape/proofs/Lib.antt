@@ -1,3 +1,3 @@
-pub mod Righting
 pub mod Calling
 pub mod Following
+pub mod Righting
