@@ -1,5 +1,5 @@
 -- Files in memory, where loads fail as a test asks for it.
-use Rattle.std.specs.Prelude.{ℕ, List, Option, Some, Result, Bool, ◌==◌, ◌&&◌, is_some, if◌then◌else◌}
+use Rattle.std.specs.Prelude.{ℕ, List, Some, Result, Bool, ◌==◌, ◌&&◌, is_some, if◌then◌else◌}
 use Rattle.std.specs.List.{list_any}
 use Rattle.diva_outside.specs.Causes.{raised}
 use Rattle.diva_outside.specs.Faults.{faults_of, raised_at}

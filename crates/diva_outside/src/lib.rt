@@ -12,7 +12,7 @@
 //! - `mem_sink`: `MemSink`, a sink in memory, where puts fail as a test asks for it.
 //! - `sure_sink`: `SureSink`, a sink that never fails.
 //! - `line`: `Line`, a line of text, written piece by piece.
-//! - `text_lines`: `lines`, the lines of a text. `line_words`: `words`, the words of a line.
+//! - `text_lines`: `lines`, the lines of a text. `line_words`: `words`, the words of a line, and the line without its comment.
 //! - `numbers`: the hex and decimal numbers that words spell.
 //! - `tests`: the files, the sinks and the numbers, each with a worked answer.
 #![tactic(auto)]
@@ -37,7 +37,7 @@ mod text_lines;
 pub use disk_files::DiskFiles;
 pub use files::{Files, LoadFault, What};
 pub use line::Line;
-pub use line_words::{LineWords, words};
+pub use line_words::{LineWords, without_comment, words};
 pub use mem_file::MemFile;
 pub use mem_files::MemFiles;
 pub use mem_sink::{Fail, MemSink};

@@ -49,9 +49,9 @@ impl<'a> Iterator for LineWords<'a> {
     }
 }
 
-/// What stands before the comment.
+/// What stands before the comment of a line; the whole line where it has none.
 #[tactic(auto, using(crate::proofs::Splitting::before_end))]
-fn without_comment(line: &[u8]) -> &[u8]
+pub fn without_comment(line: &[u8]) -> &[u8]
     ensures { result.now ≡ before_first begins_comment line.now }
 {
     match comment_place(line) {
