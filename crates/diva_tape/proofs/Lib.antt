@@ -1,3 +1,10 @@
 pub mod Calling
 pub mod Following
+pub mod Keeping
+pub mod Listing
+pub mod Numbering
+pub mod Parting
+pub mod Playing
+pub mod ReadingBack
 pub mod Righting
+pub mod Writing

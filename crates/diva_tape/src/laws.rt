@@ -1,6 +1,6 @@
 //! Laws of the simple cores over whole histories of turns. Each function has no body: its clause is
 //! about the definitions.
-ghost use Rattle.std.specs.Prelude.{ℕ, ◌≡◌, ◌+◌, List, Some, true, false};
+ghost use Rattle.std.specs.Prelude.{ℕ, ◌≡◌, ◌+◌, List, Some, length, true, false};
 ghost use Rattle.diva_isa.specs.declared.record.Record.{Record};
 ghost use Rattle.diva_core.specs.Timed.{Timed, Sizes, depth, new_timed};
 ghost use Rattle.diva_ahead.specs.Lead.{Lead, is_epoch};
@@ -12,6 +12,7 @@ ghost use Rattle.diva_core.specs.Told.{notice_of};
 ghost use Rattle.diva_isa.specs.State.{State, goes_on};
 ghost use Rattle.diva_tape.specs.Lists.{IsLockstepCall};
 ghost use Rattle.diva_tape.specs.Scalar.{IsScalarCall, MayLead, new_scalar, scalar_list};
+ghost use Rattle.diva_tape.specs.TapeCalls.{played, tape_call};
 ghost use Rattle.diva_tape.specs.declared.lockstep.Lockstep.{Lockstep};
 
 /// `Lockstep` is always right: in each of its histories, from any machine, each list is right for the
@@ -43,4 +44,12 @@ pub fn scalar_may_lead_again()
         → IsMachine m → goes_on m.arch ≡ true → m.solo ≡ Some start → m.cycles + 1 ≡ start + depth
         → is_epoch before.epoch m.flushes ≡ false → IsScalarCall before (notice_of m) m.arch list after
         → MayLead (cycle_of m list) after }
+{}
+
+/// A core that plays a tape hands over, in each of its histories, from any machine, the lists of the tape in their order,
+/// and then empty ones.
+#[tactic(auto, using(crate::proofs::Playing::log_played))]
+pub fn tape_core_plays()
+    ensures { (m last : Timed) (before after : List (List Record)) (log : List (List Record × List (List Record)))
+        → IsLog tape_call m before log last after → lists_of log ≡ played (length log) before }
 {}

@@ -1,0 +1,159 @@
+// Tapes that are read, played and written. What is due is taken from the text of the format.
+use crate::{Tape, TapeCore, TapeFault, tape_piece};
+use diva_core::{Claim, Claims, Core, Output, Told, View};
+use diva_isa::Regs;
+use diva_memory::Memory;
+use diva_storeq::StoreQueue;
+use std::alloc::{AllocError, Global};
+use std::test::Fail;
+
+/// Eight claims of zeros.
+const EIGHT: &str = "0 0 0 0 0 0 0 0;0 0 0 0 0 0 0 0;0 0 0 0 0 0 0 0;0 0 0 0 0 0 0 0;\
+0 0 0 0 0 0 0 0;0 0 0 0 0 0 0 0;0 0 0 0 0 0 0 0;0 0 0 0 0 0 0 0";
+
+#[test]
+fn faults_of_a_line(rt: HostRuntime) -> Result<(), Fail> {
+    for (text, line, kind) in [
+        (b"0 1 2".as_slice(), 1, 2),
+        (b";", 1, 2),
+        (b"# \xff;\n\n ; \r\n", 3, 2),
+        (b"# \xff;\n\n0 0 0 0 0 0 0 0 ;", 3, 2),
+        (b"# \xff;\n\n;0 0 0 0 0 0 0 0\n", 3, 2),
+        (b"0 0 0 0 0 0 0 0\n0 0 0 0 0 0 0 0;;0 0 0 0 0 0 0 0", 2, 2),
+        (b"0 0 0 0 0 0 0 0 0", 1, 2),
+        (b"0 1 2; \xff", 1, 1),
+        (b"123456789 0 0 0 0 0 0 0", 1, 1),
+        (b"0x1 0 0 0 0 0 0 0", 1, 1),
+        (b"# \xff;\n\n0 0 0 0 0 0 0 g\n0 1 2", 3, 1),
+        (b"0 0 0 0 0 0 0 g 0 # 0", 1, 1),
+    ] {
+        assert_eq!(rt;
+            fault_of(rt.alloc(), text),
+            Some(TapeFault::Bad { line, kind }),
+            "{text:?}"
+        );
+    }
+    Ok(())
+}
+
+#[test]
+fn faults_behind_eight_claims(rt: HostRuntime) -> Result<(), Fail> {
+    for (before, after, line, kind) in [
+        ("", ";0 0 0 0 0 0 0 0", 1, 3),
+        ("# none\n\n", " ; 0 0 0 0 0 0 0 0\n", 3, 3),
+        ("", ";0 0 0 0 0 0 0", 1, 2),
+        ("0;", "", 1, 2),
+        ("", ";0 0 0 0 0 0 0 x", 1, 1),
+        ("", ";0 0 0 0 0 0 0 0;0 1 2 x", 1, 1),
+    ] {
+        let text = format!(in rt.alloc(); "{before}{EIGHT}{after}")?;
+        let due = Some(TapeFault::Bad { line, kind });
+        assert_eq!(rt; fault_of(rt.alloc(), text.as_bytes()), due, "{text}");
+    }
+    Ok(())
+}
+
+/// Why a text is no tape, if it is none.
+fn fault_of(alloc: Global, text: &[u8]) -> Option<TapeFault> {
+    Tape::read(alloc, text).err()
+}
+
+/// What a core hands over in some calls, a line for each.
+fn played(alloc: Global, core: &mut TapeCore, calls: u64) -> Result<Vec<u8>, AllocError> {
+    let regs = Regs::new();
+    let memory = Memory::new(alloc, 0, 4, &[])?;
+    let queue = StoreQueue::new(alloc, 1)?;
+    let output = Output::new(alloc)?;
+    let view = View::new(&regs, 0, &memory, &queue, &output);
+    let mut text = Vec::new(alloc);
+    for cycle in 0..calls {
+        let told = Told {
+            cycle,
+            count: 0,
+            pc: 0,
+            epoch: 0,
+            pending: 0,
+            room: 0,
+            idle: 0,
+            due: false,
+            ended: false,
+        };
+        let mut list = Claims::new();
+        core.cycle(&told, &view, &mut list);
+        let mut first = true;
+        for claim in list.as_slice() {
+            text.extend_from_slice(tape_piece(claim, first).bytes())?;
+            first = false;
+        }
+        text.push(b'\n')?;
+    }
+    Ok(text)
+}
+
+#[test]
+fn lists_of_a_tape(rt: HostRuntime) -> Result<(), Fail> {
+    for (text, calls, due) in [
+        ("", 2, "\n\n"),
+        (
+            "\n\n\n\n\n\n\n\n\n0 500093 0 0 0 4 4 0",
+            11,
+            "\n\n\n\n\n\n\n\n\n00000000 00500093 00000000 00000000 00000000 00000004 00000004 00000000\n\n",
+        ),
+        (
+            "# ;\n1 2 3 4 5 6 7 8;9 aB Cd 0000000e F 10 fFFFffff 12 # ; x\n \t\r\n1 0 0 0 0 0 0 0\r\n",
+            4,
+            "\n00000001 00000002 00000003 00000004 00000005 00000006 00000007 00000008 ; \
+00000009 000000ab 000000cd 0000000e 0000000f 00000010 ffffffff 00000012\n\n\
+00000001 00000000 00000000 00000000 00000000 00000000 00000000 00000000\n",
+        ),
+    ] {
+        match Tape::read(rt.alloc(), text.as_bytes()) {
+            Ok(tape) => {
+                let mut core = TapeCore::new(tape);
+                let written = played(rt.alloc(), &mut core, calls)?;
+                assert_eq!(rt; written.as_slice(), due.as_bytes(), "{text:?}");
+            }
+            Err(_) => assert!(rt; false, "{text:?}"),
+        }
+    }
+    Ok(())
+}
+
+#[test]
+fn eight_claims_in_a_call(rt: HostRuntime) -> Result<(), Fail> {
+    match Tape::read(rt.alloc(), EIGHT.as_bytes()) {
+        Ok(tape) => {
+            let written = played(rt.alloc(), &mut TapeCore::new(tape), 2)?;
+            assert_eq!(rt; written.len(), 8 * 71 + 7 * 3 + 2);
+        }
+        Err(_) => assert!(rt; false, "a tape"),
+    }
+    Ok(())
+}
+
+#[test]
+fn pieces(rt: HostRuntime) -> Result<(), Fail> {
+    let claim = Claim {
+        pc: 0,
+        word: 0x0050_0093,
+        src1: 0,
+        src2: 0,
+        addr: 0,
+        value: 5,
+        next: 4,
+        end: 0,
+    };
+    for (first, due) in [
+        (
+            true,
+            "00000000 00500093 00000000 00000000 00000000 00000005 00000004 00000000",
+        ),
+        (
+            false,
+            " ; 00000000 00500093 00000000 00000000 00000000 00000005 00000004 00000000",
+        ),
+    ] {
+        assert_eq!(rt; tape_piece(&claim, first).bytes(), due.as_bytes());
+    }
+    Ok(())
+}
