@@ -1,5 +1,6 @@
 -- One call of the core `Scalar`: it stands behind the pending claims, and hands over the record that is due there.
 use Rattle.std.proofs.Common.{◌≡◌, ◌≢◌, ℕ, suc, ◌-◌, ◌==◌, Bool, true, false, not, List, [], ◌∷◌, ◌++◌, length, map, drop, refl, ap, sym, ◌∙◌, arith, subst, length-append, inl, inr, ◌⊎◌, if◌then◌else◌}
+use Rattle.std.specs.Prelude.{IfSome}
 use Rattle.std.proofs.Math.Seq.{drop-append_seam}
 use Rattle.std.proofs.lemmas.List.{length-map, map-append, append-nil}
 use Rattle.std.proofs.lemmas.Bool.{true≢false, eq-eqb}
@@ -13,7 +14,7 @@ use Rattle.diva_core.proofs.Calming.{AreDueFrom}
 use Rattle.diva_ahead.specs.Effects.{done_by}
 use Rattle.diva_ahead.specs.Lead.{Lead, begun, handed, is_epoch, seen, synced, trimmed}
 use Rattle.diva_ahead.proofs.Leading.{Follows, handed_shows, seen_record}
-use Rattle.diva_tape.specs.Scalar.{ScalarCall, scalar_call}
+use Rattle.diva_tape.specs.Scalar.{ScalarCall, next_call, scalar_call}
 
 -- the record that is due in a state, if it goes on
 abbrev pub next_of : State → List Record
@@ -132,3 +133,37 @@ hands lead told s claims some e on due ready =
 pub waits : (lead : Lead) (told : Notice) (s : State) → told.room ≡ 0 → scalar_call lead told s ≡ record { list = []; core = lead }
 unfolding scalar_call
 waits lead told s none = rw none refl
+
+-- ---- the epoch after a call is that before it, or the machine's
+
+holds_synced : (P : ℕ → Type 0) (b : Bool) (lead : Lead) (told : Notice) (s : State) → IfSome lead.epoch P → P told.epoch → IfSome (if b then lead else begun told s).epoch P
+unfolding begun
+holds_synced P true lead told s h t = h
+holds_synced P false lead told s h t = t
+
+holds_trimmed : (P : ℕ → Type 0) (lead : Lead) (told : Notice) → IfSome lead.epoch P → IfSome (trimmed lead told).epoch P
+unfolding trimmed
+holds_trimmed P lead told h = h
+
+holds_handed : (P : ℕ → Type 0) (lead : Lead) (s : State) (r : Record) → IfSome lead.epoch P → IfSome (handed lead s r).epoch P
+unfolding handed
+holds_handed P lead s r h = h
+
+holds_next : (P : ℕ → Type 0) (b : Bool) (lead : Lead) (s : State) (r : Record) → IfSome lead.epoch P → (
+    let call : ScalarCall = if b then record { list = []; core = lead } else record { list = r ∷ []; core = handed lead s r } in
+    IfSome call.core.epoch P)
+holds_next P true lead s r h = h
+holds_next P false lead s r h = holds_handed P lead s r h
+
+holds_by : (P : ℕ → Type 0) (b : Bool) (lead : Lead) (call : ScalarCall) → IfSome lead.epoch P → IfSome call.core.epoch P → (
+    let one : ScalarCall = if b then record { list = []; core = lead } else call in
+    IfSome one.core.epoch P)
+holds_by P true lead call h k = h
+holds_by P false lead call h k = k
+
+pub epoch_holds : (P : ℕ → Type 0) (lead : Lead) (told : Notice) (s : State) → IfSome lead.epoch P → P told.epoch → IfSome (scalar_call lead told s).core.epoch P
+unfolding scalar_call
+epoch_holds P lead told s h t =
+    let core : Lead = trimmed (synced lead told s) told in
+    let there : IfSome core.epoch P = holds_trimmed P (synced lead told s) told (holds_synced P (is_epoch lead.epoch told.epoch) lead told s h t) in
+    holds_by P (told.room == 0) lead (next_call core s) h (holds_next P core.stopped core s (record_of (seen core s)) there)

@@ -1,8 +1,9 @@
 -- Histories of the core `Scalar`.
-use Rattle.std.proofs.Common.{◌≡◌, ◌<◌, ◌≤◌, ℕ, zero, suc, ◌+◌, ◌&&◌, Bool, true, false, List, [], ◌∷◌, ◌++◌, length, map, take, Some, refl, ap, sym, ◌∙◌, arith, subst, append_assoc, length-append, inl, inr, if◌then◌else◌}
-use Rattle.std.specs.Prelude.{nat_lt}
+use Rattle.std.proofs.Common.{◌≡◌, ◌≢◌, ◌<◌, ◌≤◌, ℕ, zero, suc, ◌+◌, Bool, true, false, Option, List, [], ◌∷◌, ◌++◌, length, map, take, Some, None, refl, ap, sym, ◌∙◌, arith, subst, append_assoc, length-append, inl, inr, ◌⊎◌, if◌then◌else◌, ◌&&◌}
+use Rattle.std.specs.Prelude.{nat_lt, IfSome}
 use Rattle.std.proofs.lemmas.List.{length-map, map-append, append-nil}
 use Rattle.std.proofs.lemmas.Bool.{true≢false, cases_lt, lt-ltb}
+use Rattle.std.proofs.lemmas.Bool.Decides.{nat_tests}
 use Rattle.std.proofs.lemmas.Option.{none-some}
 use Rattle.diva_isa.specs.State.{State, goes_on}
 use Rattle.diva_isa.specs.Step.{record_of, step, steps}
@@ -18,14 +19,15 @@ use Rattle.diva_core.proofs.Commits.{Commits}
 use Rattle.diva_core.proofs.Steps.{steps-add}
 use Rattle.diva_core.proofs.Cycling.{Cycled, cycled, Base, idled, ran, barks, differed, ended, finished, waited, taken}
 use Rattle.diva_core.proofs.Keeping.{stays}
+use Rattle.diva_core.proofs.Outcomes.{by-cases}
 use Rattle.diva_core.proofs.Calming.{stays_calm, no-difference, wait-least, claims-taken, room-some, due_from, Fresh, solo_fresh}
 use Rattle.diva_core.proofs.Listing.{new_calm}
 use Rattle.diva_core.proofs.Starting.{new-machine}
 use Rattle.diva_ahead.specs.Effects.{done_by}
 use Rattle.diva_ahead.specs.Lead.{Lead, is_epoch}
 use Rattle.diva_ahead.proofs.Leading.{Follows}
-use Rattle.diva_tape.specs.Scalar.{IsScalarCall, MayLead, ScalarCall, new_scalar, scalar_call, scalar_list}
-use Rattle.diva_tape.proofs.Calling.{Hands, Keeps, Ready, hands, next_of, waits}
+use Rattle.diva_tape.specs.Scalar.{IsPast, IsScalarCall, MayLead, ScalarCall, new_scalar, scalar_call, scalar_list}
+use Rattle.diva_tape.proofs.Calling.{Hands, Keeps, Ready, epoch_holds, hands, next_of, waits}
 use Rattle.diva_tape.proofs.Righting.{rule_right_by, scalar_right}
 
 abbrev waiting : Timed → List Record
@@ -136,40 +138,28 @@ ready_cases lead b n list calm h (ended r) on = absurd (true≢false (sym on ∙
 ready_cases lead b n list calm h (finished r) on = absurd (none-some _ (sym calm.running ∙ r.since))
 ready_cases lead b n list calm h (waited r) on = absurd (none-some _ (sym calm.running ∙ r.since))
 
--- ---- histories
+-- ---- while an instruction runs solo
 
-follows_rule :
-    (log : List (List Record × Lead)) (m : Timed) (lead : Lead) (last : Timed) (final : Lead)
-    → IsMachine m
-    → IsCalm m
-    → (goes_on m.arch ≡ true → Ready lead m.flushes m.arch (waiting m))
-    → IsLog IsScalarCall m lead log last final
-    → FollowRule scalar_list m (lists_of log)
-follows_rule [] m lead last final inv calm ready h = tt
-follows_rule (turn ∷ rest) m lead last final inv calm ready h =
-    let on : goes_on m.arch ≡ true = h.0 in
-    let a : At m (scalar_call lead (notice_of m) m.arch) = at lead m inv on (calm on) (ready on) in
-    let given : IsScalarCall lead (notice_of m) m.arch turn.0 turn.1 = h.1.0 in
-    let rule : turn.0 ≡ scalar_list m = given.lists ∙ a.list in
-    let right : IsRight m turn.0 = subst (IsRight m) (sym rule) (scalar_right m) in
-    let keeps : Keeps turn.1 m.flushes m.arch (waiting m ++ take (room_of m) turn.0) =
-    subst (λ (c : Lead). Keeps c m.flushes m.arch (waiting m ++ take (room_of m) turn.0)) (sym given.keeps)
-    (subst (λ (l : List Record). Keeps (scalar_call lead (notice_of m) m.arch).core m.flushes m.arch (waiting m ++ take (room_of m) l)) (sym given.lists) a.keeps) in
-    (rule, follows_rule rest (cycle_of m turn.0) turn.1 last final (stays m turn.0 inv) (stays_calm m turn.0 inv calm right).calm (λ still. ready_cases turn.1 m (cycle_of m turn.0) turn.0 (calm on) keeps (cycled m turn.0 inv on) still) h.1.1)
+record RunsSolo (m : Timed) (lead : Lead) : Type 0 where
+  start : ℕ
+  since : m.solo ≡ Some start
+  other : is_epoch lead.epoch m.flushes ≡ false
 
-pub scalar_history : (m last : Timed) (before after : Lead) (log : List (List Record × Lead)) → MayLead m before → IsLog IsScalarCall m before log last after → FollowRule scalar_list m (lists_of log)
-scalar_history m last before after log may h =
-    follows_rule log m before last after may.machine may.calm (λ on. inr (may.epoch, ap (map claim_of) may.pending)) h
+-- the machine is calm, and the core keeps what is pending; or an instruction runs solo
+abbrev Stands : Timed → Lead → Type 0
+Stands m lead = (IsCalm m × (goes_on m.arch ≡ true → Ready lead m.flushes m.arch (waiting m))) ⊎ RunsSolo m lead
 
-pub scalar_history_right : (m last : Timed) (before after : Lead) (log : List (List Record × Lead)) → MayLead m before → IsLog IsScalarCall m before log last after → AreRight m (lists_of log)
-scalar_history_right m last before after log may h =
-    rule_right_by scalar_list scalar_right m (lists_of log) (scalar_history m last before after log may h)
+solo_room : (m : Timed) (start : ℕ) → m.solo ≡ Some start → room_of m ≡ 0
+solo_room m start some = rw some refl
 
--- a new core at a new machine
-pub new_leads : (z : Sizes) (s : State) → IsSizes z → MayLead (new_timed z s) new_scalar
-new_leads z s ok = record { machine = new-machine z s ok; calm = new_calm z s ok; pending = refl; epoch = refl }
+-- the core does nothing
+solo_call : (lead : Lead) (m : Timed) (start : ℕ) → m.solo ≡ Some start → scalar_call lead (notice_of m) m.arch ≡ record { list = []; core = lead }
+solo_call lead m start some = waits lead (notice_of m) m.arch (solo_room m start some)
 
--- ---- a solo instruction
+solo_list : (lead : Lead) (m : Timed) (start : ℕ) → m.solo ≡ Some start → (scalar_call lead (notice_of m) m.arch).list ≡ scalar_list m
+solo_list lead m start some =
+    ap (λ (c : ScalarCall). c.list) (solo_call lead m start some)
+    ∙ rule_none (room_of m) (goes_on (steps (length m.pending) m.arch)) (record_of (steps (length m.pending) m.arch) ∷ []) (solo_room m start some)
 
 solo_flushes : (b n : Timed) (list : List Record) (start : ℕ) → b.solo ≡ Some start → Cycled b list n → n.flushes ≡ b.flushes
 solo_flushes b n list start some (idled r) = r.log.flushes
@@ -180,18 +170,124 @@ solo_flushes b n list start some (ended r) = r.log.flushes
 solo_flushes b n list start some (finished r) = r.log.flushes
 solo_flushes b n list start some (waited r) = r.log.flushes
 
-solo_room : (m : Timed) (start : ℕ) → m.solo ≡ Some start → room_of m ≡ 0
-solo_room m start some = rw some refl
+-- where it commits, the machine is calm with nothing pending, and else it runs on
+solo_after : (m : Timed) (list : List Record) (start : ℕ) → IsMachine m → goes_on m.arch ≡ true → m.solo ≡ Some start → Cycled m list (cycle_of m list) → Fresh (cycle_of m list) ⊎ ((cycle_of m list).solo ≡ Some start)
+solo_after m list start inv on some (idled r) = absurd (none-some _ (sym r.was ∙ some))
+solo_after m list start inv on some (ran r) = absurd (none-some _ (sym r.was ∙ some))
+solo_after m list start inv on some (barks r) = absurd (none-some _ (sym r.was ∙ some))
+solo_after m list start inv on some (differed r) = absurd (none-some _ (sym r.was ∙ some))
+solo_after m list start inv on some (ended r) = absurd (none-some _ (sym r.was ∙ some))
+solo_after m list start inv on some (finished r) = inl (solo_fresh m list r.start inv on r.since r.sixth)
+solo_after m list start inv on some (waited r) = inr (r.solo ∙ sym r.since ∙ some)
 
+stands_solo : (lead : Lead) (m : Timed) (list : List Record) → IsMachine m → goes_on m.arch ≡ true → RunsSolo m lead → Stands (cycle_of m list) lead
+stands_solo lead m list inv on r =
+    let other : is_epoch lead.epoch (cycle_of m list).flushes ≡ false = ap (is_epoch lead.epoch) (solo_flushes m (cycle_of m list) list r.start r.since (cycled m list inv on)) ∙ r.other in
+    elim (solo_after m list r.start inv on r.since (cycled m list inv on)) [
+      | inl fresh ↦ inl (fresh.calm, λ still. inr (other, ap (map claim_of) fresh.pending))
+      | inr some ↦ inr (record { start = r.start; since = some; other = other })
+    ]
+
+-- ---- histories
+
+-- a turn hands over by the rule, and the core stands where it did
+record Turn (m : Timed) (list : List Record) (after : Lead) : Type 0 where
+  rule : list ≡ scalar_list m
+  stands : Stands (cycle_of m list) after
+
+turn : (m : Timed) (lead : Lead) (list : List Record) (after : Lead) → IsMachine m → goes_on m.arch ≡ true → Stands m lead → IsScalarCall lead (notice_of m) m.arch list after → Turn m list after
+turn m lead list after inv on (inl c) given =
+    let a : At m (scalar_call lead (notice_of m) m.arch) = at lead m inv on (c.0 on) (c.1 on) in
+    let rule : list ≡ scalar_list m = given.lists ∙ a.list in
+    let right : IsRight m list = subst (IsRight m) (sym rule) (scalar_right m) in
+    let keeps : Keeps after m.flushes m.arch (waiting m ++ take (room_of m) list) =
+    subst (λ (x : Lead). Keeps x m.flushes m.arch (waiting m ++ take (room_of m) list)) (sym given.keeps)
+    (subst (λ (l : List Record). Keeps (scalar_call lead (notice_of m) m.arch).core m.flushes m.arch (waiting m ++ take (room_of m) l)) (sym given.lists) a.keeps) in
+    record {
+      rule = rule;
+      stands = inl ((stays_calm m list inv c.0 right).calm, λ still. ready_cases after m (cycle_of m list) list (c.0 on) keeps (cycled m list inv on) still);
+    }
+turn m lead list after inv on (inr r) given =
+    record {
+      rule = given.lists ∙ solo_list lead m r.start r.since;
+      stands = subst (Stands (cycle_of m list)) (sym (given.keeps ∙ ap (λ (c : ScalarCall). c.core) (solo_call lead m r.start r.since))) (stands_solo lead m list inv on r);
+    }
+
+follows_rule :
+    (log : List (List Record × Lead)) (m : Timed) (lead : Lead) (last : Timed) (final : Lead)
+    → IsMachine m
+    → Stands m lead
+    → IsLog IsScalarCall m lead log last final
+    → FollowRule scalar_list m (lists_of log)
+follows_rule [] m lead last final inv stands h = tt
+follows_rule (one ∷ rest) m lead last final inv stands h =
+    let t : Turn m one.0 one.1 = turn m lead one.0 one.1 inv h.0 stands h.1.0 in
+    (t.rule, follows_rule rest (cycle_of m one.0) one.1 last final (stays m one.0 inv) t.stands h.1.1)
+
+stands_by : (solo : Option ℕ) (m : Timed) (lead : Lead) → m.solo ≡ solo → MayLead m lead → Stands m lead
+stands_by None m lead e may = let rest = may.rests e in inl (rest.0, λ on. inr (may.epoch, ap (map claim_of) rest.1))
+stands_by (Some start) m lead e may = inr (record { start = start; since = e; other = may.epoch })
+
+pub scalar_history : (m last : Timed) (before after : Lead) (log : List (List Record × Lead)) → MayLead m before → IsLog IsScalarCall m before log last after → FollowRule scalar_list m (lists_of log)
+scalar_history m last before after log may h = follows_rule log m before last after may.machine (stands_by m.solo m before refl may) h
+
+pub scalar_history_right : (m last : Timed) (before after : Lead) (log : List (List Record × Lead)) → MayLead m before → IsLog IsScalarCall m before log last after → AreRight m (lists_of log)
+scalar_history_right m last before after log may h =
+    rule_right_by scalar_list scalar_right m (lists_of log) (scalar_history m last before after log may h)
+
+-- a new core at a new machine
+pub new_leads : (z : Sizes) (s : State) → IsSizes z → MayLead (new_timed z s) new_scalar
+new_leads z s ok = record { machine = new-machine z s ok; epoch = refl; rests = λ none. (new_calm z s ok, refl) }
+
+-- where a solo instruction commits
 pub leads_again : (m : Timed) (before after : Lead) (list : List Record) (start : ℕ) → IsMachine m → goes_on m.arch ≡ true → m.solo ≡ Some start → m.cycles + 1 ≡ start + 6 → is_epoch before.epoch m.flushes ≡ false → IsScalarCall before (notice_of m) m.arch list after
-    → MayLead (cycle_of m list) after
+    → IsCalm (cycle_of m list) × ((cycle_of m list).pending ≡ []) × (is_epoch after.epoch (cycle_of m list).flushes ≡ false)
 leads_again m before after list start inv on some sixth other given =
     let fresh : Fresh (cycle_of m list) = solo_fresh m list start inv on some sixth in
     let flushes : (cycle_of m list).flushes ≡ m.flushes = solo_flushes m (cycle_of m list) list start some (cycled m list inv on) in
-    let same : after ≡ before = given.keeps ∙ ap (λ (c : ScalarCall). c.core) (waits before (notice_of m) m.arch (solo_room m start some)) in
-    record {
-      machine = stays m list inv;
-      calm = fresh.calm;
-      pending = fresh.pending;
-      epoch = ap (λ (c : Lead). is_epoch c.epoch (cycle_of m list).flushes) same ∙ ap (is_epoch before.epoch) flushes ∙ other;
-    }
+    let same : after ≡ before = given.keeps ∙ ap (λ (c : ScalarCall). c.core) (solo_call before m start some) in
+    (fresh.calm, fresh.pending, ap (λ (c : Lead). is_epoch c.epoch (cycle_of m list).flushes) same ∙ ap (is_epoch before.epoch) flushes ∙ other)
+
+-- ---- flushes, whatever the machine is handed
+
+-- the log stays, or an instruction starts solo and the flushes rise
+flush_cases : (b n : Timed) (list : List Record) → Cycled b list n → (n.flushes ≡ b.flushes) ⊎ ((n.flushes ≡ b.flushes + 1) × (n.solo ≡ Some (b.cycles + 1)))
+flush_cases b n list (idled r) = inl r.log.flushes
+flush_cases b n list (ran r) = inl r.log.flushes
+flush_cases b n list (barks r) = inr (r.log.flushes, r.solo)
+flush_cases b n list (differed r) = inr (r.log.flushes, r.solo)
+flush_cases b n list (ended r) = inl r.log.flushes
+flush_cases b n list (finished r) = inl r.log.flushes
+flush_cases b n list (waited r) = inl r.log.flushes
+
+flush_cycle : (m : Timed) (list : List Record) → IsMachine m → ((cycle_of m list).flushes ≡ m.flushes) ⊎ (((cycle_of m list).flushes ≡ m.flushes + 1) × ((cycle_of m list).solo ≡ Some (m.cycles + 1)))
+flush_cycle m list inv = by-cases (λ (n : Timed). (n.flushes ≡ m.flushes) ⊎ ((n.flushes ≡ m.flushes + 1) × (n.solo ≡ Some (m.cycles + 1)))) m list inv (λ on c. flush_cases m (cycle_of m list) list c) (λ off. inl refl)
+
+past_call : (before after : Lead) (m : Timed) (list : List Record) → IsPast before m → IsScalarCall before (notice_of m) m.arch list after → IsPast after m
+past_call before after m list past given =
+    subst (λ (c : Lead). IsPast c m) (sym given.keeps) (epoch_holds (λ (e : ℕ). e ≤ m.flushes) before (notice_of m) m.arch past (omega arith))
+
+past_more : (o : Option ℕ) (a b : ℕ) → a ≤ b → IfSome o (λ (e : ℕ). e ≤ a) → IfSome o (λ (e : ℕ). e ≤ b)
+past_more None a b h p = tt
+past_more (Some e) a b h p = omega arith
+
+past_other : (o : Option ℕ) (a b : ℕ) → a < b → IfSome o (λ (e : ℕ). e ≤ a) → is_epoch o b ≡ false
+past_other None a b h p = refl
+past_other (Some e) a b h p = grind (arith, nat_tests)
+
+pub stays_past : (m : Timed) (before after : Lead) (list handed : List Record) → IsMachine m → IsPast before m → IsScalarCall before (notice_of m) m.arch list after → IsPast after (cycle_of m handed)
+stays_past m before after list handed inv past given =
+    let rise : m.flushes ≤ (cycle_of m handed).flushes = elim (flush_cycle m handed inv) [ inl e ↦ omega arith | inr f ↦ let e = f.0 in omega arith ] in
+    past_more after.epoch m.flushes (cycle_of m handed).flushes rise (past_call before after m list past given)
+
+pub leads_after_flush : (m : Timed) (before after : Lead) (list handed : List Record) → IsMachine m → IsPast before m → IsScalarCall before (notice_of m) m.arch list after → (cycle_of m handed).flushes ≢ m.flushes → MayLead (cycle_of m handed) after
+leads_after_flush m before after list handed inv past given flush =
+    elim (flush_cycle m handed inv) [
+      | inl e ↦ absurd (flush e)
+      | inr f ↦
+          record {
+            machine = stays m handed inv;
+            epoch = past_other after.epoch m.flushes (cycle_of m handed).flushes (let e = f.0 in omega arith) (past_call before after m list past given);
+            rests = λ none. absurd (none-some _ (sym none ∙ f.1));
+          }
+    ]

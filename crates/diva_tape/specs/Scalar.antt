@@ -1,5 +1,5 @@
 -- What the core `Scalar` hands over, and what it keeps.
-use Rattle.std.specs.Prelude.{◌≡◌, ◌==◌, nat_lt, ◌&&◌, false, List, [], ◌∷◌, length, if◌then◌else◌}
+use Rattle.std.specs.Prelude.{◌≡◌, ◌≤◌, ◌==◌, nat_lt, ◌&&◌, false, List, [], ◌∷◌, length, None, IfSome, if◌then◌else◌}
 use Rattle.diva_isa.specs.State.{State, goes_on}
 use Rattle.diva_isa.specs.Step.{record_of, steps}
 use Rattle.diva_isa.specs.declared.record.Record.{Record}
@@ -42,9 +42,13 @@ scalar_list m =
     let s = steps (length m.pending) m.arch in
     if nat_lt 0 (room_of m) && goes_on s then record_of s ∷ [] else []
 
--- Scalar may lead from a machine on: it is calm, nothing is pending, and Scalar has not taken its epoch
+-- Scalar may lead from a machine on: it has not taken the machine's epoch, and an instruction runs solo, or the machine is
+-- calm and nothing is pending
 pub record MayLead (m : Timed) (core : Lead) : Type 0 where
   pub machine : IsMachine m
-  pub calm : IsCalm m
-  pub pending : m.pending ≡ []
   pub epoch : is_epoch core.epoch m.flushes ≡ false
+  pub rests : m.solo ≡ None → IsCalm m × (m.pending ≡ [])
+
+-- the epoch that Scalar has taken, if any, is the machine's or an earlier one
+abbrev pub IsPast : Lead → Timed → Type 0
+IsPast core m = IfSome core.epoch (λ epoch. epoch ≤ m.flushes)
