@@ -33,7 +33,7 @@ far-rise b n inv z (inr s) =
     let q : n.count * (n.sizes.limit + 6) ≡ b.count * (b.sizes.limit + 6) = ap (λ c. c * (n.sizes.limit + 6)) s.same ∙ ap (λ x. b.count * (x + 6)) l in
     omega arith
 
-run-off : (lists : List (List Record)) (m : Timed) → goes_on m.arch ≡ false → run_of m lists ≡ m
+pub run-off : (lists : List (List Record)) (m : Timed) → goes_on m.arch ≡ false → run_of m lists ≡ m
 run-off [] m off = refl
 run-off (list ∷ rest) m off = ap (λ n. run_of n rest) (cycle-off m list off) ∙ run-off rest m off
 

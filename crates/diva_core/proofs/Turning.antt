@@ -10,7 +10,7 @@ use Rattle.diva_core.specs.Log.{Meaning, IsLog, Turns, lists_of, FollowRule}
 pub Turns-none : {C : Type 0} (gives : Meaning C) (m : Timed) (core : C) → Turns gives m core m core
 Turns-none gives m core = record { log = []; good = (refl, refl); each = omega arith }
 
-IsLog-more :
+pub IsLog-more :
     {C : Type 0} (gives : Meaning C) (m : Timed) (core : C) (log : List (List Record × C)) (mid : Timed) (between : C) (list : List Record) (after : C)
     → IsLog gives m core log mid between
     → goes_on mid.arch ≡ true

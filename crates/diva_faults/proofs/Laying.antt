@@ -1,7 +1,7 @@
 -- What rows make of a list in one cycle, where they stand in the order of their cycles.
-use Rattle.std.proofs.Common.{◌≡◌, ◌≢◌, ◌<◌, ◌≤◌, ℕ, ◌+◌, max, List, [], ◌∷◌, ◌++◌, take, drop, length, get_or, fold, Bool, true, false, cond, ◌||◌, refl, ap, sym, subst, ◌∙◌, ◌-◌, arith}
-use Rattle.std.specs.Prelude.{◌==◌, ◌&&◌, nat_le, nat_lt, filter, not}
-use Rattle.std.specs.List.{All, AllWithin, list_any}
+use Rattle.std.proofs.Common.{◌≡◌, ◌≢◌, ◌<◌, ◌≤◌, ℕ, ◌+◌, max, List, [], ◌∷◌, take, drop, length, get_or, fold, Bool, true, false, cond, ◌||◌, refl, ap, sym, subst, ◌∙◌, ◌-◌, arith}
+use Rattle.std.specs.Prelude.{◌==◌, nat_le, nat_lt, filter}
+use Rattle.std.specs.List.{All, list_any}
 use Rattle.std.specs.List.Sorted.{IsNonDecreasingBy, IsPartitionedBy, IsPartitionPoint, IsPermutation, IsStableByKey, ties}
 use Rattle.std.specs.Ordering.{nat_cmp, is_lt}
 use Rattle.std.specs.Fn.{Called, ComputesKey}

@@ -1,16 +1,11 @@
 -- Scripts and lists that were worked out by hand.
-use Rattle.std.proofs.Common.{◌≡◌, ℕ, List, [], ◌∷◌, refl}
-use Rattle.std.specs.Prelude.{codes, Result, Ok, Err}
-use Rattle.diva_core.specs.declared.differences.Field.TheVariants.{Value}
-use Rattle.diva_isa.specs.declared.record.Record.{Record}
+use Rattle.std.proofs.Common.{◌≡◌, ℕ, List, refl}
+use Rattle.std.specs.Prelude.{codes, Result, Err}
 use Rattle.diva_outside.specs.Lines.{LineFault}
-use Rattle.diva_outside.specs.Numbers.{decimal_of, hex_of}
+use Rattle.diva_outside.specs.Numbers.{decimal_of}
 use Rattle.diva_outside.specs.Words.{words_in}
-use Rattle.diva_faults.specs.declared.rows.Change.TheVariants.{Flip, Double}
-use Rattle.diva_faults.specs.declared.rows.Row.TheVariants.{Lane, Hush}
 use Rattle.diva_faults.specs.declared.rows.Row.{Row}
-use Rattle.diva_faults.specs.Lists.{scripted}
-use Rattle.diva_faults.specs.Reading.{number_in, hex_in, field_in, flip_in, set_in, change_in, lane_in, hush_in, part_in, row_in, line_in, script_of}
+use Rattle.diva_faults.specs.Reading.{number_in, row_in, line_in, script_of}
 
 abbrev Script : Type 0
 Script = Result (List Row) LineFault
