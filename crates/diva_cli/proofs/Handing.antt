@@ -1,12 +1,16 @@
--- Turns, as lists that are handed to a machine.
-use Rattle.std.proofs.Common.{◌≡◌, ◌↔◌, ℕ, ◌+◌, ◌≤◌, ◌==◌, true, false, List, [], ◌∷◌, refl, sym, ◌∙◌, ap, arith, length}
+-- Turns of a core under a script, and turns as lists that are handed to a machine.
+use Rattle.std.proofs.Common.{◌≡◌, ◌↔◌, ℕ, ◌+◌, ◌≤◌, ◌==◌, true, false, List, [], ◌∷◌, Option, Ok, refl, sym, ◌∙◌, ap, subst, arith, length}
 use Rattle.std.proofs.lemmas.Bool.{true≢false}
 use Rattle.std.proofs.lemmas.Bool.Decides.{nat_tests}
 use Rattle.diva_isa.specs.State.{State, goes_on}
 use Rattle.diva_isa.specs.declared.record.Record.{Record}
 use Rattle.diva_core.specs.Told.{Notice, notice_of}
 use Rattle.diva_core.specs.Timed.{Timed}
-use Rattle.diva_core.specs.Log.{Meaning, Turns, lists_of, FollowRule}
+use Rattle.diva_core.specs.Cycle.{cycle_of}
+use Rattle.diva_core.specs.Log.{Meaning, IsLog, Turns, lists_of, FollowRule}
+use Rattle.diva_core.specs.Machine.{IsMachine}
+use Rattle.diva_core.proofs.Keeping.{stays}
+use Rattle.diva_core.proofs.Outcomes.{cycle-cycles}
 use Rattle.diva_core.proofs.Turning.{IsLog-run, IsLog-rule, length-lists_of}
 use Rattle.diva_faults.specs.declared.faulty.Faulty.{Faulty}
 use Rattle.diva_faults.specs.declared.rows.Row.{Row}
@@ -16,25 +20,16 @@ use Rattle.diva_faults.proofs.Spoiling.{Turns-none, Turns-spoiled}
 use Rattle.diva_machine.specs.declared.ends.Drive.{Drive}
 use Rattle.diva_machine.specs.declared.ends.Drive.TheVariants.{Ended, Budget}
 use Rattle.diva_tape.specs.Lists.{lockstep_call, lockstep_list, silent_list}
-use Rattle.diva_args.specs.declared.job.CoreChoice.TheVariants.{Own, Lockstep, Silent}
-use Rattle.diva_cli.specs.Driven.{IsDriven, scripted_rule}
-use Rattle.diva_cli.specs.Parts.{IsDrivenFor}
+use Rattle.diva_ahead.specs.Lead.{Lead}
+use Rattle.diva_tape.specs.Scalar.{IsScalarCall}
+use Rattle.diva_tape.specs.TapeCalls.{next_list, tape_call, played}
+use Rattle.diva_tape.proofs.Playing.{played-next}
+use Rattle.diva_cli.specs.declared.driving.CoreInUse.{CoreInUse}
+use Rattle.diva_cli.specs.declared.driving.CoreInUse.TheVariants.{Own, Lockstep, Scalar, Silent, Tape}
+use Rattle.diva_cli.specs.Driven.{scripted_lists, scripted_rule}
+use Rattle.diva_cli.specs.Tasks.{AreHandedBy, IsQuiet, Performs, PerformsBy}
 
--- ---- a drive
-
--- how far a drive went
-pub record WentFar (m last : Timed) (budget : ℕ) : Type 0 where
-  pub most : last.cycles ≤ m.cycles + budget
-  pub whole : goes_on last.arch ≡ true → last.cycles ≡ m.cycles + budget
-
-pub went_far :
-    (m last : Timed) (budget : ℕ) (r : Drive)
-    → last.cycles ≤ m.cycles + budget
-    → (r ≡ Ended) ↔ (goes_on last.arch ≡ false)
-    → (r ≡ Budget) ↔ ((last.cycles ≡ m.cycles + budget) × (goes_on last.arch ≡ true))
-    → WentFar m last budget
-went_far m last budget Ended most ends runs = record { most = most; whole = λ on. absurd (true≢false (sym on ∙ ends.0 refl)) }
-went_far m last budget Budget most ends runs = record { most = most; whole = λ on. (runs.0 refl).0 }
+-- ---- under a script
 
 is_zero : (n : ℕ) → true ≡ (n == 0) → n ≡ 0
 is_zero n e = grind (arith, nat_tests)
@@ -44,85 +39,128 @@ pub no_rows : (rows script : List Row) → rows ≡ script → true ≡ (length 
 no_rows [] script same none = sym same
 no_rows (row ∷ rows) script same none = absurd (let n = is_zero (length (row ∷ rows)) none in omega arith)
 
--- a drive by a core under a script that has no rows is one by the core
-pub driven_none :
-    {D : Type 0} (gives : Meaning D) (script : List Row) (budget : ℕ) (m : Timed) (core : D) (last : Timed) (after : D)
+-- turns of a core are its turns under a script that has no rows
+pub performs_none :
+    {D : Type 0} (gives : Meaning D) (script : List Row) (m : Timed) (core : D) (last : Timed) (after : D) (this : List (List Record) → Type 0)
     → script ≡ []
-    → WentFar m last budget
-    → Turns gives m core last after
-    → IsDrivenFor (spoiled script gives) budget m core last after
-driven_none gives script budget m core last after none far t =
-    record { turns = rw none (Turns-none gives m core last after t); most = far.most; whole = far.whole }
+    → Performs gives m core last after this
+    → Performs (spoiled script gives) m core last after this
+performs_none gives script m core last after this none p =
+    let t = Turns-none gives m core last after p.turns in
+    rw none (record { turns = t.turns; done = subst this (sym t.same) p.done })
 
--- a drive by a core over the one that was lent to it
-pub driven_faulty :
-    {D : Type 0} (gives : Meaning D) (script : List Row) (budget : ℕ) (m : Timed) (core : D) (f : Faulty D) (last : Timed) (final : Faulty D) (after : D)
+-- turns of a core over the one that was lent to it
+pub performs_faulty :
+    {D : Type 0} (gives : Meaning D) (script : List Row) (m : Timed) (core : D) (f : Faulty D) (last : Timed) (final : Faulty D) (after : D) (this : List (List Record) → Type 0)
     → inside f ≡ core
     → rows_in f ≡ script
     → (lent_name f ≡ lent_name final → after ≡ inside final)
+    → Performs (spoiled_call gives) m f last final this
+    → Performs (spoiled script gives) m core last after this
+performs_faulty gives script m core f last final after this lent rows ends p =
+    let t = Turns-spoiled gives script m core f last final after lent rows ends p.turns in
+    record { turns = t.turns; done = subst this (sym t.same) p.done }
+
+-- ---- a drive of which nothing is written
+
+record WentFar (m last : Timed) (budget : ℕ) : Type 0 where
+  pub most : last.cycles ≤ m.cycles + budget
+  pub whole : goes_on last.arch ≡ true → last.cycles ≡ m.cycles + budget
+
+went_far :
+    (m last : Timed) (budget : ℕ) (r : Drive)
+    → last.cycles ≤ m.cycles + budget
+    → (r ≡ Ended) ↔ (goes_on last.arch ≡ false)
+    → (r ≡ Budget) ↔ ((last.cycles ≡ m.cycles + budget) × (goes_on last.arch ≡ true))
     → WentFar m last budget
-    → Turns (spoiled_call gives) m f last final
-    → IsDrivenFor (spoiled script gives) budget m core last after
-driven_faulty gives script budget m core f last final after lent rows ends far t =
-    record { turns = Turns-spoiled gives script m core f last final after lent rows ends t; most = far.most; whole = far.whole }
+went_far m last budget Ended most ends runs = record { most = most; whole = λ on. absurd (true≢false (sym on ∙ ends.0 refl)) }
+went_far m last budget Budget most ends runs = record { most = most; whole = λ on. (runs.0 refl).0 }
+
+pub performs_quiet :
+    {D : Type 0} (gives : Meaning D) (budget : ℕ) (m : Timed) (core : D) (last : Timed) (after : D) (contents : Option (List ℕ)) (faults : ℕ) (r : Drive)
+    → Turns gives m core last after
+    → last.cycles ≤ m.cycles + budget
+    → (r ≡ Ended) ↔ (goes_on last.arch ≡ false)
+    → (r ≡ Budget) ↔ ((last.cycles ≡ m.cycles + budget) × (goes_on last.arch ≡ true))
+    → Performs gives m core last after (λ lists. IsQuiet budget lists last contents contents faults faults (Ok tt))
+performs_quiet gives budget m core last after contents faults r t within ended ran =
+    let far = went_far m last budget r within ended ran in
+    let l = length-lists_of t.log in
+    record {
+      turns = t;
+      done = record {
+        most = (let e = t.each in let w = far.most in omega arith);
+        whole = λ on. (let e = t.each in let w = far.whole on in omega arith);
+        never_fails = refl;
+        contents = refl;
+        faults = refl;
+      };
+    }
 
 -- ---- a line for each core
 
-module _ {C D : Type 0} (gives : Meaning C) (its : Meaning D) (script : List Row) (budget : ℕ) (m last : Timed) (core : C) (first final : D) (d : IsDrivenFor (spoiled script its) budget m first last final) where
-  few : length (lists_of d.turns.log) ≤ budget
-  few = let e = d.turns.each in let l = length-lists_of d.turns.log in let f = d.most in omega arith
-
-  each : last.cycles ≡ m.cycles + length (lists_of d.turns.log)
-  each = let e = d.turns.each in let l = length-lists_of d.turns.log in omega arith
-
-  all : goes_on last.arch ≡ true → length (lists_of d.turns.log) ≡ budget
-  all on = let e = d.turns.each in let l = length-lists_of d.turns.log in let f = d.whole on in omega arith
+module _ {C D : Type 0} (gives : Meaning C) (its : Meaning D) (script : List Row) (m last : Timed) (core : C) (first final : D) (this : List (List Record) → Type 0) (p : Performs (spoiled script its) m first last final this) where
+  by : (used : CoreInUse) (after : C) → AreHandedBy gives used script m core (lists_of p.turns.log) last after → PerformsBy gives used script m core last after this
+  by used after handed =
+      record {
+        lists = lists_of p.turns.log;
+        ran = IsLog-run (spoiled script its) m first p.turns.log last final p.turns.good;
+        each = (let e = p.turns.each in let l = length-lists_of p.turns.log in omega arith);
+        handed = handed;
+        done = p.done;
+      }
 
   -- a core whose lists follow a rule
   by_rule : (rule : Timed → List Record)
       → ((n : Timed) (before : D) (list : List Record) (after : D) → its before (notice_of n) n.arch list after → list ≡ rule n)
-      → FollowRule (scripted_rule script rule) m (lists_of d.turns.log)
+      → FollowRule (scripted_rule script rule) m (lists_of p.turns.log)
   by_rule rule is_rule =
       IsLog-rule (spoiled script its) (scripted_rule script rule)
       (λ n before list after h. h.laid ∙ ap (scripted script (n.cycles + 1)) (is_rule n before h.inner after h.given))
-      m first d.turns.log last final d.turns.good
+      m first p.turns.log last final p.turns.good
 
-  pub driven_lockstep :
+  pub by_lockstep :
       ((before : D) (told : Notice) (s : State) (list : List Record) (after : D) → its before told s list after → list ≡ lockstep_call told s)
-      → IsDriven gives Lockstep script budget m core last core
-  driven_lockstep is_rule =
-      record {
-        lists = lists_of d.turns.log;
-        ran = IsLog-run (spoiled script its) m first d.turns.log last final d.turns.good;
-        each = each;
-        most = few;
-        handed = record { follows = by_rule lockstep_list (λ n before list after h. is_rule before (notice_of n) n.arch list after h); same = refl };
-        whole = all;
-      }
+      → PerformsBy gives Lockstep script m core last core this
+  by_lockstep is_rule =
+      by Lockstep core (record { follows = by_rule lockstep_list (λ n before list after h. is_rule before (notice_of n) n.arch list after h); same = refl })
 
-  pub driven_silent :
+  pub by_silent :
       ((before : D) (told : Notice) (s : State) (list : List Record) (after : D) → its before told s list after → list ≡ [])
-      → IsDriven gives Silent script budget m core last core
-  driven_silent is_rule =
-      record {
-        lists = lists_of d.turns.log;
-        ran = IsLog-run (spoiled script its) m first d.turns.log last final d.turns.good;
-        each = each;
-        most = few;
-        handed = record { follows = by_rule silent_list (λ n before list after h. is_rule before (notice_of n) n.arch list after h); same = refl };
-        whole = all;
-      }
+      → PerformsBy gives Silent script m core last core this
+  by_silent is_rule =
+      by Silent core (record { follows = by_rule silent_list (λ n before list after h. is_rule before (notice_of n) n.arch list after h); same = refl })
 
-pub driven_own :
-    {C : Type 0} (gives : Meaning C) (script : List Row) (budget : ℕ) (m last : Timed) (core after : C)
-    → IsDrivenFor (spoiled script gives) budget m core last after
-    → IsDriven gives Own script budget m core last after
-driven_own gives script budget m last core after d =
-    record {
-      lists = lists_of d.turns.log;
-      ran = IsLog-run (spoiled script gives) m core d.turns.log last after d.turns.good;
-      each = (let e = d.turns.each in let l = length-lists_of d.turns.log in omega arith);
-      most = (let e = d.turns.each in let l = length-lists_of d.turns.log in let f = d.most in omega arith);
-      handed = record { log = d.turns.log; good = d.turns.good; in_order = refl };
-      whole = λ on. (let e = d.turns.each in let l = length-lists_of d.turns.log in let f = d.whole on in omega arith);
-    }
+pub by_own :
+    {C : Type 0} (gives : Meaning C) (script : List Row) (m last : Timed) (core after : C) (this : List (List Record) → Type 0)
+    → Performs (spoiled script gives) m core last after this
+    → PerformsBy gives Own script m core last after this
+by_own gives script m last core after this p =
+    by gives gives script m last core core after this p Own after (record { log = p.turns.log; good = p.turns.good; in_order = refl })
+
+module _ {C : Type 0} (gives : Meaning C) (script : List Row) (m last : Timed) (core : C) (this : List (List Record) → Type 0) where
+  pub by_scalar : (first final : Lead) → Performs (spoiled script IsScalarCall) m first last final this → PerformsBy gives (Scalar first) script m core last core this
+  by_scalar first final p =
+      by gives IsScalarCall script m last core first final this p (Scalar first) core
+      (record { final = final; turns = record { log = p.turns.log; good = p.turns.good; in_order = refl }; same = refl })
+
+  pub by_tape : (first final : List (List Record)) → Performs (spoiled script tape_call) m first last final this → PerformsBy gives (Tape first) script m core last core this
+  by_tape first final p =
+      by gives tape_call script m last core first final this p (Tape first) core
+      (record { final = final; turns = record { log = p.turns.log; good = p.turns.good; in_order = refl }; same = refl })
+
+-- the lists of a tape, as a script changes them
+pub tape_played :
+    (script : List Row) (m : Timed) (before : List (List Record)) (log : List (List Record × List (List Record))) (last : Timed) (after : List (List Record))
+    → IsMachine m
+    → IsLog (spoiled script tape_call) m before log last after
+    → lists_of log ≡ scripted_lists script (m.cycles + 1) (played (length (lists_of log)) before)
+tape_played script m before [] last after inv h = refl
+tape_played script m before (turn ∷ log) last after inv h =
+    let one = h.1.0 in
+    let more = tape_played script (cycle_of m turn.0) turn.1 log last after (stays m turn.0 inv) h.1.1 in
+    let next : (cycle_of m turn.0).cycles ≡ m.cycles + 1 = cycle-cycles m turn.0 inv h.0 in
+    ap (λ (list : List Record). list ∷ lists_of log) (one.laid ∙ ap (scripted script (m.cycles + 1)) one.given.next)
+    ∙ ap (λ (lists : List (List Record)). scripted script (m.cycles + 1) (next_list before) ∷ lists)
+    (more ∙ ap (λ n. scripted_lists script (n + 1) (played (length (lists_of log)) turn.1)) next ∙ ap (λ (t : List (List Record)). scripted_lists script (m.cycles + 1 + 1) (played (length (lists_of log)) t)) one.given.later)
+    ∙ ap (scripted_lists script (m.cycles + 1)) (played-next (length (lists_of log)) before)

@@ -1,5 +1,10 @@
 -- The lemmas of this crate.
 pub mod Handing
+pub mod Cycling
+pub mod Pieces
 pub mod Running
+pub mod Replaying
+pub mod Stopping
 pub mod Preparing
 pub mod Working
+pub mod Completing

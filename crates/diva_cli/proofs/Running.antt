@@ -1,41 +1,43 @@
 -- What holds of a run, whatever the core hands over, and what is written of it.
-use Rattle.std.proofs.Common.{◌≡◌, ◌⊎◌, ℕ, ◌+◌, ◌/◌, ◌≤◌, ◌<◌, List, [], ◌∷◌, Option, Ok, Err, inl, inr, sym, ◌∙◌, ap, subst, arith, eq-eqb}
+use Rattle.std.proofs.Common.{◌≡◌, ◌⊎◌, ℕ, ◌+◌, ◌/◌, ◌≤◌, ◌<◌, true, List, [], ◌∷◌, length, Option, Result, Ok, Err, refl, inl, inr, sym, ◌∙◌, ap, subst, arith, eq-eqb}
 use Rattle.diva_isa.specs.State.{State, goes_on}
 use Rattle.diva_isa.specs.Step.{steps}
+use Rattle.diva_isa.specs.declared.record.Record.{Record}
 use Rattle.diva_core.specs.Timed.{Timed, Sizes, new_timed}
 use Rattle.diva_core.specs.Cycle.{cycle_of, run_of}
-use Rattle.diva_core.specs.Right.{AreRight}
-use Rattle.diva_core.proofs.Listing.{run_calm, new_calm}
-use Rattle.diva_isa.specs.declared.record.Record.{Record}
-use Rattle.diva_core.specs.Log.{FollowRule}
-use Rattle.diva_tape.specs.Lists.{lockstep_list}
-use Rattle.diva_tape.proofs.Righting.{rule_right}
-use Rattle.diva_faults.proofs.Spoiling.{scripted-none}
-use Rattle.diva_args.specs.declared.job.CoreChoice.TheVariants.{Lockstep}
-use Rattle.diva_core.specs.Log.{Meaning}
+use Rattle.diva_core.specs.Log.{Meaning, IsLog, FollowRule}
 use Rattle.diva_core.specs.Machine.{IsSizes}
+use Rattle.diva_core.specs.Right.{AreRight}
 use Rattle.diva_core.specs.Headline.{AddsRows}
+use Rattle.diva_core.proofs.Listing.{run_calm, new_calm}
 use Rattle.diva_core.proofs.Pacing.{are_committed}
 use Rattle.diva_core.proofs.Starting.{headline, pace_of_run, new-machine}
 use Rattle.diva_core.proofs.Adding.{run-adds}
 use Rattle.diva_core.proofs.Ending.{same_end}
-use Rattle.diva_image.specs.Images.{image_of}
-use Rattle.diva_machine.specs.Start.{start_of}
 use Rattle.diva_faults.specs.declared.rows.Row.{Row}
+use Rattle.diva_faults.proofs.Spoiling.{scripted-none, log-none}
+use Rattle.diva_tape.specs.Lists.{lockstep_list}
+use Rattle.diva_tape.specs.Scalar.{IsScalarCall, MayLead, new_scalar, scalar_list}
+use Rattle.diva_tape.specs.TapeCalls.{played}
+use Rattle.diva_tape.proofs.Following.{scalar_history, scalar_history_right, new_leads}
+use Rattle.diva_tape.proofs.Righting.{rule_right}
 use Rattle.diva_outside.specs.Sink.{Puts}
-use Rattle.diva_outside.specs.declared.files.What.TheVariants.{Image}
 use Rattle.diva_outside.specs.declared.sink.SinkFailed.{SinkFailed}
-use Rattle.diva_args.specs.Options.{RunOptions, DumpRange}
+use Rattle.diva_args.specs.Options.{Setup, RunOptions, DumpRange}
 use Rattle.diva_args.specs.declared.job.CoreChoice.{CoreChoice}
+use Rattle.diva_args.specs.declared.job.CoreChoice.TheVariants.{Own, Lockstep, Scalar, Silent, Tape}
+use Rattle.diva_args.specs.declared.job.Job.TheVariants.{Run}
 use Rattle.diva_trace.specs.Text.{text_of}
+use Rattle.diva_cli.specs.declared.driving.CoreInUse.{CoreInUse}
 use Rattle.diva_cli.specs.declared.loading.Ready.{Ready}
 use Rattle.diva_cli.specs.Wanted.{FileBytes}
-use Rattle.diva_cli.specs.Driven.{IsDriven, AreHanded, scripted_rule}
-use Rattle.diva_cli.specs.Runs.{IsRunFrom, IsUnflushed, EndsWith, halted, trapped, unfinished, shown_dump, sizes_of}
-use Rattle.diva_cli.specs.Parts.{IsReady, WritesWhole, WritesPart}
-use Rattle.diva_args.specs.declared.job.Job.TheVariants.{Run}
+use Rattle.diva_cli.specs.Driven.{IsDriven, AreHanded, ByOther, scripted_lists, scripted_rule}
+use Rattle.diva_cli.proofs.Handing.{tape_played}
+use Rattle.diva_cli.specs.Runs.{IsRunFrom, IsRunOver, IsUnflushed, IsWhole, EndsWith, halted, trapped, unfinished, shown_dump, sizes_of, start_in}
+use Rattle.diva_cli.specs.Tasks.{AreHandedBy, IsQuiet, PerformsBy}
+use Rattle.diva_cli.specs.Parts.{IsReady, WritesWhole, WritesPart, core_for}
 
--- ---- a run
+-- ---- right lists
 
 -- where each list is right nothing is flushed
 no_flush : (z : Sizes) (s : State) (lists : List (List Record)) (last : Timed) → IsSizes z → last ≡ run_of (new_timed z s) lists → AreRight (new_timed z s) lists → IsUnflushed last
@@ -48,47 +50,111 @@ follow_same : (rule other : Timed → List Record) → ((m : Timed) → rule m �
 follow_same rule other same m [] h = tt
 follow_same rule other same m (list ∷ rest) h = (h.0 ∙ same m, follow_same rule other same (cycle_of m list) rest h.1)
 
--- the lists of lockstep are right, where no row changes them
-lockstep_handed :
-    {C : Type 0} (gives : Meaning C) (choice : CoreChoice) (script : List Row) (m : Timed) (core : C) (lists : List (List Record)) (last : Timed) (after : C)
-    → choice ≡ Lockstep → script ≡ [] → AreHanded gives choice script m core lists last after → AreRight m lists
-lockstep_handed gives choice script m core lists last after is none handed =
-    let one : AreHanded gives Lockstep script m core lists last after = subst (λ (c : CoreChoice). AreHanded gives c script m core lists last after) is handed in
-    let two : AreHanded gives Lockstep [] m core lists last after = subst (λ (rows : List Row). AreHanded gives Lockstep rows m core lists last after) none one in
-    rule_right m lists (follow_same (scripted_rule [] lockstep_list) lockstep_list (λ n. scripted-none (n.cycles + 1) (lockstep_list n)) m lists two.follows)
+-- the lists of a new Scalar, where no row changes them
+module _ {C : Type 0} (script : List Row) (m : Timed) (core : C) (lists : List (List Record)) (last : Timed) (after : C)
+    (leads : MayLead m new_scalar) (none : script ≡ []) (by : ByOther IsScalarCall new_scalar script m core lists last after) where
+  unscripted : ByOther IsScalarCall new_scalar [] m core lists last after
+  unscripted = subst (λ (rows : List Row). ByOther IsScalarCall new_scalar rows m core lists last after) none by
 
-run_from_start :
-    {C : Type 0} (gives : Meaning C) (options : RunOptions) (script : List Row) (start : State) (core : C) (last : Timed) (after : C)
-    → IsSizes (sizes_of options)
-    → IsDriven gives options.core script options.cycles (new_timed (sizes_of options) start) core last after
-    → IsRunFrom gives options script start core last after
-run_from_start gives options script start core last after ok d =
+  good : IsLog IsScalarCall m new_scalar unscripted.turns.log last unscripted.final
+  good = log-none IsScalarCall m new_scalar unscripted.turns.log last unscripted.final unscripted.turns.good
+
+  scalar_follows : FollowRule scalar_list m lists
+  scalar_follows = subst (FollowRule scalar_list m) (sym unscripted.turns.in_order) (scalar_history m last new_scalar unscripted.final unscripted.turns.log leads good)
+
+  scalar_right : AreRight m lists
+  scalar_right = subst (AreRight m) (sym unscripted.turns.in_order) (scalar_history_right m last new_scalar unscripted.final unscripted.turns.log leads good)
+
+-- the lists of a core that is always right, where no row changes them
+right_handed :
+    {C : Type 0} (gives : Meaning C) (choice : CoreChoice) (tape : List (List Record)) (script : List Row) (m : Timed) (core : C) (lists : List (List Record)) (last : Timed) (after : C)
+    → MayLead m new_scalar
+    → (choice ≡ Lockstep) ⊎ (choice ≡ Scalar) → script ≡ [] → AreHanded gives choice tape script m core lists last after → AreRight m lists
+right_handed gives choice tape script m core lists last after leads (inl is) none handed =
+    let one : AreHanded gives Lockstep tape script m core lists last after = subst (λ (c : CoreChoice). AreHanded gives c tape script m core lists last after) is handed in
+    let two : AreHanded gives Lockstep tape [] m core lists last after = subst (λ (rows : List Row). AreHanded gives Lockstep tape rows m core lists last after) none one in
+    rule_right m lists (follow_same (scripted_rule [] lockstep_list) lockstep_list (λ n. scripted-none (n.cycles + 1) (lockstep_list n)) m lists two.follows)
+right_handed gives choice tape script m core lists last after leads (inr is) none handed =
+    let one : AreHanded gives Scalar tape script m core lists last after = subst (λ (c : CoreChoice). AreHanded gives c tape script m core lists last after) is handed in
+    scalar_right script m core lists last after leads none one.by
+
+-- ---- a run from a state
+
+-- where the lists come from, told by the choice of the core
+handed_for :
+    {C : Type 0} (gives : Meaning C) (asked : CoreChoice) (tape : List (List Record)) (script : List Row) (m : Timed) (core : C) (lists : List (List Record)) (last : Timed) (after : C)
+    → MayLead m new_scalar
+    → AreHandedBy gives (core_for asked tape) script m core lists last after → AreHanded gives asked tape script m core lists last after
+handed_for gives Own tape script m core lists last after leads h = h
+handed_for gives Lockstep tape script m core lists last after leads h = h
+handed_for gives Scalar tape script m core lists last after leads h = record { by = h; alone = λ none. scalar_follows script m core lists last after leads none h }
+handed_for gives Silent tape script m core lists last after leads h = h
+handed_for gives (Tape name) tape script m core lists last after leads h =
     record {
-      driven = d;
-      stepped = subst (λ (n : Timed). n.arch ≡ steps n.count start) (sym d.ran) (headline (sizes_of options) start d.lists ok);
-      committed = are_committed (new_timed (sizes_of options) start) d.lists (new-machine (sizes_of options) start ok);
-      rows = subst (AddsRows (new_timed (sizes_of options) start) d.lists) (sym d.ran) (run-adds d.lists (new_timed (sizes_of options) start) (new-machine (sizes_of options) start ok));
-      paced = subst (λ (n : Timed). n.cycles / (options.watchdog + 6) ≤ n.count) (sym d.ran) (pace_of_run (sizes_of options) start d.lists ok);
-      same = λ n ends long. subst (λ (m : Timed). (m.arch ≡ steps n start) × (m.count ≡ n)) (sym d.ran)
-          (same_end (sizes_of options) start d.lists n options.cycles ok (λ on. d.whole (ap (λ m. goes_on m.arch) d.ran ∙ on)) ends long);
-      calm = no_flush (sizes_of options) start d.lists last ok d.ran;
-      unflushed = λ is none. no_flush (sizes_of options) start d.lists last ok d.ran (lockstep_handed gives options.core script (new_timed (sizes_of options) start) core d.lists last after is none d.handed);
+      in_order = subst (λ (l : List (List Record)). l ≡ scripted_lists script (m.cycles + 1) (played (length l) tape)) (sym h.turns.in_order) (tape_played script m tape h.turns.log last h.final leads.machine h.turns.good);
+      same = h.same;
     }
 
--- the same, of a machine that is known by equations
-run_from :
-    {C : Type 0} (gives : Meaning C) (options : RunOptions) (script : List Row) (start : State) (core : C) (last : Timed) (after : C) (choice : CoreChoice) (budget : ℕ) (m : Timed)
-    → choice ≡ options.core
-    → budget ≡ options.cycles
-    → m ≡ new_timed (sizes_of options) start
-    → IsSizes (sizes_of options)
-    → IsDriven gives choice script budget m core last after
-    → IsRunFrom gives options script start core last after
-run_from gives options script start core last after choice budget m c b e ok d =
-    run_from_start gives options script start core last after ok
-    (subst (λ (n : Timed). IsDriven gives options.core script options.cycles n core last after) e
-    (subst (λ (n : ℕ). IsDriven gives options.core script n m core last after) b
-    (subst (λ (n : CoreChoice). IsDriven gives n script budget m core last after) c d)))
+run_from_start :
+    {C : Type 0} (gives : Meaning C) (setup : Setup) (cycles : ℕ) (tape : List (List Record)) (script : List Row) (start : State) (core : C) (last : Timed) (after : C)
+    → IsSizes (sizes_of setup)
+    → IsDriven gives setup.core tape script cycles (new_timed (sizes_of setup) start) core last after
+    → IsRunFrom gives setup cycles tape script start core last after
+run_from_start gives setup cycles tape script start core last after ok d =
+    record {
+      driven = d;
+      stepped = subst (λ (n : Timed). n.arch ≡ steps n.count start) (sym d.ran) (headline (sizes_of setup) start d.lists ok);
+      committed = are_committed (new_timed (sizes_of setup) start) d.lists (new-machine (sizes_of setup) start ok);
+      rows = subst (AddsRows (new_timed (sizes_of setup) start) d.lists) (sym d.ran) (run-adds d.lists (new_timed (sizes_of setup) start) (new-machine (sizes_of setup) start ok));
+      paced = subst (λ (n : Timed). n.cycles / (setup.watchdog + 6) ≤ n.count) (sym d.ran) (pace_of_run (sizes_of setup) start d.lists ok);
+      calm = no_flush (sizes_of setup) start d.lists last ok d.ran;
+      unflushed = λ is none. no_flush (sizes_of setup) start d.lists last ok d.ran (right_handed gives setup.core tape script (new_timed (sizes_of setup) start) core d.lists last after (new_leads (sizes_of setup) start ok) is none d.handed);
+    }
+
+-- ---- a run over files
+
+module _ {C : Type 0} (gives : Meaning C) (setup : Setup) (cycles : ℕ) (bytes : FileBytes) (ready : Ready) (core : C) (last : Timed) (after : C)
+    (fits : IsSizes (sizes_of setup)) (is : IsReady setup bytes ready) (lists : List (List Record))
+    (ran : last ≡ run_of ready.machine.timed lists)
+    (each : last.cycles ≡ ready.machine.timed.cycles + length lists)
+    (handed : AreHandedBy gives ready.core ready.script ready.machine.timed core lists last after) where
+  abbrev first : Timed
+  first = new_timed (sizes_of setup) (start_in bytes)
+
+  ran_new : last ≡ run_of first lists
+  ran_new = ran ∙ ap (λ (m : Timed). run_of m lists) is.begun
+
+  pub each_new : last.cycles ≡ length lists
+  each_new = let e = ap (λ (m : Timed). m.cycles) is.begun in omega arith
+
+  handed_new : AreHanded gives setup.core is.core.tape ready.script first core lists last after
+  handed_new =
+      handed_for gives setup.core is.core.tape ready.script first core lists last after (new_leads (sizes_of setup) (start_in bytes) fits)
+      (subst (λ (m : Timed). AreHandedBy gives (core_for setup.core is.core.tape) ready.script m core lists last after) is.begun
+      (subst (λ (used : CoreInUse). AreHandedBy gives used ready.script ready.machine.timed core lists last after) is.core.is handed))
+
+  pub run_over : length lists ≤ cycles → IsRunOver gives setup cycles bytes core last after
+  run_over most =
+      record {
+        script = ready.script;
+        rows = is.rows;
+        tape = is.core.tape;
+        lists = is.core.lists;
+        run = run_from_start gives setup cycles is.core.tape ready.script (start_in bytes) core last after fits
+            (record { lists = lists; ran = ran_new; each = (let e = each_new in omega arith); most = most; handed = handed_new });
+      }
+
+  pub over_lists : (most : length lists ≤ cycles) → (run_over most).run.driven.lists ≡ lists
+  unfolding run_over run_from_start
+  over_lists most = refl
+
+  pub run_whole : (goes_on last.arch ≡ true → length lists ≡ cycles) → IsWhole setup cycles (start_in bytes) last
+  run_whole all =
+      record {
+        all = λ on. each_new ∙ all on;
+        same = λ n ends long. subst (λ (m : Timed). (m.arch ≡ steps n (start_in bytes)) × (m.count ≡ n)) (sym ran_new)
+            (same_end (sizes_of setup) (start_in bytes) lists n cycles fits (λ on. all (ap (λ (m : Timed). goes_on m.arch) ran_new ∙ on)) ends long);
+      }
 
 -- ---- how it ended
 
@@ -97,59 +163,59 @@ pub record SaysEnd (status end : ℕ) : Type 0 where
   pub halted_ : status ≡ 0 → 256 ≤ end
   pub trapped_ : status ≡ 3 → (0 < end) × (end < 256)
   pub goes_on_ : status ≡ 4 → end ≡ 0
+  pub one : (status ≡ 0) ⊎ ((status ≡ 3) ⊎ (status ≡ 4))
 
-ends_with : (last : Timed) (cycles status : ℕ) → (last.arch.end ≡ 0 → last.cycles ≡ cycles) → SaysEnd status last.arch.end
-    → (status ≡ 0) ⊎ ((status ≡ 3) ⊎ (status ≡ 4)) → EndsWith last cycles status
-ends_with last cycles status exact says (inl e) = halted e (says.halted_ e)
-ends_with last cycles status exact says (inr (inl e)) = let t = says.trapped_ e in trapped e t.0 t.1
-ends_with last cycles status exact says (inr (inr e)) = let on = says.goes_on_ e in unfinished e on (exact on)
-
-exact :
-    {C : Type 0} (gives : Meaning C) (options : RunOptions) (script : List Row) (start : State) (core : C) (last : Timed) (after : C)
-    → IsRunFrom gives options script start core last after → last.arch.end ≡ 0 → last.cycles ≡ options.cycles
-exact gives options script start core last after r on =
-    let all = r.driven.whole (eq-eqb last.arch.end 0 on) in let each = r.driven.each in omega arith
+pub ends_with : (setup : Setup) (cycles : ℕ) (start : State) (last : Timed) (status : ℕ) → IsWhole setup cycles start last → SaysEnd status last.arch.end → EndsWith last cycles status
+ends_with setup cycles start last status whole says = by says.one
+  where
+    by : (status ≡ 0) ⊎ ((status ≡ 3) ⊎ (status ≡ 4)) → EndsWith last cycles status
+    by (inl e) = halted e (says.halted_ e)
+    by (inr (inl e)) = let t = says.trapped_ e in trapped e t.0 t.1
+    by (inr (inr e)) = let on = says.goes_on_ e in unfinished e on (whole.all (eq-eqb last.arch.end 0 on))
 
 -- ---- what is written of it
 
 module _ {C : Type 0} (gives : Meaning C) (options : RunOptions) (bytes : FileBytes) (ready : Ready) (core : C) (last : Timed) (after : C)
-    (choice : CoreChoice) (budget : ℕ) (dump : Option DumpRange) (old new : Option (List ℕ)) (faults faults' : ℕ)
-    (c : choice ≡ options.core) (b : budget ≡ options.cycles) (d : dump ≡ options.dump) (fits : IsSizes (sizes_of options))
-    (driven : IsDriven gives choice ready.script budget ready.machine.timed core last after)
-    (is : IsReady (sizes_of options) options.script bytes ready) where
-  same_text : text_of last (shown_dump dump) ≡ text_of last (shown_dump options.dump)
-  same_text = ap (λ (r : Option DumpRange). text_of last (shown_dump r)) d
+    (cycles : ℕ) (dump : Option DumpRange) (old mid new : Option (List ℕ)) (before between now : ℕ)
+    (y : cycles ≡ options.cycles) (d : dump ≡ options.dump) (fits : IsSizes (sizes_of options.setup))
+    (is : IsReady options.setup bytes ready)
+    (p : PerformsBy gives ready.core ready.script ready.machine.timed core last after (λ lists. IsQuiet cycles lists last old mid before between (Ok tt))) where
+  abbrev text : List ℕ
+  text = text_of last (shown_dump options.dump)
 
-  abbrev start : State
-  start = start_of (image_of (bytes Image))
+  puts_text : (result : Result (Unit {0}) SinkFailed) → Puts (text_of last (shown_dump dump)) mid new between now result → Puts text old new before now result
+  puts_text result puts =
+      subst (λ (c : Option (List ℕ)). Puts text c new before now result) p.done.contents
+      (subst (λ f. Puts text mid new f now result) p.done.faults
+      (subst (λ (r : Option DumpRange). Puts (text_of last (shown_dump r)) mid new between now result) d puts))
 
-  ran : IsRunFrom gives options ready.script start core last after
-  ran = run_from gives options ready.script start core last after choice budget ready.machine.timed c b is.begun fits driven
+  over : IsRunOver gives options.setup options.cycles bytes core last after
+  over = run_over gives options.setup options.cycles bytes ready core last after fits is p.lists p.ran p.each p.handed (let m = p.done.most in omega arith)
 
-  pub run_whole : (status : ℕ) → SaysEnd status last.arch.end → (status ≡ 0) ⊎ ((status ≡ 3) ⊎ (status ≡ 4))
-      → Puts {E = SinkFailed} (text_of last (shown_dump dump)) old new faults faults' (Ok tt)
+  whole : IsWhole options.setup options.cycles (start_in bytes) last
+  whole = run_whole gives options.setup options.cycles bytes ready core last after fits is p.lists p.ran p.each p.handed (λ on. p.done.whole on ∙ y)
+
+  pub wrote_run : (status : ℕ) → SaysEnd status last.arch.end → Puts {E = SinkFailed} (text_of last (shown_dump dump)) mid new between now (Ok tt)
       → WritesWhole gives (Run options) bytes core after old new status
-  run_whole status says one puts =
+  wrote_run status says puts =
       record {
-        text = text_of last (shown_dump dump);
-        means = record {
-          script = ready.script;
-          rows = is.rows;
-          last = last;
-          run = ran;
-          ended = ends_with last options.cycles status (exact gives options ready.script start core last after ran) says one;
-          lines = same_text;
-        };
-        written = puts.ok;
+        text = text;
+        means = record { last = last; over = over; whole = whole; ended = ends_with options.setup options.cycles (start_in bytes) last status whole says; lines = refl };
+        written = (puts_text (Ok tt) puts).ok;
       }
 
-  pub run_part : (e : SinkFailed)
-      → Puts (text_of last (shown_dump dump)) old new faults faults' (Err e)
-      → WritesPart gives (Run options) bytes core after old new faults faults'
-  run_part e puts =
+  pub cut_run : (e : SinkFailed) → Puts (text_of last (shown_dump dump)) mid new between now (Err e)
+      → WritesPart gives (Run options) bytes core after old new before now
+  cut_run e puts =
+      let q = puts_text (Err e) puts in
       record {
-        rose = puts.failed;
-        text = text_of last (shown_dump dump);
-        means = record { script = ready.script; rows = is.rows; last = last; run = ran; ended = tt; lines = same_text };
-        written = puts.part;
+        rose = q.failed;
+        text = text;
+        means = record { last = last; over = over; whole = whole; ended = tt; lines = refl };
+        written = q.part;
       }
+
+-- what is quiet never fails
+pub never_cut : (cycles : ℕ) (lists : List (List Record)) (last : Timed) (old new : Option (List ℕ)) (before now : ℕ) (e : SinkFailed)
+    → IsQuiet cycles lists last old new before now (Err e) → ⊥
+never_cut cycles lists last old new before now e q = let x = q.never_fails in cc

@@ -1,6 +1,5 @@
--- What drove a machine, by the core that the command line chose and the rows of a script.
-use Rattle.std.specs.Prelude.{ℕ, ◌≡◌, ◌≤◌, ◌+◌, List, length, true}
-use Rattle.diva_isa.specs.State.{goes_on}
+-- What drove a machine, by the core that the command line chose, its tape and the rows of a script.
+use Rattle.std.specs.Prelude.{ℕ, ◌≡◌, ◌≤◌, ◌+◌, List, [], ◌∷◌, length}
 use Rattle.diva_isa.specs.declared.record.Record.{Record}
 use Rattle.diva_core.specs.Timed.{Timed}
 use Rattle.diva_core.specs.Cycle.{run_of}
@@ -9,8 +8,10 @@ use Rattle.diva_faults.specs.declared.rows.Row.{Row}
 use Rattle.diva_faults.specs.Lists.{scripted}
 use Rattle.diva_faults.specs.Spoiled.{spoiled}
 use Rattle.diva_tape.specs.Lists.{lockstep_list, silent_list}
+use Rattle.diva_tape.specs.Scalar.{IsScalarCall, new_scalar, scalar_list}
+use Rattle.diva_tape.specs.TapeCalls.{played}
 use Rattle.diva_args.specs.declared.job.CoreChoice.{CoreChoice}
-use Rattle.diva_args.specs.declared.job.CoreChoice.TheVariants.{Own, Lockstep, Silent}
+use Rattle.diva_args.specs.declared.job.CoreChoice.TheVariants.{Own, Lockstep, Scalar, Silent, Tape as OfTape}
 
 -- the lists are those of turns that lead from a machine and a core to others
 pub record ByTurns {C : Type 0} (gives : Meaning C) (m : Timed) (core : C) (lists : List (List Record))
@@ -29,18 +30,44 @@ pub record ByRule {C : Type 0} (rule : Timed → List Record) (m : Timed) (core 
 abbrev pub scripted_rule : List Row → (Timed → List Record) → Timed → List Record
 scripted_rule script rule m = scripted script (m.cycles + 1) (rule m)
 
--- ---- where the lists come from, a line for each core: `own` is the core handed in
-abbrev pub AreHanded : {C : Type 0} → Meaning C → CoreChoice → (script : List Row) → Timed → C → List (List Record) → Timed → C → Type 0
-AreHanded gives Own script m core lists last after = ByTurns (spoiled script gives) m core lists last after
-AreHanded gives Lockstep script m core lists last after = ByRule (scripted_rule script lockstep_list) m core lists after
-AreHanded gives Silent script m core lists last after = ByRule (scripted_rule script silent_list) m core lists after
+-- the lists are those of turns of another core under a script, and the core handed in stays as it was
+pub record ByOther {C D : Type 0} (its : Meaning D) (first : D) (script : List Row) (m : Timed) (core : C)
+    (lists : List (List Record)) (last : Timed) (after : C) : Type 0 where
+  pub final : D
+  pub turns : ByTurns (spoiled script its) m first lists last final
+  pub same : after ≡ core
 
--- a machine was driven by the core of a choice under a script, one list for each cycle, until it ended or the budget's cycles were run
-pub record IsDriven {C : Type 0} (gives : Meaning C) (choice : CoreChoice) (script : List Row) (budget : ℕ) (m : Timed) (core : C)
-    (last : Timed) (after : C) : Type 0 where
+-- the other core is a new one, and without a script each list is what a rule gives at its machine
+pub record ByNew {C D : Type 0} (its : Meaning D) (new : D) (rule : Timed → List Record) (script : List Row) (m : Timed) (core : C)
+    (lists : List (List Record)) (last : Timed) (after : C) : Type 0 where
+  pub by : ByOther its new script m core lists last after
+  pub alone : script ≡ [] → FollowRule rule m lists
+
+-- what the rows of a script make of lists that are handed over one after the other, from a cycle on
+abbrev pub scripted_lists : List Row → (cycle : ℕ) → List (List Record) → List (List Record)
+scripted_lists script cycle [] = []
+scripted_lists script cycle (list ∷ lists) = scripted script cycle list ∷ scripted_lists script (cycle + 1) lists
+
+-- the lists are those of a tape and then empty ones, under a script, and the core handed in stays as it was
+pub record ByTape {C : Type 0} (tape : List (List Record)) (script : List Row) (m : Timed) (core : C) (lists : List (List Record))
+    (after : C) : Type 0 where
+  pub in_order : lists ≡ scripted_lists script (m.cycles + 1) (played (length lists) tape)
+  pub same : after ≡ core
+
+-- ---- where the lists come from, a line for each core: `own` is the core handed in
+abbrev pub AreHanded : {C : Type 0} → Meaning C → CoreChoice → (tape : List (List Record)) → (script : List Row) → Timed → C
+    → List (List Record) → Timed → C → Type 0
+AreHanded gives Own tape script m core lists last after = ByTurns (spoiled script gives) m core lists last after
+AreHanded gives Lockstep tape script m core lists last after = ByRule (scripted_rule script lockstep_list) m core lists after
+AreHanded gives Scalar tape script m core lists last after = ByNew IsScalarCall new_scalar scalar_list script m core lists last after
+AreHanded gives Silent tape script m core lists last after = ByRule (scripted_rule script silent_list) m core lists after
+AreHanded gives (OfTape name) tape script m core lists last after = ByTape tape script m core lists after
+
+-- a machine was driven by the core of a choice under a script, with one list for each cycle, for the budget's cycles at most
+pub record IsDriven {C : Type 0} (gives : Meaning C) (choice : CoreChoice) (tape : List (List Record)) (script : List Row) (budget : ℕ)
+    (m : Timed) (core : C) (last : Timed) (after : C) : Type 0 where
   pub lists : List (List Record)
   pub ran : last ≡ run_of m lists
   pub each : last.cycles ≡ m.cycles + length lists
   pub most : length lists ≤ budget
-  pub handed : AreHanded gives choice script m core lists last after
-  pub whole : goes_on last.arch ≡ true → length lists ≡ budget
+  pub handed : AreHanded gives choice tape script m core lists last after

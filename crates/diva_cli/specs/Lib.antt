@@ -4,7 +4,9 @@ pub mod Wanted
 pub mod Stops
 pub mod Driven
 pub mod Runs
+pub mod TapeTexts
 pub mod Texts
 pub mod Answers
 pub mod Statuses
+pub mod Tasks
 pub mod Parts

@@ -1,28 +1,31 @@
 -- What the parts of the program promise one another.
-use Rattle.std.specs.Prelude.{◌≡◌, ◌≤◌, ◌+◌, ℕ, true, List, [], Option, Some, None, Result, Ok, Err}
+use Rattle.std.specs.Prelude.{◌≡◌, ℕ, List, Option, Some, None, Result, Ok, Err}
 use Rattle.std.specs.Io.KnownBytes.{Appends}
 use Rattle.diva_outside.specs.Causes.{Rose}
 use Rattle.diva_outside.specs.Files.{ToldFiles}
 use Rattle.diva_outside.specs.Sink.{AppendsPart}
 use Rattle.diva_outside.specs.Text.{Text}
 use Rattle.diva_outside.specs.declared.files.What.{What}
-use Rattle.diva_outside.specs.declared.files.What.TheVariants.{Image, Script}
-use Rattle.diva_image.specs.Images.{image_of}
-use Rattle.diva_core.specs.Timed.{Timed, Sizes, new_timed}
-use Rattle.diva_isa.specs.State.{goes_on}
-use Rattle.diva_core.specs.Log.{Meaning, Turns}
-use Rattle.diva_machine.specs.Start.{start_of}
+use Rattle.diva_outside.specs.declared.files.What.TheVariants.{Script, Tape as TapeFile}
+use Rattle.diva_isa.specs.declared.record.Record.{Record}
+use Rattle.diva_core.specs.Timed.{new_timed}
+use Rattle.diva_core.specs.Log.{Meaning}
 use Rattle.diva_faults.specs.declared.rows.Row.{Row}
-use Rattle.diva_faults.specs.Reading.{script_of}
+use Rattle.diva_tape.specs.Scalar.{new_scalar}
+use Rattle.diva_args.specs.Options.{Setup}
+use Rattle.diva_args.specs.declared.job.CoreChoice.{CoreChoice}
+use Rattle.diva_args.specs.declared.job.CoreChoice.TheVariants as choice
 use Rattle.diva_args.specs.declared.job.Job.{Job}
+use Rattle.diva_cli.specs.declared.driving.CoreInUse.{CoreInUse}
+use Rattle.diva_cli.specs.declared.driving.CoreInUse.TheVariants.{Own, Lockstep, Scalar, Silent, Tape}
 use Rattle.diva_cli.specs.declared.loading.Ready.{Ready}
 use Rattle.diva_cli.specs.declared.stop.Stop.{Stop}
 use Rattle.diva_cli.specs.declared.stop.Stop.TheVariants.{Memory, Unread, Refused}
 use Rattle.diva_cli.specs.declared.stop.Failure.{Failure}
 use Rattle.diva_cli.specs.declared.stop.Failure.TheVariants.{Cut, Memory as NoMemory}
 use Rattle.diva_cli.specs.Lines.{unreadable_line, refused_line}
-use Rattle.diva_cli.specs.Wanted.{Wanted, FileBytes, IsSound, AreSound, file, machine_files}
-use Rattle.diva_cli.specs.Runs.{AreRows}
+use Rattle.diva_cli.specs.Wanted.{Wanted, FileBytes, IsSound, AreSound, file_if, machine_files, tape_name}
+use Rattle.diva_cli.specs.Runs.{AreRows, AreLists, start_in, sizes_of}
 use Rattle.diva_cli.specs.Stops.{StopsAt, IsUnread, IsRefused}
 use Rattle.diva_cli.specs.Texts.{HasText}
 use Rattle.diva_cli.specs.Answers.{IsAnswer}
@@ -42,29 +45,45 @@ pub record Holds (contents : ToldFiles) (w : Wanted) (this : List ℕ → Type 0
   pub sound : IsSound contents w bytes
   pub holds : this bytes
 
+-- the same of a file that may not be named: then nothing is said of the file
+pub record HoldsIf (contents : ToldFiles) (what : What) (name : Option (List ℕ)) (this : List ℕ → Type 0) : Type 0 where
+  pub bytes : List ℕ
+  pub sound : AreSound contents (file_if what name) (λ _. bytes)
+  pub holds : this bytes
+
 -- the rows are those of the script of this name, and none where there is no name
 abbrev pub HoldsRows : ToldFiles → Option (List ℕ) → List Row → Type 0
-HoldsRows contents None script = script ≡ []
-HoldsRows contents (Some name) script = Holds contents (file Script name) (λ bytes. script_of bytes ≡ Ok script)
+HoldsRows contents name script = HoldsIf contents Script name (λ bytes. AreRows name bytes script)
 
--- the machine is new and begins with the image of these bytes, and the script has their rows
-pub record IsReady (sizes : Sizes) (script : Option (List ℕ)) (bytes : FileBytes) (ready : Ready) : Type 0 where
-  pub begun : ready.machine.timed ≡ new_timed sizes (start_of (image_of (bytes Image)))
-  pub rows : AreRows script (bytes Script) ready.script
+-- the core that a choice asks for, with the lists of its tape
+abbrev pub core_for : CoreChoice → (tape : List (List Record)) → CoreInUse
+core_for choice.Own tape = Own
+core_for choice.Lockstep tape = Lockstep
+core_for choice.Scalar tape = Scalar new_scalar
+core_for choice.Silent tape = Silent
+core_for (choice.Tape name) tape = Tape tape
+
+-- the core is the one that a choice asks for, and plays the tape with these bytes if there is one
+pub record IsCore (asked : CoreChoice) (bytes : List ℕ) (core : CoreInUse) : Type 0 where
+  pub tape : List (List Record)
+  pub lists : AreLists (tape_name asked) bytes tape
+  pub is : core ≡ core_for asked tape
+
+-- the same, of the bytes of a sound file with the tape's name
+abbrev pub HoldsCore : ToldFiles → CoreChoice → CoreInUse → Type 0
+HoldsCore contents asked core = HoldsIf contents TapeFile (tape_name asked) (λ bytes. IsCore asked bytes core)
+
+-- the machine is new and begins with the image of these bytes, the script has their rows, and the core is the one asked for
+pub record IsReady (setup : Setup) (bytes : FileBytes) (ready : Ready) : Type 0 where
+  pub begun : ready.machine.timed ≡ new_timed (sizes_of setup) (start_in bytes)
+  pub rows : AreRows setup.script (bytes Script) ready.script
+  pub core : IsCore setup.core (bytes TapeFile) ready.core
 
 -- the same, of the bytes of sound files with these names
-pub record HoldsReady (contents : ToldFiles) (image : List ℕ) (script : Option (List ℕ)) (sizes : Sizes) (ready : Ready) : Type 0 where
+pub record HoldsReady (contents : ToldFiles) (setup : Setup) (ready : Ready) : Type 0 where
   pub bytes : FileBytes
-  pub sound : AreSound contents (machine_files image script) bytes
-  pub is : IsReady sizes script bytes ready
-
--- ---- driving
-
--- a core took turns with a machine, until that ended or the budget's cycles were run
-pub record IsDrivenFor {D : Type 0} (gives : Meaning D) (budget : ℕ) (m : Timed) (core : D) (last : Timed) (after : D) : Type 0 where
-  pub turns : Turns gives m core last after
-  pub most : last.cycles ≤ m.cycles + budget
-  pub whole : goes_on last.arch ≡ true → last.cycles ≡ m.cycles + budget
+  pub sound : AreSound contents (machine_files setup) bytes
+  pub is : IsReady setup bytes ready
 
 -- ---- writing
 

@@ -1,12 +1,16 @@
 -- The files that a job wants, in the order in which they are loaded, and what is wrong with their bytes.
-use Rattle.std.specs.Prelude.{◌≡◌, ◌≤◌, ℕ, List, [], ◌∷◌, length, Option, Some, None, Err, IsOk}
+use Rattle.std.specs.Prelude.{◌≡◌, ◌≤◌, ℕ, List, [], ◌∷◌, ◌++◌, length, Option, Some, None, Err, IsOk}
 use Rattle.diva_outside.specs.Files.{ToldFiles, Has}
 use Rattle.diva_outside.specs.declared.files.What.{What}
-use Rattle.diva_outside.specs.declared.files.What.TheVariants.{Image, Script}
+use Rattle.diva_outside.specs.declared.files.What.TheVariants.{Image, Script, Tape as TapeFile}
 use Rattle.diva_image.specs.Images.{fault, fault_of}
 use Rattle.diva_faults.specs.Reading.{script_of}
+use Rattle.diva_tape.specs.Tapes.{tape_of}
+use Rattle.diva_args.specs.Options.{Setup}
+use Rattle.diva_args.specs.declared.job.CoreChoice.{CoreChoice}
+use Rattle.diva_args.specs.declared.job.CoreChoice.TheVariants.{Own, Lockstep, Scalar, Silent, Tape as OfTape}
 use Rattle.diva_args.specs.declared.job.Job.{Job}
-use Rattle.diva_args.specs.declared.job.Job.TheVariants.{Run}
+use Rattle.diva_args.specs.declared.job.Job.TheVariants.{Run, Tape}
 
 -- the most bytes that a file may have
 abbrev pub file_limit : ℕ
@@ -25,24 +29,35 @@ abbrev pub file_if : What → Option (List ℕ) → List Wanted
 file_if what None = []
 file_if what (Some name) = file what name ∷ []
 
--- what a machine begins with, and then what is laid over its core
-abbrev pub machine_files : (image : List ℕ) → (script : Option (List ℕ)) → List Wanted
-machine_files image script = file Image image ∷ file_if Script script
+-- the name of the tape's file, where the core is a tape
+abbrev pub tape_name : CoreChoice → Option (List ℕ)
+tape_name Own = None
+tape_name Lockstep = None
+tape_name Scalar = None
+tape_name Silent = None
+tape_name (OfTape name) = Some name
+
+-- what a machine begins with, then what is laid over its core, and then the tape that is its core
+abbrev pub machine_files : Setup → List Wanted
+machine_files setup = file Image setup.image ∷ (file_if Script setup.script ++ file_if TapeFile (tape_name setup.core))
 
 -- ---- the files of each command, in the order in which they are loaded
 abbrev pub wanted : Job → List Wanted
-wanted (Run options) = machine_files options.image options.script
+wanted (Run options) = machine_files options.setup
+wanted (Tape options) = machine_files options.setup
 
 -- ---- the first fault of a file's bytes, by what the file is for; no command wants the others yet
 
 abbrev pub IsFaultless : What → List ℕ → Type 0
 IsFaultless Image bytes = fault_of bytes ≡ None
 IsFaultless Script bytes = IsOk (script_of bytes)
+IsFaultless TapeFile bytes = IsOk (tape_of bytes)
 IsFaultless _ bytes = ⊥
 
 abbrev pub HasFault : What → List ℕ → (kind place : ℕ) → Type 0
 HasFault Image bytes kind place = fault_of bytes ≡ fault kind place
 HasFault Script bytes kind line = script_of bytes ≡ Err (record { line = line; kind = kind })
+HasFault TapeFile bytes kind line = tape_of bytes ≡ Err (record { line = line; kind = kind })
 HasFault _ bytes kind place = ⊥
 
 -- ---- files that can be used

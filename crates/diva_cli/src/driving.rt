@@ -1,55 +1,44 @@
-// A machine driven by the core that the command line chose, under a script.
+// The core that drives a machine, and what is done with them.
 ghost use Rattle.std.specs.Prelude.{◌+◌, ◌≤◌, ◌^◌};
-ghost use Rattle.diva_faults.specs.Spoiled.{spoiled};
-ghost use Rattle.diva_cli.specs.Driven.{IsDriven};
-ghost use Rattle.diva_cli.specs.Parts.{IsDrivenFor};
+ghost use Rattle.diva_cli.specs.Tasks.{Does, PerformsBy, cycles_in};
 
-use diva_args::CoreChoice;
+use crate::tasks::{Task, perform_under};
 use diva_core::Core;
-use diva_faults::{Faulty, Script};
-use diva_machine::{Machine, drive};
-use diva_tape::{Lockstep, Silent};
+use diva_faults::Script;
+use diva_machine::Machine;
+use diva_outside::{Sink, SinkFailed};
+use diva_tape::{Lockstep, Scalar, Silent, TapeCore};
 
-/// Drives a machine by the core of a choice, under a script, until it ends or the budget's cycles
-/// are run; `own` is the core handed in.
-#[tactic(auto, using(crate::proofs::Handing::driven_own))]
-pub(crate) fn drive_by<C: Core>(
+/// The core that drives a machine, with all memory that it ever needs.
+#[derive(Drop)]
+pub(crate) enum CoreInUse {
+    /// The core that the program is handed.
+    Own,
+    Lockstep,
+    Scalar(Scalar),
+    Silent,
+    Tape(TapeCore),
+}
+
+/// Does a task with a machine and a core, under a script; `own` is the core handed in.
+pub(crate) fn perform_by<C: Core, S: Sink>(
     m: &mut Machine,
-    choice: CoreChoice,
+    core: CoreInUse,
     script: &Script,
     own: &mut C,
-    budget: u64,
-)
-    requires { m.old.timed.cycles + budget ≤ 2 ^ 60 }
-    ensures { IsDriven C.gives choice script.now budget m.old.timed own.old m.new.timed own.new }
+    task: Task,
+    sink: &mut S,
+) -> Result<(), SinkFailed>
+    requires { m.old.timed.cycles + cycles_in task ≤ 2 ^ 60 }
+    ensures { PerformsBy C.gives core script.now m.old.timed own.old m.new.timed own.new
+        (λ lists. Does task m.old.timed lists m.new.timed
+        (S.contents sink.old) (S.contents sink.new) (S.faults sink.old) (S.faults sink.new) result) }
 {
-    match choice {
-        CoreChoice::Own => drive_under(script, m, own, budget),
-        CoreChoice::Lockstep => drive_under(script, m, &mut Lockstep, budget),
-        CoreChoice::Silent => drive_under(script, m, &mut Silent, budget),
+    match core {
+        CoreInUse::Own => perform_under(script, m, own, task, sink),
+        CoreInUse::Lockstep => perform_under(script, m, &mut Lockstep, task, sink),
+        CoreInUse::Scalar(mut scalar) => perform_under(script, m, &mut scalar, task, sink),
+        CoreInUse::Silent => perform_under(script, m, &mut Silent, task, sink),
+        CoreInUse::Tape(mut tape) => perform_under(script, m, &mut tape, task, sink),
     }
-}
-
-/// Drives a machine by a core under a script. A script that has no rows costs nothing: it is asked
-/// once, and the loop is then the one that any other caller of `drive` has.
-#[inline(always)]
-fn drive_under<D: Core>(script: &Script, m: &mut Machine, core: &mut D, budget: u64)
-    requires { m.old.timed.cycles + budget ≤ 2 ^ 60 }
-    ensures { IsDrivenFor (spoiled script.now D.gives) budget
-        m.old.timed core.old m.new.timed core.new }
-{
-    if script.rows().is_empty() {
-        drive(m, core, budget);
-    } else {
-        drive_faulty(script, m, core, budget);
-    }
-}
-
-fn drive_faulty<D: Core>(script: &Script, m: &mut Machine, core: &mut D, budget: u64)
-    requires { m.old.timed.cycles + budget ≤ 2 ^ 60 }
-    ensures { IsDrivenFor (spoiled script.now D.gives) budget
-        m.old.timed core.old m.new.timed core.new }
-{
-    let mut faulty = Faulty::new(core, script);
-    drive(m, &mut faulty, budget);
 }

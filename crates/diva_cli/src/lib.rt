@@ -1,10 +1,12 @@
 //! The whole program, over the files, the sink and the core that it is handed.
 //!
 //! - `program`: `top`, from the words to the status; `work` has an arm for each command;
-//! - `run`: the command `run`;
+//! - `run`, `tape`: these commands;
 //! - `loading`: the files of a job, loaded and read one after another;
-//! - `driving`: a machine driven by the core that the command line chose;
-//! - `writing`: what is written, and the status that goes with it;
+//! - `driving`: the core that the command line chose, and what is done with it and a machine;
+//! - `tasks`: the things that are done with a core and a machine, under a script;
+//! - `streaming`: texts that are written cycle by cycle, as a machine is driven;
+//! - `writing`: what is written otherwise, and the status that goes with it;
 //! - `lines`: the lines that are written where no job is done;
 //! - `stop`: why a job is not done, and why there is no whole answer;
 //! - `sure`: the program over files and a sink that never fail.
@@ -12,8 +14,9 @@
 //! What is promised, in the order in which it is best read: `specs/Statuses.antt` says what each
 //! status says, and `Answers.antt` what is answered and why; `Wanted.antt` which files a job wants,
 //! and what is wrong with their bytes, `Stops.antt` at which of them loading stops; `Texts.antt` has
-//! the text of each command, `Runs.antt` that of `run`, with what holds of the machine, and
-//! `Driven.antt` what drove it. `Parts.antt` is what the parts of the program promise one another.
+//! the text of each command, `Runs.antt` that of `run`, with what holds of the machine, `TapeTexts.antt`
+//! that of `tape`, and `Driven.antt` what drove the machine. `Tasks.antt` and `Parts.antt` are what the
+//! parts of the program promise one another.
 #![tactic(auto)]
 
 mod driving;
@@ -22,7 +25,10 @@ mod loading;
 mod program;
 mod run;
 mod stop;
+mod streaming;
 mod sure;
+mod tape;
+mod tasks;
 mod writing;
 
 pub use program::top;

@@ -3,16 +3,21 @@ ghost use Rattle.std.specs.Prelude.{◌≡◌, ◌≤◌, ◌∷◌, [], length,
 ghost use Rattle.diva_outside.specs.Files.{Has};
 ghost use Rattle.diva_image.specs.Images.{image_of};
 ghost use Rattle.diva_image.specs.View.{layout};
+ghost use Rattle.diva_core.specs.Machine.{IsSizes};
 ghost use Rattle.diva_faults.specs.Reading.{script_of};
-ghost use Rattle.diva_cli.specs.Wanted.{file, file_if, file_limit, machine_files};
-ghost use Rattle.diva_cli.specs.Parts.{Stops, Holds, HoldsReady, HoldsRows};
+ghost use Rattle.diva_tape.specs.Tapes.{tape_of};
+ghost use Rattle.diva_cli.specs.Wanted.{file, file_if, file_limit, machine_files, tape_name};
+ghost use Rattle.diva_cli.specs.Runs.{sizes_of};
+ghost use Rattle.diva_cli.specs.Parts.{Stops, Holds, HoldsCore, HoldsReady, HoldsRows};
 
+use crate::driving::CoreInUse;
 use crate::stop::Stop;
-use diva_args::FileName;
+use diva_args::{CoreChoice, FileName, Setup};
 use diva_faults::{Script, ScriptFault};
 use diva_image::{Image, ImageFault, read};
 use diva_machine::{Config, Machine};
 use diva_outside::{Files, LoadFault, What};
+use diva_tape::{Scalar, Tape, TapeCore, TapeFault};
 use std::alloc::Global;
 
 /// The most bytes that a file may have: the largest payload and an image's header.
@@ -23,59 +28,89 @@ const FILE_LIMIT: usize = 16_777_240;
 pub(crate) struct Ready {
     /// A new machine that begins with the image.
     pub machine: Machine,
-    /// What is laid over its core.
+    /// The core that drives it, but for one that is handed in.
+    pub core: CoreInUse,
+    /// What is laid over that core.
     pub script: Script,
 }
 
-/// A machine that begins with the image of this name, and the script of the other name, if there is
-/// one. All memory that they ever need is taken.
+/// A machine that begins with the image of a setup, the core that it asks for, and the script, if
+/// there is one. All memory that they ever need is taken.
 pub(crate) fn make_ready<F: Files>(
     alloc: Global,
     files: &mut F,
-    image: &FileName,
-    script: &Option<FileName>,
-    config: Config,
+    setup: &Setup,
 ) -> Result<Ready, Stop>
     ensures stays { F.told files.new ≡ F.told files.old }
     ensures later { (w : What) → F.faults files.old w ≤ F.faults files.new w }
-    ensures ready { IfOk result (HoldsReady (F.told files.old) image.now script.now config) }
+    ensures ready { IfOk result (HoldsReady (F.told files.old) setup.now) }
+    ensures sizes { IsSizes (sizes_of setup.now) }
     ensures stopped { IfErr result (λ stop. Stops (F.told files.old) (F.faults files.old)
-        (F.faults files.new) (machine_files image.now script.now) stop) }
+        (F.faults files.new) (machine_files setup.now) stop) }
 {
-    let (image, script) = match load_machine_files(alloc, files, image, script) {
+    let config = config_of(setup);
+    let Loaded {
+        image,
+        script,
+        core,
+    } = match load_machine_files(alloc, files, setup) {
         Ok(loaded) => loaded,
         Err(stop) => return Err(stop),
     };
     match Machine::new(alloc, &image, config) {
-        Ok(machine) => Ok(Ready { machine, script }),
+        Ok(machine) => Ok(Ready {
+            machine,
+            core,
+            script,
+        }),
         Err(_) => Err(Stop::Memory),
     }
 }
 
-/// The image of this name, and then the script of the other name, if there is one.
-fn load_machine_files<F: Files>(
-    alloc: Global,
-    files: &mut F,
-    image: &FileName,
-    script: &Option<FileName>,
-) -> Result<(Image, Script), Stop>
+/// The machine's numbers, as the command line asks for them.
+fn config_of(setup: &Setup) -> Config
+    ensures value { result ≡ sizes_of setup.now }
+    ensures fits { IsSizes (sizes_of setup.now) }
+{
+    Config::new(setup.width, setup.window, setup.stores, setup.watchdog).unwrap()
+}
+
+/// What was read of the files of a machine.
+#[derive(Drop)]
+struct Loaded {
+    image: Image,
+    script: Script,
+    core: CoreInUse,
+}
+
+/// The image of a setup, then the script, if there is one, and then the tape, if that is the core.
+fn load_machine_files<F: Files>(alloc: Global, files: &mut F, setup: &Setup) -> Result<Loaded, Stop>
     ensures stays { F.told files.new ≡ F.told files.old }
     ensures later { (w : What) → F.faults files.old w ≤ F.faults files.new w }
     ensures image { IfOk result (λ loaded. Holds (F.told files.old)
-        (file What.Image image.now) (λ bytes. image_of bytes ≡ layout loaded.0)) }
-    ensures script { IfOk result (λ loaded. HoldsRows (F.told files.old) script.now loaded.1) }
+        (file What.Image setup.now.image) (λ bytes. image_of bytes ≡ layout loaded.image)) }
+    ensures script { IfOk result (λ loaded. HoldsRows (F.told files.old) setup.now.script loaded.script) }
+    ensures core { IfOk result (λ loaded. HoldsCore (F.told files.old) setup.now.core loaded.core) }
     ensures stopped { IfErr result (λ stop. Stops (F.told files.old) (F.faults files.old)
-        (F.faults files.new) (machine_files image.now script.now) stop) }
+        (F.faults files.new) (machine_files setup.now) stop) }
 {
-    let image = match load_image(alloc, files, image) {
+    let image = match load_image(alloc, files, &setup.image) {
         Ok(image) => image,
         Err(stop) => return Err(stop),
     };
-    let script = match load_script_if(alloc, files, script) {
+    let script = match load_script_if(alloc, files, &setup.script) {
         Ok(script) => script,
         Err(stop) => return Err(stop),
     };
-    Ok((image, script))
+    let core = match load_core(alloc, files, &setup.core) {
+        Ok(core) => core,
+        Err(stop) => return Err(stop),
+    };
+    Ok(Loaded {
+        image,
+        script,
+        core,
+    })
 }
 
 /// The image of this name.
@@ -141,6 +176,53 @@ fn load_script<F: Files>(alloc: Global, files: &mut F, name: &FileName) -> Resul
             place: line,
         }),
         Err(ScriptFault::Memory) => Err(Stop::Memory),
+    }
+}
+
+/// The core of a choice. The one that is handed in is there already, and a tape is loaded.
+fn load_core<F: Files>(alloc: Global, files: &mut F, choice: &CoreChoice) -> Result<CoreInUse, Stop>
+    ensures stays { F.told files.new ≡ F.told files.old }
+    ensures later { (w : What) → F.faults files.old w ≤ F.faults files.new w }
+    ensures holds { IfOk result (HoldsCore (F.told files.old) choice.now) }
+    ensures stopped { IfErr result (λ stop. Stops (F.told files.old) (F.faults files.old)
+        (F.faults files.new) (file_if What.Tape (tape_name choice.now)) stop) }
+{
+    match choice {
+        CoreChoice::Own => Ok(CoreInUse::Own),
+        CoreChoice::Lockstep => Ok(CoreInUse::Lockstep),
+        CoreChoice::Scalar => match Scalar::new(alloc) {
+            Ok(scalar) => Ok(CoreInUse::Scalar(scalar)),
+            Err(_) => Err(Stop::Memory),
+        },
+        CoreChoice::Silent => Ok(CoreInUse::Silent),
+        CoreChoice::Tape(name) => match load_tape(alloc, files, name) {
+            Ok(tape) => Ok(CoreInUse::Tape(TapeCore::new(tape))),
+            Err(stop) => Err(stop),
+        },
+    }
+}
+
+/// The tape of this name.
+fn load_tape<F: Files>(alloc: Global, files: &mut F, name: &FileName) -> Result<Tape, Stop>
+    ensures stays { F.told files.new ≡ F.told files.old }
+    ensures later { (w : What) → F.faults files.old w ≤ F.faults files.new w }
+    ensures holds { IfOk result (λ tape. Holds (F.told files.old)
+        (file What.Tape name.now) (λ bytes. tape_of bytes ≡ Ok tape)) }
+    ensures stopped { IfErr result (λ stop. Stops (F.told files.old) (F.faults files.old)
+        (F.faults files.new) (file What.Tape name.now ∷ []) stop) }
+{
+    let bytes = match load(alloc, files, What::Tape, name) {
+        Ok(bytes) => bytes,
+        Err(stop) => return Err(stop),
+    };
+    match Tape::read(alloc, &bytes) {
+        Ok(tape) => Ok(tape),
+        Err(TapeFault::Bad { line, kind }) => Err(Stop::Refused {
+            what: What::Tape,
+            kind,
+            place: line,
+        }),
+        Err(TapeFault::Memory) => Err(Stop::Memory),
     }
 }
 

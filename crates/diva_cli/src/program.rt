@@ -11,6 +11,7 @@ ghost use Rattle.diva_cli.specs.Parts.{Answers, status_of};
 use crate::lines::usage_line;
 use crate::run::run;
 use crate::stop::Failure;
+use crate::tape::tape;
 use crate::writing::write_line;
 use diva_args::{ArgsFault, Job, read_words};
 use diva_core::Core;
@@ -41,7 +42,8 @@ pub fn top<F: Files, S: Sink, C: Core>(
 
     // The job is done: all its files are sound, and its whole text was written. Whatever the core
     // hands over and a script makes of it, the text of a run is that of a machine whose committed
-    // state is the table's after the counted instructions, from the state of the image's bytes.
+    // state is the table's after the counted instructions, from the state of the image's bytes; and
+    // the text of a tape is all that was handed to such a machine, and leads another one to its state.
     ensures worked { IsDone result
         → HasWorked C.gives (command_of (map (λ w. w.now) words.now)) (F.told files.old)
         core.old core.new (S.contents sink.old) (S.contents sink.new) result }
@@ -122,5 +124,6 @@ fn work<F: Files, S: Sink, C: Core>(
 {
     match job {
         Job::Run(options) => run(alloc, options, files, sink, core),
+        Job::Tape(options) => tape(alloc, options, files, sink, core),
     }
 }

@@ -1,18 +1,18 @@
 // The command `run`: it reads its files with neither core nor sink in its hands, and then drives a machine.
-ghost use Rattle.std.specs.Prelude.{◌≡◌, ◌+◌, ◌≤◌, ◌^◌, Some};
-ghost use Rattle.diva_args.specs.declared.job.Job.TheVariants.{Run as RunJob};
+ghost use Rattle.std.specs.Prelude.{◌≡◌, Some};
+ghost use Rattle.diva_args.specs.declared.job.Job.TheVariants.{Run};
 ghost use Rattle.diva_core.specs.Machine.{IsSizes};
 ghost use Rattle.diva_cli.specs.Wanted.{FileBytes};
 ghost use Rattle.diva_cli.specs.Runs.{sizes_of};
 ghost use Rattle.diva_cli.specs.Parts.{Answers, IsReady, WritesText};
 
-use crate::driving::drive_by;
+use crate::driving::perform_by;
 use crate::loading::{Ready, make_ready};
 use crate::stop::Failure;
+use crate::tasks::Task;
 use crate::writing::{end_status, write_finished, write_stop};
-use diva_args::Run;
+use diva_args::RunOptions;
 use diva_core::Core;
-use diva_machine::Config;
 use diva_outside::{Files, Sink};
 use std::alloc::Global;
 
@@ -20,17 +20,16 @@ use std::alloc::Global;
 /// before anything is written.
 pub(crate) fn run<F: Files, S: Sink, C: Core>(
     alloc: Global,
-    options: Run,
+    options: RunOptions,
     files: &mut F,
     sink: &mut S,
     core: &mut C,
 ) -> Result<u8, Failure>
-    ensures { Answers C.gives (Some (RunJob options)) (F.told files.old) (F.faults files.old)
+    ensures { Answers C.gives (Some (Run options)) (F.told files.old) (F.faults files.old)
         (F.faults files.new) core.old core.new (S.contents sink.old) (S.contents sink.new)
         (S.faults sink.old) (S.faults sink.new) result }
 {
-    let config = config_of(&options);
-    match make_ready(alloc, files, &options.image, &options.script, config) {
+    match make_ready(alloc, files, &options.setup) {
         Ok(ready) => run_ready(ready, options, sink, core),
         Err(stop) => write_stop(stop, sink),
     }
@@ -39,37 +38,28 @@ pub(crate) fn run<F: Files, S: Sink, C: Core>(
 /// Drives a new machine, and writes the text of the run.
 fn run_ready<S: Sink, C: Core>(
     ready: Ready,
-    options: Run,
+    options: RunOptions,
     sink: &mut S,
     core: &mut C,
 ) -> Result<u8, Failure>
     requires new { ready.machine.timed.cycles ≡ 0 }
-    requires fits { IsSizes (sizes_of options) }
-    ensures { (bytes : FileBytes) → IsReady (sizes_of options) options.script bytes ready
-        → WritesText C.gives (RunJob options) bytes core.old core.new
+    requires fits { IsSizes (sizes_of options.setup) }
+    ensures { (bytes : FileBytes) → IsReady options.setup bytes ready
+        → WritesText C.gives (Run options) bytes core.old core.new
         (S.contents sink.old) (S.contents sink.new) (S.faults sink.old) (S.faults sink.new) result }
 {
     let Ready {
         mut machine,
+        core: in_use,
         script,
     } = ready;
-    drive_by(&mut machine, options.core, &script, core, options.cycles);
+    let task = Task::Quiet(options.cycles);
+    match perform_by(&mut machine, in_use, &script, core, task, sink) {
+        Ok(()) => {}
+        Err(_) => return Err(Failure::Cut),
+    }
     match write_finished(&machine, options.dump, sink) {
         Ok(()) => Ok(end_status(&machine)),
         Err(_) => Err(Failure::Cut),
     }
-}
-
-/// The machine's numbers, as the command line asks for them.
-fn config_of(options: &Run) -> Config
-    ensures value { result ≡ sizes_of options.now }
-    ensures fits { IsSizes (sizes_of options.now) }
-{
-    Config::new(
-        options.width,
-        options.window,
-        options.stores,
-        options.watchdog,
-    )
-    .unwrap()
 }

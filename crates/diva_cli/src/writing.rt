@@ -8,6 +8,7 @@ ghost use Rattle.diva_cli.specs.Parts.{WritesLine, WritesStop};
 
 use crate::lines::{refused_line, unreadable_line};
 use crate::stop::{Failure, Stop};
+use diva_args::DumpRange;
 use diva_machine::{End, Machine};
 use diva_outside::{Line, Sink, SinkFailed};
 use diva_trace::{Dump, Report, write_run};
@@ -41,7 +42,7 @@ pub(crate) fn write_stop<S: Sink>(stop: Stop, sink: &mut S) -> Result<u8, Failur
 /// Writes what a run left, line by line.
 pub(crate) fn write_finished<S: Sink>(
     machine: &Machine,
-    dump: Option<diva_args::Dump>,
+    dump: Option<DumpRange>,
     sink: &mut S,
 ) -> Result<(), SinkFailed>
     ensures { Puts (text_of machine.now.timed (shown_dump dump))
@@ -61,7 +62,7 @@ pub(crate) fn write_finished<S: Sink>(
     write_run(&report, sink)
 }
 
-fn shown_dump(asked: Option<diva_args::Dump>) -> Option<Dump>
+fn shown_dump(asked: Option<DumpRange>) -> Option<Dump>
     ensures shown { result ≡ shown_dump asked }
     ensures range { ForSome result (λ d. d.addr + d.len ≤ 2 ^ 32) }
 {

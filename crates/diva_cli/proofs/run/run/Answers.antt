@@ -1,10 +1,8 @@
 -- What was loaded, and what was written of it, come to an answer.
 use Rattle.std.proofs.Common.{subst}
-use Rattle.diva_core.specs.Timed.{Sizes}
 use Rattle.diva_args.specs.Options.{RunOptions}
 use Rattle.diva_args.specs.declared.job.Job.TheVariants.{Run}
 use Rattle.diva_cli.specs.Wanted.{AreSound, machine_files}
-use Rattle.diva_cli.specs.Runs.{sizes_of}
 use Rattle.diva_cli.specs.Parts.{IsReady, Stops}
 use Rattle.diva_cli.proofs.Working.{done_answers, stop_answers}
 use Rattle.diva_cli.proofs.run.run.Goals as goal
@@ -13,13 +11,11 @@ pub returns-in-Ok : goal.returns-in-Ok
 returns-in-Ok g c =
     let h = c.in-Ok.ensures.ready in
     done_answers g.C.Core.gives _ _ _ _ _ _ _ _ (Run c.args.options) h.bytes _ _
-    (subst (λ (o : RunOptions). AreSound (g.F.Files.told c.args.files.now) (machine_files o.image o.script) h.bytes) c.options.view_is h.sound)
-    (c.run_ready.ensures h.bytes
-    (subst (λ (o : RunOptions). IsReady (sizes_of c.args.options) o.script h.bytes c.in-Ok.ready) c.options.view_is
-    (subst (λ (s : Sizes). IsReady s c.options.inside.script h.bytes c.in-Ok.ready) c.config_of-config.ensures.value h.is)))
+    (subst (λ (o : RunOptions). AreSound (g.F.Files.told c.args.files.now) (machine_files o.setup) h.bytes) c.options.view_is h.sound)
+    (c.run_ready.ensures h.bytes (subst (λ (o : RunOptions). IsReady o.setup h.bytes c.in-Ok.ready) c.options.view_is h.is))
 
 pub returns-in-Err : goal.returns-in-Err
 returns-in-Err g c =
     stop_answers g.C.Core.gives _ _ _ _ _ _ _ _ (Run c.args.options) c.in-Err.stop _
-    (subst (λ (o : RunOptions). Stops (g.F.Files.told c.args.files.now) (g.F.Files.faults c.args.files.now) (g.F.Files.faults c.make_ready.new.files) (machine_files o.image o.script) c.in-Err.stop) c.options.view_is c.in-Err.ensures.stopped)
+    (subst (λ (o : RunOptions). Stops (g.F.Files.told c.args.files.now) (g.F.Files.faults c.args.files.now) (g.F.Files.faults c.make_ready.new.files) (machine_files o.setup) c.in-Err.stop) c.options.view_is c.in-Err.ensures.stopped)
     c.write_stop.ensures

@@ -1,0 +1,90 @@
+-- A job all of whose files are known and sound is done.
+use Rattle.std.proofs.Common.{◌≡◌, ◌⊎◌, ℕ, List, [], ◌∷◌, length, Option, Some, None, Result, Ok, Err, IsOk, inl, inr, sym, ◌∙◌, refl, ap, arith, subst}
+use Rattle.std.proofs.lemmas.Bool.{true≢false}
+use Rattle.diva_outside.specs.Causes.{Rose}
+use Rattle.diva_outside.specs.Files.{ToldFiles}
+use Rattle.diva_outside.specs.declared.files.What.{What}
+use Rattle.diva_outside.specs.declared.files.What.TheVariants.{Image, Script, Tape as TapeFile, Source, Commands}
+use Rattle.diva_core.specs.Log.{Meaning}
+use Rattle.diva_core.specs.Timed.{Timed}
+use Rattle.diva_args.specs.declared.job.Job.{Job}
+use Rattle.diva_args.specs.declared.job.Job.TheVariants.{Run, Tape}
+use Rattle.diva_cli.specs.declared.stop.Failure.{Failure}
+use Rattle.diva_cli.specs.declared.stop.Failure.TheVariants.{Cut, Memory}
+use Rattle.diva_cli.specs.Wanted.{Wanted, FileBytes, wanted, IsFaultless, HasFault}
+use Rattle.diva_cli.specs.Stops.{StopsAt, IsUnread, IsRefused, IsTooLong, HasFirstFault}
+use Rattle.diva_cli.specs.Runs.{EndsWith, halted, trapped, unfinished}
+use Rattle.diva_cli.specs.Texts.{HasText, CanEnd, IsDone}
+use Rattle.diva_cli.specs.Answers.{IsAnswer, misused, unread, refused, done}
+use Rattle.diva_cli.specs.Statuses.{IsHeld, AreHeld, CanWork, HasEnded}
+use Rattle.diva_cli.specs.Parts.{Answers, status_of}
+
+-- ---- the statuses of a job whose text was written whole: a line for each command
+
+end_status : (last : Timed) (cycles status : ℕ) → EndsWith last cycles status → IsDone status
+end_status last cycles status (halted e h) = inl e
+end_status last cycles status (trapped e low high) = inr (inl e)
+end_status last cycles status (unfinished e on ran) = inr (inr e)
+
+can_end : {C : Type 0} (gives : Meaning C) (job : Job) (bytes : FileBytes) (core after : C) (status : ℕ) (text : List ℕ)
+    → HasText gives job bytes core after (Some status) text → CanEnd job status
+can_end gives (Run options) bytes core after status text h = end_status h.last options.cycles status h.ended
+can_end gives (Tape options) bytes core after status text h = end_status h.last options.cycles status h.ended.ended
+
+-- ---- a file that is held is no cause to stop
+
+faultless-fault : (what : What) (bytes : List ℕ) (kind place : ℕ) → IsFaultless what bytes → HasFault what bytes kind place → ⊥
+faultless-fault Image bytes kind place n f = let e = sym n ∙ f in cc
+faultless-fault Script bytes kind place n f = true≢false (sym (subst IsOk f n))
+faultless-fault TapeFile bytes kind place n f = true≢false (sym (subst IsOk f n))
+faultless-fault Source bytes kind place n f = n
+faultless-fault Commands bytes kind place n f = n
+
+some_same : {A : Type 0} (r : Option A) (x y : A) → r ≡ Some x → r ≡ Some y → x ≡ y
+some_same r x y a b = cc
+
+held-refused : (contents : ToldFiles) (text : List ℕ) (w : Wanted) → IsHeld contents w → IsRefused contents text w → ⊥
+held-refused None text w h r = h.held
+held-refused (Some bytes_of) text w h r = go r.cause
+  where
+    go : IsTooLong (Some bytes_of) w r.kind r.place ⊎ HasFirstFault (Some bytes_of) w r.kind r.place → ⊥
+    go (inl long) =
+        let same : h.bytes ≡ long.longer.0 = some_same (bytes_of w.name) h.bytes long.longer.0 h.held long.longer.1 in
+        let n = ap (λ (b : List ℕ). length b) same in let a = h.short in let b = long.longer.2 in omega arith
+    go (inr f) =
+        let same : h.bytes ≡ f.bytes = some_same (bytes_of w.name) h.bytes f.bytes h.held f.has in
+        faultless-fault w.what f.bytes r.kind r.place (subst (λ (b : List ℕ). IsFaultless w.what b) same h.faultless) f.first
+
+held-unread : (contents : ToldFiles) (before now : What → ℕ) (text : List ℕ) (w : Wanted) → ((what : What) → Rose (before what) (now what) → ⊥) → IsHeld contents w → IsUnread contents before now text w → ⊥
+held-unread None before now text w none h r = h.held
+held-unread (Some bytes_of) before now text w none h r = go r.cause
+  where
+    go : Rose (before w.what) (now w.what) ⊎ (bytes_of w.name ≡ None) → ⊥
+    go (inl rose) = none w.what rose
+    go (inr missing) = let e = sym h.held ∙ missing in cc
+
+held-stops : (contents : ToldFiles) (this : Wanted → Type 0) → ((w : Wanted) → IsHeld contents w → this w → ⊥) → (ws : List Wanted) → AreHeld contents ws → StopsAt contents this ws → ⊥
+held-stops contents this never [] h s = s
+held-stops contents this never (w ∷ ws) h (inl here) = never w h.0 here
+held-stops contents this never (w ∷ ws) h (inr later) = held-stops contents this never ws h.1 later.1
+
+-- ---- so it is done
+
+module _ {C : Type 0} (gives : Meaning C) (command : Option Job) (contents : ToldFiles) (before now : What → ℕ) (core after : C) (old new : Option (List ℕ)) (faults faults' : ℕ)
+    (can : CanWork command contents) (files_well : (what : What) → Rose (before what) (now what) → ⊥) (sink_well : Rose faults faults' → ⊥) where
+  held_of : (job : Job) → command ≡ Some job → AreHeld contents (wanted job)
+  held_of job named = subst (λ (j : Job). AreHeld contents (wanted j)) (some_same command can.job job can.named named) can.held
+
+  answered : (status : ℕ) (text : List ℕ) → IsAnswer gives command contents before now core after (Some status) text → HasEnded command status
+  answered status text (misused m same s) = absurd (let e = sym can.named ∙ m.none in cc)
+  answered status text (unread u same s) =
+      absurd (held-stops contents (IsUnread contents before now text) (λ w. held-unread contents before now text w files_well) (wanted u.job) (held_of u.job u.named) u.first)
+  answered status text (refused r same s) =
+      absurd (held-stops contents (IsRefused contents text) (held-refused contents text) (wanted r.job) (held_of r.job r.named) r.first)
+  answered status text (done d) = record { job = d.job; named = d.named; ends = can_end gives d.job d.bytes core after status text d.means }
+
+  pub complete : (result : Result ℕ Failure) → Answers gives command contents before now core after old new faults faults' result
+      → HasEnded command (status_of result) ⊎ (status_of result ≡ 10)
+  complete (Ok status) w = inl (answered status w.text w.answer)
+  complete (Err Cut) w = absurd (sink_well w.rose)
+  complete (Err Memory) w = inr refl

@@ -1,0 +1,188 @@
+-- A tape of all that was handed over drives the machine to the same end.
+use Rattle.std.proofs.Common.{◌≡◌, ℕ, zero, suc, ◌+◌, ◌≤◌, Bool, true, false, List, [], ◌∷◌, ◌++◌, length, Option, Some, Result, Ok, Err, OnOk, refl, sym, ◌∙◌, ap, subst, arith}
+use Rattle.std.specs.List.{All}
+use Rattle.diva_isa.specs.State.{goes_on}
+use Rattle.diva_isa.specs.declared.record.Record.{Record}
+use Rattle.diva_core.specs.Timed.{Timed, Sizes, new_timed}
+use Rattle.diva_core.specs.Cycle.{cycle_of, run_of}
+use Rattle.diva_core.specs.Log.{Meaning}
+use Rattle.diva_core.specs.Machine.{IsSizes}
+use Rattle.diva_core.proofs.Reaching.{run-off}
+use Rattle.diva_faults.specs.declared.rows.Row.{Row}
+use Rattle.diva_faults.proofs.Spoiling.{scripted-none}
+use Rattle.diva_image.specs.Images.{image_of}
+use Rattle.diva_machine.specs.Start.{start_of}
+use Rattle.diva_tape.specs.Tapes.{tape_of}
+use Rattle.diva_tape.specs.TapeText.{IsList, list_text, tape_text}
+use Rattle.diva_tape.specs.TapeCalls.{next_list, later_lists, played}
+use Rattle.diva_tape.proofs.Playing.{played-next}
+use Rattle.diva_tape.proofs.ReadingBack.{tape_read_back}
+use Rattle.diva_outside.specs.Sink.{Puts}
+use Rattle.diva_outside.specs.declared.files.What.TheVariants.{Script, Tape as TapeFile}
+use Rattle.diva_outside.specs.declared.sink.SinkFailed.{SinkFailed}
+use Rattle.diva_args.specs.Options.{RunOptions, TapeOptions}
+use Rattle.diva_args.specs.declared.job.CoreChoice.{CoreChoice}
+use Rattle.diva_args.specs.declared.job.CoreChoice.TheVariants.{Tape as OfTape}
+use Rattle.diva_args.specs.declared.job.Job.TheVariants.{Tape}
+use Rattle.diva_trace.specs.Text.{text_of}
+use Rattle.diva_cli.specs.declared.loading.Ready.{Ready}
+use Rattle.diva_cli.specs.Wanted.{FileBytes, tape_name}
+use Rattle.diva_cli.specs.Driven.{IsDriven, scripted_lists}
+use Rattle.diva_cli.specs.Runs.{IsRunOver, IsWhole, HasRun, AreRows, AreLists, shown_dump, sizes_of, start_in}
+use Rattle.diva_cli.specs.TapeTexts.{IsHandedFor, IsReplay, IsTapeOf}
+use Rattle.diva_cli.specs.Tasks.{IsWritten, PerformsBy, cycles_text, tape_line}
+use Rattle.diva_cli.specs.Parts.{IsReady, WritesWhole, WritesPart}
+use Rattle.diva_cli.proofs.Running.{SaysEnd, ends_with, run_over, over_lists, run_whole, each_new}
+
+-- ---- lists of a tape, and then empty ones
+
+by_end : {P : Type 0} (on : Bool) → (on ≡ true → P) → (on ≡ false → P) → P
+by_end true here there = here refl
+by_end false here there = there refl
+
+-- two runs from one machine, the one of lists and the other of these lists and then empty ones, each to its end or for the budget's cycles
+same_run : (m : Timed) (lists others : List (List Record)) (budget : ℕ)
+    → others ≡ played (length others) lists
+    → length lists ≤ budget
+    → length others ≤ budget
+    → (goes_on (run_of m lists).arch ≡ true → length lists ≡ budget)
+    → (goes_on (run_of m others).arch ≡ true → length others ≡ budget)
+    → run_of m others ≡ run_of m lists
+same_run m [] [] budget are few_lists few all_lists all = refl
+same_run m [] (other ∷ others) budget are few_lists few all_lists all =
+    by_end (goes_on m.arch)
+    (λ on. absurd (let e = all_lists on in omega arith))
+    (λ off. run-off (other ∷ others) m off)
+same_run m (list ∷ lists) [] budget are few_lists few all_lists all =
+    by_end (goes_on m.arch)
+    (λ on. absurd (let e = all on in omega arith))
+    (λ off. sym (run-off (list ∷ lists) m off))
+same_run m (list ∷ lists) (other ∷ others) zero are few_lists few all_lists all = absurd (omega arith)
+same_run m (list ∷ lists) (other ∷ others) (suc budget) are few_lists few all_lists all =
+    let both : other ∷ others ≡ list ∷ played (length others) lists = are ∙ sym (played-next (length others) (list ∷ lists)) in
+    let head : other ≡ list = ap next_list both in
+    ap (λ (l : List Record). run_of (cycle_of m l) others) head
+    ∙ same_run (cycle_of m list) lists others budget (ap later_lists both) (omega arith) (omega arith)
+    (λ on. (let e = all_lists on in omega arith))
+    (λ on. (let e = all (ap (λ (l : List Record). goes_on (run_of (cycle_of m l) others).arch) head ∙ on) in omega arith))
+
+lists-unscripted : (cycle : ℕ) (lists : List (List Record)) → scripted_lists [] cycle lists ≡ lists
+lists-unscripted cycle [] = refl
+lists-unscripted cycle (list ∷ lists) =
+    ap (λ (l : List Record). l ∷ scripted_lists [] (cycle + 1) lists) (scripted-none cycle list)
+    ∙ ap (λ (l : List (List Record)). list ∷ l) (lists-unscripted (cycle + 1) lists)
+
+-- ---- a run by the tape of another run
+
+only_one : {A E : Type 0} (r : Result A E) (x y : A) → r ≡ Ok x → r ≡ Ok y → x ≡ y
+only_one r x y a b = cc
+
+module _ (options : TapeOptions) (bytes : FileBytes) (lists : List (List Record)) (last : Timed)
+    (ran : last ≡ run_of (new_timed (sizes_of options.setup) (start_in bytes)) lists)
+    (each : last.cycles ≡ length lists)
+    (most : length lists ≤ options.cycles)
+    (whole : IsWhole options.setup options.cycles (start_in bytes) last) where
+  abbrev first : Timed
+  first = new_timed (sizes_of options.setup) (start_in bytes)
+
+  pub same_machine : (others : List (List Record)) → others ≡ played (length others) lists → IsHandedFor options.cycles first others → run_of first others ≡ last
+  same_machine others are handed =
+      same_run first lists others options.cycles are most handed.most
+      (λ on. (let e = whole.all (ap (λ (m : Timed). goes_on m.arch) ran ∙ on) in let f = each in omega arith))
+      handed.whole
+      ∙ sym ran
+
+  module _ {C : Type 0} (gives : Meaning C) (text : List ℕ) (reads : tape_of text ≡ Ok lists)
+      (replay : RunOptions) (its_bytes : FileBytes) (is : IsReplay options bytes text replay its_bytes)
+      (core after : C) (status : Option ℕ) (shown : List ℕ) (run : HasRun gives replay its_bytes core after status shown) where
+    none : run.over.script ≡ []
+    none = subst (λ (name : Option (List ℕ)). AreRows name (its_bytes Script) run.over.script) is.script run.over.rows
+
+    of_tape : AreLists (Some is.name) (its_bytes TapeFile) run.over.tape
+    of_tape = subst (λ (c : CoreChoice). AreLists (tape_name c) (its_bytes TapeFile) run.over.tape) is.core run.over.lists
+
+    same_lists : run.over.tape ≡ lists
+    same_lists = only_one (tape_of text) run.over.tape lists (ap tape_of (sym is.tape) ∙ of_tape) reads
+
+    same_first : new_timed (sizes_of replay.setup) (start_in its_bytes) ≡ first
+    same_first = ap (λ (z : Sizes). new_timed z (start_in its_bytes)) is.sizes ∙ ap (λ (b : List ℕ). new_timed (sizes_of options.setup) (start_of (image_of b))) is.image
+
+    driven : IsDriven gives (OfTape is.name) lists [] options.cycles first core run.last after
+    driven =
+        subst (λ (c : CoreChoice). IsDriven gives c lists [] options.cycles first core run.last after) is.core
+        (subst (λ (t : List (List Record)). IsDriven gives replay.setup.core t [] options.cycles first core run.last after) same_lists
+        (subst (λ (rows : List Row). IsDriven gives replay.setup.core run.over.tape rows options.cycles first core run.last after) none
+        (subst (λ (n : ℕ). IsDriven gives replay.setup.core run.over.tape run.over.script n first core run.last after) is.cycles
+        (subst (λ (m : Timed). IsDriven gives replay.setup.core run.over.tape run.over.script replay.cycles m core run.last after) same_first run.over.run.driven))))
+
+    handed : IsHandedFor options.cycles first driven.lists
+    handed =
+        record {
+          most = driven.most;
+          whole = λ on. (let e = run.whole.all (ap (λ (m : Timed). goes_on m.arch) driven.ran ∙ on) in let f = driven.each in let g = is.cycles in omega arith);
+        }
+
+    pub same_text : shown ≡ text_of last (shown_dump replay.dump)
+    same_text =
+        run.lines
+        ∙ ap (λ (m : Timed). text_of m (shown_dump replay.dump))
+        (driven.ran ∙ same_machine driven.lists (driven.handed.in_order ∙ lists-unscripted (first.cycles + 1) (played (length driven.lists) lists)) handed)
+
+-- ---- what is written of a run by `tape`
+
+tape_lines : (m : Timed) (lists : List (List Record)) → cycles_text tape_line m lists ≡ tape_text lists
+tape_lines m [] = refl
+tape_lines m (list ∷ lists) = ap (λ (t : List ℕ). list_text list ++ t) (tape_lines (cycle_of m list) lists)
+
+module _ {C : Type 0} (gives : Meaning C) (options : TapeOptions) (bytes : FileBytes) (ready : Ready) (core : C) (last : Timed) (after : C)
+    (cycles : ℕ) (old new : Option (List ℕ)) (before now : ℕ) (result : Result (Unit {0}) SinkFailed)
+    (y : cycles ≡ options.cycles) (fits : IsSizes (sizes_of options.setup))
+    (is : IsReady options.setup bytes ready)
+    (p : PerformsBy gives ready.core ready.script ready.machine.timed core last after (λ lists. IsWritten tape_line IsList cycles ready.machine.timed lists last old new before now result)) where
+  few : length p.lists ≤ options.cycles
+  few = let m = p.done.most in omega arith
+
+  abbrev over : IsRunOver gives options.setup options.cycles bytes core last after
+  over = run_over gives options.setup options.cycles bytes ready core last after fits is p.lists p.ran p.each p.handed few
+
+  all_lists : over.run.driven.lists ≡ p.lists
+  all_lists = over_lists gives options.setup options.cycles bytes ready core last after fits is p.lists p.ran p.each p.handed few
+
+  puts : Puts (tape_text p.lists) old new before now result
+  puts = subst (λ (t : List ℕ). Puts t old new before now result) (tape_lines ready.machine.timed p.lists) p.done.put
+
+  pub wrote_tape : (status : ℕ) → SaysEnd status last.arch.end → result ≡ Ok tt → WritesWhole gives (Tape options) bytes core after old new status
+  wrote_tape status says ok =
+      let all : goes_on last.arch ≡ true → length p.lists ≡ cycles = subst (λ (r : Result (Unit {0}) SinkFailed). OnOk r (goes_on last.arch ≡ true → length p.lists ≡ cycles)) ok p.done.whole in
+      let are : All IsList p.lists = subst (λ (r : Result (Unit {0}) SinkFailed). OnOk r (All IsList p.lists)) ok p.done.said in
+      let whole = run_whole gives options.setup options.cycles bytes ready core last after fits is p.lists p.ran p.each p.handed (λ on. all on ∙ y) in
+      let reads = tape_read_back p.lists are in
+      let ran_new : last ≡ run_of (new_timed (sizes_of options.setup) (start_in bytes)) p.lists = p.ran ∙ ap (λ (m : Timed). run_of m p.lists) is.begun in
+      let each : last.cycles ≡ length p.lists = each_new gives options.setup options.cycles bytes ready core last after fits is p.lists p.ran p.each p.handed in
+      record {
+        text = tape_text p.lists;
+        means = record {
+          last = last;
+          over = over;
+          lines = ap tape_text (sym all_lists);
+          ended = subst (λ (lists : List (List Record)). IsTapeOf gives options bytes lists last (tape_text p.lists) status) (sym all_lists) (record {
+            whole = whole;
+            ended = ends_with options.setup options.cycles (start_in bytes) last status whole says;
+            reads = reads;
+            again = same_machine options bytes p.lists last ran_new each few whole;
+            replays = λ replay its_bytes r core' after' status' shown run.
+                same_text options bytes p.lists last ran_new each few whole gives (tape_text p.lists) reads replay its_bytes r core' after' status' shown run;
+          });
+        };
+        written = (subst (λ (r : Result (Unit {0}) SinkFailed). Puts (tape_text p.lists) old new before now r) ok puts).ok;
+      }
+
+  pub cut_tape : (e : SinkFailed) → result ≡ Err e → WritesPart gives (Tape options) bytes core after old new before now
+  cut_tape e err =
+      let q = subst (λ (r : Result (Unit {0}) SinkFailed). Puts (tape_text p.lists) old new before now r) err puts in
+      record {
+        rose = q.failed;
+        text = tape_text p.lists;
+        means = record { last = last; over = over; lines = ap tape_text (sym all_lists); ended = tt };
+        written = q.part;
+      }

@@ -1,0 +1,47 @@
+-- One turn more, with what was written of it.
+use Rattle.std.proofs.Common.{◌+◌, sym, ◌∙◌, arith}
+use Rattle.diva_cli.proofs.Cycling.{writes_none, writes_turn, writes_performs, ended}
+use Rattle.diva_cli.proofs.streaming.drive_writing.Goals as goal
+
+pub returns-then-not-goes_on : goal.returns-then-not-goes_on
+returns-then-not-goes_on g c =
+    writes_performs g.D.Core.gives g.W.CycleWriter.text g.W.CycleWriter.says _ _ _ _ 0 c.args.budget _ _ _ _ _ (writes_none g.D.Core.gives g.W.CycleWriter.text g.W.CycleWriter.says _ _ _ _) (omega arith)
+    (ended c.args.m.now.timed 0 c.args.budget (sym c.goes_on.ensures.value ∙ c.if-not-goes_on.true))
+
+pub loop-init : goal.loop-init
+loop-init g c =
+    record {
+      writes = writes_none g.D.Core.gives g.W.CycleWriter.text g.W.CycleWriter.says _ _ _ _;
+      on = sym c.goes_on.ensures.value ∙ c.if-not-goes_on.false;
+      sound = c.goes_on.ensures.sound;
+    }
+
+pub returns-in-Err : goal.returns-in-Err
+returns-in-Err g c =
+    let inv = c.loop.invariant in
+    writes_performs g.D.Core.gives g.W.CycleWriter.text g.W.CycleWriter.says _ _ _ _ (c.loop.counter + 1) c.args.budget _ _ _ _ _
+    (writes_turn g.D.Core.gives g.W.CycleWriter.text g.W.CycleWriter.says _ _ _ _ c.loop.counter _ _ _ _ inv.writes _ _ _ _ _ _ _ _ c.count-first.ensures (c.last.ensures ∙ c.turn.ensures.last) c.turn.ensures.cycled inv.sound inv.on (c.turn.ensures.asked inv.on) c.in-Err.ensures.put c.in-Err.ensures.says)
+    (let l = c.loop-test.true in omega arith) tt
+
+pub returns-then-not-goes_on-2 : goal.returns-then-not-goes_on-2
+returns-then-not-goes_on-2 g c =
+    let inv = c.loop.invariant in
+    writes_performs g.D.Core.gives g.W.CycleWriter.text g.W.CycleWriter.says _ _ _ _ (c.loop.counter + 1) c.args.budget _ _ _ _ _
+    (writes_turn g.D.Core.gives g.W.CycleWriter.text g.W.CycleWriter.says _ _ _ _ c.loop.counter _ _ _ _ inv.writes _ _ _ _ _ _ _ _ c.count-first.ensures (c.last.ensures ∙ c.turn.ensures.last) c.turn.ensures.cycled inv.sound inv.on (c.turn.ensures.asked inv.on) c.in-Ok.ensures.put c.in-Ok.ensures.says)
+    (let l = c.loop-test.true in omega arith)
+    (ended c.turn.new.m.timed (c.loop.counter + 1) c.args.budget (sym c.goes_on-in-loop.ensures.value ∙ c.if-not-goes_on-2.true))
+
+pub loop-preserved : goal.loop-preserved
+loop-preserved g c =
+    let inv = c.loop.invariant in
+    record {
+      writes = writes_turn g.D.Core.gives g.W.CycleWriter.text g.W.CycleWriter.says _ _ _ _ c.loop.counter _ _ _ _ inv.writes _ _ _ _ _ _ _ _ c.count-first.ensures (c.last.ensures ∙ c.turn.ensures.last) c.turn.ensures.cycled inv.sound inv.on (c.turn.ensures.asked inv.on) c.in-Ok.ensures.put c.in-Ok.ensures.says;
+      on = sym c.goes_on-in-loop.ensures.value ∙ c.if-not-goes_on-2.false;
+      sound = c.turn.ensures.sound;
+    }
+
+pub returns : goal.returns
+returns g c =
+    writes_performs g.D.Core.gives g.W.CycleWriter.text g.W.CycleWriter.says _ _ _ _ c.loop.counter c.args.budget _ _ _ _ _ c.loop.invariant.writes
+    (let e = c.loop.auto.counter-end in omega arith)
+    (λ on. (let e = c.loop.auto.counter-end in let f = c.loop-test.false in omega arith))

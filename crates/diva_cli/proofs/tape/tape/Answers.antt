@@ -1,0 +1,21 @@
+-- What was loaded, and what was written of it, come to an answer.
+use Rattle.std.proofs.Common.{subst}
+use Rattle.diva_args.specs.Options.{TapeOptions}
+use Rattle.diva_args.specs.declared.job.Job.TheVariants.{Tape}
+use Rattle.diva_cli.specs.Wanted.{AreSound, machine_files}
+use Rattle.diva_cli.specs.Parts.{IsReady, Stops}
+use Rattle.diva_cli.proofs.Working.{done_answers, stop_answers}
+use Rattle.diva_cli.proofs.tape.tape.Goals as goal
+
+pub returns-in-Ok : goal.returns-in-Ok
+returns-in-Ok g c =
+    let h = c.in-Ok.ensures.ready in
+    done_answers g.C.Core.gives _ _ _ _ _ _ _ _ (Tape c.args.options) h.bytes _ _
+    (subst (λ (o : TapeOptions). AreSound (g.F.Files.told c.args.files.now) (machine_files o.setup) h.bytes) c.options.view_is h.sound)
+    (c.tape_ready.ensures h.bytes (subst (λ (o : TapeOptions). IsReady o.setup h.bytes c.in-Ok.ready) c.options.view_is h.is))
+
+pub returns-in-Err : goal.returns-in-Err
+returns-in-Err g c =
+    stop_answers g.C.Core.gives _ _ _ _ _ _ _ _ (Tape c.args.options) c.in-Err.stop _
+    (subst (λ (o : TapeOptions). Stops (g.F.Files.told c.args.files.now) (g.F.Files.faults c.args.files.now) (g.F.Files.faults c.make_ready.new.files) (machine_files o.setup) c.in-Err.stop) c.options.view_is c.in-Err.ensures.stopped)
+    c.write_stop.ensures

@@ -1,0 +1,9 @@
+-- A line for each task.
+use Rattle.diva_cli.proofs.Handing.{performs_quiet}
+use Rattle.diva_cli.proofs.tasks.perform.Goals as goal
+
+pub returns-in-Quiet : goal.returns-in-Quiet
+returns-in-Quiet g c = rw c.in-Quiet.is (performs_quiet g.D.Core.gives _ _ _ _ _ _ _ c.drive.result c.drive.ensures.drives.turns c.drive.ensures.within c.drive.ensures.ended c.drive.ensures.budget)
+
+pub returns-in-Tape : goal.returns-in-Tape
+returns-in-Tape g c = rw c.in-Tape.is c.drive_writing.ensures

@@ -1,0 +1,58 @@
+-- The text that the command `tape` leaves of a run: all that was handed over, which is itself a tape.
+use Rattle.std.specs.Prelude.{◌≡◌, ◌≤◌, ℕ, true, List, length, Option, None, IfSome, Ok}
+use Rattle.diva_outside.specs.Text.{Text}
+use Rattle.diva_outside.specs.declared.files.What.TheVariants.{Image, Tape as TapeFile}
+use Rattle.diva_isa.specs.declared.record.Record.{Record}
+use Rattle.diva_isa.specs.State.{goes_on}
+use Rattle.diva_core.specs.Timed.{Timed, new_timed}
+use Rattle.diva_core.specs.Cycle.{run_of}
+use Rattle.diva_core.specs.Log.{Meaning}
+use Rattle.diva_tape.specs.TapeCalls.{played}
+use Rattle.diva_tape.specs.Tapes.{tape_of}
+use Rattle.diva_tape.specs.TapeText.{tape_text}
+use Rattle.diva_trace.specs.Text.{text_of}
+use Rattle.diva_args.specs.Options.{RunOptions, TapeOptions}
+use Rattle.diva_args.specs.declared.job.CoreChoice.TheVariants.{Tape as OfTape}
+use Rattle.diva_cli.specs.Wanted.{FileBytes}
+use Rattle.diva_cli.specs.Runs.{IsRunOver, IsWhole, EndsWith, HasRun, sizes_of, start_in, shown_dump}
+
+-- a `run` of the same image with the same numbers, by the tape of this text and without a script
+pub record IsReplay (options : TapeOptions) (bytes : FileBytes) (text : Text) (replay : RunOptions) (its_bytes : FileBytes) : Type 0 where
+  pub name : List ℕ
+  pub core : replay.setup.core ≡ OfTape name
+  pub tape : its_bytes TapeFile ≡ text
+  pub script : replay.setup.script ≡ None
+  pub sizes : sizes_of replay.setup ≡ sizes_of options.setup
+  pub cycles : replay.cycles ≡ options.cycles
+  pub image : its_bytes Image ≡ bytes Image
+
+-- a machine is handed these lists until it ends, or for all these cycles
+pub record IsHandedFor (cycles : ℕ) (m : Timed) (lists : List (List Record)) : Type 0 where
+  pub most : length lists ≤ cycles
+  pub whole : goes_on (run_of m lists).arch ≡ true → length lists ≡ cycles
+
+-- ---- the text was written whole
+
+pub record IsTapeOf {C : Type 0} (gives : Meaning C) (options : TapeOptions) (bytes : FileBytes) (lists : List (List Record))
+    (last : Timed) (text : Text) (status : ℕ) : Type 0 where
+  pub whole : IsWhole options.setup options.cycles (start_in bytes) last
+  pub ended : EndsWith last options.cycles status
+  -- what was written is a tape of just the lists that were handed over
+  pub reads : tape_of text ≡ Ok lists
+  -- the lists of that tape, and then empty ones, lead from the same start under the same numbers to this machine again
+  pub again : (others : List (List Record)) → others ≡ played (length others) lists
+      → IsHandedFor options.cycles (new_timed (sizes_of options.setup) (start_in bytes)) others
+      → run_of (new_timed (sizes_of options.setup) (start_in bytes)) others ≡ last
+  -- so running the image with that tape leaves the text of this machine
+  pub replays : (replay : RunOptions) → (its_bytes : FileBytes) → IsReplay options bytes text replay its_bytes
+      → (core after : C) → (shown_status : Option ℕ) → (shown : Text) → HasRun gives replay its_bytes core after shown_status shown
+      → shown ≡ text_of last (shown_dump replay.dump)
+
+-- the text of `tape` over files with these bytes, and the status that goes with it where it was written whole; where the sink
+-- failed, the text is of the cycles up to that in which it did
+pub record HasTape {C : Type 0} (gives : Meaning C) (options : TapeOptions) (bytes : FileBytes) (core after : C)
+    (status : Option ℕ) (text : Text) : Type 0 where
+  pub last : Timed
+  pub over : IsRunOver gives options.setup options.cycles bytes core last after
+  pub lines : text ≡ tape_text over.run.driven.lists
+  pub ended : IfSome status (IsTapeOf gives options bytes over.run.driven.lists last text)

@@ -1,0 +1,97 @@
+-- What is done with a machine and a core, and what is written of it as it goes.
+use Rattle.std.specs.Prelude.{ℕ, ◌≡◌, ◌≤◌, ◌+◌, ◌-◌, List, [], ◌∷◌, ◌++◌, length, true, Option, Result, Ok, OnOk}
+use Rattle.std.specs.List.{All}
+use Rattle.diva_outside.specs.Sink.{Puts}
+use Rattle.diva_outside.specs.Text.{Text}
+use Rattle.diva_outside.specs.declared.sink.SinkFailed.{SinkFailed}
+use Rattle.diva_isa.specs.State.{goes_on}
+use Rattle.diva_isa.specs.declared.record.Record.{Record}
+use Rattle.diva_core.specs.Timed.{Timed}
+use Rattle.diva_core.specs.Cycle.{cycle_of, run_of}
+use Rattle.diva_core.specs.Log.{Meaning, Turns, lists_of}
+use Rattle.diva_core.specs.Headline.{dues}
+use Rattle.diva_faults.specs.declared.rows.Row.{Row}
+use Rattle.diva_faults.specs.Spoiled.{spoiled}
+use Rattle.diva_tape.specs.Lists.{lockstep_list, silent_list}
+use Rattle.diva_tape.specs.Scalar.{IsScalarCall}
+use Rattle.diva_tape.specs.TapeCalls.{tape_call}
+use Rattle.diva_tape.specs.TapeText.{IsList, list_text}
+use Rattle.diva_cli.specs.Driven.{ByTurns, ByRule, ByOther, scripted_rule}
+use Rattle.diva_cli.specs.declared.driving.CoreInUse.{CoreInUse}
+use Rattle.diva_cli.specs.declared.driving.CoreInUse.TheVariants.{Own, Lockstep, Scalar, Silent, Tape as OfTape}
+use Rattle.diva_cli.specs.declared.tasks.Task.{Task}
+use Rattle.diva_cli.specs.declared.tasks.Task.TheVariants.{Quiet, Tape}
+
+-- ---- texts that are written cycle by cycle
+
+-- the text of a cycle: of the number of the first instruction that it committed, of the records that it committed, and of the
+-- list that was handed over
+abbrev pub CycleText : Type 0
+CycleText = ℕ → List Record → List Record → Text
+
+-- the texts of the cycles in which a machine is handed these lists
+abbrev pub cycles_text : CycleText → Timed → List (List Record) → Text
+cycles_text text m [] = []
+cycles_text text m (list ∷ lists) =
+    text m.count (dues ((cycle_of m list).count - m.count) m.arch) list ++ cycles_text text (cycle_of m list) lists
+
+-- the line of a tape
+abbrev pub tape_line : CycleText
+tape_line first committed handed = list_text handed
+
+-- ---- what is done in a row of cycles, from a machine on that is handed these lists
+
+-- it is driven for these cycles, or until it ends, and nothing is written
+pub record IsQuiet (cycles : ℕ) (lists : List (List Record)) (last : Timed) (old new : Option Text) (before now : ℕ)
+    (result : Result (Unit {0}) SinkFailed) : Type 0 where
+  pub most : length lists ≤ cycles
+  pub whole : goes_on last.arch ≡ true → length lists ≡ cycles
+  pub never_fails : result ≡ Ok tt
+  pub contents : new ≡ old
+  pub faults : now ≡ before
+
+-- it is driven for these cycles, until it ends, or until the sink fails, and the text of each cycle is put; what is written
+-- whole says this of each list
+pub record IsWritten (text : CycleText) (says : List Record → Type 0) (cycles : ℕ) (m : Timed) (lists : List (List Record))
+    (last : Timed) (old new : Option Text) (before now : ℕ) (result : Result (Unit {0}) SinkFailed) : Type 0 where
+  pub most : length lists ≤ cycles
+  pub whole : OnOk result (goes_on last.arch ≡ true → length lists ≡ cycles)
+  pub said : OnOk result (All says lists)
+  pub put : Puts (cycles_text text m lists) old new before now result
+
+-- ---- a line for each task
+abbrev pub Does : Task → Timed → List (List Record) → Timed → (old new : Option Text) → (before now : ℕ)
+    → Result (Unit {0}) SinkFailed → Type 0
+Does (Quiet cycles) m lists last old new before now result = IsQuiet cycles lists last old new before now result
+Does (Tape cycles) m lists last old new before now result =
+    IsWritten tape_line IsList cycles m lists last old new before now result
+
+-- the cycles that a task takes at most
+abbrev pub cycles_in : Task → ℕ
+cycles_in (Quiet cycles) = cycles
+cycles_in (Tape cycles) = cycles
+
+-- ---- by a core
+
+-- a core took turns with a machine, and this holds of the lists of the turns
+pub record Performs {D : Type 0} (gives : Meaning D) (m : Timed) (core : D) (last : Timed) (after : D)
+    (this : List (List Record) → Type 0) : Type 0 where
+  pub turns : Turns gives m core last after
+  pub done : this (lists_of turns.log)
+
+-- where the lists come from, by the core in use
+abbrev pub AreHandedBy : {C : Type 0} → Meaning C → CoreInUse → (script : List Row) → Timed → C → List (List Record) → Timed → C → Type 0
+AreHandedBy gives Own script m core lists last after = ByTurns (spoiled script gives) m core lists last after
+AreHandedBy gives Lockstep script m core lists last after = ByRule (scripted_rule script lockstep_list) m core lists after
+AreHandedBy gives (Scalar first) script m core lists last after = ByOther IsScalarCall first script m core lists last after
+AreHandedBy gives Silent script m core lists last after = ByRule (scripted_rule script silent_list) m core lists after
+AreHandedBy gives (OfTape tape) script m core lists last after = ByOther tape_call tape script m core lists last after
+
+-- the core in use took turns with a machine under a script, and this holds of their lists
+pub record PerformsBy {C : Type 0} (gives : Meaning C) (used : CoreInUse) (script : List Row) (m : Timed) (core : C)
+    (last : Timed) (after : C) (this : List (List Record) → Type 0) : Type 0 where
+  pub lists : List (List Record)
+  pub ran : last ≡ run_of m lists
+  pub each : last.cycles ≡ m.cycles + length lists
+  pub handed : AreHandedBy gives used script m core lists last after
+  pub done : this lists

@@ -1,0 +1,106 @@
+// Texts that are written cycle by cycle, as a machine is driven.
+ghost use Rattle.std.specs.Prelude.{◌≡◌, ◌+◌, ◌<◌, ◌≤◌, ◌^◌, length, OnOk};
+ghost use Rattle.diva_outside.specs.Sink.{Puts};
+ghost use Rattle.diva_tape.specs.TapeText.{IsList, list_text};
+ghost use Rattle.diva_cli.specs.Tasks.{IsWritten, Performs};
+
+use diva_core::{Claims, Core};
+use diva_isa::Record;
+use diva_machine::{Machine, turn};
+use diva_outside::{Sink, SinkFailed};
+use diva_tape::tape_piece;
+
+/// What writes a text for each cycle.
+pub(crate) trait CycleWriter {
+    ghost use Rattle.std.specs.Prelude.{ℕ, List, OnOk};
+    ghost use Rattle.diva_isa.specs.declared.record.Record.{Record};
+    ghost use Rattle.diva_outside.specs.Sink.{Puts};
+
+    /// The text of a cycle: of the number of the first instruction that it committed, of the records
+    /// that it committed, and of the list that was handed over.
+    ghost text: { ℕ → List Record → List Record → List ℕ };
+
+    /// What is known of a list that was handed over, where the text was written whole.
+    ghost says: { List Record → Type 0 };
+
+    fn write<S: Sink>(
+        &self,
+        first: u64,
+        committed: &[Record],
+        handed: &Claims,
+        sink: &mut S,
+    ) -> Result<(), SinkFailed>
+        requires { first + length committed.now < 2 ^ 64 }
+        ensures put { Puts (text first committed.now handed.now)
+            (S.contents sink.old) (S.contents sink.new) (S.faults sink.old) (S.faults sink.new) result }
+        ensures says { OnOk result (says handed.now) };
+}
+
+/// Writes what is handed over, as lines of a tape.
+pub(crate) struct TapeWriter;
+
+impl CycleWriter for TapeWriter {
+    ghost use Rattle.diva_tape.specs.TapeText.{IsList};
+    ghost use Rattle.diva_cli.specs.Tasks.{tape_line};
+
+    ghost text = { tape_line };
+
+    ghost says = { IsList };
+
+    fn write<S: Sink>(
+        &self,
+        _first: u64,
+        _committed: &[Record],
+        handed: &Claims,
+        sink: &mut S,
+    ) -> Result<(), SinkFailed> {
+        write_list(handed, sink)
+    }
+}
+
+/// Writes the line of a list: claim by claim, and then its line feed.
+fn write_list<S: Sink>(list: &Claims, sink: &mut S) -> Result<(), SinkFailed>
+    ensures put { Puts (list_text list.now)
+        (S.contents sink.old) (S.contents sink.new) (S.faults sink.old) (S.faults sink.new) result }
+    ensures says { OnOk result (IsList list.now) }
+{
+    for (place, claim) in list.as_slice().iter().enumerate() {
+        match sink.put(tape_piece(claim, place == 0).bytes()) {
+            Ok(()) => {}
+            Err(fault) => return Err(fault),
+        }
+    }
+    sink.put(b"\n")
+}
+
+/// Takes turns, and writes the text of each, until the machine ends, the budget's cycles are run or
+/// the sink fails.
+pub(crate) fn drive_writing<D: Core, W: CycleWriter, S: Sink>(
+    m: &mut Machine,
+    core: &mut D,
+    budget: u64,
+    writer: &W,
+    sink: &mut S,
+) -> Result<(), SinkFailed>
+    requires { m.old.timed.cycles + budget ≤ 2 ^ 60 }
+    ensures { Performs D.gives m.old.timed core.old m.new.timed core.new
+        (λ lists. IsWritten W.text W.says budget m.old.timed lists m.new.timed
+        (S.contents sink.old) (S.contents sink.new) (S.faults sink.old) (S.faults sink.new) result) }
+{
+    if !m.goes_on() {
+        return Ok(());
+    }
+    let mut list = Claims::new();
+    for _ in 0..budget {
+        let first = m.count();
+        turn(m, core, &mut list);
+        match writer.write(first, m.last(), &list, sink) {
+            Ok(()) => {}
+            Err(fault) => return Err(fault),
+        }
+        if !m.goes_on() {
+            return Ok(());
+        }
+    }
+    Ok(())
+}

@@ -1,0 +1,61 @@
+// The command `tape`: it reads its files as `run` does, and writes what is handed over to the machine.
+ghost use Rattle.std.specs.Prelude.{◌≡◌, Some};
+ghost use Rattle.diva_args.specs.declared.job.Job.TheVariants.{Tape};
+ghost use Rattle.diva_core.specs.Machine.{IsSizes};
+ghost use Rattle.diva_cli.specs.Wanted.{FileBytes};
+ghost use Rattle.diva_cli.specs.Runs.{sizes_of};
+ghost use Rattle.diva_cli.specs.Parts.{Answers, IsReady, WritesText};
+
+use crate::driving::perform_by;
+use crate::loading::{Ready, make_ready};
+use crate::stop::Failure;
+use crate::tasks::Task;
+use crate::writing::{end_status, write_stop};
+use diva_args::TapeOptions;
+use diva_core::Core;
+use diva_outside::{Files, Sink};
+use std::alloc::Global;
+
+/// Runs an image, and writes what was handed over in each cycle, as it goes. All memory is taken
+/// before the core is asked and before anything is written.
+pub(crate) fn tape<F: Files, S: Sink, C: Core>(
+    alloc: Global,
+    options: TapeOptions,
+    files: &mut F,
+    sink: &mut S,
+    core: &mut C,
+) -> Result<u8, Failure>
+    ensures { Answers C.gives (Some (Tape options)) (F.told files.old) (F.faults files.old)
+        (F.faults files.new) core.old core.new (S.contents sink.old) (S.contents sink.new)
+        (S.faults sink.old) (S.faults sink.new) result }
+{
+    match make_ready(alloc, files, &options.setup) {
+        Ok(ready) => tape_ready(ready, options, sink, core),
+        Err(stop) => write_stop(stop, sink),
+    }
+}
+
+/// Drives a new machine, and writes what is handed over to it.
+fn tape_ready<S: Sink, C: Core>(
+    ready: Ready,
+    options: TapeOptions,
+    sink: &mut S,
+    core: &mut C,
+) -> Result<u8, Failure>
+    requires new { ready.machine.timed.cycles ≡ 0 }
+    requires fits { IsSizes (sizes_of options.setup) }
+    ensures { (bytes : FileBytes) → IsReady options.setup bytes ready
+        → WritesText C.gives (Tape options) bytes core.old core.new
+        (S.contents sink.old) (S.contents sink.new) (S.faults sink.old) (S.faults sink.new) result }
+{
+    let Ready {
+        mut machine,
+        core: in_use,
+        script,
+    } = ready;
+    let task = Task::Tape(options.cycles);
+    match perform_by(&mut machine, in_use, &script, core, task, sink) {
+        Ok(()) => Ok(end_status(&machine)),
+        Err(_) => Err(Failure::Cut),
+    }
+}

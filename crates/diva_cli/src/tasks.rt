@@ -1,0 +1,79 @@
+// What is done with a machine and a core, under a script.
+ghost use Rattle.std.specs.Prelude.{◌+◌, ◌≤◌, ◌^◌};
+ghost use Rattle.diva_faults.specs.Spoiled.{spoiled};
+ghost use Rattle.diva_cli.specs.Tasks.{Does, Performs, cycles_in};
+
+use crate::streaming::{TapeWriter, drive_writing};
+use diva_core::Core;
+use diva_faults::{Faulty, Script};
+use diva_machine::{Machine, drive};
+use diva_outside::{Sink, SinkFailed};
+
+/// What is done with a machine and a core.
+#[derive(Clone, Copy, Debug)]
+pub(crate) enum Task {
+    /// It is driven for so many cycles at most, and nothing is written.
+    Quiet(u64),
+    /// The same, and each list that is handed over is written as a line of a tape.
+    Tape(u64),
+}
+
+/// Does a task with a machine and a core under a script. A script that has no rows costs nothing: it
+/// is asked once, and the loop is then the one that any other caller of `drive` has.
+#[inline(always)]
+pub(crate) fn perform_under<D: Core, S: Sink>(
+    script: &Script,
+    m: &mut Machine,
+    core: &mut D,
+    task: Task,
+    sink: &mut S,
+) -> Result<(), SinkFailed>
+    requires { m.old.timed.cycles + cycles_in task ≤ 2 ^ 60 }
+    ensures { Performs (spoiled script.now D.gives) m.old.timed core.old m.new.timed core.new
+        (λ lists. Does task m.old.timed lists m.new.timed
+        (S.contents sink.old) (S.contents sink.new) (S.faults sink.old) (S.faults sink.new) result) }
+{
+    if script.rows().is_empty() {
+        perform(m, core, task, sink)
+    } else {
+        perform_faulty(script, m, core, task, sink)
+    }
+}
+
+fn perform_faulty<D: Core, S: Sink>(
+    script: &Script,
+    m: &mut Machine,
+    core: &mut D,
+    task: Task,
+    sink: &mut S,
+) -> Result<(), SinkFailed>
+    requires { m.old.timed.cycles + cycles_in task ≤ 2 ^ 60 }
+    ensures { Performs (spoiled script.now D.gives) m.old.timed core.old m.new.timed core.new
+        (λ lists. Does task m.old.timed lists m.new.timed
+        (S.contents sink.old) (S.contents sink.new) (S.faults sink.old) (S.faults sink.new) result) }
+{
+    let mut faulty = Faulty::new(core, script);
+    perform(m, &mut faulty, task, sink)
+}
+
+/// Does a task with a machine and a core. Nothing watches the turns of one that is quiet.
+#[inline(always)]
+fn perform<D: Core, S: Sink>(
+    m: &mut Machine,
+    core: &mut D,
+    task: Task,
+    sink: &mut S,
+) -> Result<(), SinkFailed>
+    requires { m.old.timed.cycles + cycles_in task ≤ 2 ^ 60 }
+    ensures { Performs D.gives m.old.timed core.old m.new.timed core.new
+        (λ lists. Does task m.old.timed lists m.new.timed
+        (S.contents sink.old) (S.contents sink.new) (S.faults sink.old) (S.faults sink.new) result) }
+{
+    match task {
+        Task::Quiet(cycles) => {
+            drive(m, core, cycles);
+            Ok(())
+        }
+        Task::Tape(cycles) => drive_writing(m, core, cycles, &TapeWriter, sink),
+    }
+}
