@@ -5,9 +5,10 @@
 //! - `cores`: a core that claims a wrong value once, one that begins late, and one that hands over
 //!   the lists that it is given;
 //! - `runs`: command lines over files and a sink in memory, with the status and the text that are
-//!   due: `runs/tables` has the programs that are run, `runs/texts` writes the text that is due, and
-//!   `runs/refusals` has what is not run, or is written in part, and `runs/scripts` scripts that are
-//!   refused;
+//!   due: `runs/tables` has the programs that are run, `runs/pipelined` those that are run ahead of the
+//!   checker, `runs/tapes` tapes that are played, written and refused, `runs/scripts` scripts that are
+//!   refused, `runs/refusals` what is not run, or is written in part, and `runs/texts` writes the text
+//!   that is due;
 //! - `calls`: calls of a machine's parts, and of a machine that is driven;
 //! - `lists`: several claims in a cycle, right and wrong ones, and what each cycle commits:
 //!   `lists/tables` has the lists;

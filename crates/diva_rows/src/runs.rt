@@ -1,7 +1,9 @@
 // Command lines over files and a sink in memory, with the status and the text that are due.
+mod pipelined;
 mod refusals;
 mod scripts;
 mod tables;
+mod tapes;
 mod texts;
 
 use crate::cores::{Flipped, Lists};
@@ -13,31 +15,33 @@ use diva_outside::{Fail as SinkFail, MemFile, MemFiles, MemSink};
 use std::alloc::Global;
 use std::process::Abort;
 use std::test::Fail;
-use tables::{CHATTER, DIFFERING, ROWS, TRAPS};
+use tables::{CHATTER, DIFFERING, ROWS, Row, TRAPS};
 use texts::{registers_text, text_due};
 
 /// The bytes that a sink takes, more than any of these runs writes.
 const ROOM: usize = 1 << 18;
 
-/// The files that are there, an image `a.diva` and a script `a.script`, and how loads of them and the sink
-/// fail.
+/// The files that are there, an image `a.diva`, a script `a.script` and a tape `a.tape`, and how loads of
+/// them and the sink fail.
 #[derive(Drop)]
 struct Outside {
     alloc: Global,
     file: Vec<u8>,
     script: Vec<u8>,
+    tape: Vec<u8>,
     load_fails: Vec<u64>,
     room: usize,
     put_fails: Vec<SinkFail>,
 }
 
 impl Outside {
-    /// An image with these bytes and an empty script, where nothing fails.
+    /// An image with these bytes, an empty script and an empty tape, where nothing fails.
     fn sound(alloc: Global, file: Vec<u8>) -> Self {
         Outside {
             alloc,
             file,
             script: Vec::new(alloc),
+            tape: Vec::new(alloc),
             load_fails: Vec::new(alloc),
             room: ROOM,
             put_fails: Vec::new(alloc),
@@ -56,8 +60,8 @@ fn compare(
     compare_by(rt, &mut Flipped, line, outside, status, text)
 }
 
-/// Runs the program on a command line, over `a.diva` and `a.script` and with this core as its own, and
-/// compares status and text. An empty word is written `''` in the line.
+/// Runs the program on a command line, over the files of `outside` and with this core as its own, and
+/// compares status and text.
 fn compare_by<C: Core>(
     rt: &impl Abort,
     core: &mut C,
@@ -66,24 +70,41 @@ fn compare_by<C: Core>(
     status: u8,
     text: &str,
 ) -> Result<(), Fail> {
+    let answer = run_program(core, line, outside)?;
+    assert_eq!(rt; answer.status, status, "{line}");
+    assert_eq!(rt; str::from_utf8(&answer.text)?, text, "{line}");
+    Ok(())
+}
+
+/// What the program answers.
+#[derive(Drop)]
+struct Answer {
+    status: u8,
+    text: Vec<u8>,
+}
+
+/// Runs the program on a command line, in which an empty word is written `''`.
+fn run_program<C: Core>(core: &mut C, line: &str, outside: Outside) -> Result<Answer, Fail> {
     let alloc = outside.alloc;
     let mut words = Vec::new(alloc);
     for word in line.split_whitespace() {
         words.push(if word == "''" { "" } else { word })?;
     }
     let mut there = Vec::new(alloc);
-    for (name, bytes) in [("a.diva", outside.file), ("a.script", outside.script)] {
+    for (name, bytes) in [
+        ("a.diva", outside.file),
+        ("a.script", outside.script),
+        ("a.tape", outside.tape),
+    ] {
         there.push(MemFile::new(String::from_str(alloc, name)?, bytes))?;
     }
     let mut files = MemFiles::new(there, outside.load_fails);
     let mut sink = MemSink::new(alloc, outside.room, outside.put_fails)?;
-    assert_eq!(rt;
-        top(alloc, &words, &mut files, &mut sink, core),
+    let status = top(alloc, &words, &mut files, &mut sink, core);
+    Ok(Answer {
         status,
-        "{line}"
-    );
-    assert_eq!(rt; str::from_utf8(sink.bytes())?, text, "{line}");
-    Ok(())
+        text: Vec::from_slice(alloc, sink.bytes())?,
+    })
 }
 
 /// What `FIVE` writes where it is claimed one by one, to the letter.
@@ -109,13 +130,19 @@ fn programs_that_run(rt: HostRuntime) -> Result<(), Fail> {
     let alloc = rt.alloc();
     let five = Outside::sound(alloc, Vec::from_slice(alloc, &FIVE_FILE)?);
     compare(&rt, "run a.diva --core lockstep", five, 0, FIVE_TEXT)?;
-    for row in &ROWS {
+    compare_rows(&rt, alloc, &ROWS)
+}
+
+/// Runs the program on each row, and compares status and text.
+fn compare_rows(rt: &impl Abort, alloc: Global, rows: &[Row]) -> Result<(), Fail> {
+    for row in rows {
         let outside = Outside {
             script: Vec::from_slice(alloc, row.script)?,
+            tape: Vec::from_slice(alloc, row.tape)?,
             ..Outside::sound(alloc, image_file(alloc, row.program)?)
         };
         let text = text_due(alloc, row)?;
-        compare(&rt, row.line, outside, row.status, text.as_str())?;
+        compare(rt, row.line, outside, row.status, text.as_str())?;
     }
     Ok(())
 }
@@ -136,17 +163,23 @@ fn programs_that_trap(rt: HostRuntime) -> Result<(), Fail> {
 }
 
 /// A put of one byte more than the 65,536 that the output holds: 2 and 2 * 65,536 instructions come
-/// before the trap, and each takes 7 cycles.
+/// before the trap. In lockstep each takes 7 cycles; in the pipeline one commits in each from cycle 7 on.
 #[test]
 fn output_that_is_full(rt: HostRuntime) -> Result<(), Fail> {
     let alloc = rt.alloc();
-    let counts = "end trap 9\ncount 131075\ncycles 917525\nflushes 0 silent 0\noutput 65536\n";
     let line = format!(in alloc; "out {}\n", "41".repeat(alloc, 32)?)?;
     let output = line.as_str().repeat(alloc, 2048)?;
     let registers = registers_text(alloc, &[(10, 0x41), (17, 1)])?;
-    let text = format!(in alloc; "{counts}{output}{registers}pc 00000008\n")?;
-    let outside = Outside::sound(alloc, image_file(alloc, CHATTER)?);
-    compare(&rt, "run a.diva --core lockstep", outside, 3, text.as_str())
+    for (core, cycles) in [("lockstep", 917525), ("scalar", 131081)] {
+        let counts = format!(in alloc;
+            "end trap 9\ncount 131075\ncycles {cycles}\nflushes 0 silent 0\noutput 65536\n"
+        )?;
+        let text = format!(in alloc; "{counts}{output}{registers}pc 00000008\n")?;
+        let line = format!(in alloc; "run a.diva --core {core}")?;
+        let outside = Outside::sound(alloc, image_file(alloc, CHATTER)?);
+        compare(&rt, line.as_str(), outside, 3, text.as_str())?;
+    }
+    Ok(())
 }
 
 /// A claim of cycle 1 that differs flushes in cycle 7, and names the first field in which it does.

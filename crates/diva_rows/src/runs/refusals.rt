@@ -14,12 +14,15 @@ usage: diva run|tape IMAGE, debug IMAGE COMMANDS, asm SRC, dis IMAGE, soak SEED 
 #[test]
 fn lines_that_are_not_run(rt: HostRuntime) -> Result<(), Fail> {
     let alloc = rt.alloc();
-    let rows: [(&str, &[u64], u8, &str); 14] = [
+    let rows: [(&str, &[u64], u8, &str); 21] = [
         ("", &[], 2, USAGE),
         ("run", &[], 2, USAGE),
         ("run a.diva --width 5", &[], 2, USAGE),
         ("run a.diva --window 1", &[], 2, USAGE),
         ("walk a.diva", &[], 2, USAGE),
+        ("run a.diva --core tape", &[], 2, USAGE),
+        ("run a.diva --tape a.tape", &[], 2, USAGE),
+        ("tape a.diva --dump 0:4", &[], 2, USAGE),
         ("run b.diva", &[], 8, "unreadable image\n"),
         ("run a.diva", &[1], 8, "unreadable image\n"),
         (
@@ -35,6 +38,25 @@ fn lines_that_are_not_run(rt: HostRuntime) -> Result<(), Fail> {
             "unreadable script\n",
         ),
         ("run b.diva --script b.script", &[], 8, "unreadable image\n"),
+        (
+            "run a.diva --core tape --tape b.tape",
+            &[],
+            8,
+            "unreadable tape\n",
+        ),
+        (
+            "tape a.diva --script a.script --core tape --tape a.tape",
+            &[3],
+            8,
+            "unreadable tape\n",
+        ),
+        (
+            "tape a.diva --core tape --tape b.tape --script b.script",
+            &[],
+            8,
+            "unreadable script\n",
+        ),
+        ("tape b.diva", &[], 8, "unreadable image\n"),
         ("run ''", &[], 8, "unreadable image\n"),
         ("run -", &[], 8, "unreadable image\n"),
         ("run -- -x", &[], 8, "unreadable image\n"),

@@ -4,10 +4,12 @@ use diva_isa::Record;
 
 /// A run of one program.
 pub(super) struct Row {
-    /// The command line; the program's file is `a.diva`, and the script's `a.script`.
+    /// The command line; the program's file is `a.diva`, the script's `a.script`, and the tape's `a.tape`.
     pub line: &'static str,
     /// The script's bytes.
     pub script: &'static [u8],
+    /// The tape's bytes.
+    pub tape: &'static [u8],
     pub program: Program,
     pub status: u8,
     /// The text before the registers.
@@ -19,9 +21,10 @@ pub(super) struct Row {
 }
 
 /// `FIVE` claimed one by one: its claims are of the cycles 1, 8 and 15, and commit in 7, 14 and 21.
-const ONE_BY_ONE: Row = Row {
+pub(super) const ONE_BY_ONE: Row = Row {
     line: "run a.diva --core lockstep",
     script: b"",
+    tape: b"",
     program: FIVE,
     status: 0,
     counts: "end halt 0\ncount 3\ncycles 21\nflushes 0 silent 0\noutput 0\n",
@@ -154,7 +157,6 @@ mem 00000010 00000000
     },
     Row {
         line: "run a.diva --core silent --cycles 140",
-        script: b"",
         program: LOOP,
         status: 4,
         counts: "\
@@ -168,6 +170,7 @@ output 0
 ",
         registers: &[],
         rest: "pc 00000000\n",
+        ..ONE_BY_ONE
     },
     // addi x1, x0, 7; div x3, x1, x2; the halt
     Row {

@@ -1,0 +1,100 @@
+// Runs of the core that keeps its pipeline full: one claim in each cycle in which there is room.
+use super::compare_rows;
+use super::tables::{ONE_BY_ONE, Row};
+use crate::programs::{LOOP, Program};
+use std::test::Fail;
+
+/// `FIVE` in the pipeline: its claims are of the cycles 1, 2 and 3, and commit in 7, 8 and 9.
+const IN_LINE: Row = Row {
+    line: "run a.diva --core scalar",
+    counts: "end halt 0\ncount 3\ncycles 9\nflushes 0 silent 0\noutput 0\n",
+    ..ONE_BY_ONE
+};
+
+static ROWS: [Row; 6] = [
+    IN_LINE,
+    // The claim of cycle 2 comes twice: cycle 8 commits the first copy and judges the second, and the
+    // checker's own instruction commits in cycle 14.
+    Row {
+        line: "run a.diva --core scalar --script a.script",
+        script: b"at 2 lane 0 double",
+        counts: "\
+flush 8 at 2 pc claimed 00000004 due 00000008
+end halt 0
+count 3
+cycles 14
+flushes 1 silent 0
+output 0
+",
+        ..IN_LINE
+    },
+    // addi x0, x0, 7; add x1, x0, x0, which reads 0 while the first is pending; the halt
+    Row {
+        program: Program {
+            size: 64,
+            words: &[0x0070_0013, 0x0000_00b3, 0x05d0_0893, 0x0000_0073],
+        },
+        counts: "end halt 0\ncount 4\ncycles 10\nflushes 0 silent 0\noutput 0\n",
+        registers: &[(17, 0x5d)],
+        rest: "pc 0000000c\n",
+        ..IN_LINE
+    },
+    // addi x1, x0, 85; sb x1, 33(x0); lw x2, 32(x0), which reads the word while the byte's store is
+    // pending; the halt
+    Row {
+        program: Program {
+            size: 64,
+            words: &[
+                0x0550_0093,
+                0x0210_00a3,
+                0x0200_2103,
+                0x05d0_0893,
+                0x0000_0073,
+                0,
+                0,
+                0,
+                0x4433_2211,
+            ],
+        },
+        counts: "end halt 0\ncount 5\ncycles 11\nflushes 0 silent 0\noutput 0\n",
+        registers: &[(1, 0x55), (2, 0x4433_5511), (17, 0x5d)],
+        rest: "pc 00000010\n",
+        ..IN_LINE
+    },
+    // sw x1, 12(x0) writes the halt's ECALL over the next word, which is fetched while the store is pending
+    Row {
+        program: Program {
+            size: 64,
+            words: &[0x0730_0093, 0x05d0_0893, 0x0010_2623, 0x0000_0013],
+        },
+        counts: "end halt 0\ncount 4\ncycles 10\nflushes 0 silent 0\noutput 0\n",
+        registers: &[(1, 0x73), (17, 0x5d)],
+        rest: "pc 0000000c\n",
+        ..IN_LINE
+    },
+    // Nothing comes in the cycles 5 to 204. The claims of the first four commit in the cycles 7 to 10; the
+    // checker's own instructions commit in 80 and 150, and those claimed from 205 on in 211 to 300.
+    Row {
+        line: "run a.diva --core scalar --script a.script --cycles 300",
+        script: b"at 5 hush 200",
+        program: LOOP,
+        status: 4,
+        counts: "\
+flush 74 at 4 silent 64
+flush 144 at 5 silent 64
+end none
+count 96
+cycles 300
+flushes 2 silent 2
+output 0
+",
+        registers: &[],
+        rest: "pc 00000000\n",
+        ..IN_LINE
+    },
+];
+
+#[test]
+fn programs_in_the_pipeline(rt: HostRuntime) -> Result<(), Fail> {
+    compare_rows(&rt, rt.alloc(), &ROWS)
+}

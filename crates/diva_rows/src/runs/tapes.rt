@@ -1,0 +1,185 @@
+// Tapes that are played, written, and refused.
+use super::tables::{ONE_BY_ONE, Row};
+use super::{Outside, compare, compare_rows, run_program};
+use crate::cores::Flipped;
+use crate::programs::{FIVE_FILE, LOOP, Program, image_file};
+use std::test::Fail;
+
+/// Two stores, to 32 and to 36, and the halt: two claims in each of the first two cycles.
+const STORES: Row = Row {
+    line: "run a.diva --core tape --tape a.tape --stores 4",
+    tape: b"\
+0 2002023 0 0 20 0 4 0 ; 4 2002223 0 0 24 0 8 0
+8 5d00893 0 0 0 5d c 0 ; c 73 5d 0 0 0 c 100
+",
+    program: Program {
+        size: 64,
+        words: &[0x0200_2023, 0x0200_2223, 0x05d0_0893, 0x0000_0073],
+    },
+    counts: "end halt 0\ncount 4\ncycles 8\nflushes 0 silent 0\noutput 0\n",
+    registers: &[(17, 0x5d)],
+    rest: "pc 0000000c\n",
+    ..ONE_BY_ONE
+};
+
+static ROWS: [Row; 5] = [
+    STORES,
+    // With one place in the store queue, cycle 7 commits the first store only, and 8 the second and the
+    // third instruction.
+    Row {
+        line: "run a.diva --core tape --tape a.tape --stores 1",
+        counts: "end halt 0\ncount 4\ncycles 9\nflushes 0 silent 0\noutput 0\n",
+        ..STORES
+    },
+    // A wrong claim of cycle 10 is judged in cycle 16, in which the watchdog would bark too.
+    Row {
+        line: "run a.diva --core tape --tape a.tape --watchdog 16",
+        tape: b"\n\n\n\n\n\n\n\n\n0 500093 0 0 0 4 4 0",
+        counts: "\
+flush 16 at 0 value claimed 00000004 due 00000005
+flush 38 at 1 silent 16
+flush 60 at 2 silent 16
+end halt 0
+count 3
+cycles 66
+flushes 3 silent 2
+output 0
+",
+        ..ONE_BY_ONE
+    },
+    // Lists of eight where there is room for two: the other six are dropped.
+    Row {
+        line: "run a.diva --core tape --tape a.tape",
+        tape: b"\
+0 500093 0 0 0 5 4 0;4 5d00893 0 0 0 5D 8 0;0 500093 0 0 0 5 4 0;0 500093 0 0 0 5 4 0;\
+0 500093 0 0 0 5 4 0;0 500093 0 0 0 5 4 0;0 500093 0 0 0 5 4 0;0 500093 0 0 0 5 4 0
+8 73 5d 0 0 0 8 100;8 73 5d 0 0 0 8 100;8 73 5d 0 0 0 8 100;8 73 5d 0 0 0 8 100;\
+8 73 5d 0 0 0 8 100;8 73 5d 0 0 0 8 100;8 73 5d 0 0 0 8 100;8 73 5d 0 0 0 8 100 # the end
+",
+        counts: "end halt 0\ncount 3\ncycles 8\nflushes 0 silent 0\noutput 0\n",
+        ..ONE_BY_ONE
+    },
+    // A tape under a script: its first claim is wrong, and is put right.
+    Row {
+        line: "run a.diva --core tape --tape a.tape --script a.script",
+        script: b"at 1 lane 0 set value 5",
+        tape: b"0 500093 0 0 0 4 4 0\n4 5d00893 0 0 0 5d 8 0\n8 73 5d 0 0 0 8 100\n",
+        counts: "end halt 0\ncount 3\ncycles 9\nflushes 0 silent 0\noutput 0\n",
+        ..ONE_BY_ONE
+    },
+];
+
+#[test]
+fn tapes_that_are_played(rt: HostRuntime) -> Result<(), Fail> {
+    compare_rows(&rt, rt.alloc(), &ROWS)
+}
+
+/// What is written of `FIVE` in lockstep: 21 lines, of which the first, the eighth and the fifteenth have
+/// a claim.
+const IN_LOCKSTEP: &str = "\
+00000000 00500093 00000000 00000000 00000000 00000005 00000004 00000000
+
+
+
+
+
+
+00000004 05d00893 00000000 00000000 00000000 0000005d 00000008 00000000
+
+
+
+
+
+
+00000008 00000073 0000005d 00000000 00000000 00000000 00000008 00000100
+
+
+
+
+
+
+";
+
+#[test]
+fn tapes_that_are_written(rt: HostRuntime) -> Result<(), Fail> {
+    let alloc = rt.alloc();
+    for (line, status, text) in [
+        ("tape a.diva --core lockstep", 0, IN_LOCKSTEP),
+        ("tape a.diva --core silent --cycles 3", 4, "\n\n\n"),
+    ] {
+        let outside = Outside::sound(alloc, Vec::from_slice(alloc, &FIVE_FILE)?);
+        compare(&rt, line, outside, status, text)?;
+    }
+    Ok(())
+}
+
+/// The tape of a run that a script flips, loses, doubles and hushes is played: the text is that of the run.
+#[test]
+fn tapes_that_are_replayed(rt: HostRuntime) -> Result<(), Fail> {
+    let alloc = rt.alloc();
+    let outside = |tape| -> Result<Outside, Fail> {
+        Ok(Outside {
+            script: Vec::from_slice(alloc, SCRIPT)?,
+            tape,
+            ..Outside::sound(alloc, image_file(alloc, LOOP)?)
+        })
+    };
+    let command = "a.diva --core scalar --script a.script --cycles 300";
+    let line = format!(in alloc; "tape {command}")?;
+    let tape = run_program(&mut Flipped, line.as_str(), outside(Vec::new(alloc))?)?;
+    let line = format!(in alloc; "run {command}")?;
+    let run = run_program(&mut Flipped, line.as_str(), outside(Vec::new(alloc))?)?;
+    assert_eq!(rt; tape.status, run.status);
+    compare(
+        &rt,
+        "run a.diva --core tape --tape a.tape --cycles 300",
+        outside(tape.text)?,
+        run.status,
+        str::from_utf8(&run.text)?,
+    )
+}
+
+const SCRIPT: &[u8] = b"\
+at 1 lane 0 flip value 3
+at 20 lane 0 lose
+at 30 lane 0 double
+at 60 hush 80
+at 250 lane 0 flip next 31
+at 251 lane 0 set src1 7
+";
+
+/// Tapes with a fault of each kind, and the first one's kind and line.
+#[test]
+fn tapes_that_are_refused(rt: HostRuntime) -> Result<(), Fail> {
+    let alloc = rt.alloc();
+    let rows: [(&[u8], &str); 9] = [
+        (b"0 1 2", "2 at 1"),
+        (b"0 1 2 3 4 5 6 g", "1 at 1"),
+        (b"0 1 2 3 4 5 6 000000007", "1 at 1"),
+        (b"0 1 2 3 4 5 6 7 8", "2 at 1"),
+        (b";", "2 at 1"),
+        (b"0 1 2 3 4 5 6 7 ;", "2 at 1"),
+        (
+            b"0 0 0 0 0 0 0 0;0 0 0 0 0 0 0 0;0 0 0 0 0 0 0 0;0 0 0 0 0 0 0 0;0 0 0 0 0 0 0 0;\
+0 0 0 0 0 0 0 0;0 0 0 0 0 0 0 0;0 0 0 0 0 0 0 0;0 0 0 0 0 0 0 0",
+            "3 at 1",
+        ),
+        (b"# \xff ;\n\n0 1 2 3 4 5 6 7 # ;\n;0 x", "1 at 4"),
+        (b"0 1 2 3 4 5 6\n\xff", "2 at 1"),
+    ];
+    for (tape, fault) in rows {
+        let outside = Outside {
+            tape: Vec::from_slice(alloc, tape)?,
+            ..Outside::sound(alloc, Vec::from_slice(alloc, &FIVE_FILE)?)
+        };
+        let text = format!(in alloc; "refused tape {fault}\n")?;
+        compare(
+            &rt,
+            "run a.diva --core tape --tape a.tape",
+            outside,
+            5,
+            text.as_str(),
+        )?;
+    }
+    Ok(())
+}
