@@ -23,11 +23,10 @@ pub fn lockstep_is_right()
         → IsLog IsLockstepCall m before log last after → AreRight m (lists_of log) }
 {}
 
-/// `Scalar` is right where it may lead: in each of its histories from such a machine on, each list has the one record that
-/// is due behind the pending claims, and so it is right for the machine that it is handed to. A calm machine that `Scalar`
-/// drives is then never flushed.
-///
-/// It may lead from its making on.
+/// `Scalar` is right from a machine on at which it may lead, and it may from its making on. In each of its histories from
+/// there, a list has just the record that is due behind the pending claims, where there is room and the machine goes on
+/// behind them, and else nothing. So each list is right for the machine that it is handed to, and a calm machine that
+/// `Scalar` drives is never flushed.
 #[tactic(auto, using(crate::proofs::Following::scalar_history, crate::proofs::Following::scalar_history_right, crate::proofs::Following::new_leads))]
 pub fn scalar_is_right()
     ensures lists { (m last : Timed) (before after : Lead) (log : List (List Record × Lead))
