@@ -1,0 +1,42 @@
+-- What becomes of a record that is to commit.
+use Rattle.std.specs.Prelude.{ℕ, ◌≡◌, ◌-◌, ◌==◌, ◌&&◌, nat_lt, Bool, true, false, List, [], ◌∷◌, ◌++◌, length, Option, Some, None, if◌then◌else◌}
+use Rattle.diva_memory.specs.Bytes.{Bytes, IsInside}
+use Rattle.diva_storeq.specs.declared.store.Store.{Store}
+use Rattle.diva_isa.specs.State.{State}
+use Rattle.diva_isa.specs.declared.record.Record.{Record}
+use Rattle.diva_core.specs.declared.differences.Diff.{Diff}
+use Rattle.diva_core.specs.Cycle.{number, puts_store}
+use Rattle.diva_commit.specs.declared.commits.Committed.{Committed}
+use Rattle.diva_commit.specs.declared.commits.Committed.TheVariants.{GoesOn, Halt, Trap, Held, Differs}
+
+-- the state of these parts, m being memory with the undrained stores laid over it
+abbrev pub state_of : (regs : List ℕ) (pc : ℕ) → Bytes → (output : List ℕ) (end : ℕ) → State
+state_of regs pc m output end = record { regs = regs; pc = pc; base = m.base; bytes = m.items; output = output; end = end }
+
+-- each of the stores lies inside memory
+abbrev pub AreInside : Bytes → List Store → Type 0
+AreInside m [] = Unit {0}
+AreInside m (s ∷ stores) = IsInside m s.addr s.width × AreInside m stores
+
+-- how a state has ended, if it has, by its end
+abbrev pub ending : ℕ → Committed
+ending end = if end == 0 then GoesOn else (if nat_lt end 256 then Trap (end - 1) else Halt (end - 256))
+
+-- the answer: a verdict is against the record; or it is a store that does not trap, and the queue is full; or it commits
+abbrev pub answer : Option Diff → Record → (full : Bool) → Committed
+answer (Some d) r full = Differs d
+answer None r full = if puts_store r && full then Held else ending r.end
+
+-- the record committed
+abbrev pub is_committed : Committed → Bool
+is_committed GoesOn = true
+is_committed (Halt status) = true
+is_committed (Trap number) = true
+is_committed Held = false
+is_committed (Differs d) = false
+
+-- the stores of the queue: a store that does not trap stands behind those that were there, another record adds none
+pub record IsQueued (before : List Store) (r : Record) (after : List Store) : Type 0 where
+  pub added : List Store
+  pub count : length added ≡ number (puts_store r)
+  pub behind : after ≡ before ++ added

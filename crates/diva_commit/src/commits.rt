@@ -1,0 +1,146 @@
+// What becomes of a record that is to commit.
+ghost use Rattle.std.specs.Prelude.{◌≡◌, ◌<◌, ◌+◌, ◌==◌, ℕ, List, true, false, length, None, Some, IfSome};
+ghost use Rattle.diva_decode.specs.Table.{row_of, HasRegisters};
+ghost use Rattle.diva_storeq.specs.Stores.{laid};
+ghost use Rattle.diva_memory.specs.Bytes.{IsInside};
+ghost use Rattle.diva_isa.specs.Kind.{size};
+ghost use Rattle.diva_isa.specs.Step.{apply, record_of, with_bytes, IsEnd};
+ghost use Rattle.diva_isa.specs.declared.record.Record.{Record};
+ghost use Rattle.diva_core.specs.Cycle.{puts_store};
+ghost use Rattle.diva_commit.specs.Committing.{state_of, answer, ending, is_committed, AreInside, IsQueued};
+
+use diva_core::{Diff, Output};
+use diva_decode::{Instr, decode};
+use diva_isa::{Effect, Record, Regs, Width, effect_by};
+use diva_memory::Memory;
+use diva_storeq::{Store, StoreQueue};
+
+/// What became of a record that was to commit.
+#[derive(Clone, Copy, Debug, PartialEq, Eq)]
+pub enum Committed {
+    /// It committed, and the machine goes on.
+    GoesOn,
+    /// It committed, and the machine halted with this status.
+    Halt(u8),
+    /// It committed, and the machine ended by this trap: its number, 0 to 9.
+    Trap(u8),
+    /// It is a store that does not trap, and the store queue is full: nothing changed.
+    Held,
+    /// The verdict is against it: nothing changed.
+    Differs(Diff),
+}
+
+impl Committed {
+    /// Whether the record committed.
+    pub fn is_committed(&self) -> bool
+        ensures { result ≡ is_committed self.now }
+    {
+        !matches!(self, Committed::Held | Committed::Differs(_))
+    }
+}
+
+/// Commits a record where no verdict is against it, and where the queue has a place for its store: it does to registers,
+/// pc, queue and output what the record says, a store being put behind the others of the queue in place of memory.
+///
+/// Without a verdict the record has to be the due one of the state that these parts show. The record is not looked at
+/// otherwise: what a verdict names is answered, also of an equal record.
+pub fn commit(
+    regs: &mut Regs,
+    pc: &mut u32,
+    memory: &Memory,
+    queue: &mut StoreQueue,
+    output: &mut Output,
+    r: &Record,
+    verdict: Option<Diff>,
+) -> Committed
+    requires { verdict ≡ None
+        → r.now ≡ record_of (state_of regs.old pc.old (laid memory.now queue.old.items) output.old 0) }
+    ensures answer { result ≡ answer verdict r.now (length queue.old.items == queue.old.capacity) }
+    ensures stays { is_committed result ≡ false
+        → (regs.new ≡ regs.old) × (pc.new ≡ pc.old) × (queue.new ≡ queue.old) × (output.new ≡ output.old) }
+    ensures applied { is_committed result ≡ true
+        → state_of regs.new pc.new (laid memory.now queue.new.items) output.new r.now.end
+        ≡ apply (state_of regs.old pc.old (laid memory.now queue.old.items) output.old 0) r.now }
+    ensures queued { is_committed result ≡ true → IsQueued queue.old.items r.now queue.new.items }
+    ensures capacity { queue.new.capacity ≡ queue.old.capacity }
+    ensures inside { AreInside memory.now queue.old.items → AreInside memory.now queue.new.items }
+{
+    commit_by(regs, pc, memory, queue, output, decode(r.word), r, verdict)
+}
+
+/// The same of a record whose word was decoded already: `form` is what it says.
+#[tactic(auto, unfolding(diva_core::specs::Cycle::puts_store, diva_isa::specs::Step::apply))]
+pub fn commit_by(
+    regs: &mut Regs,
+    pc: &mut u32,
+    memory: &Memory,
+    queue: &mut StoreQueue,
+    output: &mut Output,
+    form: Option<Instr>,
+    r: &Record,
+    verdict: Option<Diff>,
+) -> Committed
+    requires due { verdict ≡ None
+        → r.now ≡ record_of (state_of regs.old pc.old (laid memory.now queue.old.items) output.old 0) }
+    requires form { form ≡ row_of r.now.word }
+    requires registers { IfSome form HasRegisters }
+    ensures answer { result ≡ answer verdict r.now (length queue.old.items == queue.old.capacity) }
+    ensures stays { is_committed result ≡ false
+        → (regs.new ≡ regs.old) × (pc.new ≡ pc.old) × (queue.new ≡ queue.old) × (output.new ≡ output.old) }
+    ensures applied { is_committed result ≡ true
+        → state_of regs.new pc.new (laid memory.now queue.new.items) output.new r.now.end
+        ≡ apply (state_of regs.old pc.old (laid memory.now queue.old.items) output.old 0) r.now }
+    ensures queued { is_committed result ≡ true → IsQueued queue.old.items r.now queue.new.items }
+    ensures capacity { queue.new.capacity ≡ queue.old.capacity }
+    ensures inside { AreInside memory.now queue.old.items → AreInside memory.now queue.new.items }
+{
+    if let Some(diff) = verdict {
+        return Committed::Differs(diff);
+    }
+    if r.end != 0 {
+        return ended(r.end);
+    }
+    match effect_by(form, r) {
+        Effect::Nothing => {}
+        Effect::Writes { rd, value } => regs.set(rd, value),
+        Effect::Stores { width, addr, value } => {
+            if queue.full() {
+                return Committed::Held;
+            }
+            store(memory, queue, width, addr, value);
+        }
+        Effect::Puts(byte) => output.push(byte),
+    }
+    *pc = r.next;
+    Committed::GoesOn
+}
+
+// How an end that is not 0 is answered.
+fn ended(end: u32) -> Committed
+    requires end { IsEnd end }
+    requires ends { 0 < end }
+    ensures answer { result ≡ ending end }
+    ensures committed { is_committed result ≡ true }
+{
+    if end < 256 {
+        Committed::Trap((end - 1) as u8)
+    } else {
+        Committed::Halt((end - 256) as u8)
+    }
+}
+
+// Puts a store behind the others of the queue.
+fn store(memory: &Memory, queue: &mut StoreQueue, width: Width, addr: u32, value: u32)
+    requires inside { IsInside (laid memory.now queue.old.items) addr (size width) }
+    requires space { length queue.old.items < queue.old.capacity }
+    ensures laid { (regs : List ℕ) (pc : ℕ) (output : List ℕ) (end : ℕ)
+        → state_of regs pc (laid memory.now queue.new.items) output end
+        ≡ with_bytes (state_of regs pc (laid memory.now queue.old.items) output end) (size width) addr value }
+    ensures queued { (r : Record) → puts_store r ≡ true → IsQueued queue.old.items r queue.new.items }
+    ensures capacity { queue.new.capacity ≡ queue.old.capacity }
+    ensures inside { AreInside memory.now queue.old.items → AreInside memory.now queue.new.items }
+{
+    let _ = memory.base();
+    let width = width.size() as u8;
+    queue.push(Store { addr, width, value });
+}
