@@ -12,7 +12,6 @@ use crate::arithmetic::{alu, branch_taken, load_value};
 use crate::effect::PUT;
 use crate::kind::{Kind, Width, kind_of};
 use crate::look::Look;
-use crate::reading::number;
 use crate::record::{OUTPUT_LIMIT, Operands, Outcome, Record};
 use crate::trap::Trap;
 use diva_decode::{Instr, Op, decode};
@@ -101,14 +100,8 @@ fn reads<L: Look>(state: &L, i: &Instr) -> Operands
             first: state.reg(i.rs1),
             second: 0,
         },
-        Kind::Branch | Kind::Store(_) | Kind::Register => Operands {
-            first: state.reg(i.rs1),
-            second: state.reg(i.rs2),
-        },
-        Kind::Call => Operands {
-            first: state.reg(17),
-            second: state.reg(10),
-        },
+        Kind::Branch | Kind::Store(_) | Kind::Register => state.operands(i.rs1, i.rs2),
+        Kind::Call => state.operands(17, 10),
     }
 }
 
@@ -177,7 +170,7 @@ fn load<L: Look>(state: &L, r: &Record, op: Op, width: Width) -> Outcome
     if r.addr % width.size() != 0 {
         return trapped(r.pc, Trap::LoadMisaligned);
     }
-    match number(state, r.addr, width) {
+    match state.number(r.addr, width) {
         Some(number) => going(r.pc, load_value(op, number)),
         None => trapped(r.pc, Trap::LoadOutside),
     }

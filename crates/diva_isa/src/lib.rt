@@ -3,7 +3,6 @@
 //! - `kind`: the kinds of operations, and how many bytes a load or a store moves.
 //! - `arithmetic`: what an operation computes, whether a branch is taken, what a load makes of its bytes.
 //! - `look`: a state that can be read.
-//! - `reading`: the number that the bytes at an address are.
 //! - `record`: the record of one instruction, and its parts.
 //! - `trap`: the traps by number.
 //! - `due`: the record of a state's next instruction, and each part of it by itself.
@@ -22,7 +21,6 @@ mod effect;
 mod kind;
 mod look;
 mod plain;
-mod reading;
 mod record;
 mod regs;
 mod trap;

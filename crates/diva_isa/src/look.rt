@@ -6,6 +6,7 @@ ghost use Rattle.diva_isa.specs.Kind.{size};
 ghost use Rattle.diva_isa.specs.State.{State, byte_of, number_of, reg_of, word_of};
 
 use crate::kind::Width;
+use crate::record::Operands;
 
 /// A state that can be read: its pc, registers and memory, and of its output the length.
 pub trait Look {
@@ -20,6 +21,20 @@ pub trait Look {
     fn reg(&self, n: u8) -> u32
         requires { n < 32 }
         ensures { result ≡ reg_of (shows self.now) n };
+
+    /// The words in two registers, both of them below 32.
+    ///
+    /// They are read one after the other, unless an implementation has a shorter way.
+    fn operands(&self, first: u8, second: u8) -> Operands
+        requires first { first < 32 }
+        requires second { second < 32 }
+        ensures { result ≡ record { first = reg_of (shows self.now) first; second = reg_of (shows self.now) second } }
+    {
+        Operands {
+            first: self.reg(first),
+            second: self.reg(second),
+        }
+    }
 
     /// The byte at an address, `None` exactly outside memory.
     fn byte(&self, addr: u32) -> Option<u8>
@@ -40,6 +55,28 @@ pub trait Look {
             self.byte(addr + 2)?,
             self.byte(addr + 3)?,
         ]))
+    }
+
+    /// The number that the bytes of this width from an address on are, the lowest first, `None` exactly where one of them is
+    /// outside memory. The address is a multiple of the width.
+    ///
+    /// It is read byte by byte, unless an implementation has a shorter way.
+    fn number(&self, addr: u32, width: Width) -> Option<u32>
+        requires { addr % size width ≡ 0 }
+        ensures { result ≡ number_of (shows self.now) (size width) addr }
+    {
+        match width {
+            Width::Byte => {
+                let low = self.byte(addr)?;
+                Some(u32::from(low))
+            }
+            Width::Half => {
+                let low = self.byte(addr)?;
+                let high = self.byte(addr + 1)?;
+                Some(u32::from(low) | u32::from(high) << 8)
+            }
+            Width::Word => self.word(addr),
+        }
     }
 
     /// Whether all bytes of this width from an address on are inside memory. The address is a multiple of the width.
