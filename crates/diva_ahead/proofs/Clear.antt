@@ -9,7 +9,8 @@ use Rattle.std.proofs.lemmas.Option.{same_Some}
 use Rattle.std.proofs.lemmas.List.Sums.{sum_by-cons}
 use Rattle.diva_isa.specs.declared.effect.Effect.{Effect}
 use Rattle.diva_isa.specs.declared.effect.Effect.TheVariants.{Nothing, Writes, Stores, Puts}
-use Rattle.diva_ahead.specs.Effects.{is_apart, is_store}
+use Rattle.diva_core.specs.Cycle.{is_store}
+use Rattle.diva_core.specs.Effects.{is_apart}
 use Rattle.diva_ahead.specs.Within.{IsWithin}
 
 and_both : (b c : Bool) → b ≡ true → c ≡ true → (b && c) ≡ true

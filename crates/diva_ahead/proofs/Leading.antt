@@ -17,7 +17,8 @@ use Rattle.diva_isa.specs.declared.effect.Effect.{Effect}
 use Rattle.diva_isa.specs.declared.effect.Effect.TheVariants.{Nothing, Writes, Stores, Puts}
 use Rattle.diva_isa.proofs.Steps.{apply_record_of, steps-step, steps_ended}
 use Rattle.diva_core.proofs.Calming.{AreDueFrom}
-use Rattle.diva_ahead.specs.Effects.{done_by, with_effects}
+use Rattle.diva_core.specs.Effects.{with_effects}
+use Rattle.diva_ahead.specs.Effects.{done_by}
 use Rattle.diva_ahead.specs.Lead.{Lead, handed, seen}
 use Rattle.diva_ahead.proofs.Handing.{behind, behind_pc, behind_regs, regs_after}
 

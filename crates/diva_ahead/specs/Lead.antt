@@ -5,7 +5,8 @@ use Rattle.diva_isa.specs.Step.{apply}
 use Rattle.diva_isa.specs.declared.record.Record.{Record}
 use Rattle.diva_isa.specs.declared.effect.Effect.{Effect}
 use Rattle.diva_core.specs.Told.{Notice}
-use Rattle.diva_ahead.specs.Effects.{done_by, with_effects}
+use Rattle.diva_core.specs.Effects.{with_effects}
+use Rattle.diva_ahead.specs.Effects.{done_by}
 
 pub record Lead : Type 0 where
   -- the machine's flushes when the core last took its state, none before the first time

@@ -2,7 +2,7 @@
 //!
 //! - `ahead`: where such a core stands, `Ahead`.
 //! - `ring`: what it handed over, laid over the machine's memory, `Ring`.
-//! - `effects`: which bytes of memory an effect changes.
+//! - `effects`: which effects change memory.
 //! - `stand`: the core's own state, to read.
 //!
 //! `specs/Effects.antt` says what records do one after the other, `specs/Lead.antt` what the core keeps and how it
@@ -15,5 +15,4 @@ mod ring;
 mod stand;
 
 pub use ahead::Ahead;
-pub use effects::{byte_in, is_apart};
 pub use ring::Ring;

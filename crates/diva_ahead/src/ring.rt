@@ -2,11 +2,11 @@
 ghost use Rattle.std.specs.Prelude.{◌≡◌, ◌≤◌, ◌<◌, ◌+◌, ◌-◌, ◌%◌, [], ◌∷◌, ◌++◌, length, drop, IfOk, IsSome, IsTrue, Some, true};
 ghost use Rattle.std.specs.List.{list_all};
 ghost use Rattle.diva_isa.specs.State.{State, byte_of, word_of};
-ghost use Rattle.diva_ahead.specs.Effects.{is_apart, with_effects};
+ghost use Rattle.diva_core.specs.Effects.{is_apart, with_effects};
 
-use crate::effects::{byte_in, is_apart, is_store};
+use crate::effects::is_store;
 use circular_buffer::HeapCircularBuffer;
-use diva_core::View;
+use diva_core::{View, byte_in, is_apart};
 use diva_isa::Effect;
 use std::alloc::{AllocError, Global};
 use std::marker::Model;
@@ -29,7 +29,7 @@ impl Model for Ring {
     ghost use Rattle.std.specs.Prelude.{List, ◌≡◌, count_by};
     ghost use Rattle.std.specs.List.{All};
     ghost use Rattle.diva_isa.specs.declared.effect.Effect.{Effect};
-    ghost use Rattle.diva_ahead.specs.Effects.{is_store};
+    ghost use Rattle.diva_core.specs.Cycle.{is_store};
     ghost use Rattle.diva_ahead.specs.Within.{IsWithin};
 
     ghost Value = { List Effect };
@@ -105,7 +105,7 @@ impl Ring {
     }
 
     /// The byte at an address of the view's memory with all effects laid over it, `None` exactly outside.
-    #[tactic(auto, using(crate::proofs::Laying::effects_none, crate::proofs::Laying::effects_byte))]
+    #[tactic(auto, using(diva_core::proofs::Laying::effects_none, diva_core::proofs::Laying::effects_byte))]
     pub fn byte(&self, view: &View<'_>, addr: u32) -> Option<u8>
         ensures { result ≡ byte_of (with_effects view.now self.now) addr }
     {
@@ -130,7 +130,7 @@ impl Ring {
     /// The word at an address of the view's memory with all effects laid over it, `None` where the address is no multiple
     /// of 4 or outside.
     #[inline]
-    #[tactic(auto, using(crate::proofs::Laying::effects_word_none, crate::proofs::Laying::effects_word))]
+    #[tactic(auto, using(diva_core::proofs::Laying::effects_word_none, diva_core::proofs::Laying::effects_word))]
     pub fn word(&self, view: &View<'_>, addr: u32) -> Option<u32>
         ensures { result ≡ word_of (with_effects view.now self.now) addr }
     {

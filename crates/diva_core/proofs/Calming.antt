@@ -1,5 +1,5 @@
 -- A right list leaves a calm machine calm, and its flushes as they were.
-use Rattle.std.proofs.Common.{◌≡◌, ℕ, zero, suc, ◌+◌, ◌<◌, ◌≤◌, true, List, [], ◌∷◌, ◌++◌, map, take, length, Some, None, refl, ap, sym, ◌∙◌, arith, inl, inr, subst, slice_get}
+use Rattle.std.proofs.Common.{◌≡◌, ℕ, zero, suc, ◌+◌, ◌<◌, ◌≤◌, true, List, [], ◌∷◌, ◌++◌, map, take, length, Some, None, refl, ap, sym, ◌∙◌, arith, inl, inr, subst}
 use Rattle.std.proofs.lemmas.List.{length-map, map-append}
 use Rattle.std.proofs.lemmas.Bool.{true≢false, le-leb, lt-ltb, cases_lt}
 use Rattle.std.proofs.lemmas.Option.{none-some, same_Some}

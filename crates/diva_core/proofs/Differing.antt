@@ -9,7 +9,7 @@ use Rattle.diva_core.specs.declared.differences.Diff.{Diff}
 use Rattle.diva_core.specs.Difference.{field_of, difference_in, all_fields, first_difference, IsDifference}
 
 -- p and r are equal in some fields
-abbrev AreSame : List Field → Record → Record → Type 0
+abbrev pub AreSame : List Field → Record → Record → Type 0
 AreSame [] p r = Unit {0}
 AreSame (f ∷ fs) p r = (field_of f p ≡ field_of f r) × AreSame fs p r
 
@@ -21,7 +21,7 @@ unless-some : (b : Bool) (o : Option Diff) (c d : Diff) (P : Diff → Type 0) �
 unless-some true o c d P e rest here = rest e
 unless-some false o c d P e rest here = subst P (same_Some _ _ e) (here refl)
 
-in-none : (fs : List Field) (p r : Record) → difference_in fs p r ≡ None → AreSame fs p r
+pub in-none : (fs : List Field) (p r : Record) → difference_in fs p r ≡ None → AreSame fs p r
 in-none [] p r e = tt
 in-none (f ∷ fs) p r e =
     let both = unless-none (field_of f p == field_of f r) (difference_in fs p r) _ e in (eqb-true _ _ both.0, in-none fs p r both.1)
@@ -33,7 +33,7 @@ in-some (f ∷ fs) p r d e =
     (in-some fs p r d)
     (λ other. record { claims = refl; dues = refl; differ = eqb-false _ _ other })
 
-in-same : (fs : List Field) (r : Record) → difference_in fs r r ≡ None
+pub in-same : (fs : List Field) (r : Record) → difference_in fs r r ≡ None
 in-same [] r = refl
 in-same (f ∷ fs) r = rw (eq-eqb (field_of f r) (field_of f r) refl) (in-same fs r)
 

@@ -1,4 +1,6 @@
 pub mod Adding
+pub mod Agreeing
+pub mod Bypassing
 pub mod Calming
 pub mod Commits
 pub mod Cycling
@@ -7,6 +9,7 @@ pub mod Ending
 pub mod Holding
 pub mod Judging
 pub mod Keeping
+pub mod Laying
 pub mod Listing
 pub mod Outcomes
 pub mod Pacing

@@ -1,6 +1,6 @@
 -- Runs of right lists.
-use Rattle.std.proofs.Common.{◌≡◌, true, List, [], ◌∷◌, refl, ◌∙◌, arith}
-use Rattle.diva_isa.specs.State.{State, goes_on}
+use Rattle.std.proofs.Common.{List, [], ◌∷◌, refl, ◌∙◌, arith}
+use Rattle.diva_isa.specs.State.{State}
 use Rattle.diva_isa.specs.declared.record.Record.{Record}
 use Rattle.diva_core.specs.Timed.{Timed, Sizes, new_timed}
 use Rattle.diva_core.specs.Cycle.{cycle_of, run_of}

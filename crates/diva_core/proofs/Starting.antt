@@ -3,7 +3,7 @@ use Rattle.std.proofs.Common.{◌≡◌, ◌+◌, ◌/◌, ◌≤◌, List, ap, 
 use Rattle.diva_isa.specs.State.{State}
 use Rattle.diva_isa.specs.declared.record.Record.{Record}
 use Rattle.diva_isa.specs.Step.{steps}
-use Rattle.diva_core.specs.Timed.{Timed, Sizes, new_timed}
+use Rattle.diva_core.specs.Timed.{Sizes, new_timed}
 use Rattle.diva_core.specs.Cycle.{run_of}
 use Rattle.diva_core.specs.Machine.{IsMachine, IsSizes}
 use Rattle.diva_core.specs.Headline.{Rises, HasPace}

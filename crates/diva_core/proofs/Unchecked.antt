@@ -1,5 +1,5 @@
 -- Entries of which nothing is noted.
-use Rattle.std.proofs.Common.{◌≡◌, ℕ, zero, suc, List, [], ◌∷◌, ◌++◌, Option, Some, None, refl, sym, slice_get, subst, ap}
+use Rattle.std.proofs.Common.{◌≡◌, ℕ, zero, suc, List, [], ◌∷◌, ◌++◌, Some, None, refl, sym, slice_get, subst}
 use Rattle.std.proofs.lemmas.Option.{none-some, same_Some}
 use Rattle.circular_buffer.specs.Buffer.{Buffer, buffer}
 use Rattle.diva_isa.specs.declared.record.Record.{Record}

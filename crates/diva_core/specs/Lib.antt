@@ -1,9 +1,12 @@
 pub mod Cycle
 pub mod Difference
+pub mod Effects
 pub mod Entries
 pub mod Headline
 pub mod Log
 pub mod Machine
-pub mod Timed
+pub mod Older
 pub mod Right
+pub mod Stages
+pub mod Timed
 pub mod Told

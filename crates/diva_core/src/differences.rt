@@ -75,7 +75,9 @@ pub fn first_difference(claim: &Record, due: &Record) -> Option<Diff>
     difference_in(&Field::ALL, claim, due)
 }
 
-fn difference_in(fields: &[Field], claim: &Record, due: &Record) -> Option<Diff>
+/// The first of some fields in which a claim differs from the due record, `None` where it does in none of them.
+#[inline]
+pub fn difference_in(fields: &[Field], claim: &Record, due: &Record) -> Option<Diff>
     ensures { result ≡ difference_in fields.now claim.now due.now }
 {
     for field in fields {

@@ -5,29 +5,36 @@
 //! - `cores`: the trait `Core`, with its one meaning `gives`;
 //! - `output`: the bytes that the program put, `Output`;
 //! - `pending`: the claims that wait to be judged, `Entry` and `Pending`;
+//! - `bypass`: the state in which a pending claim stands, `Bypass`;
+//! - `effects`: which bytes of memory an effect changes;
 //! - `differences`: how a claim differs from the due record, `Field`, `Diff` and `first_difference`;
 //! - `flushes`: why the machine flushed, `Cause` and `FlushRow`.
 //!
 //! `specs/` holds the timed machine that contracts speak of: the machine and what a core is told of
 //! it (`Timed`, `Told`), its cycle phase by phase (`Cycle`), first differences (`Difference`), what is
-//! noted of pending claims (`Entries`), turns of a machine and a core (`Log`), what holds between
+//! noted of pending claims (`Entries`), the state in which each of them stands (`Older`, over
+//! `Effects`), what each stage of the checker compares (`Stages`), turns of a machine and a core (`Log`), what holds between
 //! cycles (`Machine`), right lists and calm machines (`Right`), and the words of what a cycle, a turn and a
 //! drive promise (`Headline`).
 //! `proofs/` has the laws that follow.
 #![tactic(auto)]
 
+mod bypass;
 mod claims;
 mod cores;
 mod differences;
+mod effects;
 mod flushes;
 mod output;
 mod pending;
 mod told;
 mod view;
 
+pub use bypass::Bypass;
 pub use claims::{Claim, Claims};
 pub use cores::Core;
-pub use differences::{Diff, Field, first_difference};
+pub use differences::{Diff, Field, difference_in, first_difference};
+pub use effects::{byte_in, is_apart};
 pub use flushes::{Cause, FlushRow};
 pub use output::Output;
 pub use pending::{Entry, Pending};

@@ -1,12 +1,13 @@
 // The claims that wait to be judged, the oldest first.
-ghost use Rattle.std.specs.Prelude.{◌≡◌, ◌≤◌, ◌<◌, [], ◌∷◌, ◌++◌, length, IfOk, None, Some, slice_get, slice_set};
+ghost use Rattle.std.specs.Prelude.{◌≡◌, ◌≤◌, ◌<◌, [], ◌∷◌, ◌++◌, length, IfOk, IfSome, None, Some, slice_get, slice_set};
 ghost use Rattle.std.specs.Option.{option_copied};
 ghost use Rattle.circular_buffer.specs.Buffer.{Buffer, buffer};
 
 use crate::claims::Claim;
 use crate::differences::Diff;
 use circular_buffer::HeapCircularBuffer;
-use diva_decode::Instr;
+use diva_decode::{Instr, decode};
+use diva_isa::{Effect, effect_by};
 use std::alloc::{AllocError, Global};
 use std::marker::Model;
 
@@ -23,7 +24,36 @@ pub struct Entry {
     pub verdict: Option<Diff>,
 }
 
-/// A ring of pending claims, the oldest first. It takes no memory after its making.
+impl Entry {
+    ghost use Rattle.diva_decode.specs.Table.{row_of, HasRegisters};
+    ghost use Rattle.diva_isa.specs.Step.{effect_of};
+    ghost use Rattle.diva_core.specs.Entries.{IsDecoded};
+
+    /// What the claim's word says, `None` where it says nothing. It is decoded here only where that was not noted.
+    #[inline]
+    #[tactic(auto, using(diva_decode::proofs::Unique::registers_by))]
+    pub fn form(&self) -> Option<Instr>
+        requires { IsDecoded self.now }
+        ensures row { result ≡ row_of self.now.claim.word }
+        ensures registers { IfSome result HasRegisters }
+    {
+        match self.decoded {
+            Some(form) => Some(form),
+            None => decode(self.claim.word),
+        }
+    }
+
+    /// What the claim does besides moving the pc, as if it went on.
+    #[inline]
+    pub(crate) fn effect(&self) -> Effect
+        requires { IsDecoded self.now }
+        ensures { result ≡ effect_of self.now.claim }
+    {
+        effect_by(self.form(), &self.claim)
+    }
+}
+
+/// A ring of pending claims, the oldest first: 64 at most. It takes no memory after its making.
 #[derive(Drop)]
 pub struct Pending {
     entries: HeapCircularBuffer<Entry>,
@@ -35,12 +65,26 @@ impl Model for Pending {
 
     ghost Value = { Buffer Entry };
 
+    ghost use Rattle.std.specs.Prelude.{◌≤◌};
+    ghost use Rattle.std.specs.List.{All};
+    ghost use Rattle.diva_core.specs.Entries.{IsDecoded};
+
     ghost view = { λ p. p.entries };
+
+    ghost invariant = { λ p. All IsDecoded p.entries.items × (p.entries.capacity ≤ 64) };
 }
 
 impl Pending {
-    /// An empty ring for `q` claims. The one error is that memory runs out.
+    ghost use Rattle.diva_decode.specs.Table.{row_of};
+    ghost use Rattle.diva_core.specs.Entries.{IsDecoded};
+    ghost use Rattle.diva_core.specs.declared.pending.Entry.{Entry};
+
+    /// The most claims that a ring holds.
+    pub const MOST: usize = 64;
+
+    /// An empty ring for `q` claims, 64 at most. The one error is that memory runs out.
     pub fn new(alloc: Global, q: usize) -> Result<Self, AllocError>
+        requires { q ≤ 64 }
         ensures { IfOk result (λ p. p ≡ buffer [] q) }
     {
         Ok(Pending {
@@ -52,6 +96,7 @@ impl Pending {
     pub fn len(&self) -> usize
         ensures len { result ≡ length self.now.items }
         ensures within { result ≤ self.now.capacity }
+        ensures few { result ≤ 64 }
     {
         self.entries.len()
     }
@@ -73,18 +118,32 @@ impl Pending {
     /// The claim at a place, the oldest being at 0.
     pub fn entry(&self, at: usize) -> Entry
         requires { at < length self.now.items }
-        ensures { slice_get self.now.items at ≡ Some result }
+        ensures value { slice_get self.now.items at ≡ Some result }
+        ensures decoded { IsDecoded result }
     {
-        *self.entries.get(at).unwrap()
+        *self.at(at)
     }
 
-    /// Notes of the claim at a place (the oldest is at 0) what its word says, and in what it differs.
+    /// The same, lent.
+    #[inline]
+    pub fn at(&self, at: usize) -> &Entry
+        requires { at < length self.now.items }
+        ensures value { slice_get self.now.items at ≡ Some result.now }
+        ensures decoded { IsDecoded result.now }
+    {
+        self.entries.get(at).unwrap()
+    }
+
+    /// Notes of the claim at a place (the oldest is at 0) what its word says, and in what it differs. A decoded form has to be
+    /// the one that the table has for the claim's word.
     pub fn set(&mut self, at: usize, decoded: Option<Instr>, verdict: Option<Diff>)
-        requires { at < length self.old.items }
-        ensures { (entry : _) × (slice_get self.old.items at ≡ Some entry)
-            × (self.new ≡ buffer
-            (slice_set self.old.items at (record entry { decoded = decoded; verdict = verdict }))
-            self.old.capacity) }
+        requires place { at < length self.old.items }
+        requires decoded { (e : Entry) → slice_get self.old.items at ≡ Some e
+            → IsDecoded (record e { decoded = decoded }) }
+        ensures { (e : Entry) → slice_get self.old.items at ≡ Some e
+            → self.new ≡ buffer
+            (slice_set self.old.items at (record e { decoded = decoded; verdict = verdict }))
+            self.old.capacity }
     {
         let entry = self.entries.get_mut(at).unwrap();
         entry.decoded = decoded;

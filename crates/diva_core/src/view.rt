@@ -81,8 +81,10 @@ impl View<'_> {
 
     /// The registers.
     pub fn regs(&self) -> &Regs
-        ensures { result.now ≡ self.now.regs }
+        ensures value { result.now ≡ self.now.regs }
+        ensures count { length result.now ≡ 32 }
     {
+        let _ = self.regs.get(0);
         self.regs
     }
 

@@ -12,6 +12,8 @@
 //! - `calls`: calls of a machine's parts, and of a machine that is driven;
 //! - `lists`: several claims in a cycle, right and wrong ones, and what each cycle commits:
 //!   `lists/tables` has the lists;
+//! - `stages`: what each stage of the checker answers of a claim behind older ones: `stages/tables`
+//!   has the claims;
 //! - `vectors`: what arithmetic, branches and loads came to in an emulator that is not of this
 //!   repository: operations on two `registers` and on `immediates`, `branches` and `loads`.
 //!
@@ -29,5 +31,7 @@ mod lists;
 mod programs;
 #[cfg(test)]
 mod runs;
+#[cfg(test)]
+mod stages;
 #[cfg(test)]
 mod vectors;

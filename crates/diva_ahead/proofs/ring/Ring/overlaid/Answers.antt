@@ -1,6 +1,6 @@
 use Rattle.std.proofs.Common.{◌+◌, map}
 use Rattle.std.proofs.lemmas.List.{map-append}
-use Rattle.diva_ahead.proofs.Laying.{effects_more}
+use Rattle.diva_core.proofs.Laying.{effects_more}
 use Rattle.diva_ahead.proofs.ring.Ring.overlaid.Goals as goal
 
 pub loop-effect-preserved : goal.loop-effect-preserved

@@ -1,6 +1,6 @@
 use Rattle.std.proofs.Common.{◌≡◌, ◌+◌, Some, map}
 use Rattle.diva_isa.specs.State.{State, byte_of}
-use Rattle.diva_ahead.specs.Effects.{with_effects}
+use Rattle.diva_core.specs.Effects.{with_effects}
 use Rattle.diva_ahead.proofs.ring.Ring.overlaid.Given as goal
 
 abbrev pub invariant-loop-effect : goal.invariant-loop-effect

@@ -13,7 +13,7 @@ use Rattle.diva_isa.specs.declared.kind.Width.{Width}
 use Rattle.diva_isa.specs.declared.effect.Effect.{Effect}
 use Rattle.diva_isa.specs.declared.effect.Effect.TheVariants.{Nothing, Writes, Stores, Puts}
 use Rattle.diva_isa.proofs.Stored.{length_low_bytes}
-use Rattle.diva_ahead.specs.Effects.{with_effects, byte_in, is_apart}
+use Rattle.diva_core.specs.Effects.{with_effects, byte_in, is_apart}
 
 pub effects_append : (s : State) (older newer : List Effect) → with_effects s (older ++ newer) ≡ with_effects (with_effects s older) newer
 effects_append s [] newer = refl
@@ -25,7 +25,7 @@ over_nothing : (x : Option ℕ) → x ≡ over x None
 over_nothing None = refl
 over_nothing (Some x) = refl
 
-over_none : (x y : Option ℕ) → y ≡ None → over x y ≡ x
+pub over_none : (x y : Option ℕ) → y ≡ None → over x y ≡ x
 over_none None y e = refl
 over_none (Some x) y e = rw e refl
 
@@ -50,22 +50,23 @@ over_some : (b : ℕ) (newer : Option ℕ) → over (Some b) newer ≡ Some (unw
 over_some b None = refl
 over_some b (Some c) = refl
 
+pub effect_more : (s : State) (e : Effect) (a b : ℕ) → byte_of s a ≡ Some b → byte_of (with_effect s e) a ≡ Some (unwrap_or (byte_in e a) b)
+effect_more s e a b h = effect_byte s e a ∙ ap (λ (x : Option ℕ). over x (byte_in e a)) h ∙ over_some b (byte_in e a)
+
 -- one more
 pub effects_more : (s : State) (effects : List Effect) (e : Effect) (a b : ℕ)
     → byte_of (with_effects s effects) a ≡ Some b
     → byte_of (with_effects s (effects ++ e ∷ [])) a ≡ Some (unwrap_or (byte_in e a) b)
 effects_more s effects e a b h =
     ap (λ (t : State). byte_of t a) (effects_append s effects (e ∷ []))
-    ∙ effect_byte (with_effects s effects) e a
-    ∙ ap (λ (x : Option ℕ). over x (byte_in e a)) h
-    ∙ over_some b (byte_in e a)
+    ∙ effect_more (with_effects s effects) e a b h
 
 -- ---- what stays as it is
 
 apart_stored : (w : Width) (addr value a n i : ℕ) → is_apart (Stores w addr value) a n ≡ true → i < n → byte_in (Stores w addr value) (a + i) ≡ None
 apart_stored w addr value a n i h lt = grind (arith, common_steps, nat_tests, length_low_bytes w value)
 
-apart_byte : (e : Effect) (a n i : ℕ) → is_apart e a n ≡ true → i < n → byte_in e (a + i) ≡ None
+pub apart_byte : (e : Effect) (a n i : ℕ) → is_apart e a n ≡ true → i < n → byte_in e (a + i) ≡ None
 apart_byte Nothing a n i h lt = refl
 apart_byte (Writes rd value) a n i h lt = refl
 apart_byte (Stores width addr value) a n i h lt = apart_stored width addr value a n i h lt

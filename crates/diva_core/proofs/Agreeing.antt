@@ -1,0 +1,73 @@
+-- What the due record is of, told by a claim that agrees with it so far.
+use Rattle.std.proofs.Common.{◌≡◌, ℕ, Option, Some, None, Bool, List, [], ◌∷◌, refl, sym, ap, ◌∙◌}
+use Rattle.std.specs.Option.{is_some, unwrap_or}
+use Rattle.diva_decode.specs.declared.instr.Instr.{Instr}
+use Rattle.diva_decode.specs.Table.{row_of}
+use Rattle.diva_isa.specs.State.{State, word_of}
+use Rattle.diva_isa.specs.Step.{record_of, source1_of, source2_of, address_of, outcome_of, whole}
+use Rattle.diva_isa.specs.declared.record.Record.{Record}
+use Rattle.diva_isa.proofs.Parts.{parts, word_is}
+use Rattle.std.proofs.lemmas.Bool.{eq-eqb}
+use Rattle.diva_core.specs.declared.differences.Field.{Field}
+use Rattle.diva_core.specs.Difference.{difference_in, field_of}
+use Rattle.diva_core.specs.Stages.{fetch_fields, read_fields, address_fields, is_memory, is_memory_by}
+use Rattle.diva_core.proofs.Differing.{AreSame, in-none}
+
+-- a record with other operands, or another address
+abbrev pub with_operands : Record → ℕ → ℕ → Record
+with_operands r a b = record r { src1 = a; src2 = b }
+
+abbrev pub with_addr : Record → ℕ → Record
+with_addr r a = record r { addr = a }
+
+form_is : (r : Record) (s : State) → r.word ≡ (record_of s).word → row_of (unwrap_or (word_of s s.pc) 0) ≡ row_of r.word
+form_is r s e = ap row_of (sym (e ∙ word_is s))
+
+pub operands_filled : (r : Record) (s : State) → difference_in fetch_fields r (record_of s) ≡ None
+    → with_operands r (source1_of (row_of r.word) s) (source2_of (row_of r.word) s) ≡ with_operands r (record_of s).src1 (record_of s).src2
+operands_filled r s h =
+    let same = in-none fetch_fields r (record_of s) h in
+    let form = form_is r s same.1.0 in
+    let a = (parts s).src1 ∙ ap (λ (o : Option Instr). source1_of o s) form in
+    let b = (parts s).src2 ∙ ap (λ (o : Option Instr). source2_of o s) form in
+    λ i. record r { src1 = sym a i; src2 = sym b i }
+
+pub address_filled : (r : Record) (s : State) → difference_in read_fields r (record_of s) ≡ None
+    → with_addr r (address_of (row_of r.word) r.src1) ≡ with_addr r (record_of s).addr
+address_filled r s h =
+    let same = in-none read_fields r (record_of s) h in
+    let a = (parts s).addr ∙ ap (λ (o : Option Instr). address_of o (record_of s).src1) (form_is r s same.1.0) ∙ ap (address_of (row_of r.word)) (sym same.1.1.0) in
+    ap (with_addr r) (sym a)
+
+-- whether the word is there is asked only where it says nothing
+any_there : (b c : Bool) (form : Option Instr) (s : State) (pc x y z : ℕ) → (form ≡ None → b ≡ c) → outcome_of b form s pc x y z ≡ outcome_of c form s pc x y z
+any_there b c None s pc x y z h = rw (h refl) refl
+any_there b c (Some i) s pc x y z h = refl
+
+pub outcome_filled : (r : Record) (s : State) (there : Bool) (form : Option Instr) → form ≡ row_of r.word → (form ≡ None → there ≡ is_some (word_of s s.pc)) → difference_in address_fields r (record_of s) ≡ None
+    → whole r.pc r.word r.src1 r.src2 r.addr (outcome_of there form s r.pc r.src1 r.src2 r.addr) ≡ record_of s
+outcome_filled r s there form e t h =
+    let same = in-none address_fields r (record_of s) h in
+    let x = record_of s in
+    let is : form ≡ row_of (unwrap_or (word_of s s.pc) 0) = e ∙ sym (form_is r s same.1.0) in
+    ap (whole r.pc r.word r.src1 r.src2 r.addr) (any_there there (is_some (word_of s s.pc)) form s r.pc r.src1 r.src2 r.addr t)
+    ∙ rw (same.0, same.1.0, same.1.1.0, same.1.1.1.0, same.1.1.1.1.0, is) (sym (parts s).outcome)
+
+pub none-in : (fs : List Field) (p r : Record) → AreSame fs p r → difference_in fs p r ≡ None
+none-in [] p r e = refl
+none-in (f ∷ fs) p r e = rw (eq-eqb (field_of f p) (field_of f r) e.0) (none-in fs p r e.1)
+
+-- where the fields read agree, they do with the due address too
+pub placed_agrees : (r x : Record) → difference_in read_fields r x ≡ None → difference_in address_fields (with_addr r x.addr) x ≡ None
+placed_agrees r x h =
+    let same = in-none read_fields r x h in
+    none-in address_fields (with_addr r x.addr) x (same.0, (same.1.0, (same.1.1.0, (same.1.1.1.0, (refl, tt)))))
+
+-- a claim that agrees in its word is a load or a store where the due record is
+pub same_memory : (r x : Record) (b : Bool) → difference_in read_fields r x ≡ None → is_memory_by (row_of r.word) ≡ b → is_memory x ≡ b
+same_memory r x b h e = ap (λ (w : ℕ). is_memory_by (row_of w)) (sym (in-none read_fields r x h).1.0) ∙ e
+
+pub read_agrees : (r x : Record) → difference_in address_fields r x ≡ None → difference_in read_fields r x ≡ None
+read_agrees r x h =
+    let same = in-none address_fields r x h in
+    none-in read_fields r x (same.0, (same.1.0, (same.1.1.0, (same.1.1.1.0, tt))))

@@ -1,0 +1,113 @@
+-- The state in which a pending claim stands, one older claim at a time.
+use Rattle.std.proofs.Common.{◌≡◌, ◌≢◌, ◌<◌, ℕ, zero, suc, ◌+◌, ◌-◌, ◌*◌, ◌^◌, ◌==◌, ◌&&◌, not, List, [], ◌∷◌, length, map, slice_get, slice_index, Option, Some, None, true, if◌then◌else◌, refl, sym, ap, ◌∙◌, arith, add-one}
+use Rattle.std.proofs.lemmas.Option.{none-some, same_Some}
+use Rattle.std.proofs.lemmas.Grind.{common_steps}
+use Rattle.std.proofs.lemmas.Bool.Decides.{nat_tests}
+use Rattle.diva_memory.proofs.Writing.{same_number}
+use Rattle.diva_isa.specs.State.{State, byte_of, memory_of, number_of, word_of}
+use Rattle.diva_isa.specs.Regs.{with_reg}
+use Rattle.diva_isa.specs.Step.{apply, effect_of, with_effect}
+use Rattle.diva_isa.specs.declared.effect.Effect.{Effect}
+use Rattle.diva_isa.specs.declared.effect.Effect.TheVariants.{Nothing, Writes, Stores, Puts}
+use Rattle.diva_isa.specs.declared.record.Record.{Record}
+use Rattle.diva_core.specs.declared.pending.Entry.{Entry}
+use Rattle.diva_core.specs.Effects.{is_apart, with_effects}
+use Rattle.diva_core.specs.Older.{after, before_entry, bypassed, led, older, with_claims}
+use Rattle.std.specs.Option.{option_and_then, option_map}
+use Rattle.diva_core.proofs.Laying.{apart_byte, effect_byte, over_none}
+
+-- ---- where the state goes on, it is what is looked at
+
+apply_moves : (s : State) (r : Record) → s.end ≡ 0 → r.end ≡ 0 → apply s r ≡ record (with_effect s (effect_of r)) { pc = r.next }
+unfolding apply
+apply_moves s r on off = rw (on, off) refl
+
+apply_goes : (s : State) (r : Record) → (apply s r).end ≡ 0 → (s.end ≡ 0) × (r.end ≡ 0)
+unfolding apply
+apply_goes s r e = grind (arith, nat_tests)
+
+-- what ended does not go on again
+after_goes : (s : State) (rs : List Record) → (after s rs).end ≡ 0 → s.end ≡ 0
+after_goes s [] h = h
+after_goes s (r ∷ rs) h = (apply_goes s r (after_goes (apply s r) rs h)).0
+
+-- the pc is of no matter to an effect
+effect_pc : (s : State) (q : ℕ) (e : Effect) → record (with_effect s e) { pc = q } ≡ with_effect (record s { pc = q }) e
+effect_pc s q Nothing = refl
+effect_pc s q (Writes rd value) = refl
+effect_pc s q (Stores width addr value) = refl
+effect_pc s q (Puts byte) = refl
+
+effects_pc : (s : State) (q p : ℕ) (es : List Effect) → record (with_effects s es) { pc = p } ≡ record (with_effects (record s { pc = q }) es) { pc = p }
+effects_pc s q p [] = refl
+effects_pc s q p (e ∷ es) = effects_pc (with_effect s e) q p es ∙ ap (λ (t : State). record (with_effects t es) { pc = p }) (effect_pc s q e)
+
+after_is : (s : State) (rs : List Record) → (after s rs).end ≡ 0 → bypassed s rs ≡ after s rs
+after_is s [] h = refl
+after_is s (r ∷ rs) h =
+    let on = apply_goes s r (after_goes (apply s r) rs h) in
+    effects_pc (with_effect s (effect_of r)) r.next (led r.next rs) (map effect_of rs)
+    ∙ ap (λ (t : State). bypassed t rs) (sym (apply_moves s r on.0 on.1))
+    ∙ after_is (apply s r) rs h
+
+pub before_is : (s : State) (entries : List Entry) (k : ℕ) → (before_entry s entries k).end ≡ 0 → bypassed s (older entries k) ≡ before_entry s entries k
+before_is s entries k h = after_is s (older entries k) h
+
+-- ---- one older claim more
+
+pub claims_more : (s : State) (entries : List Entry) (k : ℕ) (e : Entry) → slice_get entries k ≡ Some e
+    → with_claims s (older entries (k + 1)) ≡ with_effect (with_claims s (older entries k)) (effect_of e.claim)
+claims_more s [] k e h = absurd (none-some _ h)
+claims_more s (x ∷ entries) zero e h = ap (λ (y : Entry). with_effect s (effect_of y.claim)) (same_Some _ _ h)
+claims_more s (x ∷ entries) (suc k) e h = rw add-one (rw add-one at (claims_more (with_effect s (effect_of x.claim)) entries k e h))
+
+led_more : (pc : ℕ) (entries : List Entry) (k : ℕ) (e : Entry) → slice_get entries k ≡ Some e → led pc (older entries (k + 1)) ≡ e.claim.next
+led_more pc [] k e h = absurd (none-some _ h)
+led_more pc (x ∷ entries) zero e h = ap (λ (y : Entry). y.claim.next) (same_Some _ _ h)
+led_more pc (x ∷ entries) (suc k) e h = rw add-one (rw add-one at (led_more x.claim.next entries k e h))
+
+-- the pc is where the last claim leads
+pub led_last : (pc : ℕ) (entries : List Entry) (k : ℕ) (e : Entry) → k ≢ 0 → slice_get entries (k - 1) ≡ Some e → led pc (older entries k) ≡ e.claim.next
+led_last pc entries k e n h =
+    let one : k ≡ k - 1 + 1 = omega arith in ap (λ (j : ℕ). led pc (older entries j)) one ∙ led_more pc entries (k - 1) e h
+
+-- ---- registers and output
+
+pub with_reg_reads : (regs : List ℕ) (d v n : ℕ) → n < length regs → slice_index (with_reg regs d v) n ≡ (if (d == n) && not (n == 0) then v else slice_index regs n)
+with_reg_reads regs d v n h = grind (arith, common_steps)
+
+with_reg_length : (regs : List ℕ) (d v : ℕ) → length (with_reg regs d v) ≡ length regs
+with_reg_length regs d v = grind (arith, common_steps)
+
+effect_regs : (s : State) (e : Effect) → length (with_effect s e).regs ≡ length s.regs
+effect_regs s Nothing = refl
+effect_regs s (Writes rd value) = with_reg_length s.regs rd value
+effect_regs s (Stores width addr value) = refl
+effect_regs s (Puts byte) = refl
+
+pub claims_regs : (s : State) (rs : List Record) → length (with_claims s rs).regs ≡ length s.regs
+claims_regs s [] = refl
+claims_regs s (r ∷ rs) = claims_regs (with_effect s (effect_of r)) rs ∙ effect_regs s (effect_of r)
+
+pub put_length : (s : State) (byte : ℕ) → length (with_effect s (Puts byte)).output ≡ length s.output + 1
+put_length s byte = grind (arith, common_steps)
+
+-- ---- memory
+
+-- a claim that stores beside a word keeps its bytes
+pub apart_kept : (s : State) (e : Effect) (a i : ℕ) → is_apart e a 4 ≡ true → i < 4 → byte_of (with_effect s e) (a + i) ≡ byte_of s (a + i)
+apart_kept s e a i h lt = effect_byte s e (a + i) ∙ over_none (byte_of s (a + i)) _ (apart_byte e a 4 i h lt)
+
+pub word_kept : (s t : State) (a : ℕ) → ((i : ℕ) → i < 4 → byte_of s (a + i) ≡ byte_of t (a + i)) → word_of s a ≡ word_of t a
+word_kept s t a h = rw (same_number (memory_of s) (memory_of t) 4 a h) refl
+
+-- a half word of which a byte is outside
+pub half_none : (s : State) (a : ℕ) → byte_of s a ≡ None → number_of s 2 a ≡ None
+half_none s a h = rw h refl
+
+high_none : (low : Option ℕ) → option_and_then (λ (b : ℕ). option_map (λ (c : ℕ). b + 2 ^ 8 * c) None) low ≡ None
+high_none None = refl
+high_none (Some b) = refl
+
+pub half_high_none : (s : State) (a : ℕ) → byte_of s (a + 1) ≡ None → number_of s 2 a ≡ None
+half_high_none s a h = rw h (high_none (byte_of s a))
