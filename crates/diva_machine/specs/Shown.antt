@@ -1,12 +1,13 @@
 -- What contracts see of a machine and of its parts.
-use Rattle.std.specs.Prelude.{ℕ, ◌≡◌, ◌≤◌, ◌+◌, ◌-◌, ◌^◌, ◌==◌, nat_lt, nat_le, Bool, false, List, [], ◌∷◌, length, Option, Some, None, if◌then◌else◌}
+use Rattle.std.specs.Prelude.{ℕ, ◌≡◌, ◌≤◌, ◌+◌, ◌-◌, ◌^◌, ◌==◌, nat_lt, List, length, Option, Some, None, if◌then◌else◌}
 use Rattle.diva_isa.specs.State.{State}
 use Rattle.diva_isa.specs.Step.{IsEnd}
 use Rattle.diva_isa.specs.declared.record.Record.{Record}
-use Rattle.diva_memory.specs.Bytes.{Bytes, IsInside}
+use Rattle.diva_memory.specs.Bytes.{Bytes}
 use Rattle.diva_storeq.specs.declared.store.Store.{Store}
-use Rattle.diva_core.specs.Timed.{Timed, Waiting, depth}
-use Rattle.diva_core.specs.Machine.{ArePast, IsMachine}
+use Rattle.diva_commit.specs.Committing.{AreInside}
+use Rattle.diva_core.specs.Timed.{Timed, Waiting}
+use Rattle.diva_core.specs.Machine.{IsMachine}
 use Rattle.diva_core.specs.declared.flushes.FlushRow.{FlushRow}
 use Rattle.diva_core.specs.declared.pending.Entry.{Entry}
 use Rattle.diva_watchdog.specs.declared.recover.Recover.{Recover}
@@ -14,10 +15,12 @@ use Rattle.diva_watchdog.specs.declared.recover.Recover.TheVariants.{Running, So
 use Rattle.diva_machine.specs.declared.ends.End.{End}
 use Rattle.diva_machine.specs.declared.ends.End.TheVariants.{GoesOn, Halt, Trap}
 
--- a machine, and the records that its last cycle committed
+-- a machine, the records that its last cycle committed, and what it has noted of the claims that are pending, the oldest
+-- first
 pub record Shown : Type 0 where
   pub timed : Timed
   pub last : List Record
+  pub entries : List Entry
 
 -- what holds of a machine between two cycles
 pub record IsSound (m : Timed) : Type 0 where
@@ -29,15 +32,6 @@ pub record Stored : Type 0 where
   pub state : State
   pub owed : ℕ
   pub stores : ℕ
-
--- the state of these parts, m being memory with the undrained stores laid over it
-abbrev pub state_of : (regs : List ℕ) (pc : ℕ) → Bytes → (output : List ℕ) (end : ℕ) → State
-state_of regs pc m output end = record { regs = regs; pc = pc; base = m.base; bytes = m.items; output = output; end = end }
-
--- each of the stores lies inside memory
-abbrev pub AreInside : Bytes → List Store → Type 0
-AreInside m [] = Unit {0}
-AreInside m (s ∷ stores) = IsInside m s.addr s.width × AreInside m stores
 
 -- what holds of the committed state: memory ends at 2^32 at the latest, the undrained stores lie inside it, and the end is
 -- one that a record can have
@@ -62,12 +56,6 @@ pub record KeepsBounds (m last : Timed) : Type 0 where
   pub pending : length last.pending ≤ length m.pending
   pub flushes : last.flushes ≤ m.flushes + 1
   pub silent : last.silent ≤ m.silent + 1
-  pub past : ArePast m.cycles m.pending → ArePast last.cycles last.pending
-
--- there is a front claim, and it has passed through the checker's stages
-abbrev pub is_front_ready : ℕ → List Waiting → Bool
-is_front_ready cycles [] = false
-is_front_ready cycles (p ∷ rest) = nat_le (p.cycle + depth) cycles
 
 -- a pending entry as the timed machine has it
 abbrev pub waiting_of : Entry → Waiting

@@ -1,0 +1,79 @@
+-- What the checker's stages have noted so far of each pending claim, and of the solo instruction.
+use Rattle.std.specs.Prelude.{ℕ, zero, suc, ◌≡◌, ◌+◌, ◌-◌, ◌≤◌, ◌<◌, nat_le, Bool, List, [], ◌∷◌, map, drop, Option, Some, None, slice_get, ⊤, if◌then◌else◌}
+use Rattle.diva_decode.specs.declared.instr.Instr.{Instr}
+use Rattle.diva_decode.specs.Table.{row_of}
+use Rattle.diva_isa.specs.State.{State}
+use Rattle.diva_isa.specs.declared.record.Record.{Record}
+use Rattle.diva_core.specs.declared.pending.Entry.{Entry}
+use Rattle.diva_core.specs.Older.{before_entry}
+use Rattle.diva_core.specs.Stages.{HasVerdict, IsFilled}
+use Rattle.diva_core.specs.Timed.{Timed, Waiting}
+use Rattle.diva_machine.specs.Shown.{waiting_of}
+
+-- the decoded form of a claim with this word: it is noted at age 2
+abbrev pub decoded_at : (age : ℕ) (word : ℕ) → Option Instr
+decoded_at age word = if nat_le 2 age then row_of word else None
+
+-- an entry of this age that stands in the state s has its verdict and its decoded form
+pub record IsChecked (s : State) (age : ℕ) (e : Entry) : Type 0 where
+  pub verdict : HasVerdict s age e
+  pub decoded : e.decoded ≡ decoded_at age e.claim.word
+
+-- so has each of the pending ones after the cycle `now`, behind a committed state
+abbrev pub AreChecked : State → (now : ℕ) → List Entry → Type 0
+AreChecked arch now entries =
+    (at : ℕ) (e : Entry) → slice_get entries at ≡ Some e → IsChecked (before_entry arch entries at) (now - e.cycle) e
+
+-- ---- between two phases
+
+-- the age at which a claim passes through the last stage
+abbrev pub last_stage : ℕ
+last_stage = 5
+
+-- how many of the claims, from the oldest on, are past the last stage
+abbrev pub passed_by : (now : ℕ) → List Waiting → ℕ
+passed_by now [] = 0
+passed_by now (p ∷ rest) = if nat_le (p.cycle + last_stage) now then suc (passed_by now rest) else 0
+
+-- the claims were accepted one behind the other, from the cycle `from` on and until `now`
+abbrev pub AreInOrder : (from now : ℕ) → List Waiting → Type 0
+AreInOrder from now [] = from ≤ now
+AreInOrder from now (p ∷ rest) = (from ≤ p.cycle) × AreInOrder p.cycle now rest
+
+-- the record of an instruction that started solo in a cycle has the fields of its age
+abbrev pub IsFilledSince : State → (now : ℕ) → Option ℕ → Record → Type 0
+IsFilledSince arch now None r = ⊤
+IsFilledSince arch now (Some start) r = IsFilled arch (now - start) r
+
+-- the parts of a machine: the timed machine, what its last cycle committed, the entries of the pending claims, how many of
+-- them are past the last stage, and the record of the solo instruction
+pub record Staged : Type 0 where
+  pub timed : Timed
+  pub last : List Record
+  pub entries : List Entry
+  pub passed : ℕ
+  pub filled : Record
+
+-- what holds of the pending claims where the stages of the cycle `now` have run
+pub record IsStaged (now : ℕ) (w : Staged) : Type 0 where
+  pub checked : AreChecked w.timed.arch now w.entries
+  pub ordered : AreInOrder 0 now w.timed.pending
+  pub passed : w.passed ≡ passed_by now w.timed.pending
+
+-- and of the solo instruction
+abbrev pub IsSoloFilled : (now : ℕ) → Staged → Type 0
+IsSoloFilled now w = IsFilledSince w.timed.arch now w.timed.solo w.filled
+
+-- the entries before a place have gone through the stages of the cycle now + 1, the others through those of `now`
+pub record IsAdvanced (arch : State) (now at : ℕ) (entries : List Entry) : Type 0 where
+  pub below : (k : ℕ) (e : Entry) → k < at → slice_get entries k ≡ Some e → IsChecked (before_entry arch entries k) (now + 1 - e.cycle) e
+  pub from : (k : ℕ) (e : Entry) → at ≤ k → slice_get entries k ≡ Some e → IsChecked (before_entry arch entries k) (now - e.cycle) e
+
+-- the front entry is gone, and all others too where the machine does not go on
+abbrev pub left : Bool → Staged → Staged
+left goes w =
+    record w {
+      timed = record w.timed { pending = if goes then map waiting_of (drop 1 w.entries) else [] };
+      entries = if goes then drop 1 w.entries else [];
+      passed = if goes then w.passed - 1 else 0;
+    }
