@@ -1,20 +1,22 @@
 // The committed state: registers, pc, output and end, and memory with the stores that are owed to it.
-ghost use Rattle.std.specs.Prelude.{◌≡◌, ◌<◌, ◌≤◌, ◌+◌, ◌-◌, ◌==◌, ◌↔◌, ℕ, true, length, IfOk, IsTrue};
-ghost use Rattle.diva_isa.specs.State.{goes_on, GoesOn, memory_of};
-ghost use Rattle.diva_isa.specs.Kind.{size};
-ghost use Rattle.diva_isa.specs.Step.{apply, effect_of, record_of, with_effect, HasRoom, IsEnd};
-ghost use Rattle.diva_memory.specs.Bytes.{IsInside};
+ghost use Rattle.std.specs.Prelude.{◌≡◌, ◌≤◌, ◌+◌, ◌-◌, ◌==◌, true, false, length, None, IfOk};
+ghost use Rattle.diva_decode.specs.Table.{row_of};
+ghost use Rattle.diva_isa.specs.State.{goes_on, GoesOn};
+ghost use Rattle.diva_isa.specs.Step.{apply, record_of};
 ghost use Rattle.diva_image.specs.View.{layout};
 ghost use Rattle.diva_core.specs.Cycle.{number, puts_store};
+ghost use Rattle.diva_commit.specs.Committing.{answer, is_committed};
 ghost use Rattle.diva_machine.specs.Start.{start_of};
 ghost use Rattle.diva_machine.specs.Shown.{end_of, end_number};
 
 use crate::ends::End;
-use diva_core::{Output, View};
+use diva_commit::{Committed, commit_by};
+use diva_core::{Diff, Output, View};
+use diva_decode::Instr;
 use diva_image::Image;
-use diva_isa::{Effect, Record, Regs, Width, effect_of, record_of};
+use diva_isa::{Record, Regs};
 use diva_memory::Memory;
-use diva_storeq::{Store, StoreQueue};
+use diva_storeq::StoreQueue;
 use std::alloc::{AllocError, Global};
 use std::marker::Model;
 
@@ -33,7 +35,8 @@ pub(crate) struct Arch {
 impl Model for Arch {
     ghost use Rattle.std.specs.Prelude.{length};
     ghost use Rattle.diva_storeq.specs.Stores.{laid};
-    ghost use Rattle.diva_machine.specs.Shown.{Stored, state_of, IsKept};
+    ghost use Rattle.diva_commit.specs.Committing.{state_of};
+    ghost use Rattle.diva_machine.specs.Shown.{Stored, IsKept};
 
     ghost Value = { Stored };
 
@@ -103,22 +106,6 @@ impl Arch {
         }
     }
 
-    /// Whether no further store can be owed to memory.
-    pub fn is_full(&self) -> bool
-        ensures value { result ≡ (self.now.owed == self.now.stores) }
-        ensures within { self.now.owed ≤ self.now.stores }
-    {
-        self.queue.full()
-    }
-
-    /// The record of the next instruction of a state that goes on.
-    pub fn due(&self) -> Record
-        requires { GoesOn self.now.state }
-        ensures { result ≡ record_of self.now.state }
-    {
-        record_of(&self.view())
-    }
-
     /// Puts the oldest undrained store to memory, if there is one.
     pub fn drain(&mut self)
         ensures state { self.new.state ≡ self.old.state }
@@ -128,49 +115,33 @@ impl Arch {
         self.queue.drain(&mut self.memory);
     }
 
-    /// Does what the due record says; a store goes to the queue.
-    pub fn apply(&mut self, r: &Record)
+    /// Judges a record by its verdict, and commits it where there is none and its store has a place: `form` is what its
+    /// word says.
+    #[inline]
+    pub fn commit(&mut self, form: Option<Instr>, r: &Record, verdict: Option<Diff>) -> Committed
         requires goes_on { GoesOn self.old.state }
-        requires due { r.now ≡ record_of self.old.state }
-        requires space { puts_store r.now ≡ true → self.old.owed < self.old.stores }
-        ensures state { self.new.state ≡ apply self.old.state r.now }
-        ensures owed { self.new.owed ≡ self.old.owed + number (puts_store r.now) }
+        requires due { verdict ≡ None → r.now ≡ record_of self.old.state }
+        requires form { form ≡ row_of r.now.word }
+        ensures answer { result ≡ answer verdict r.now (self.old.owed == self.old.stores) }
+        ensures stays { is_committed result ≡ false → self.new ≡ self.old }
+        ensures state { is_committed result ≡ true → self.new.state ≡ apply self.old.state r.now }
+        ensures owed { is_committed result ≡ true
+            → self.new.owed ≡ self.old.owed + number (puts_store r.now) }
         ensures stores { self.new.stores ≡ self.old.stores }
     {
-        self.act(r);
-    }
-
-    #[tactic(auto, unfolding(diva_isa::specs::Step::apply, diva_core::specs::Cycle::puts_store))]
-    fn act(&mut self, r: &Record)
-        requires goes_on { GoesOn self.old.state }
-        requires room { r.now.end ≡ 0 → HasRoom self.old.state (effect_of r.now) }
-        requires ends { IsEnd r.now.end }
-        requires space { puts_store r.now ≡ true → self.old.owed < self.old.stores }
-        ensures state { self.new.state ≡ apply self.old.state r.now }
-        ensures owed { self.new.owed ≡ self.old.owed + number (puts_store r.now) }
-        ensures stores { self.new.stores ≡ self.old.stores }
-    {
-        if r.end != 0 {
+        let answer = commit_by(
+            &mut self.regs,
+            &mut self.pc,
+            &self.memory,
+            &mut self.queue,
+            &mut self.output,
+            form,
+            r,
+            verdict,
+        );
+        if answer.is_committed() {
             self.end = r.end;
-            return;
         }
-        match effect_of(r) {
-            Effect::Nothing => {}
-            Effect::Writes { rd, value } => self.regs.set(rd, value),
-            Effect::Stores { width, addr, value } => self.store(width, addr, value),
-            Effect::Puts(byte) => self.output.push(byte),
-        }
-        self.pc = r.next;
-    }
-
-    fn store(&mut self, width: Width, addr: u32, value: u32)
-        requires inside { IsInside (memory_of self.old.state) addr (size width) }
-        requires space { self.old.owed < self.old.stores }
-        ensures state { self.new.state ≡ with_effect self.old.state (Effect.Stores width addr value) }
-        ensures owed { self.new.owed ≡ self.old.owed + 1 }
-        ensures stores { self.new.stores ≡ self.old.stores }
-    {
-        let width = width.size() as u8;
-        self.queue.push(Store { addr, width, value });
+        answer
     }
 }

@@ -3,6 +3,7 @@
 //! - `config`: how wide and deep the machine is, `Config`;
 //! - `arch`: the committed state over memory and store queue;
 //! - `log`: the flushes, as rows and as counts;
+//! - `stages`: what a pending claim passes through at each age;
 //! - `works`: the parts of the machine, and the phases of a cycle over them;
 //! - `machine`: the machine between cycles, `Machine`;
 //! - `ends`: how a machine ended, `End`, and how a drive stopped, `Drive`;
@@ -17,6 +18,7 @@ mod config;
 mod ends;
 mod log;
 mod machine;
+mod stages;
 mod turns;
 mod works;
 

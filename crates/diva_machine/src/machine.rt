@@ -3,7 +3,7 @@ ghost use Rattle.std.specs.Prelude.{◌≡◌, ◌⊎◌, ◌+◌, ◌-◌, ◌*
 ghost use Rattle.diva_isa.specs.State.{goes_on, GoesOn};
 ghost use Rattle.diva_isa.specs.Step.{steps};
 ghost use Rattle.diva_image.specs.View.{layout};
-ghost use Rattle.diva_core.specs.Entries.{IsUnchecked};
+ghost use Rattle.diva_core.specs.Older.{before_entry};
 ghost use Rattle.diva_core.specs.Timed.{Timed, Waiting, depth, new_timed};
 ghost use Rattle.diva_core.specs.Told.{notice_of};
 ghost use Rattle.diva_core.specs.Cycle.{begun, cycle_of, drained};
@@ -12,6 +12,7 @@ ghost use Rattle.diva_core.specs.Headline.{dues, Rises, ByClaims, ByItself, IsJu
 ghost use Rattle.diva_core.specs.Right.{IsRight, IsCalm, StaysCalm};
 ghost use Rattle.diva_machine.specs.Start.{start_of};
 ghost use Rattle.diva_machine.specs.Shown.{end_of, end_number, waiting_of};
+ghost use Rattle.diva_machine.specs.Staged.{AreChecked, IsChecked};
 
 use crate::DEPTH;
 use crate::config::Config;
@@ -38,12 +39,14 @@ impl Model for Machine {
     ghost use Rattle.std.specs.Prelude.{◌≤◌, ◌^◌};
     ghost use Rattle.diva_core.specs.Machine.{IsMachine};
     ghost use Rattle.diva_machine.specs.Shown.{Shown, IsSound};
+    ghost use Rattle.diva_machine.specs.Staged.{IsSoloFilled, IsStaged};
 
     ghost Value = { Shown };
 
-    ghost view = { λ m. m.works };
+    ghost view = { λ m. record { timed = m.works.timed; last = m.works.last; entries = m.works.entries } };
 
-    ghost invariant = { λ m. IsSound m.works.timed };
+    ghost invariant = { λ m. IsSound m.works.timed
+        × (IsStaged m.works.timed.cycles m.works × IsSoloFilled m.works.timed.cycles m.works) };
 }
 
 impl Machine {
@@ -53,6 +56,7 @@ impl Machine {
     pub fn new(alloc: Global, image: &Image, config: Config) -> Result<Self, AllocError>
         ensures timed { IfOk result (λ m. m.timed ≡ new_timed config (start_of (layout image.now))) }
         ensures last { IfOk result (λ m. m.last ≡ []) }
+        ensures entries { IfOk result (λ m. m.entries ≡ []) }
         ensures counts { IfOk result (λ m. WillCount m.timed) }
         ensures paced { IfOk result (λ m. HasPace m.timed) }
         ensures calm { IfOk result (λ m. IsCalm m.timed) }
@@ -89,13 +93,18 @@ impl Machine {
         self.works.arch.view()
     }
 
-    /// The pending claim at a place, the oldest being at 0, with the cycle in which it was accepted.
-    /// A claim is compared whole when it is judged, so until then nothing is noted of it: its decoded
-    /// form and its verdict are `None`.
+    /// The pending claim at a place, the oldest being at 0, with the cycle in which it was accepted, and with what the
+    /// checker's stages have noted so far. From age 2 on (an age counts the cycles since the claim was accepted) it has its
+    /// decoded form. Its verdict is the first difference from the record that is due after the older claims, in the fields
+    /// that are compared by its age; where one of those claims has ended the machine nothing is said of it.
     pub fn entry(&self, at: usize) -> Entry
         requires { at < length self.now.timed.pending }
-        ensures entry { slice_get self.now.timed.pending at ≡ Some (waiting_of result) }
-        ensures unchecked { IsUnchecked result }
+        ensures entry { slice_get self.now.entries at ≡ Some result }
+        ensures waits { slice_get self.now.timed.pending at ≡ Some (waiting_of result) }
+        ensures checked { IsChecked
+            (before_entry self.now.timed.arch self.now.entries at)
+            (self.now.timed.cycles - result.cycle)
+            result }
     {
         self.works.entry(at)
     }
@@ -206,6 +215,10 @@ impl Machine {
         // A right list leaves a calm machine calm, and leads to no flush.
         ensures calm { IsCalm self.old.timed → IsRight self.old.timed list.now
             → StaysCalm self.old.timed self.new.timed }
+
+        // The stages have checked each pending claim as far as its age goes; an ended machine keeps what it noted.
+        ensures checked { AreChecked self.new.timed.arch self.new.timed.cycles self.new.entries }
+        ensures stays { goes_on self.old.timed.arch ≡ false → self.new.entries ≡ self.old.entries }
 
         // Nothing ready is held up.
         ensures drained { (drained (begun self.old.timed)).owed < self.old.timed.sizes.stores }

@@ -21,6 +21,7 @@ pub fn turn<C: Core>(m: &mut Machine, core: &mut C, list: &mut Claims)
         → C.gives core.old (notice_of m.old.timed) m.old.timed.arch list.new core.new }
     ensures ended { goes_on m.old.timed.arch ≡ false
         → (m.new.timed ≡ m.old.timed) × (m.new.last ≡ []) × (core.new ≡ core.old) × (list.new ≡ []) }
+    ensures stays { goes_on m.old.timed.arch ≡ false → m.new.entries ≡ m.old.entries }
 
     // The committed state is the table's after the counted instructions, each committed by an
     // equal claim or by the checker alone, and each flush has its cause.

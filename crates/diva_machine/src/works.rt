@@ -3,27 +3,34 @@
 //
 // In most cycles nothing is ready. So what each cycle does stands in the loop that drives the
 // machine (`inline(always)`), and what few cycles do is called (`inline(never)`, `cold`).
-ghost use Rattle.std.specs.Prelude.{◌≡◌, ◌+◌, ◌-◌, ◌*◌, ◌<◌, ◌≤◌, ◌^◌, ◌++◌, [], ◌∷◌, length, map, take, slice_get, Some, IfOk, IsTrue, List, true, not, ◌==◌, if◌then◌else◌};
+ghost use Rattle.std.specs.Prelude.{◌≡◌, ◌+◌, ◌-◌, ◌*◌, ◌<◌, ◌≤◌, ◌^◌, ◌++◌, [], ◌∷◌, ℕ, length, map, take, slice_get, None, Some, IfOk, IsTrue, List, true, false, not, ◌==◌, if◌then◌else◌};
 ghost use Rattle.diva_isa.specs.declared.record.Record.{Record};
-ghost use Rattle.diva_isa.specs.State.{goes_on, GoesOn};
+ghost use Rattle.diva_isa.specs.State.{State, goes_on, GoesOn};
 ghost use Rattle.diva_isa.specs.Step.{record_of, steps};
 ghost use Rattle.diva_image.specs.View.{layout};
-ghost use Rattle.diva_core.specs.Entries.{IsUnchecked, AreUnchecked};
+ghost use Rattle.diva_decode.specs.Table.{row_of};
 ghost use Rattle.diva_core.specs.Timed.{Timed, new_timed, room_of};
-ghost use Rattle.diva_core.specs.Machine.{ArePast, IsMachine, IsSizes};
+ghost use Rattle.diva_core.specs.declared.pending.Entry.{Entry};
+ghost use Rattle.diva_core.specs.Machine.{IsMachine, IsSizes};
 ghost use Rattle.diva_core.specs.Headline.{dues, SameLog};
 ghost use Rattle.diva_core.specs.Cycle.{accepted_in, accepts, by_front, commits, committed, cycle_of, drained, flushed, judged, puts_store, watched};
+ghost use Rattle.diva_commit.specs.Committing.{answer, is_committed};
+ghost use Rattle.diva_core.specs.Stages.{IsFilled};
 ghost use Rattle.diva_machine.specs.Start.{start_of};
-ghost use Rattle.diva_machine.specs.Shown.{is_front_ready, waiting_of, KeepsBounds};
+ghost use Rattle.diva_machine.specs.Shown.{waiting_of, KeepsBounds};
+ghost use Rattle.diva_machine.specs.Staged.{left, AreChecked, IsSoloFilled, IsStaged};
 
 use crate::DEPTH;
 use crate::arch::Arch;
 use crate::config::Config;
 use crate::log::Log;
+use crate::stages::{LAST_STAGE, fill, pass};
 use arrayvec::ArrayVec;
-use diva_core::{Cause, Claim, Entry, FlushRow, Pending, first_difference};
+use diva_commit::Committed;
+use diva_core::{Cause, Claim, Entry, FlushRow, Pending};
+use diva_decode::decode;
 use diva_image::Image;
-use diva_isa::{Effect, Record, effect_of};
+use diva_isa::Record;
 use diva_watchdog::{Recover, Watchdog};
 use std::alloc::{AllocError, Global};
 use std::marker::Model;
@@ -35,7 +42,11 @@ pub(crate) struct Works {
     pub(crate) count: u64,
     pub(crate) cycles: u64,
     pub(crate) pending: Pending,
+    /// How many of the pending claims, the oldest, are past the last stage.
+    passed: usize,
     recover: Recover,
+    /// The record of the solo instruction, as far as the stages have filled it.
+    filled: Record,
     pub(crate) watchdog: Watchdog,
     pub(crate) log: Log,
     /// What the last cycle committed.
@@ -44,10 +55,10 @@ pub(crate) struct Works {
 
 impl Model for Works {
     ghost use Rattle.std.specs.Prelude.{map};
-    ghost use Rattle.diva_core.specs.Entries.{AreUnchecked};
-    ghost use Rattle.diva_machine.specs.Shown.{Shown, waiting_of, solo_of};
+    ghost use Rattle.diva_machine.specs.Shown.{waiting_of, solo_of};
+    ghost use Rattle.diva_machine.specs.Staged.{Staged};
 
-    ghost Value = { Shown };
+    ghost Value = { Staged };
 
     ghost view = { λ m. record {
       timed = record {
@@ -65,9 +76,10 @@ impl Model for Works {
         silent = m.log.silent;
       };
       last = m.last.items;
+      entries = m.pending.items;
+      passed = m.passed;
+      filled = m.filled;
     } };
-
-    ghost invariant = { λ m. AreUnchecked m.pending.items };
 }
 
 impl Works {
@@ -76,6 +88,8 @@ impl Works {
         ensures timed { IfOk result (λ m. m.timed ≡ new_timed config (start_of (layout image.now))) }
         ensures sizes { IfOk result (λ m. IsSizes m.timed.sizes) }
         ensures last { IfOk result (λ m. m.last ≡ []) }
+        ensures entries { IfOk result (λ m. m.entries ≡ []) }
+        ensures passed { IfOk result (λ m. m.passed ≡ 0) }
     {
         Ok(Works {
             width: config.width(),
@@ -83,7 +97,9 @@ impl Works {
             count: 0,
             cycles: 0,
             pending: Pending::new(alloc, config.window() as usize)?,
+            passed: 0,
             recover: Recover::Running,
+            filled: Record::default(),
             watchdog: Watchdog::new(config.limit()),
             log: Log::new(alloc)?,
             last: ArrayVec::new(),
@@ -107,11 +123,10 @@ impl Works {
     }
 
     /// The pending claim at a place, the oldest being at 0.
-    #[tactic(auto, using(diva_core::proofs::Unchecked::unchecked_at))]
     pub fn entry(&self, at: usize) -> Entry
         requires { at < length self.now.timed.pending }
-        ensures entry { slice_get self.now.timed.pending at ≡ Some (waiting_of result) }
-        ensures unchecked { IsUnchecked result }
+        ensures entry { slice_get self.now.entries at ≡ Some result }
+        ensures waits { slice_get self.now.timed.pending at ≡ Some (waiting_of result) }
     {
         self.pending.entry(at)
     }
@@ -125,8 +140,7 @@ impl Works {
 
     /// Forgets what the last cycle committed.
     pub fn forget_last(&mut self)
-        ensures timed { self.new.timed ≡ self.old.timed }
-        ensures last { self.new.last ≡ [] }
+        ensures { self.new ≡ record self.old { last = [] } }
     {
         // One by one, since they are few: `clear` fills their places by a call.
         let last = &mut self.last;
@@ -148,8 +162,7 @@ impl Works {
     /// Phase 1: the oldest undrained store goes to memory.
     #[tactic(auto, unfolding(diva_core::specs::Cycle::drained))]
     fn drain(&mut self)
-        ensures timed { self.new.timed ≡ drained self.old.timed }
-        ensures last { self.new.last ≡ self.old.last }
+        ensures { self.new ≡ record self.old { timed = drained self.old.timed } }
     {
         self.arch.drain();
     }
@@ -160,8 +173,7 @@ impl Works {
     fn flush(&mut self, cause: Cause)
         requires flushes { self.old.timed.flushes < 2 ^ 63 }
         requires silent { self.old.timed.silent < 2 ^ 63 }
-        ensures timed { self.new.timed ≡ flushed self.old.timed cause }
-        ensures last { self.new.last ≡ self.old.last }
+        ensures { self.new ≡ record self.old { timed = flushed self.old.timed cause; entries = []; passed = 0 } }
     {
         let row = FlushRow {
             cycle: self.cycles,
@@ -169,36 +181,57 @@ impl Works {
             cause,
         };
         self.pending.clear();
+        self.passed = 0;
         self.recover = Recover::Solo(self.cycles);
         self.log.add(row);
     }
 
-    /// Commits the due record.
+    /// Judges the front claim by its verdict, and commits it where there is none. It stays at the front.
+    #[inline]
     #[tactic(auto, unfolding(diva_core::specs::Cycle::committed))]
-    fn commit(&mut self, due: &Record)
+    fn settle_front(&mut self) -> Committed
+        requires there { 0 < length self.old.entries }
         requires goes_on { GoesOn self.old.timed.arch }
-        requires due { due.now ≡ record_of self.old.timed.arch }
-        requires space { puts_store due.now ≡ true
-            → self.old.timed.owed < self.old.timed.sizes.stores }
+        requires due { (e : Entry) → slice_get self.old.entries 0 ≡ Some e → e.verdict ≡ None
+            → e.claim ≡ record_of self.old.timed.arch }
+        requires form { (e : Entry) → slice_get self.old.entries 0 ≡ Some e
+            → e.decoded ≡ row_of e.claim.word }
         requires count { self.old.timed.count < 2 ^ 63 }
         requires last { length self.old.last < 4 }
-        ensures timed { self.new.timed ≡ committed self.old.timed due.now }
-        ensures last { self.new.last ≡ self.old.last ++ due.now ∷ [] }
+        ensures answer { (e : Entry) → slice_get self.old.entries 0 ≡ Some e
+            → result ≡ answer e.verdict e.claim (self.old.timed.owed == self.old.timed.sizes.stores) }
+        ensures stays { is_committed result ≡ false → self.new ≡ self.old }
+        ensures commits { (e : Entry) → slice_get self.old.entries 0 ≡ Some e → is_committed result ≡ true
+            → self.new ≡ record self.old {
+              timed = committed self.old.timed e.claim;
+              last = self.old.last ++ e.claim ∷ [];
+            } }
     {
-        self.arch.apply(due);
-        self.count += 1;
-        self.last.push(*due);
+        let front = self.pending.at(0);
+        let answer = self.arch.commit(front.decoded, &front.claim, front.verdict);
+        if answer.is_committed() {
+            self.count += 1;
+            self.last.push(front.claim);
+        }
+        answer
     }
 
-    /// Whether there is a front claim that has passed through the checker's stages.
-    fn is_front_ready(&self) -> bool
-        requires { ArePast self.now.timed.cycles self.now.timed.pending }
-        ensures { result ≡ is_front_ready self.now.timed.cycles self.now.timed.pending }
+    /// Takes out the front claim, which has committed, and all others where that ended the machine; answers whether it
+    /// goes on.
+    fn leave_front(&mut self) -> bool
+        requires there { 0 < length self.old.entries }
+        requires passed { 0 < self.old.passed }
+        ensures goes_on { result ≡ goes_on self.old.timed.arch }
+        ensures left { self.new ≡ left result self.old }
     {
-        match self.pending.front() {
-            Some(front) => self.cycles - front.cycle >= DEPTH,
-            None => false,
+        self.pending.pop();
+        self.passed -= 1;
+        if !self.arch.goes_on() {
+            self.pending.clear();
+            self.passed = 0;
+            return false;
         }
+        true
     }
 
     /// Judges the front claim, which is ready; answers whether a further one is to be judged. The
@@ -206,13 +239,16 @@ impl Works {
     #[inline(never)]
     #[tactic(auto, unfolding(diva_core::specs::Cycle::committed, diva_core::specs::Cycle::flushed))]
     fn judge_front(&mut self) -> bool
-        requires ready { is_front_ready self.old.timed.cycles self.old.timed.pending ≡ true }
+        requires ready { 0 < self.old.passed }
         requires goes_on { GoesOn self.old.timed.arch }
         requires owed { self.old.timed.owed ≤ self.old.timed.sizes.stores }
         requires count { self.old.timed.count < 2 ^ 63 }
         requires flushes { self.old.timed.flushes < 2 ^ 63 }
         requires silent { self.old.timed.silent < 2 ^ 63 }
         requires last { length self.old.last < 4 }
+        requires cycles { 1 ≤ self.old.timed.cycles }
+        requires running { self.old.timed.solo ≡ None }
+        requires staged { IsStaged (self.old.timed.cycles - 1) self.old }
         ensures judges { (next : Timed → Timed)
             → by_front next self.old.timed self.old.timed.pending
             ≡ (if result then next self.new.timed else self.new.timed) }
@@ -223,28 +259,25 @@ impl Works {
             ≡ steps (self.new.timed.count - self.old.timed.count) self.old.timed.arch }
         ensures last { self.new.last
             ≡ self.old.last ++ dues (self.new.timed.count - self.old.timed.count) self.old.timed.arch }
+        ensures running { IsTrue result → self.new.timed.solo ≡ None }
         ensures same { IsTrue result → SameLog self.old.timed self.new.timed }
         ensures bounds { KeepsBounds self.old.timed self.new.timed }
+        ensures staged { IsStaged (self.new.timed.cycles - 1) self.new }
+        ensures solo { IsSoloFilled self.new.timed.cycles self.new }
     {
-        let due = self.arch.due();
-        let front = self.pending.front().unwrap();
-        if let Some(diff) = first_difference(&front.claim, &due) {
+        let answer = self.settle_front();
+        if let Committed::Differs(diff) = answer {
             self.flush(Cause::Differs(diff));
             return false;
         }
-        if self.arch.is_full() && puts_store(&due) {
+        if !answer.is_committed() {
             return false;
         }
-        self.pending.pop();
-        self.commit(&due);
-        if !self.arch.goes_on() {
-            self.pending.clear();
-            return false;
-        }
-        true
+        self.leave_front()
     }
 
     /// Judges at most `n` ready claims, oldest first.
+    #[inline(never)]
     #[tactic(auto, using(crate::proofs::Fronts::judged_less))]
     fn judge(&mut self, n: u32)
         requires width { n ≤ 4 }
@@ -253,16 +286,20 @@ impl Works {
         requires count { self.old.timed.count + 4 < 2 ^ 63 }
         requires flushes { self.old.timed.flushes < 2 ^ 62 }
         requires silent { self.old.timed.silent < 2 ^ 62 }
-        requires past { ArePast self.old.timed.cycles self.old.timed.pending }
         requires last { self.old.last ≡ [] }
+        requires cycles { 1 ≤ self.old.timed.cycles }
+        requires running { self.old.timed.solo ≡ None }
+        requires staged { IsStaged (self.old.timed.cycles - 1) self.old }
         ensures judged { self.new.timed ≡ judged n self.old.timed }
         ensures counted { self.old.timed.count ≤ self.new.timed.count }
         ensures last { self.new.last
             ≡ dues (self.new.timed.count - self.old.timed.count) self.old.timed.arch }
         ensures bounds { KeepsBounds self.old.timed self.new.timed }
+        ensures staged { IsStaged (self.new.timed.cycles - 1) self.new }
+        ensures solo { IsSoloFilled self.new.timed.cycles self.new }
     {
         for at in 0..n {
-            if !self.is_front_ready() {
+            if self.passed == 0 {
                 return;
             }
             if !self.judge_front() {
@@ -271,7 +308,7 @@ impl Works {
         }
     }
 
-    /// Phase 2: what is ready commits, at most `width` claims or the instruction that is alone.
+    /// Phase 2: what is ready commits, at most `width` claims or the solo instruction.
     #[inline(always)]
     #[tactic(auto, unfolding(diva_core::specs::Cycle::commits, diva_core::specs::Cycle::committed))]
     fn commits(&mut self)
@@ -281,22 +318,82 @@ impl Works {
         requires count { self.old.timed.count + 4 < 2 ^ 63 }
         requires flushes { self.old.timed.flushes < 2 ^ 62 }
         requires silent { self.old.timed.silent < 2 ^ 62 }
-        requires past { ArePast self.old.timed.cycles self.old.timed.pending }
         requires last { self.old.last ≡ [] }
+        requires cycles { 1 ≤ self.old.timed.cycles }
+        requires alone { (start : ℕ) → self.old.timed.solo ≡ Some start
+            → (self.old.timed.pending ≡ []) × (start < self.old.timed.cycles) }
+        requires staged { IsStaged (self.old.timed.cycles - 1) self.old }
+        requires solo { IsSoloFilled (self.old.timed.cycles - 1) self.old }
         ensures timed { self.new.timed ≡ commits self.old.timed }
         ensures counted { self.old.timed.count ≤ self.new.timed.count }
         ensures last { self.new.last
             ≡ dues (self.new.timed.count - self.old.timed.count) self.old.timed.arch }
         ensures bounds { KeepsBounds self.old.timed self.new.timed }
+        ensures staged { IsStaged (self.new.timed.cycles - 1) self.new }
+        ensures solo { IsSoloFilled self.new.timed.cycles self.new }
     {
         match self.recover {
-            Recover::Running => self.judge(self.width),
-            Recover::Solo(start) => {
-                if self.cycles.checked_sub(start) == Some(DEPTH) {
-                    let due = self.arch.due();
-                    self.recover = Recover::Running;
-                    self.commit(&due);
+            Recover::Running => {
+                if self.passed > 0 {
+                    self.judge(self.width);
                 }
+            }
+            Recover::Solo(start) => {
+                let age = self.cycles.saturating_sub(start);
+                if age == DEPTH {
+                    self.commit_solo();
+                } else {
+                    self.fill_solo(age);
+                }
+            }
+        }
+    }
+
+    /// The record of the solo instruction gets the fields of its age.
+    #[cold]
+    fn fill_solo(&mut self, age: u64)
+        requires { 1 ≤ age }
+        ensures rest { self.new ≡ record self.old { filled = self.new.filled } }
+        ensures filled { GoesOn self.old.timed.arch → IsFilled self.old.timed.arch (age - 1) self.old.filled
+            → IsFilled self.old.timed.arch age self.new.filled }
+    {
+        fill(&mut self.filled, &self.arch.view(), age);
+    }
+
+    /// The solo instruction commits.
+    #[cold]
+    #[tactic(auto, unfolding(diva_core::specs::Cycle::committed))]
+    fn commit_solo(&mut self)
+        requires goes_on { GoesOn self.old.timed.arch }
+        requires due { self.old.filled ≡ record_of self.old.timed.arch }
+        requires owed { self.old.timed.owed < self.old.timed.sizes.stores }
+        requires count { self.old.timed.count < 2 ^ 63 }
+        requires last { length self.old.last < 4 }
+        ensures { self.new ≡ record self.old {
+          timed = committed (record self.old.timed { solo = None }) self.old.filled;
+          last = self.old.last ++ self.old.filled ∷ [];
+        } }
+    {
+        self.arch
+            .commit(decode(self.filled.word), &self.filled, None);
+        self.recover = Recover::Running;
+        self.count += 1;
+        self.last.push(self.filled);
+    }
+
+    /// Phase 3: each claim that is not past the last stage passes through the one of its age.
+    #[inline(never)]
+    fn advance(&mut self)
+        requires cycles { 1 ≤ self.old.timed.cycles }
+        requires staged { IsStaged (self.old.timed.cycles - 1) self.old }
+        ensures rest { self.new ≡ record self.old { entries = self.new.entries; passed = self.new.passed } }
+        ensures staged { IsStaged self.new.timed.cycles self.new }
+    {
+        for at in self.passed..self.pending.len() {
+            let age = self.cycles - self.pending.at(at).cycle;
+            pass(&mut self.pending, at, &self.arch, age);
+            if age == LAST_STAGE {
+                self.passed += 1;
             }
         }
     }
@@ -309,7 +406,9 @@ impl Works {
         ensures timed { (before : Timed) (list : List Record)
             → admitted.now ≡ take (room_of before) list → before.flushes ≡ flushes
             → self.new.timed ≡ accepts before list self.old.timed }
-        ensures last { self.new.last ≡ self.old.last }
+        ensures rest { self.new ≡ record self.old { timed = self.new.timed; entries = self.new.entries } }
+        ensures staged { IsStaged self.old.timed.cycles self.old → IsStaged self.new.timed.cycles self.new }
+        ensures solo { IsSoloFilled self.old.timed.cycles self.old → IsSoloFilled self.new.timed.cycles self.new }
     {
         if !admitted.is_empty() && self.arch.goes_on() && self.log.flushes() == flushes {
             accept_all(&mut self.pending, admitted, self.cycles);
@@ -326,6 +425,8 @@ impl Works {
             → (self.old.timed.count == before.count) ≡ not committed
             → self.new.timed ≡ watched before self.old.timed }
         ensures last { self.new.last ≡ self.old.last }
+        ensures staged { IsStaged self.old.timed.cycles self.old → IsStaged self.new.timed.cycles self.new }
+        ensures solo { IsSoloFilled self.old.timed.cycles self.old → IsSoloFilled self.new.timed.cycles self.new }
     {
         let alone = matches!(self.recover, Recover::Solo(_));
         let barks = self.watchdog.tick(committed, alone);
@@ -342,9 +443,13 @@ impl Works {
         requires goes_on { GoesOn self.old.timed.arch }
         requires sound { IsMachine self.old.timed }
         requires cycles { self.old.timed.cycles < 2 ^ 60 }
+        requires staged { IsStaged self.old.timed.cycles self.old }
+        requires solo { IsSoloFilled self.old.timed.cycles self.old }
         ensures timed { self.new.timed ≡ cycle_of self.old.timed list.now }
         ensures last { self.new.last
             ≡ dues (self.new.timed.count - self.old.timed.count) self.old.timed.arch }
+        ensures staged { IsStaged self.new.timed.cycles self.new }
+        ensures solo { IsSoloFilled self.new.timed.cycles self.new }
     {
         let admitted = self.admitted(list);
         let flushes = self.log.flushes();
@@ -352,6 +457,9 @@ impl Works {
         self.cycles += 1;
         self.drain();
         self.commits();
+        if self.passed < self.pending.len() {
+            self.advance();
+        }
         self.accept(admitted, flushes);
         let committed = !self.last.is_empty();
         self.watch(committed);
@@ -360,22 +468,14 @@ impl Works {
 
 /// Puts claims that are accepted in a cycle behind those that are pending.
 fn accept_all(pending: &mut Pending, claims: &[Claim], cycle: u64)
-    requires fits { length pending.old.items + length claims.now ≤ pending.old.capacity }
-    requires unchecked { AreUnchecked pending.old.items }
+    requires { length pending.old.items + length claims.now ≤ pending.old.capacity }
     ensures items { map waiting_of pending.new.items
         ≡ map waiting_of pending.old.items ++ map (accepted_in cycle) claims.now }
     ensures capacity { pending.new.capacity ≡ pending.old.capacity }
-    ensures unchecked { AreUnchecked pending.new.items }
+    ensures checked { (arch : State) → AreChecked arch cycle pending.old.items
+        → AreChecked arch cycle pending.new.items }
 {
     for claim in claims {
         pending.push(*claim, cycle);
     }
-}
-
-/// Whether a record is a store that does not trap, so that it goes to the store queue.
-#[tactic(auto, unfolding(diva_core::specs::Cycle::puts_store))]
-fn puts_store(r: &Record) -> bool
-    ensures { result ≡ puts_store r.now }
-{
-    r.end == 0 && matches!(effect_of(r), Effect::Stores { .. })
 }

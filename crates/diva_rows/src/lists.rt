@@ -3,7 +3,7 @@ mod tables;
 
 use crate::cores::Lists;
 use crate::programs::image_file;
-use diva_core::{Claims, Entry};
+use diva_core::Claims;
 use diva_isa::Record;
 use diva_machine::{Config, Machine, turn};
 use std::alloc::Global;
@@ -11,17 +11,15 @@ use std::process::Abort;
 use std::test::Fail;
 use tables::{ROWS, Row};
 
-/// Compares the claims that are pending, the oldest first, each with the cycle of its acceptance.
+/// Compares the claims that are pending, the oldest first, each with the cycle of its acceptance. A claim
+/// is decoded from two cycles after that on.
 fn compare_pending(rt: &impl Abort, m: &Machine, due: &[(Record, u64)], at: &str) {
     assert_eq!(rt; m.told().pending as usize, due.len(), "{at}");
     for (place, &(claim, cycle)) in due.iter().enumerate() {
-        let entry = Entry {
-            claim,
-            cycle,
-            decoded: None,
-            verdict: None,
-        };
-        assert_eq!(rt; m.entry(place), entry, "{at} {place}");
+        let entry = m.entry(place);
+        assert_eq!(rt; (entry.claim, entry.cycle), (claim, cycle), "{at} {place}");
+        let is_decoded = m.cycles() >= cycle + 2;
+        assert_eq!(rt; entry.decoded.is_some(), is_decoded, "{at} {place}");
     }
 }
 
@@ -42,6 +40,9 @@ fn compare_turns(rt: &impl Abort, alloc: Global, row: &Row) -> Result<(), Fail> 
         assert_eq!(rt; m.last(), commits_in(row, cycle), "{at}");
         if let Some((_, due)) = row.pending.iter().find(|(of, _)| *of == cycle) {
             compare_pending(rt, &m, due, at.as_str());
+        }
+        for &(_, place, verdict) in row.verdicts.iter().filter(|(of, ..)| *of == cycle) {
+            assert_eq!(rt; m.entry(place).verdict, verdict, "{at} {place}");
         }
     }
     let flushes = u64::from(row.flush.is_some());

@@ -19,6 +19,8 @@ pub(super) struct Row {
     pub commits: &'static [(u32, &'static [Record])],
     /// What is pending after a cycle, and when it was accepted.
     pub pending: &'static [(u32, &'static [(Record, u64)])],
+    /// What the stages have found after some cycles in the claim at a place.
+    pub verdicts: &'static [(u32, usize, Option<Diff>)],
     pub end: End,
     pub count: u64,
     pub flush: Option<FlushRow>,
@@ -101,9 +103,23 @@ const ONE_PLACE: Row = Row {
         (8, &[(HALTS_THEN, 2)]),
         (9, &[]),
     ],
+    verdicts: &[],
     end: End::Halt(0),
     count: 4,
     flush: None,
+};
+
+/// The claim that is wrong, and the one behind it, which reads the register that it writes.
+const WRONG: Diff = Diff {
+    field: Field::Value,
+    claimed: 94,
+    due: 93,
+};
+
+const BEHIND_IT: Diff = Diff {
+    field: Field::Src1,
+    claimed: 93,
+    due: 94,
 };
 
 pub(super) static ROWS: [Row; 5] = [
@@ -139,6 +155,7 @@ pub(super) static ROWS: [Row; 5] = [
             (7, &[(HALTS, 2), (HALTS, 2)]),
             (8, &[]),
         ],
+        verdicts: &[],
         end: End::Halt(0),
         count: 3,
         flush: None,
@@ -168,11 +185,12 @@ pub(super) static ROWS: [Row; 5] = [
             (14, &[(JUMPS, 9); 4]),
             (15, &[(JUMPS, 15); 4]),
         ],
+        verdicts: &[],
         end: End::GoesOn,
         count: 16,
         flush: None,
     },
-    // The second claim of cycle 1 is wrong. In cycle 7 the first commits, and the second flushes
+    // The second claim of cycle 1 is wrong, as its stage finds at age 4, in cycle 5. In cycle 7 the first commits, and the second flushes
     // at place 1: the two behind it are dropped, and so is what is handed over in cycle 7. The
     // checker's own instruction commits in cycle 13; while it runs there is no room, and none
     // before cycle 13 either. A claim is accepted in each cycle from 14 on, and the one of cycle 14
@@ -216,16 +234,19 @@ pub(super) static ROWS: [Row; 5] = [
             ),
             (20, &[]),
         ],
+        verdicts: &[
+            (4, 1, None),
+            (5, 1, Some(WRONG)),
+            (6, 0, None),
+            (6, 1, Some(WRONG)),
+            (6, 2, Some(BEHIND_IT)),
+        ],
         end: End::Halt(0),
         count: 3,
         flush: Some(FlushRow {
             cycle: 7,
             at: 1,
-            cause: Cause::Differs(Diff {
-                field: Field::Value,
-                claimed: 94,
-                due: 93,
-            }),
+            cause: Cause::Differs(WRONG),
         }),
     },
 ];
