@@ -27,7 +27,7 @@ unfolding apply
 apply_goes s r e = grind (arith, nat_tests)
 
 -- what ended does not go on again
-after_goes : (s : State) (rs : List Record) → (after s rs).end ≡ 0 → s.end ≡ 0
+pub after_goes : (s : State) (rs : List Record) → (after s rs).end ≡ 0 → s.end ≡ 0
 after_goes s [] h = h
 after_goes s (r ∷ rs) h = (apply_goes s r (after_goes (apply s r) rs h)).0
 

@@ -20,4 +20,3 @@ pub mod Stalling
 pub mod Starting
 pub mod Steps
 pub mod Turning
-pub mod Unchecked

@@ -94,7 +94,3 @@ Answers earlier own s claim answer =
 -- age
 abbrev pub HasVerdict : State → (age : ℕ) → Entry → Type 0
 HasVerdict s age e = s.end ≡ 0 → e.verdict ≡ difference_in (fields_at age (is_memory (record_of s))) e.claim (record_of s)
-
--- of a record that the checker fills itself, in a state s: it agrees with the due one in the fields of its age
-abbrev pub IsFilled : State → (age : ℕ) → Record → Type 0
-IsFilled s age r = difference_in (fields_at age (is_memory (record_of s))) r (record_of s) ≡ None
