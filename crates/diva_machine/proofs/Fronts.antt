@@ -1,9 +1,8 @@
 -- How the front claim is judged.
-use Rattle.std.proofs.Common.{◌≡◌, ℕ, zero, suc, ◌+◌, ◌-◌, ◌==◌, ◌<◌, ◌≤◌, true, false, List, [], ◌∷◌, ◌++◌, length, zero-add, map, drop, Option, Some, None, refl, ap, sym, ◌∙◌, arith, slice_get, inl, inr, subst, Bor}
-use Rattle.std.specs.Prelude.{nat_le, IsSome}
-use Rattle.std.specs.Option.{option_copied}
-use Rattle.std.proofs.lemmas.Bool.{true≢false, cases_lt, le-leb, lt-leb, eq-eqb, false_from_ne_true, eqb-true}
+use Rattle.std.proofs.Common.{◌≡◌, ℕ, zero, suc, ◌+◌, ◌-◌, ◌==◌, ◌<◌, ◌≤◌, true, List, [], ◌∷◌, ◌++◌, length, zero-add, map, drop, Option, Some, None, refl, ap, sym, ◌∙◌, arith, slice_get, inl, inr}
+use Rattle.std.proofs.lemmas.Bool.{cases_lt, le-leb, lt-leb, eq-eqb, false_from_ne_true, eqb-true}
 use Rattle.std.proofs.lemmas.Bool.Decides.{eqb_tells}
+use Rattle.std.proofs.Math.Nat.{suc-ne-zero}
 use Rattle.std.proofs.lemmas.Option.{none-some, same_Some}
 use Rattle.diva_isa.specs.State.{State}
 use Rattle.diva_isa.specs.declared.record.Record.{Record}
@@ -14,63 +13,31 @@ use Rattle.diva_core.specs.declared.pending.Entry.{Entry}
 use Rattle.diva_core.specs.Difference.{first_difference}
 use Rattle.diva_core.specs.Timed.{Timed, Waiting}
 use Rattle.diva_core.specs.Cycle.{judged, by_front, by_difference, flushed, puts_store, accepts, counted, watched}
-use Rattle.diva_core.specs.Machine.{ArePast}
 use Rattle.diva_core.specs.Headline.{dues, SameLog}
 use Rattle.diva_core.proofs.Phases.{bark}
 use Rattle.diva_core.proofs.Steps.{steps-add, steps-shift}
-use Rattle.diva_machine.specs.Shown.{is_front_ready, waiting_of, KeepsBounds}
+use Rattle.diva_machine.specs.Shown.{waiting_of, KeepsBounds}
+use Rattle.diva_machine.specs.Staged.{passed_by}
 
 first_is : (items : List Entry) (e : Entry) → slice_get items 0 ≡ Some e → items ≡ e ∷ drop 1 items
 first_is [] e h = absurd (none-some _ h)
 first_is (x ∷ items) e h = ap (λ (y : Entry). y ∷ items) (same_Some _ _ h)
 
--- the claims that wait are the entries
-module _ (cycles : ℕ) (items : List Entry) (xs : List Waiting) (waits : xs ≡ map waiting_of items) where
-  -- there is no front claim
-  pub front_none : slice_get items 0 ≡ None → is_front_ready cycles xs ≡ false
-  front_none h = ap (is_front_ready cycles) waits ∙ none_ready items h where
-    none_ready : (es : List Entry) → slice_get es 0 ≡ None → is_front_ready cycles (map waiting_of es) ≡ false
-    none_ready [] n = refl
-    none_ready (x ∷ es) n = absurd (none-some _ (sym n))
+-- none is judged where no claim is past the last stage
+pub front_young : (next : Timed → Timed) (m : Timed) (xs : List Waiting) → 1 ≤ m.cycles → passed_by (m.cycles - 1) xs ≡ 0 → by_front next m xs ≡ m
+front_young next m [] some h = refl
+front_young next m (p ∷ xs) some h =
+    elim (cases_lt (m.cycles - 1) (p.cycle + 5)) [
+      | inl young ↦ rw (lt-leb (p.cycle + 6) m.cycles (omega arith)) refl
+      | inr old ↦ absurd (suc-ne-zero _ (rw (le-leb _ _ old) at h))
+    ]
 
-  -- a front claim that is ready is there
-  pub front_there : is_front_ready cycles xs ≡ true → IsSome (slice_get items 0)
-  front_there h = there items (ap (is_front_ready cycles) (sym waits) ∙ h) where
-    there : (es : List Entry) → is_front_ready cycles (map waiting_of es) ≡ true → IsSome (slice_get es 0)
-    there [] r = absurd (true≢false (sym r))
-    there (x ∷ es) r = refl
+module _ (next : Timed → Timed) (m : Timed) (items : List Entry) (e : Entry) (first : slice_get items 0 ≡ Some e) (waits : m.pending ≡ map waiting_of items) (ready : e.cycle + 6 ≤ m.cycles) where
+  pub front_is : m.pending ≡ waiting_of e ∷ map waiting_of (drop 1 items)
+  front_is = waits ∙ ap (map waiting_of) (first_is items e first)
 
-  module _ (e : Entry) (first : slice_get items 0 ≡ Some e) where
-    front_is : xs ≡ waiting_of e ∷ map waiting_of (drop 1 items)
-    front_is = waits ∙ ap (map waiting_of) (first_is items e first)
-
-    -- it was accepted in no later cycle
-    pub front_past : ArePast cycles xs → e.cycle ≤ cycles
-    front_past h = (subst (ArePast cycles) front_is h).0
-
-    pub front_passed : e.cycle ≤ cycles → nat_le 6 (cycles - e.cycle) ≡ is_front_ready cycles xs
-    front_passed h =
-        elim (cases_lt cycles (e.cycle + 6)) [
-          | inl young ↦ lt-leb _ _ (omega arith) ∙ sym (lt-leb _ _ young) ∙ ap (is_front_ready cycles) (sym front_is)
-          | inr ready ↦ le-leb _ _ (omega arith) ∙ sym (le-leb _ _ ready) ∙ ap (is_front_ready cycles) (sym front_is)
-        ]
-
--- a copy is there where what it was copied from is
-pub some_copied : (o : Option (Bor Entry)) → IsSome (option_copied o) → IsSome o
-some_copied None h = h
-some_copied (Some e) h = refl
-
--- none is judged where the front claim is not ready
-pub front_young : (next : Timed → Timed) (m : Timed) (xs : List Waiting) → is_front_ready m.cycles xs ≡ false → by_front next m xs ≡ m
-front_young next m [] h = refl
-front_young next m (p ∷ xs) h = rw h refl
-
-module _ (next : Timed → Timed) (m : Timed) (items : List Entry) (e : Entry) (first : slice_get items 0 ≡ Some e) (waits : m.pending ≡ map waiting_of items) (ready : is_front_ready m.cycles m.pending ≡ true) where
-  front_ready : (o : Option Diff) → first_difference e.claim (record_of m.arch) ≡ o → by_front next m m.pending ≡ by_difference next m (map waiting_of (drop 1 items)) o
-  front_ready o d =
-      let is : m.pending ≡ waiting_of e ∷ map waiting_of (drop 1 items) = waits ∙ ap (map waiting_of) (first_is items e first) in
-      let passed : nat_le (e.cycle + 6) m.cycles ≡ true = ap (is_front_ready m.cycles) (sym is) ∙ ready in
-      ap (by_front next m) is ∙ rw (passed, d) refl
+  pub front_ready : (o : Option Diff) → first_difference e.claim (record_of m.arch) ≡ o → by_front next m m.pending ≡ by_difference next m (map waiting_of (drop 1 items)) o
+  front_ready o d = ap (by_front next m) front_is ∙ rw (le-leb (e.cycle + 6) m.cycles ready, d) refl
 
   -- it is another one than the record that is due
   pub front_differs : (d : Diff) → first_difference e.claim (record_of m.arch) ≡ Some d → by_front next m m.pending ≡ flushed m (Differs d)
@@ -135,7 +102,6 @@ KeepsBounds-joined m n o s a b =
       pending = (let e = a.pending in let f = b.pending in omega arith);
       flushes = (let e = s.flushes in let f = b.flushes in omega arith);
       silent = (let e = s.silent in let f = b.silent in omega arith);
-      past = λ h. b.past (a.past h);
     }
 
 -- the watchdog counts no instruction

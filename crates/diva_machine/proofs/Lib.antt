@@ -1,3 +1,7 @@
 pub mod Fronts
 pub mod Laws
 pub mod Storing
+pub mod Answering
+pub mod Verdicts
+pub mod Staging
+pub mod Judged

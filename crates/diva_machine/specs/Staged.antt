@@ -1,18 +1,22 @@
 -- What the checker's stages have noted so far of each pending claim, and of the solo instruction.
-use Rattle.std.specs.Prelude.{ℕ, zero, suc, ◌≡◌, ◌+◌, ◌-◌, ◌≤◌, ◌<◌, nat_le, Bool, List, [], ◌∷◌, map, drop, Option, Some, None, slice_get, ⊤, if◌then◌else◌}
+use Rattle.std.specs.Prelude.{ℕ, zero, suc, ◌≡◌, ◌+◌, ◌-◌, ◌≤◌, ◌<◌, nat_le, Bool, false, List, [], ◌∷◌, map, drop, Option, Some, None, slice_get, ⊤, if◌then◌else◌}
 use Rattle.diva_decode.specs.declared.instr.Instr.{Instr}
 use Rattle.diva_decode.specs.Table.{row_of}
 use Rattle.diva_isa.specs.State.{State}
+use Rattle.diva_isa.specs.Step.{record_of}
 use Rattle.diva_isa.specs.declared.record.Record.{Record}
 use Rattle.diva_core.specs.declared.pending.Entry.{Entry}
 use Rattle.diva_core.specs.Older.{before_entry}
-use Rattle.diva_core.specs.Stages.{HasVerdict, IsFilled}
+use Rattle.diva_core.specs.Difference.{difference_in}
+use Rattle.diva_core.specs.Stages.{fields_at, HasVerdict}
 use Rattle.diva_core.specs.Timed.{Timed, Waiting}
 use Rattle.diva_machine.specs.Shown.{waiting_of}
 
 -- the decoded form of a claim with this word: it is noted at age 2
 abbrev pub decoded_at : (age : ℕ) (word : ℕ) → Option Instr
-decoded_at age word = if nat_le 2 age then row_of word else None
+decoded_at zero word = None
+decoded_at (suc zero) word = None
+decoded_at (suc (suc age)) word = row_of word
 
 -- an entry of this age that stands in the state s has its verdict and its decoded form
 pub record IsChecked (s : State) (age : ℕ) (e : Entry) : Type 0 where
@@ -40,7 +44,12 @@ abbrev pub AreInOrder : (from now : ℕ) → List Waiting → Type 0
 AreInOrder from now [] = from ≤ now
 AreInOrder from now (p ∷ rest) = (from ≤ p.cycle) × AreInOrder p.cycle now rest
 
--- the record of an instruction that started solo in a cycle has the fields of its age
+-- a record that is filled in the state s agrees with the due one in the fields of its age; the stage of age 4 fills those of
+-- the last stage too
+abbrev pub IsFilled : State → (age : ℕ) → Record → Type 0
+IsFilled s age r = difference_in (fields_at age false) r (record_of s) ≡ None
+
+-- so does the record of an instruction that started solo in a cycle
 abbrev pub IsFilledSince : State → (now : ℕ) → Option ℕ → Record → Type 0
 IsFilledSince arch now None r = ⊤
 IsFilledSince arch now (Some start) r = IsFilled arch (now - start) r
@@ -56,6 +65,7 @@ pub record Staged : Type 0 where
 
 -- what holds of the pending claims where the stages of the cycle `now` have run
 pub record IsStaged (now : ℕ) (w : Staged) : Type 0 where
+  pub waits : w.timed.pending ≡ map waiting_of w.entries
   pub checked : AreChecked w.timed.arch now w.entries
   pub ordered : AreInOrder 0 now w.timed.pending
   pub passed : w.passed ≡ passed_by now w.timed.pending

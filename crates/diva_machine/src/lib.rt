@@ -10,7 +10,8 @@
 //! - `turns`: a machine and a core, turn by turn, `turn` and `drive`.
 //!
 //! What a cycle does is `cycle_of` of `diva_core`'s definitions; `specs/Start.antt` says in which
-//! state an image starts, and `specs/Shown.antt` what contracts see of a machine.
+//! state an image starts, `specs/Shown.antt` what contracts see of a machine, and
+//! `specs/Staged.antt` what the stages note of a claim by its age.
 #![tactic(auto)]
 
 mod arch;

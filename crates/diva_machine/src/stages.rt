@@ -1,10 +1,9 @@
 // The checker's stages: what a pending claim passes through at each age, and what the solo instruction does.
 ghost use Rattle.std.specs.Prelude.{◌≡◌, ◌≤◌, ◌<◌, ◌+◌, ◌-◌, ℕ, length, map, None, Some, slice_get, slice_set};
-ghost use Rattle.circular_buffer.specs.Buffer.{buffer};
+ghost use Rattle.diva_decode.specs.Table.{row_of};
 ghost use Rattle.diva_core.specs.declared.pending.Entry.{Entry};
-ghost use Rattle.diva_core.specs.Stages.{IsFilled};
 ghost use Rattle.diva_machine.specs.Shown.{waiting_of};
-ghost use Rattle.diva_machine.specs.Staged.{IsAdvanced};
+ghost use Rattle.diva_machine.specs.Staged.{IsAdvanced, IsFilled};
 
 use crate::arch::Arch;
 use diva_core::{Diff, Pending, View};
@@ -52,10 +51,10 @@ pub(crate) fn pass(pending: &mut Pending, at: usize, arch: &Arch, age: u64)
 #[inline]
 fn note_form(pending: &mut Pending, at: usize)
     requires { at < length pending.old.items }
-    ensures { (e : Entry) → slice_get pending.old.items at ≡ Some e
-        → pending.new ≡ buffer
-        (slice_set pending.old.items at (record e { decoded = row_of e.claim.word }))
-        pending.old.capacity }
+    ensures items { (e : Entry) → slice_get pending.old.items at ≡ Some e
+        → pending.new.items ≡ slice_set pending.old.items at (record e { decoded = row_of e.claim.word }) }
+    ensures waits { map waiting_of pending.new.items ≡ map waiting_of pending.old.items }
+    ensures capacity { pending.new.capacity ≡ pending.old.capacity }
 {
     let entry = pending.at(at);
     let (form, verdict) = (decode(entry.claim.word), entry.verdict);
@@ -67,10 +66,10 @@ fn note_form(pending: &mut Pending, at: usize)
 fn note(pending: &mut Pending, at: usize, found: Option<Diff>)
     requires place { at < length pending.old.items }
     requires open { (e : Entry) → slice_get pending.old.items at ≡ Some e → e.verdict ≡ None }
-    ensures { (e : Entry) → slice_get pending.old.items at ≡ Some e
-        → pending.new ≡ buffer
-        (slice_set pending.old.items at (record e { verdict = found }))
-        pending.old.capacity }
+    ensures items { (e : Entry) → slice_get pending.old.items at ≡ Some e
+        → pending.new.items ≡ slice_set pending.old.items at (record e { verdict = found }) }
+    ensures waits { map waiting_of pending.new.items ≡ map waiting_of pending.old.items }
+    ensures capacity { pending.new.capacity ≡ pending.old.capacity }
 {
     if let Some(diff) = found {
         note_difference(pending, at, diff);
@@ -80,10 +79,10 @@ fn note(pending: &mut Pending, at: usize, found: Option<Diff>)
 #[cold]
 fn note_difference(pending: &mut Pending, at: usize, diff: Diff)
     requires { at < length pending.old.items }
-    ensures { (e : Entry) → slice_get pending.old.items at ≡ Some e
-        → pending.new ≡ buffer
-        (slice_set pending.old.items at (record e { verdict = Some diff }))
-        pending.old.capacity }
+    ensures items { (e : Entry) → slice_get pending.old.items at ≡ Some e
+        → pending.new.items ≡ slice_set pending.old.items at (record e { verdict = Some diff }) }
+    ensures waits { map waiting_of pending.new.items ≡ map waiting_of pending.old.items }
+    ensures capacity { pending.new.capacity ≡ pending.old.capacity }
 {
     let form = pending.at(at).decoded;
     pending.set(at, form, Some(diff));

@@ -13,12 +13,11 @@ ghost use Rattle.diva_core.specs.Timed.{Timed, new_timed, room_of};
 ghost use Rattle.diva_core.specs.declared.pending.Entry.{Entry};
 ghost use Rattle.diva_core.specs.Machine.{IsMachine, IsSizes};
 ghost use Rattle.diva_core.specs.Headline.{dues, SameLog};
-ghost use Rattle.diva_core.specs.Cycle.{accepted_in, accepts, by_front, commits, committed, cycle_of, drained, flushed, judged, puts_store, watched};
+ghost use Rattle.diva_core.specs.Cycle.{accepted_in, accepts, by_front, commits, committed, cycle_of, drained, flushed, judged, number, watched};
 ghost use Rattle.diva_commit.specs.Committing.{answer, is_committed};
-ghost use Rattle.diva_core.specs.Stages.{IsFilled};
 ghost use Rattle.diva_machine.specs.Start.{start_of};
 ghost use Rattle.diva_machine.specs.Shown.{waiting_of, KeepsBounds};
-ghost use Rattle.diva_machine.specs.Staged.{left, AreChecked, IsSoloFilled, IsStaged};
+ghost use Rattle.diva_machine.specs.Staged.{last_stage, left, AreChecked, IsAdvanced, IsFilled, IsSoloFilled, IsStaged};
 
 use crate::DEPTH;
 use crate::arch::Arch;
@@ -382,20 +381,50 @@ impl Works {
     }
 
     /// Phase 3: each claim that is not past the last stage passes through the one of its age.
-    #[inline(never)]
+    #[inline(always)]
     fn advance(&mut self)
         requires cycles { 1 ≤ self.old.timed.cycles }
         requires staged { IsStaged (self.old.timed.cycles - 1) self.old }
         ensures rest { self.new ≡ record self.old { entries = self.new.entries; passed = self.new.passed } }
         ensures staged { IsStaged self.new.timed.cycles self.new }
     {
-        for at in self.passed..self.pending.len() {
-            let age = self.cycles - self.pending.at(at).cycle;
-            pass(&mut self.pending, at, &self.arch, age);
-            if age == LAST_STAGE {
-                self.passed += 1;
-            }
+        if self.passed < self.pending.len() {
+            self.pass_stages();
         }
+    }
+
+    #[inline(never)]
+    fn pass_stages(&mut self)
+        requires cycles { 1 ≤ self.old.timed.cycles }
+        requires staged { IsStaged (self.old.timed.cycles - 1) self.old }
+        requires some { self.old.passed < length self.old.entries }
+        ensures rest { self.new ≡ record self.old { entries = self.new.entries; passed = self.new.passed } }
+        ensures staged { IsStaged self.new.timed.cycles self.new }
+    {
+        for at in self.passed..self.pending.len() {
+            self.pass_stage(at);
+        }
+    }
+
+    /// The claim at a place passes through the stage of its age.
+    #[inline]
+    fn pass_stage(&mut self, at: usize)
+        requires place { at < length self.old.entries }
+        requires few { at < 64 }
+        requires passed { self.old.passed ≤ at }
+        requires aged { (e : Entry) → slice_get self.old.entries at ≡ Some e → e.cycle < self.old.timed.cycles }
+        ensures rest { self.new ≡ record self.old { entries = self.new.entries; passed = self.new.passed } }
+        ensures waits { map waiting_of self.new.entries ≡ map waiting_of self.old.entries }
+        ensures passed { (e : Entry) → slice_get self.old.entries at ≡ Some e → self.new.passed
+            ≡ self.old.passed + number (self.old.timed.cycles == e.cycle + last_stage) }
+        ensures advanced { (now : ℕ)
+            → self.old.timed.cycles ≡ now + 1
+            → IsAdvanced self.old.timed.arch now at self.old.entries
+            → IsAdvanced self.old.timed.arch now (at + 1) self.new.entries }
+    {
+        let age = self.cycles - self.pending.at(at).cycle;
+        pass(&mut self.pending, at, &self.arch, age);
+        self.passed += usize::from(age == LAST_STAGE);
     }
 
     /// Phase 4: the admitted claims become pending, where phase 2 neither flushed nor ended.
@@ -457,9 +486,7 @@ impl Works {
         self.cycles += 1;
         self.drain();
         self.commits();
-        if self.passed < self.pending.len() {
-            self.advance();
-        }
+        self.advance();
         self.accept(admitted, flushes);
         let committed = !self.last.is_empty();
         self.watch(committed);

@@ -1,49 +1,92 @@
-use Rattle.std.proofs.Common.{◌≡◌, ◌+◌, ◌==◌, map, true, Some, None, ap, sym, ◌∙◌, slice_get}
-use Rattle.diva_isa.specs.Step.{record_of, apply}
-use Rattle.diva_core.specs.Difference.{first_difference}
-use Rattle.diva_core.specs.Cycle.{committed, puts_store}
-use Rattle.diva_machine.specs.Shown.{Shown, waiting_of}
-use Rattle.diva_machine.proofs.Fronts.{front_there, some_copied, front_differs, front_held, one_step}
+use Rattle.std.proofs.Common.{◌≡◌, ◌==◌, Bool, Option, None, sym, ap, ◌∙◌, arith, true, false}
+use Rattle.std.proofs.lemmas.Bool.{eqb-true, true≢false}
+use Rattle.std.specs.Prelude.{if◌then◌else◌}
+use Rattle.diva_isa.specs.State.{goes_on}
+use Rattle.diva_core.specs.Cycle.{flushed}
+use Rattle.diva_core.specs.declared.flushes.Cause.TheVariants.{Differs}
+use Rattle.diva_core.specs.declared.differences.Diff.{Diff}
+use Rattle.diva_commit.specs.Committing.{answer, is_committed}
+use Rattle.diva_machine.specs.Staged.{Staged, left}
+use Rattle.diva_machine.proofs.Answering.{committed_none, committed_room, differs_by, no_verdict}
+use Rattle.diva_machine.proofs.Judged.{IsFront, with_front, claim_is, form_is, judged_differs, judged_held, judged_settled, settled, left_staged, left_solo, left_count, left_running, left_stepped, left_last, left_log, left_bounds, steps_none, dues_none, bounds_none}
+use Rattle.diva_machine.proofs.Staging.{get_within}
 use Rattle.diva_machine.proofs.works.Works.judge_front.Goals as goal
 
-pub unwrap-front-requires : goal.unwrap-front-requires
-unwrap-front-requires c =
-    let waits : c.args.self.now.timed.pending ≡ map waiting_of c.self.inside.pending.items = ap (λ (z : Shown). z.timed.pending) (sym c.self.view_is) in
-    some_copied c.front.result (rw c.front.ensures (front_there c.args.self.now.timed.cycles c.self.inside.pending.items c.args.self.now.timed.pending waits c.requires.ready))
+pub settle_front-answer-requires-clause-there : goal.settle_front-answer-requires-clause-there
+settle_front-answer-requires-clause-there c = with_front c.args.self.now _ c.requires.ready c.requires.staged (λ e here. get_within c.args.self.now.entries 0 e here)
 
-pub returns-in-Some-clause-judges : goal.returns-in-Some-clause-judges
-returns-in-Some-clause-judges c = λ next.
-    let waits : c.args.self.now.timed.pending ≡ map waiting_of c.self.inside.pending.items = ap (λ (z : Shown). z.timed.pending) (sym c.self.view_is) in
-    let first : slice_get c.self.inside.pending.items 0 ≡ Some c.unwrap-front.result.now = cc in
-    let due : c.due-due.result ≡ record_of c.args.self.now.timed.arch = c.due-due.ensures ∙ ap (λ (z : Shown). record_of z.timed.arch) c.self.view_is in
-    let differs : first_difference c.unwrap-front.result.now.claim (record_of c.args.self.now.timed.arch) ≡ Some c.in-Some.diff = cc in
-    front_differs next c.args.self.now.timed c.self.inside.pending.items c.unwrap-front.result.now first waits c.requires.ready c.in-Some.diff differs ∙ sym c.flush.ensures.timed
+pub settle_front-answer-requires-clause-due : goal.settle_front-answer-requires-clause-due
+settle_front-answer-requires-clause-due c = λ e here. claim_is c.args.self.now e (record { first = here; ready = c.requires.ready; staged = c.requires.staged; cycles = c.requires.cycles; on = c.requires.goes_on; running = c.requires.running })
 
-pub returns-then-puts_store-clause-judges : goal.returns-then-puts_store-clause-judges
-returns-then-puts_store-clause-judges c = λ next.
-    let waits : c.args.self.now.timed.pending ≡ map waiting_of c.self.inside.pending.items = ap (λ (z : Shown). z.timed.pending) (sym c.self.view_is) in
-    let first : slice_get c.self.inside.pending.items 0 ≡ Some c.unwrap-front.result.now = cc in
-    let due : c.due-due.result ≡ record_of c.args.self.now.timed.arch = c.due-due.ensures ∙ ap (λ (z : Shown). record_of z.timed.arch) c.self.view_is in
-    let same : first_difference c.unwrap-front.result.now.claim (record_of c.args.self.now.timed.arch) ≡ None = cc in
-    let store : puts_store (record_of c.args.self.now.timed.arch) ≡ true = cc in
-    let full : (c.args.self.now.timed.owed == c.args.self.now.timed.sizes.stores) ≡ true =
-    ap (λ (z : Shown). z.timed.owed == z.timed.sizes.stores) (sym c.self.view_is) ∙ (sym c.is_full.ensures.value ∙ c.if-is_full.true) in
-    front_held next c.args.self.now.timed c.self.inside.pending.items c.unwrap-front.result.now first waits c.requires.ready same store full
+pub settle_front-answer-requires-clause-form : goal.settle_front-answer-requires-clause-form
+settle_front-answer-requires-clause-form c = λ e here. form_is c.args.self.now e (record { first = here; ready = c.requires.ready; staged = c.requires.staged; cycles = c.requires.cycles; on = c.requires.goes_on; running = c.requires.running })
 
-pub returns-then-not-goes_on-clause-stepped : goal.returns-then-not-goes_on-clause-stepped
-unfolding committed
-returns-then-not-goes_on-clause-stepped c =
-    let due : c.due-due.result ≡ record_of c.args.self.now.timed.arch = c.due-due.ensures ∙ ap (λ (z : Shown). record_of z.timed.arch) c.self.view_is in
-    one_step c.args.self.now.timed.arch _ c.due-due.result c.args.self.now.timed.count _
-    (ap (λ (z : Shown). z.timed.arch) c.self-2.view_is ∙ ap (λ z. z.arch) c.commit.ensures.timed ∙ ap (λ (z : Shown). apply z.timed.arch c.due-due.result) c.self.view_is)
-    due
-    (ap (λ (z : Shown). z.timed.count) c.self-2.view_is ∙ ap (λ z. z.count) c.commit.ensures.timed ∙ ap (λ (z : Shown). z.timed.count + 1) c.self.view_is)
+pub returns-in-Differs-clause-judges : goal.returns-in-Differs-clause-judges
+returns-in-Differs-clause-judges c = λ next.
+    let w = c.args.self.now in
+    let same : c.settle_front-answer.new.self ≡ w = c.settle_front-answer.ensures.stays (ap is_committed c.in-Differs.is) in
+    with_front w _ c.requires.ready c.requires.staged (λ e here.
+    let front : IsFront w e = record { first = here; ready = c.requires.ready; staged = c.requires.staged; cycles = c.requires.cycles; on = c.requires.goes_on; running = c.requires.running } in
+    let some = differs_by e.verdict e.claim _ c.in-Differs.diff (sym (c.settle_front-answer.ensures.answer e here) ∙ c.in-Differs.is) in
+    judged_differs w e front next c.in-Differs.diff some ∙ sym (ap (λ (z : Staged). z.timed) c.flush.ensures ∙ ap (λ (z : Staged). flushed z.timed (Differs c.in-Differs.diff)) same))
 
-pub returns-clause-stepped : goal.returns-clause-stepped
-unfolding committed
-returns-clause-stepped c =
-    let due : c.due-due.result ≡ record_of c.args.self.now.timed.arch = c.due-due.ensures ∙ ap (λ (z : Shown). record_of z.timed.arch) c.self.view_is in
-    one_step c.args.self.now.timed.arch _ c.due-due.result c.args.self.now.timed.count _
-    (ap (λ z. z.arch) c.commit.ensures.timed ∙ ap (λ (z : Shown). apply z.timed.arch c.due-due.result) c.self.view_is)
-    due
-    (ap (λ z. z.count) c.commit.ensures.timed ∙ ap (λ (z : Shown). z.timed.count + 1) c.self.view_is)
+pub returns-then-not-is_committed : goal.returns-then-not-is_committed
+returns-then-not-is_committed c =
+    let w = c.args.self.now in
+    let stays : is_committed c.settle_front-answer.result ≡ false = sym c.is_committed.ensures ∙ c.if-not-is_committed.true in
+    let same : c.settle_front-answer.new.self ≡ w = c.settle_front-answer.ensures.stays stays in
+    with_front w _ c.requires.ready c.requires.staged (λ e here.
+    let front : IsFront w e = record { first = here; ready = c.requires.ready; staged = c.requires.staged; cycles = c.requires.cycles; on = c.requires.goes_on; running = c.requires.running } in
+    let is = c.settle_front-answer.ensures.answer e here in
+    let none = no_verdict e.verdict e.claim _ c.settle_front-answer.result is c.in_default.not-Differs in
+    let held : is_committed (answer None e.claim (w.timed.owed == w.timed.sizes.stores)) ≡ false =
+    ap (λ (v : Option Diff). is_committed (answer v e.claim (w.timed.owed == w.timed.sizes.stores))) (sym none) ∙ ap is_committed (sym is) ∙ stays in
+    record {
+      judges = λ next. judged_held w e front next none held ∙ ap (λ (z : Staged). z.timed) (sym same);
+      goes_on = λ h. absurd (true≢false (sym h));
+      counted = rw same (omega arith);
+      one = rw same (omega arith);
+      stepped = rw same (steps_none w.timed.count w.timed.arch);
+      last = rw same (dues_none w.timed.count w.timed.arch w.last);
+      running = λ h. absurd (true≢false (sym h));
+      same = λ h. absurd (true≢false (sym h));
+      bounds = rw same (bounds_none w.timed c.requires.owed);
+      staged = rw same c.requires.staged;
+      solo = rw (same, c.requires.running) tt;
+    })
+
+pub leave_front-requires : goal.leave_front-requires
+leave_front-requires c =
+    let w = c.args.self.now in
+    let yes : is_committed c.settle_front-answer.result ≡ true = sym c.is_committed.ensures ∙ c.if-not-is_committed.false in
+    with_front w _ c.requires.ready c.requires.staged (λ e here.
+    rw (c.settle_front-answer.ensures.commits e here yes) (record { there = get_within w.entries 0 e here; passed = c.requires.ready }))
+
+pub returns : goal.returns
+returns c =
+    let w = c.args.self.now in
+    let b = c.leave_front.result in
+    let yes : is_committed c.settle_front-answer.result ≡ true = sym c.is_committed.ensures ∙ c.if-not-is_committed.false in
+    with_front w _ c.requires.ready c.requires.staged (λ e here.
+    let front : IsFront w e = record { first = here; ready = c.requires.ready; staged = c.requires.staged; cycles = c.requires.cycles; on = c.requires.goes_on; running = c.requires.running } in
+    let done = ap is_committed (sym (c.settle_front-answer.ensures.answer e here)) ∙ yes in
+    let none = committed_none e.verdict e.claim (w.timed.owed == w.timed.sizes.stores) done in
+    let room = committed_room e.verdict e.claim (w.timed.owed == w.timed.sizes.stores) done in
+    let mid : c.settle_front-answer.new.self ≡ settled w e front = c.settle_front-answer.ensures.commits e here yes in
+    let goes : b ≡ goes_on (settled w e front).timed.arch = c.leave_front.ensures.goes_on ∙ ap (λ (z : Staged). goes_on z.timed.arch) mid in
+    let new : c.leave_front.new.self ≡ left b (settled w e front) = c.leave_front.ensures.left ∙ ap (λ (z : Staged). left b z) mid in
+    record {
+      judges = λ next. judged_settled w e front next none room
+          ∙ ap (λ (g : Bool). if g then next (left g (settled w e front)).timed else (left g (settled w e front)).timed) (sym goes)
+          ∙ sym (ap (λ (z : Staged). if b then next z.timed else z.timed) new);
+      goes_on = λ t. rw new (eqb-true _ _ (sym goes ∙ t));
+      counted = rw new (let n = left_count w e front b in omega arith);
+      one = rw new (let n = left_count w e front b in omega arith);
+      stepped = rw new (left_stepped w e front b none);
+      last = rw new (left_last w e front b none);
+      running = λ t. rw new (left_running w e front b);
+      same = λ t. rw new (left_log w e front b);
+      bounds = rw new (left_bounds w e front b c.requires.owed room);
+      staged = rw new (left_staged w e front b);
+      solo = rw new (left_solo w e front b _);
+    })

@@ -1,0 +1,450 @@
+-- The entries, as they pass through the stages, as claims come, and as the front one goes.
+use Rattle.std.proofs.Common.{◌≡◌, ◌≢◌, ℕ, zero, suc, ◌+◌, ◌-◌, ◌==◌, ◌≤◌, ◌<◌, List, [], ◌∷◌, ◌++◌, length, map, drop, slice_get, Option, Some, None, Bool, true, false, refl, sym, ap, ◌∙◌, arith, subst, inl, inr}
+use Rattle.std.specs.Prelude.{slice_set}
+use Rattle.std.proofs.lemmas.Bool.{true≢false, cases_lt, le-leb, lt-leb}
+use Rattle.std.proofs.lemmas.Bool.Decides.{eqb_tells}
+use Rattle.std.specs.Option.{is_some}
+use Rattle.std.proofs.lemmas.List.{length-map}
+use Rattle.std.proofs.lemmas.Option.{none-some, same_Some}
+use Rattle.diva_decode.specs.Table.{row_of}
+use Rattle.diva_isa.specs.State.{State}
+use Rattle.diva_isa.specs.Step.{apply, record_of}
+use Rattle.diva_isa.specs.declared.record.Record.{Record}
+use Rattle.diva_core.specs.declared.pending.Entry.{Entry}
+use Rattle.diva_core.specs.declared.differences.Diff.{Diff}
+use Rattle.diva_core.specs.declared.differences.Field.{Field}
+use Rattle.diva_core.specs.declared.flushes.Cause.{Cause}
+use Rattle.diva_core.specs.Cycle.{accepted_in, begun, drained, flushed, number}
+use Rattle.diva_core.specs.Difference.{first_difference}
+use Rattle.diva_core.specs.Older.{after, before_entry, older}
+use Rattle.diva_core.specs.Stages.{Answers, HasVerdict}
+use Rattle.diva_core.specs.Timed.{Timed, Waiting}
+use Rattle.diva_core.proofs.Bypassing.{after_goes}
+use Rattle.diva_machine.specs.Shown.{waiting_of}
+use Rattle.diva_machine.specs.Staged.{AreChecked, AreInOrder, IsAdvanced, IsChecked, IsFilled, IsSoloFilled, IsStaged, Staged, passed_by}
+use Rattle.diva_machine.proofs.Verdicts.{form_kept, form_whole, stays_found, verdict_past, whole_verdict}
+
+-- ---- entries by place
+
+pub checked_none : (arch : State) (now : ℕ) → AreChecked arch now []
+checked_none arch now k e h = absurd (none-some _ h)
+
+-- the front entry, past the last stage: its verdict is the first difference from the record that is due
+pub front_verdict : (arch : State) (now : ℕ) (entries : List Entry) (e : Entry) → AreChecked arch now entries → slice_get entries 0 ≡ Some e
+    → e.cycle + 5 ≤ now → arch.end ≡ 0 → e.verdict ≡ first_difference e.claim (record_of arch)
+front_verdict arch now entries e all first old on = whole_verdict arch e (now - e.cycle) (omega arith) on (all 0 e first).verdict
+
+pub front_form : (arch : State) (now : ℕ) (entries : List Entry) (e : Entry) → AreChecked arch now entries → slice_get entries 0 ≡ Some e
+    → e.cycle + 5 ≤ now → e.decoded ≡ row_of e.claim.word
+front_form arch now entries e all first old = (all 0 e first).decoded ∙ form_whole (now - e.cycle) e.claim.word (omega arith)
+
+-- it goes, and the others stand one place further to the front
+pub checked_rest : (arch : State) (now : ℕ) (entries : List Entry) (e : Entry) → AreChecked arch now entries → slice_get entries 0 ≡ Some e → AreChecked (apply arch e.claim) now (drop 1 entries)
+checked_rest arch now [] e all first = absurd (none-some _ first)
+checked_rest arch now (x ∷ entries) e all first = subst (λ (y : Entry). AreChecked (apply arch y.claim) now entries) (same_Some _ _ first) (λ k f h. all (suc k) f h)
+
+-- an entry comes
+older_more : (entries : List Entry) (k : ℕ) (e : Entry) → k ≤ length entries → older (entries ++ e ∷ []) k ≡ older entries k
+older_more entries zero e h = refl
+older_more [] (suc k) e h = absurd (omega arith)
+older_more (x ∷ entries) (suc k) e h = ap (λ (rs : List Record). x.claim ∷ rs) (older_more entries k e (omega arith))
+
+before_more : (arch : State) (entries : List Entry) (k : ℕ) (e : Entry) → k ≤ length entries → before_entry arch (entries ++ e ∷ []) k ≡ before_entry arch entries k
+before_more arch entries k e h = ap (after arch) (older_more entries k e h)
+
+-- an element of a longer list is an old one or the new one
+get_more : (entries : List Entry) (e : Entry) (k : ℕ) (f : Entry) (P : Type 0) → slice_get (entries ++ e ∷ []) k ≡ Some f
+    → (k < length entries → slice_get entries k ≡ Some f → P) → (e ≡ f → P) → P
+get_more [] e zero f P h old new = new (same_Some _ _ h)
+get_more [] e (suc k) f P h old new = absurd (none-some _ h)
+get_more (x ∷ entries) e zero f P h old new = old (omega arith) h
+get_more (x ∷ entries) e (suc k) f P h old new = get_more entries e k f P h (λ lt at. old (omega arith) at) new
+
+-- the entry of a claim that is accepted
+abbrev pub fresh : Record → ℕ → Entry
+fresh claim cycle = record { claim = claim; cycle = cycle; decoded = None; verdict = None }
+
+fresh_checked : (s : State) (claim : Record) (now age : ℕ) → age ≡ 0 → IsChecked s age (fresh claim now)
+fresh_checked s claim now zero is = record { verdict = λ on. refl; decoded = refl }
+fresh_checked s claim now (suc age) is = absurd (omega arith)
+
+pub checked_more : (arch : State) (now : ℕ) (entries : List Entry) (claim : Record) → AreChecked arch now entries → AreChecked arch now (entries ++ fresh claim now ∷ [])
+checked_more arch now entries claim all k f h =
+    get_more entries (fresh claim now) k f (IsChecked (before_entry arch (entries ++ fresh claim now ∷ []) k) (now - f.cycle) f) h
+    (λ lt at. subst (λ s. IsChecked s (now - f.cycle) f) (sym (before_more arch entries k (fresh claim now) (omega arith))) (all k f at))
+    (λ is. subst (λ (x : Entry). IsChecked (before_entry arch (entries ++ fresh claim now ∷ []) k) (now - x.cycle) x) is
+    (fresh_checked (before_entry arch (entries ++ fresh claim now ∷ []) k) claim now (now - now) (omega arith)))
+
+-- ---- one entry is changed
+
+get_set_same : (xs : List Entry) (i : ℕ) (old new : Entry) → slice_get xs i ≡ Some old → slice_get (slice_set xs i new) i ≡ Some new
+get_set_same [] i old new h = absurd (none-some _ h)
+get_set_same (x ∷ xs) zero old new h = refl
+get_set_same (x ∷ xs) (suc i) old new h = get_set_same xs i old new h
+
+get_set_other : (xs : List Entry) (i k : ℕ) (new : Entry) → k ≢ i → slice_get (slice_set xs i new) k ≡ slice_get xs k
+get_set_other [] i k new h = refl
+get_set_other (x ∷ xs) zero zero new h = absurd (h refl)
+get_set_other (x ∷ xs) zero (suc k) new h = refl
+get_set_other (x ∷ xs) (suc i) zero new h = refl
+get_set_other (x ∷ xs) (suc i) (suc k) new h = get_set_other xs i k new (λ e. h (omega arith))
+
+pub set_same : (xs : List Entry) (i : ℕ) (e : Entry) → slice_get xs i ≡ Some e → slice_set xs i e ≡ xs
+set_same [] i e h = refl
+set_same (x ∷ xs) zero e h = ap (λ (y : Entry). y ∷ xs) (sym (same_Some _ _ h))
+set_same (x ∷ xs) (suc i) e h = ap (λ (ys : List Entry). x ∷ ys) (set_same xs i e h)
+
+pub waiting_set : (xs : List Entry) (i : ℕ) (old new : Entry) → slice_get xs i ≡ Some old → waiting_of new ≡ waiting_of old → map waiting_of (slice_set xs i new) ≡ map waiting_of xs
+waiting_set [] i old new h e = refl
+waiting_set (x ∷ xs) zero old new h e = let is : x ≡ old = same_Some _ _ h in ap (λ w. w ∷ map waiting_of xs) (e ∙ ap (λ (y : Entry). waiting_of y) (sym is))
+waiting_set (x ∷ xs) (suc i) old new h e = ap (λ ws. waiting_of x ∷ ws) (waiting_set xs i old new h e)
+
+older_set : (xs : List Entry) (i k : ℕ) (old new : Entry) → slice_get xs i ≡ Some old → new.claim ≡ old.claim → older (slice_set xs i new) k ≡ older xs k
+older_set [] i k old new h e = refl
+older_set (x ∷ xs) zero zero old new h e = refl
+older_set (x ∷ xs) (suc i) zero old new h e = refl
+older_set (x ∷ xs) zero (suc k) old new h e = let is : x ≡ old = same_Some _ _ h in ap (λ (r : Record). r ∷ older xs k) (e ∙ ap (λ (y : Entry). y.claim) (sym is))
+older_set (x ∷ xs) (suc i) (suc k) old new h e = ap (λ (rs : List Record). x.claim ∷ rs) (older_set xs i k old new h e)
+
+by_place : (k at : ℕ) (P : Type 0) → (k ≡ at → P) → (k ≢ at → P) → P
+by_place zero zero P same other = same refl
+by_place zero (suc at) P same other = other (λ e. omega arith)
+by_place (suc k) zero P same other = other (λ e. omega arith)
+by_place (suc k) (suc at) P same other = by_place k at P (λ e. same (omega arith)) (λ f. other (λ e. f (omega arith)))
+
+pub get_within : (xs : List Entry) (k : ℕ) (e : Entry) → slice_get xs k ≡ Some e → k < length xs
+get_within [] k e h = absurd (none-some _ h)
+get_within (x ∷ xs) zero e h = omega arith
+get_within (x ∷ xs) (suc k) e h = let w = get_within xs k e h in omega arith
+
+-- ---- the entries advance, one after the other
+
+pub advanced_more : (arch : State) (now at : ℕ) (entries : List Entry) (old new : Entry)
+    → slice_get entries at ≡ Some old → new.claim ≡ old.claim → new.cycle ≡ old.cycle
+    → (IsChecked (before_entry arch entries at) (now - old.cycle) old → IsChecked (before_entry arch entries at) (now + 1 - old.cycle) new)
+    → IsAdvanced arch now at entries → IsAdvanced arch now (at + 1) (slice_set entries at new)
+advanced_more arch now at entries old new here claim cycle next a =
+    let same : (k : ℕ) → before_entry arch (slice_set entries at new) k ≡ before_entry arch entries k = λ k. ap (after arch) (older_set entries at k old new here claim) in
+    let got : slice_get (slice_set entries at new) at ≡ Some new = get_set_same entries at old new here in
+    record {
+      below = λ k e lt h. subst (λ s. IsChecked s (now + 1 - e.cycle) e) (sym (same k)) (by_place k at (IsChecked (before_entry arch entries k) (now + 1 - e.cycle) e)
+          (λ is. let one : new ≡ e = same_Some _ _ (sym got ∙ ap (slice_get (slice_set entries at new)) (sym is) ∙ h) in
+          subst (λ (x : Entry). IsChecked (before_entry arch entries k) (now + 1 - x.cycle) x) one
+          (subst (λ j. IsChecked (before_entry arch entries j) (now + 1 - new.cycle) new) (sym is)
+          (subst (λ (c : ℕ). IsChecked (before_entry arch entries at) (now + 1 - c) new) (sym cycle) (next (a.from at old (omega arith) here)))))
+          (λ f. a.below k e (omega arith) (sym (get_set_other entries at k new f) ∙ h)));
+      from = λ k e le h. let f : k ≢ at = λ is. omega arith in subst (λ s. IsChecked s (now - e.cycle) e) (sym (same k)) (a.from k e (omega arith) (sym (get_set_other entries at k new f) ∙ h));
+    }
+
+-- an entry behind the last stage stays as it is
+checked_past : (s : State) (a b : ℕ) (e : Entry) → 5 ≤ a → b ≡ suc a → IsChecked s a e → IsChecked s b e
+checked_past s a b e old is c =
+    subst (λ (n : ℕ). IsChecked s n e) (sym is) (record { verdict = verdict_past s e a old c.verdict; decoded = c.decoded ∙ sym (form_kept a e.claim.word (λ z. omega arith)) })
+
+-- at first only those behind the last stage have advanced
+pub advanced_first : (arch : State) (now at : ℕ) (entries : List Entry) → ((k : ℕ) (e : Entry) → k < at → slice_get entries k ≡ Some e → e.cycle + 5 ≤ now) → AreChecked arch now entries → IsAdvanced arch now at entries
+advanced_first arch now at entries old all =
+    record {
+      below = λ k e lt h. let o = old k e lt h in checked_past (before_entry arch entries k) (now - e.cycle) (now + 1 - e.cycle) e (omega arith) (omega arith) (all k e h);
+      from = λ k e le h. all k e h;
+    }
+
+pub advanced_all : (arch : State) (now n : ℕ) (entries : List Entry) → length entries ≤ n → IsAdvanced arch now n entries → AreChecked arch (now + 1) entries
+advanced_all arch now n entries le a k e h = a.below k e (let w = get_within entries k e h in omega arith) h
+
+-- ---- a stage looks at the committed state as if it went on
+
+pub goes_view : (s v : State) → v ≡ record s { end = 0 } → s.end ≡ 0 → v ≡ s
+goes_view s v is on = is ∙ ap (λ (n : ℕ). record s { end = n }) (sym on)
+
+pub answers_there : (arch view : State) (entries : List Entry) (at : ℕ) (earlier : List Field) (own : Bool → List Field) (p : Record) (v : Option Diff)
+    → view ≡ record arch { end = 0 } → Answers earlier own (before_entry view entries at) p v → Answers earlier own (before_entry arch entries at) p v
+answers_there arch view entries at earlier own p v is answer = λ on.
+    let same : view ≡ arch = goes_view arch view is (after_goes arch (older entries at) on) in
+    subst (λ (s : State). Answers earlier own (before_entry s entries at) p v) same answer on
+
+no_verdict : (o : Option Diff) → is_some o ≡ false → o ≡ None
+no_verdict None h = refl
+no_verdict (Some d) h = absurd (true≢false h)
+
+-- the entry at a place has no verdict so far
+pub open_at : (entries : List Entry) (at : ℕ) (e f : Entry) → slice_get entries at ≡ Some f → is_some f.verdict ≡ false → slice_get entries at ≡ Some e → e.verdict ≡ None
+open_at entries at e f there none here = no_verdict e.verdict (ap (λ (x : Entry). is_some x.verdict) (same_Some _ _ (sym here ∙ there)) ∙ none)
+
+-- what its stage answers of an entry without a verdict is its verdict
+pub stage_passed :
+    (arch view : State) (entries new : List Entry) (now at a : ℕ) (e : Entry) (earlier : List Field) (own : Bool → List Field) (v : Option Diff)
+    → slice_get entries at ≡ Some e → new ≡ slice_set entries at (record e { verdict = v }) → view ≡ record arch { end = 0 } → now + 1 ≡ suc a + e.cycle → a ≢ 1
+    → Answers earlier own (before_entry view entries at) e.claim v
+    → ((s : State) → Answers earlier own s e.claim v → HasVerdict s a e → HasVerdict s (suc a) (record e { verdict = v }))
+    → IsAdvanced arch now at entries → IsAdvanced arch now (at + 1) new
+stage_passed arch view entries new now at a e earlier own v here is shows age other answer found adv =
+    let before : now - e.cycle ≡ a = omega arith in
+    let behind : now + 1 - e.cycle ≡ suc a = omega arith in
+    let s = before_entry arch entries at in
+    subst (λ (es : List Entry). IsAdvanced arch now (at + 1) es) (sym is)
+    (advanced_more arch now at entries e (record e { verdict = v }) here refl refl
+    (λ c. let d : IsChecked s a e = subst (λ (n : ℕ). IsChecked s n e) before c in
+    subst (λ (n : ℕ). IsChecked s n (record e { verdict = v })) (sym behind)
+    (record { verdict = found s (answers_there arch view entries at earlier own e.claim v shows answer) d.verdict; decoded = d.decoded ∙ sym (form_kept a e.claim.word other) }))
+    adv)
+
+-- the decode stage
+pub decode_passed :
+    (arch : State) (entries new : List Entry) (now at : ℕ) (e : Entry) → slice_get entries at ≡ Some e → new ≡ slice_set entries at (record e { decoded = row_of e.claim.word }) → now + 1 ≡ 2 + e.cycle
+    → IsAdvanced arch now at entries → IsAdvanced arch now (at + 1) new
+decode_passed arch entries new now at e here is age adv =
+    let before : now - e.cycle ≡ 1 = omega arith in
+    let behind : now + 1 - e.cycle ≡ 2 = omega arith in
+    let s = before_entry arch entries at in
+    subst (λ (es : List Entry). IsAdvanced arch now (at + 1) es) (sym is)
+    (advanced_more arch now at entries e (record e { decoded = row_of e.claim.word }) here refl refl
+    (λ c. let d : IsChecked s 1 e = subst (λ (n : ℕ). IsChecked s n e) before c in
+    subst (λ (n : ℕ). IsChecked s n (record e { decoded = row_of e.claim.word })) (sym behind) (record { verdict = d.verdict; decoded = refl }))
+    adv)
+
+-- an entry that stays as it is
+advanced_same : (arch : State) (now at : ℕ) (entries : List Entry) (e : Entry) → slice_get entries at ≡ Some e
+    → (IsChecked (before_entry arch entries at) (now - e.cycle) e → IsChecked (before_entry arch entries at) (now + 1 - e.cycle) e)
+    → IsAdvanced arch now at entries → IsAdvanced arch now (at + 1) entries
+advanced_same arch now at entries e here next adv =
+    subst (λ (es : List Entry). IsAdvanced arch now (at + 1) es) (set_same entries at e here) (advanced_more arch now at entries e e here refl refl next adv)
+
+-- it has a verdict
+pub verdict_kept : (arch : State) (entries : List Entry) (now at a : ℕ) (e : Entry) → slice_get entries at ≡ Some e → is_some e.verdict ≡ true → now + 1 ≡ suc a + e.cycle → a ≢ 1
+    → IsAdvanced arch now at entries → IsAdvanced arch now (at + 1) entries
+verdict_kept arch entries now at a e here found age other adv =
+    let before : now - e.cycle ≡ a = omega arith in
+    let behind : now + 1 - e.cycle ≡ suc a = omega arith in
+    let s = before_entry arch entries at in
+    advanced_same arch now at entries e here
+    (λ c. let k : IsChecked s a e = subst (λ (n : ℕ). IsChecked s n e) before c in
+    subst (λ (n : ℕ). IsChecked s n e) (sym behind) (record { verdict = stays_found s e a found k.verdict; decoded = k.decoded ∙ sym (form_kept a e.claim.word other) }))
+    adv
+
+-- it is past the last stage
+pub past_kept : (arch : State) (entries : List Entry) (now at : ℕ) (e : Entry) → slice_get entries at ≡ Some e → e.cycle + 5 ≤ now → IsAdvanced arch now at entries → IsAdvanced arch now (at + 1) entries
+past_kept arch entries now at e here old adv =
+    advanced_same arch now at entries e here (checked_past (before_entry arch entries at) (now - e.cycle) (now + 1 - e.cycle) e (omega arith) (omega arith)) adv
+
+-- ---- claims in the order in which they were accepted
+
+order_ends : (from now : ℕ) (xs : List Waiting) → AreInOrder from now xs → from ≤ now
+order_ends from now [] h = h
+order_ends from now (p ∷ xs) h = let e = order_ends p.cycle now xs h.1 in let b = h.0 in omega arith
+
+pub order_at : (from now : ℕ) (es : List Entry) (k : ℕ) (e : Entry) → AreInOrder from now (map waiting_of es) → slice_get es k ≡ Some e → (from ≤ e.cycle) × (e.cycle ≤ now)
+order_at from now [] k e h at = absurd (none-some _ at)
+order_at from now (x ∷ es) zero e h at =
+    let one : x ≡ e = same_Some _ _ at in
+    let ends = order_ends x.cycle now (map waiting_of es) h.1 in
+    subst (λ (y : Entry). (from ≤ y.cycle) × (y.cycle ≤ now)) one (h.0, ends)
+order_at from now (x ∷ es) (suc k) e h at = let rest = order_at x.cycle now es k e h.1 at in let low = h.0 in let r = rest.0 in (omega arith, rest.1)
+
+order_from : (from low now : ℕ) (xs : List Waiting) → low ≤ from → AreInOrder from now xs → AreInOrder low now xs
+order_from from low now [] le h = omega arith
+order_from from low now (p ∷ xs) le h = let b = h.0 in (omega arith, h.1)
+
+pub order_rest : (from now : ℕ) (xs : List Waiting) → AreInOrder from now xs → AreInOrder from now (drop 1 xs)
+order_rest from now [] h = h
+order_rest from now (p ∷ xs) h = order_from p.cycle from now xs h.0 h.1
+
+pub order_later : (from now later : ℕ) (xs : List Waiting) → now ≤ later → AreInOrder from now xs → AreInOrder from later xs
+order_later from now later [] le h = omega arith
+order_later from now later (p ∷ xs) le h = (h.0, order_later p.cycle now later xs le h.1)
+
+order_new : (from now : ℕ) (claims : List Record) → from ≤ now → AreInOrder from now (map (accepted_in now) claims)
+order_new from now [] h = h
+order_new from now (r ∷ claims) h = (h, order_new now now claims (omega arith))
+
+pub order_more : (from now : ℕ) (xs : List Waiting) (claims : List Record) → AreInOrder from now xs → AreInOrder from now (xs ++ map (accepted_in now) claims)
+order_more from now [] claims h = order_new from now claims h
+order_more from now (p ∷ xs) claims h = (h.0, order_more p.cycle now xs claims h.1)
+
+-- ---- how many are past the last stage
+
+passed_new : (now : ℕ) (claims : List Record) → passed_by now (map (accepted_in now) claims) ≡ 0
+passed_new now [] = refl
+passed_new now (r ∷ claims) = rw (lt-leb (now + 5) now (omega arith)) refl
+
+pub passed_more : (now : ℕ) (xs : List Waiting) (claims : List Record) → passed_by now (xs ++ map (accepted_in now) claims) ≡ passed_by now xs
+passed_more now [] claims = passed_new now claims
+passed_more now (p ∷ xs) claims = rw (passed_more now xs claims) refl
+
+pub passed_length : (now : ℕ) (es : List Entry) → passed_by now (map waiting_of es) ≤ length es
+passed_length now [] = omega arith
+passed_length now (x ∷ es) =
+    let rest = passed_length now es in
+    elim (cases_lt now (x.cycle + 5)) [
+      | inl young ↦ rw (lt-leb _ _ young) (omega arith)
+      | inr old ↦ rw (le-leb _ _ old) (omega arith)
+    ]
+
+pub passed_later : (now : ℕ) (es : List Entry) → passed_by now (map waiting_of es) ≤ passed_by (now + 1) (map waiting_of es)
+passed_later now [] = omega arith
+passed_later now (x ∷ es) =
+    let rest = passed_later now es in
+    elim (cases_lt now (x.cycle + 5)) [
+      | inl young ↦ rw (lt-leb _ _ young) (omega arith)
+      | inr old ↦ rw (le-leb _ _ old, le-leb (x.cycle + 5) (now + 1) (omega arith)) (omega arith)
+    ]
+
+pub passed_at : (now : ℕ) (es : List Entry) (k : ℕ) (e : Entry) → k < passed_by now (map waiting_of es) → slice_get es k ≡ Some e → e.cycle + 5 ≤ now
+passed_at now [] k e lt h = absurd (none-some _ h)
+passed_at now (x ∷ es) k e lt h =
+    elim (cases_lt now (x.cycle + 5)) [
+      | inl young ↦ absurd (none_below k (rw (lt-leb _ _ young) at lt))
+      | inr old ↦ at_place (λ j. passed_at now es j e) k (rw (le-leb _ _ old) at lt) h old
+    ]
+  where
+    none_below : (k : ℕ) → k < 0 → ⊥
+    none_below k h = omega arith
+
+    at_place : ((j : ℕ) → j < passed_by now (map waiting_of es) → slice_get es j ≡ Some e → e.cycle + 5 ≤ now) → (k : ℕ) → k < suc (passed_by now (map waiting_of es)) → slice_get (x ∷ es) k ≡ Some e → x.cycle + 5 ≤ now → e.cycle + 5 ≤ now
+    at_place rest zero lt h old = subst (λ (y : Entry). y.cycle + 5 ≤ now) (same_Some _ _ h) old
+    at_place rest (suc k) lt h old = rest k (omega arith) h
+
+pub unpassed_at : (from now later : ℕ) (es : List Entry) (k : ℕ) (e : Entry) → AreInOrder from later (map waiting_of es) → passed_by now (map waiting_of es) ≤ k → slice_get es k ≡ Some e → now < e.cycle + 5
+unpassed_at from now later [] k e o le h = absurd (none-some _ h)
+unpassed_at from now later (x ∷ es) k e o le h =
+    elim (cases_lt now (x.cycle + 5)) [
+      | inl young ↦ (let low = order_at x.cycle later (x ∷ es) k e (omega arith, o.1) h in let l = low.0 in omega arith)
+      | inr old ↦ at_place (λ j. unpassed_at x.cycle now later es j e o.1) k (rw (le-leb _ _ old) at le) h
+    ]
+  where
+    at_place : ((j : ℕ) → passed_by now (map waiting_of es) ≤ j → slice_get es j ≡ Some e → now < e.cycle + 5) → (k : ℕ) → suc (passed_by now (map waiting_of es)) ≤ k → slice_get (x ∷ es) k ≡ Some e → now < e.cycle + 5
+    at_place rest zero le h = absurd (omega arith)
+    at_place rest (suc k) le h = rest k (omega arith) h
+
+pub passed_rest : (now : ℕ) (es : List Entry) → 0 < passed_by now (map waiting_of es) → passed_by now (map waiting_of (drop 1 es)) ≡ passed_by now (map waiting_of es) - 1
+passed_rest now [] h = refl
+passed_rest now (x ∷ es) h =
+    elim (cases_lt now (x.cycle + 5)) [
+      | inl young ↦ absurd (nothing (rw (lt-leb _ _ young) at h))
+      | inr old ↦ rw (le-leb _ _ old) (omega arith)
+    ]
+  where
+    nothing : 0 < 0 → ⊥
+    nothing h = omega arith
+
+-- one claim more has passed through the stage of its age, and none before it is still to
+pub passed_next : (cycles at passed next : ℕ) (es : List Entry) (e : Entry) → slice_get es at ≡ Some e → AreInOrder 0 cycles (map waiting_of es)
+    → cycles ≤ e.cycle + 5 → next ≡ passed + number (cycles == e.cycle + 5) → passed ≤ at
+    → (at ≤ passed_by cycles (map waiting_of es) → passed ≡ at)
+    → (passed_by cycles (map waiting_of es) ≤ at → passed ≡ passed_by cycles (map waiting_of es))
+    → (next ≤ at + 1)
+    × ((at + 1 ≤ passed_by cycles (map waiting_of es) → next ≡ at + 1)
+    × (passed_by cycles (map waiting_of es) ≤ at + 1 → next ≡ passed_by cycles (map waiting_of es)))
+passed_next cycles at passed next es e here order young is below early late =
+    elim (eqb_tells cycles (e.cycle + 5)) [
+      | inl same ↦
+          let one : next ≡ passed + 1 = is ∙ ap (λ (b : Bool). passed + number b) same.0 in
+          let cycle = same.1 in
+          elim (cases_lt at (passed_by cycles (map waiting_of es))) [
+            | inl first ↦ (let p = early (omega arith) in (omega arith, (λ h. omega arith, λ h. omega arith)))
+            | inr behind ↦ absurd (let u = unpassed_at 0 cycles cycles es at e order behind here in omega arith)
+          ]
+      | inr other ↦
+          let zero_more : next ≡ passed + 0 = is ∙ ap (λ (b : Bool). passed + number b) other.0 in
+          let none : next ≡ passed = omega arith in
+          let differs = other.1 in
+          elim (cases_lt at (passed_by cycles (map waiting_of es))) [
+            | inl first ↦ absurd (let u = passed_at cycles es at e first here in differs (omega arith))
+            | inr behind ↦ (let p = late behind in (omega arith, (λ h. omega arith, λ h. omega arith)))
+          ]
+    ]
+
+-- ---- the parts of a machine
+
+-- the stages begin with the first claim that is not past the last one
+pub stages_begin : (w : Staged) → 1 ≤ w.timed.cycles → IsStaged (w.timed.cycles - 1) w
+    → IsAdvanced w.timed.arch (w.timed.cycles - 1) w.passed w.entries × (w.passed ≤ passed_by w.timed.cycles w.timed.pending)
+stages_begin w some s =
+    let now = w.timed.cycles - 1 in
+    let cycle : now + 1 ≡ w.timed.cycles = omega arith in
+    let is : w.passed ≡ passed_by now (map waiting_of w.entries) = s.passed ∙ ap (passed_by now) s.waits in
+    let more : passed_by now (map waiting_of w.entries) ≤ passed_by w.timed.cycles (map waiting_of w.entries) = subst (λ (n : ℕ). passed_by now (map waiting_of w.entries) ≤ passed_by n (map waiting_of w.entries)) cycle (passed_later now w.entries) in (
+      advanced_first w.timed.arch now w.passed w.entries (λ k e lt here. passed_at now w.entries k e (subst (λ (n : ℕ). k < n) is lt) here) s.checked,
+      subst (λ (xs : List Waiting). w.passed ≤ passed_by w.timed.cycles xs) (sym s.waits) (omega arith),
+    )
+
+-- the claim at a place is still to pass through a stage
+pub still_young : (w : Staged) (at : ℕ) (e : Entry) (es : List Entry) → 1 ≤ w.timed.cycles → IsStaged (w.timed.cycles - 1) w → map waiting_of es ≡ w.timed.pending → w.passed ≤ at → slice_get es at ≡ Some e
+    → (e.cycle < w.timed.cycles) × (w.timed.cycles ≤ e.cycle + 5)
+still_young w at e es some s waits behind here =
+    let now = w.timed.cycles - 1 in
+    let order : AreInOrder 0 now (map waiting_of es) = subst (λ (xs : List Waiting). AreInOrder 0 now xs) (sym waits) s.ordered in
+    let is : w.passed ≡ passed_by now (map waiting_of es) = s.passed ∙ ap (passed_by now) (sym waits) in
+    let low = order_at 0 now es at e order here in
+    let bound = low.1 in
+    let high = unpassed_at 0 now now es at e order (omega arith) here in
+    (omega arith, omega arith)
+
+pub same_length : (xs ys : List Entry) → map waiting_of xs ≡ map waiting_of ys → length xs ≡ length ys
+same_length xs ys same = sym (length-map xs waiting_of) ∙ ap (λ (ws : List Waiting). length ws) same ∙ length-map ys waiting_of
+
+pub get_there : (xs : List Entry) (k : ℕ) (P : Type 0) → k < length xs → ((e : Entry) → slice_get xs k ≡ Some e → P) → P
+get_there [] k P h found = absurd (omega arith)
+get_there (x ∷ xs) zero P h found = found x refl
+get_there (x ∷ xs) (suc k) P h found = get_there xs k P (omega arith) found
+
+-- the claim at a place has passed through its stage: z is what is passed then
+pub stage_next : (w y z : Staged) (at : ℕ) → 1 ≤ w.timed.cycles → IsStaged (w.timed.cycles - 1) w → y.timed ≡ w.timed → map waiting_of y.entries ≡ w.timed.pending → w.passed ≤ at → at < length y.entries
+    → ((e : Entry) → slice_get y.entries at ≡ Some e → z.passed ≡ y.passed + number (y.timed.cycles == e.cycle + 5))
+    → y.passed ≤ at
+    → (at ≤ passed_by w.timed.cycles w.timed.pending → y.passed ≡ at)
+    → (passed_by w.timed.cycles w.timed.pending ≤ at → y.passed ≡ passed_by w.timed.cycles w.timed.pending)
+    → (z.passed ≤ at + 1)
+    × ((at + 1 ≤ passed_by w.timed.cycles w.timed.pending → z.passed ≡ at + 1)
+    × (passed_by w.timed.cycles w.timed.pending ≤ at + 1 → z.passed ≡ passed_by w.timed.cycles w.timed.pending))
+stage_next w y z at some s same waits behind within is below early late =
+    let P = λ (n : ℕ). (z.passed ≤ at + 1) × ((at + 1 ≤ n → z.passed ≡ at + 1) × (n ≤ at + 1 → z.passed ≡ n)) in
+    let cycles = w.timed.cycles in
+    let count = ap (passed_by cycles) waits in
+    get_there y.entries at (P (passed_by cycles w.timed.pending)) within
+    (λ e here.
+    let young = (still_young w at e y.entries some s waits behind here).1 in
+    let order : AreInOrder 0 cycles (map waiting_of y.entries) = subst (λ (xs : List Waiting). AreInOrder 0 cycles xs) (sym waits) (order_later 0 (cycles - 1) cycles w.timed.pending (omega arith) s.ordered) in
+    let next : z.passed ≡ y.passed + number (cycles == e.cycle + 5) = is e here ∙ ap (λ (m : Timed). y.passed + number (m.cycles == e.cycle + 5)) same in
+    subst P count
+    (passed_next cycles at y.passed z.passed y.entries e here order young next below
+    (subst (λ (n : ℕ). at ≤ n → y.passed ≡ at) (sym count) early)
+    (subst (λ (n : ℕ). n ≤ at → y.passed ≡ n) (sym count) late)))
+
+-- all of them have passed through the stage of their age
+pub stages_end : (w z : Staged) (n : ℕ) → 1 ≤ w.timed.cycles → z ≡ record w { entries = z.entries; passed = z.passed } → map waiting_of z.entries ≡ w.timed.pending → IsStaged (w.timed.cycles - 1) w
+    → length z.entries ≤ n → IsAdvanced w.timed.arch (w.timed.cycles - 1) n z.entries
+    → (passed_by w.timed.cycles w.timed.pending ≤ n → z.passed ≡ passed_by w.timed.cycles w.timed.pending)
+    → IsStaged z.timed.cycles z
+stages_end w z n some is waits s whole advanced late =
+    let now = w.timed.cycles - 1 in
+    let cycle : now + 1 ≡ w.timed.cycles = omega arith in
+    let all : AreChecked w.timed.arch w.timed.cycles z.entries = subst (λ (c : ℕ). AreChecked w.timed.arch c z.entries) cycle (advanced_all w.timed.arch now n z.entries whole advanced) in
+    let most : passed_by w.timed.cycles w.timed.pending ≤ length z.entries = subst (λ (xs : List Waiting). passed_by w.timed.cycles xs ≤ length z.entries) waits (passed_length w.timed.cycles z.entries) in
+    let same : w.timed ≡ z.timed = sym (ap (λ (x : Staged). x.timed) is) in
+    record {
+      waits = sym (ap (λ (m : Timed). m.pending) same) ∙ sym waits;
+      checked = subst (λ (m : Timed). AreChecked m.arch m.cycles z.entries) same all;
+      ordered = subst (λ (m : Timed). AreInOrder 0 m.cycles m.pending) same (order_later 0 now w.timed.cycles w.timed.pending (omega arith) s.ordered);
+      passed = subst (λ (m : Timed). z.passed ≡ passed_by m.cycles m.pending) same (late (omega arith));
+    }
+
+-- a flush
+pub staged_flushed : (now : ℕ) (w : Staged) (cause : Cause) → IsStaged now (record w { timed = flushed w.timed cause; entries = []; passed = 0 })
+unfolding flushed
+staged_flushed now w cause = record { waits = refl; checked = checked_none w.timed.arch now; ordered = omega arith; passed = refl }
+
+filled_young : (s : State) (age : ℕ) (r : Record) → age ≡ 0 → IsFilled s age r
+filled_young s zero r h = refl
+filled_young s (suc age) r h = absurd (omega arith)
+
+pub solo_flushed : (w : Staged) (cause : Cause) → (let z = record w { timed = flushed w.timed cause; entries = []; passed = 0 } in IsSoloFilled z.timed.cycles z)
+unfolding flushed
+solo_flushed w cause = filled_young w.timed.arch (w.timed.cycles - w.timed.cycles) w.filled (omega arith)
+
+-- a cycle begins, and the oldest store is drained
+pub staged_begun : (w : Staged) → IsStaged w.timed.cycles w → IsStaged ((drained (begun w.timed)).cycles - 1) (record w { timed = drained (begun w.timed); last = [] })
+unfolding drained
+staged_begun w s =
+    let same : w.timed.cycles + 1 - 1 ≡ w.timed.cycles = omega arith in
+    subst (λ (n : ℕ). IsStaged n (record w { timed = drained (begun w.timed); last = [] })) (sym same) (record { waits = s.waits; checked = s.checked; ordered = s.ordered; passed = s.passed })
