@@ -1,5 +1,5 @@
 -- Memory as a list of bytes from an address on: what is inside, what is read, and what a write changes.
-use Rattle.std.specs.Prelude.{ℕ, zero, suc, ◌≤◌, ◌+◌, ◌-◌, ◌*◌, ◌%◌, ◌^◌, ◌==◌, ◌&&◌, nat_le, Bool, List, [], ◌∷◌, length, take, slice_get, slice_set, Option, Some, None, option_and_then, option_map, if◌then◌else◌}
+use Rattle.std.specs.Prelude.{ℕ, zero, suc, ◌≡◌, ◌<◌, ◌≤◌, ◌+◌, ◌-◌, ◌*◌, ◌/◌, ◌%◌, ◌^◌, ◌==◌, ◌&&◌, nat_le, Bool, List, [], ◌∷◌, length, take, slice_get, slice_set, Option, Some, None, option_and_then, option_map, if◌then◌else◌}
 use Rattle.std.specs.Int.{to_le_bytes, w32}
 
 -- the first address, and the bytes from there on
@@ -28,6 +28,14 @@ number_at m (suc n) addr = option_and_then (λ low. option_map (λ high. low + 2
 -- the word at an address, `None` where the address is not a multiple of 4 or a byte is outside
 abbrev pub word_at : Bytes → ℕ → Option ℕ
 word_at m addr = if addr % 4 == 0 then number_at m 4 addr else None
+
+-- byte i of a word, the lowest being byte 0
+abbrev pub word_byte : ℕ → ℕ → ℕ
+word_byte w i = w / 2 ^ (8 * i) % 2 ^ 8
+
+-- the four bytes from an address on are those of the word w
+abbrev pub HasWord : Bytes → ℕ → ℕ → Type 0
+HasWord m addr w = (i : ℕ) → i < 4 → byte_at m (addr + i) ≡ Some (word_byte w i)
 
 -- one byte is changed, where the address is inside
 abbrev pub put : Bytes → ℕ → ℕ → Bytes

@@ -1,5 +1,6 @@
 // Memory as bytes from an address on.
-ghost use Rattle.std.specs.Prelude.{◌≡◌, ◌≢◌, ◌≤◌, ◌<◌, ◌+◌, ◌-◌, ◌%◌, ◌^◌, ◌↔◌, ◌++◌, ℕ, IfOk, IsTrue, IsSome, Some, ◌⊎◌, length, replicate, slice_get};
+ghost use Rattle.std.specs.Prelude.{◌≡◌, ◌≢◌, ◌≤◌, ◌<◌, ◌+◌, ◌-◌, ◌%◌, ◌^◌, ◌↔◌, ◌++◌, ℕ, IfOk, IfSome, IsTrue, IsSome, Some, ◌⊎◌, length, replicate, slice_get};
+ghost use Rattle.diva_memory.specs.Bytes.{number_at, word_byte};
 
 use byteorder::{ByteOrder, LittleEndian};
 use std::alloc::{AllocError, Global};
@@ -28,7 +29,7 @@ impl Model for Memory {
 }
 
 impl Memory {
-    ghost use Rattle.diva_memory.specs.Bytes.{IsInside, is_inside, byte_at, word_at, put, put_all};
+    ghost use Rattle.diva_memory.specs.Bytes.{IsInside, is_inside, byte_at, word_at, put, put_all, HasWord};
 
     /// Memory of `size` bytes from `base` on: the payload, and zeros behind it. It ends at 2^32 at
     /// the latest, and the payload fits into it. The error: out of memory.
@@ -83,13 +84,14 @@ impl Memory {
     pub fn word(&self, addr: u32) -> Option<u32>
         ensures value { result ≡ word_at self.now addr }
         ensures inside { IsSome result ↔ ((addr % 4 ≡ 0) × IsInside self.now addr 4) }
+        ensures bytes { IfSome result (λ w. HasWord self.now addr w) }
     {
         if addr % 4 != 0 {
             return None;
         }
         let at = addr.checked_sub(self.base)? as usize;
         let bytes = self.bytes.get(at..at + 4)?;
-        Some(LittleEndian::read_u32(bytes))
+        Some(word_of(bytes))
     }
 
     /// Writes one byte, at an address that is inside.
@@ -115,4 +117,14 @@ impl Memory {
         let at = (addr - self.base) as usize;
         self.bytes[at..at + bytes.len()].copy_from_slice(bytes);
     }
+}
+
+// The word that four bytes are, the lowest first.
+#[inline]
+fn word_of(bytes: &[u8]) -> u32
+    requires { length bytes.now ≡ 4 }
+    ensures value { number_at (record { base = 0; items = bytes.now }) 4 0 ≡ Some result }
+    ensures bytes { (i : ℕ) → i < 4 → slice_get bytes.now i ≡ Some (word_byte result i) }
+{
+    LittleEndian::read_u32(bytes)
 }
