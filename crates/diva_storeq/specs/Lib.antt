@@ -1,3 +1,4 @@
 -- What the contracts of this crate and of those above it cite.
 pub mod Width
+pub mod Masked
 pub mod Stores

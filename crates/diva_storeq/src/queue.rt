@@ -3,40 +3,47 @@ ghost use Rattle.std.specs.Prelude.{◌≡◌, ◌≤◌, ◌<◌, ℕ, ◌+◌,
 ghost use Rattle.std.specs.List.{list_all};
 ghost use Rattle.std.specs.Option.{ForSome};
 ghost use Rattle.circular_buffer.specs.Buffer.{Buffer, buffer};
-ghost use Rattle.diva_memory.specs.Bytes.{Bytes, IsInside, byte_at, word_at};
+ghost use Rattle.diva_memory.specs.Bytes.{Bytes, IsInside, byte_at, word_at, HasWord};
 
-use crate::Store;
+use crate::{Masked, Store};
 use circular_buffer::HeapCircularBuffer;
 use diva_memory::Memory;
 use std::alloc::{AllocError, Global};
 use std::marker::Model;
 
-/// The stores that have committed and are not in memory yet, in order.
+/// The stores that have committed and are not in memory yet, in order. Each is kept as the word in which it lies, with a
+/// mask of the bytes that it writes.
 ///
 /// A reader of memory sees them laid over it, so that a load gets what the stores before it wrote.
 #[derive(Drop)]
 pub struct StoreQueue {
-    stores: HeapCircularBuffer<Store>,
+    entries: HeapCircularBuffer<Masked>,
 }
 
 impl Model for StoreQueue {
     ghost use Rattle.circular_buffer.specs.Buffer.{Buffer};
-    ghost use Rattle.diva_storeq.specs.declared.store.Store.{Store};
+    ghost use Rattle.diva_storeq.specs.declared.masked.Masked.{Masked};
 
-    ghost Value = { Buffer Store };
+    ghost Value = { Buffer Masked };
 
-    ghost view = { λ q. q.stores };
+    ghost use Rattle.std.specs.List.{All};
+    ghost use Rattle.diva_storeq.specs.Masked.{IsMasked};
+
+    ghost view = { λ q. q.entries };
+
+    ghost invariant = { λ q. All IsMasked q.entries.items };
 }
 
 impl StoreQueue {
-    ghost use Rattle.diva_storeq.specs.Stores.{bytes_of, is_apart, lay, laid};
+    ghost use Rattle.diva_storeq.specs.Masked.{IsMasked, IsWithin};
+    ghost use Rattle.diva_storeq.specs.Stores.{bytes_of, lay, laid, masked};
 
     /// An empty queue for at most `cap` stores. The error: out of memory. No later call takes memory.
     pub fn new(alloc: Global, cap: usize) -> Result<Self, AllocError>
         ensures { IfOk result (λ q. q ≡ buffer [] cap) }
     {
         Ok(StoreQueue {
-            stores: HeapCircularBuffer::with_capacity(alloc, cap)?,
+            entries: HeapCircularBuffer::with_capacity(alloc, cap)?,
         })
     }
 
@@ -45,7 +52,7 @@ impl StoreQueue {
         ensures value { result ≡ (length self.now.items == self.now.capacity) }
         ensures within { length self.now.items ≤ self.now.capacity }
     {
-        self.owed() == self.stores.capacity()
+        self.owed() == self.entries.capacity()
     }
 
     /// How many stores are not in memory yet.
@@ -53,14 +60,25 @@ impl StoreQueue {
         ensures value { result ≡ length self.now.items }
         ensures within { result ≤ self.now.capacity }
     {
-        self.stores.len()
+        self.entries.len()
     }
 
-    /// Adds the youngest store. There is room for it, and it ends at 2^32 at the latest.
+    /// The store at a place, the oldest being at 0: the word in which it lies, and what it writes there.
+    pub fn entry(&self, at: usize) -> Masked
+        requires { at < length self.now.items }
+        ensures value { slice_get self.now.items at ≡ Some result }
+        ensures sound { IsMasked result }
+    {
+        *self.entries.get(at).unwrap()
+    }
+
+    /// Adds the youngest store. There is room for it, its address is a multiple of its width, and it ends at 2^32 at the
+    /// latest.
     pub fn push(&mut self, s: Store)
         requires room { length self.old.items < self.old.capacity }
         requires range { s.addr + s.width ≤ 2 ^ 32 }
-        ensures stores { self.new ≡ buffer (self.old.items ++ s ∷ []) self.old.capacity }
+        requires aligned { s.addr % s.width ≡ 0 }
+        ensures entries { self.new ≡ buffer (self.old.items ++ masked s ∷ []) self.old.capacity }
         ensures laid { (m : Bytes) → laid m self.new.items ≡ lay (laid m self.old.items) s }
 
         // Exactly the bytes that it covers are changed.
@@ -69,14 +87,14 @@ impl StoreQueue {
         ensures others { (m : Bytes) (a : ℕ) → ¬ IsInside (bytes_of s) a 1
             → byte_at (laid m self.new.items) a ≡ byte_at (laid m self.old.items) a }
     {
-        let _ = self.stores.try_push_back(s);
+        let _ = self.entries.try_push_back(s.masked());
     }
 
     /// Writes the oldest store to memory, where all its bytes are inside. Where there is no store,
     /// nothing changes.
-    #[tactic(auto, using(crate::proofs::Laying::lay_base, crate::proofs::Laying::lay_length))]
+    #[tactic(auto, using(crate::proofs::Laying::merge_base, crate::proofs::Laying::merge_length))]
     pub fn drain(&mut self, memory: &mut Memory)
-        requires { ForSome (slice_get self.old.items 0) (λ s. IsInside memory.old s.addr s.width) }
+        requires { ForSome (slice_get self.old.items 0) (λ e. IsWithin memory.old e) }
         ensures oldest { memory.new ≡ laid memory.old (take 1 self.old.items) }
         ensures rest { self.new ≡ buffer (drop 1 self.old.items) self.old.capacity }
         ensures owed { length self.new.items ≡ length self.old.items - 1 }
@@ -84,8 +102,8 @@ impl StoreQueue {
         ensures range { (memory.new.base ≡ memory.old.base) × (length memory.new.items ≡ length memory.old.items) }
         ensures empty { self.old.items ≡ [] → (memory.new ≡ memory.old) × (self.new ≡ self.old) }
     {
-        if let Some(store) = self.stores.pop_front() {
-            store.put_to(memory);
+        if let Some(entry) = self.entries.pop_front() {
+            entry.put_to(memory);
         }
     }
 
@@ -96,8 +114,8 @@ impl StoreQueue {
         ensures inside { IsSome result ↔ IsInside memory.now addr 1 }
     {
         let mut byte = memory.byte(addr)?;
-        for store in self.stores.iter() {
-            byte = store.byte(addr).unwrap_or(byte);
+        for entry in self.entries.iter() {
+            byte = entry.byte(addr).unwrap_or(byte);
         }
         Some(byte)
     }
@@ -110,31 +128,21 @@ impl StoreQueue {
         ensures inside { IsSome result ↔ ((addr % 4 ≡ 0) × IsInside memory.now addr 4) }
     {
         let word = memory.word(addr)?;
-        if self.is_apart(addr, 4) {
+        if self.owed() == 0 {
             return Some(word);
         }
-        self.overlaid(memory, addr)
+        Some(self.over(addr, word))
     }
 
-    /// The same, byte by byte: few loads meet a store on its way to memory.
-    #[cold]
-    fn overlaid(&self, memory: &Memory, addr: u32) -> Option<u32>
-        requires { (addr % 4 ≡ 0) × IsInside memory.now addr 4 }
-        ensures value { result ≡ word_at (laid memory.now self.now.items) addr }
-        ensures inside { IsSome result }
+    // The word at an address, a multiple of 4, with all stores laid over it.
+    fn over(&self, addr: u32, word: u32) -> u32
+        requires { addr % 4 ≡ 0 }
+        ensures { (m : Bytes) → HasWord m addr word → HasWord (laid m self.now.items) addr result }
     {
-        Some(u32::from_le_bytes([
-            self.byte(memory, addr)?,
-            self.byte(memory, addr + 1)?,
-            self.byte(memory, addr + 2)?,
-            self.byte(memory, addr + 3)?,
-        ]))
-    }
-
-    /// Whether no store writes one of the `n` bytes from `addr` on.
-    fn is_apart(&self, addr: u32, n: u32) -> bool
-        ensures { result ≡ list_all (λ s. is_apart s addr n) self.now.items }
-    {
-        self.stores.iter().all(|store| store.is_apart(addr, n))
+        let mut word = word;
+        for entry in self.entries.iter() {
+            word = entry.over(addr, word);
+        }
+        word
     }
 }

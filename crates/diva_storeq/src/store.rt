@@ -1,9 +1,8 @@
 // A store that is not in memory yet.
-ghost use Rattle.std.specs.Prelude.{◌≡◌, IsTrue, length};
-ghost use Rattle.diva_memory.specs.Bytes.{IsInside, byte_at};
+ghost use Rattle.std.specs.Prelude.{◌≡◌, ◌%◌, IsTrue};
 ghost use Rattle.diva_storeq.specs.Width.{is_width};
 
-use diva_memory::Memory;
+use crate::Masked;
 
 /// A store: it writes the lowest `width` bytes of `value` from `addr` on, the lowest first.
 ///
@@ -22,32 +21,21 @@ pub struct Store {
 }
 
 impl Store {
-    ghost use Rattle.diva_storeq.specs.Stores.{bytes_of, is_apart, lay};
+    ghost use Rattle.diva_storeq.specs.Masked.{IsMasked};
+    ghost use Rattle.diva_storeq.specs.Stores.{masked};
 
-    /// The byte that it writes at an address, `None` where it writes none there.
-    pub(crate) fn byte(&self, addr: u32) -> Option<u8>
-        ensures { result ≡ byte_at (bytes_of self.now) addr }
+    /// What it writes to the word in which its bytes lie. Its address is a multiple of its width, so they lie in one.
+    pub(crate) fn masked(&self) -> Masked
+        requires { self.now.addr % self.now.width ≡ 0 }
+        ensures value { result ≡ masked self.now }
+        ensures sound { IsMasked result }
     {
-        let at = addr.checked_sub(self.addr)?;
-        let bytes = self.value.to_le_bytes();
-        bytes[..usize::from(self.width)].get(at as usize).copied()
-    }
-
-    /// Whether it writes none of the `n` bytes from an address on.
-    pub(crate) fn is_apart(&self, addr: u32, n: u32) -> bool
-        ensures { result ≡ is_apart self.now addr n }
-    {
-        u64::from(self.addr) + u64::from(self.width) <= u64::from(addr)
-            || u64::from(addr) + u64::from(n) <= u64::from(self.addr)
-    }
-
-    /// Writes its bytes to memory, where all of them are inside.
-    #[tactic(auto, unfolding(crate::specs::Stores::lay))]
-    pub(crate) fn put_to(&self, memory: &mut Memory)
-        requires { IsInside memory.old self.now.addr self.now.width }
-        ensures { memory.new ≡ lay memory.old self.now }
-    {
-        let bytes = self.value.to_le_bytes();
-        memory.put_all(self.addr, &bytes[..usize::from(self.width)]);
+        let place = self.addr % 4;
+        let unused = 32 - 8 * u32::from(self.width);
+        Masked {
+            addr: self.addr - place,
+            mask: ((1 << self.width) - 1) << place,
+            bytes: self.value << unused >> (unused - 8 * place),
+        }
     }
 }

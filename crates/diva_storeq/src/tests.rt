@@ -1,34 +1,54 @@
-// A store over a byte of a word.
-use crate::{Store, StoreQueue};
+// A half word and then a byte over a word.
+use crate::{Masked, Store, StoreQueue};
 use diva_memory::Memory;
 use std::test::Fail;
 
 #[test]
-fn store_over_a_byte_of_a_word(rt: HostRuntime) -> Result<(), Fail> {
+fn half_word_and_byte_over_a_word(rt: HostRuntime) -> Result<(), Fail> {
     let mut memory = Memory::new(rt.alloc(), 32, 4, &[0x11, 0x22, 0x33, 0x44])?;
     let mut queue = StoreQueue::new(rt.alloc(), 2)?;
-    assert_eq!(rt; memory.word(32), Some(0x4433_2211));
+    assert_eq!(rt; queue.word(&memory, 32), Some(0x4433_2211));
 
+    queue.push(Store {
+        addr: 34,
+        width: 2,
+        value: 0xbeef,
+    });
+    assert!(rt; !queue.full());
     queue.push(Store {
         addr: 33,
         width: 1,
         value: 0x55,
     });
-    assert_eq!(rt; queue.owed(), 1);
-    assert!(rt; !queue.full());
+    assert_eq!(rt; queue.owed(), 2);
+    assert!(rt; queue.full());
+    let half_word = Masked {
+        addr: 32,
+        mask: 12,
+        bytes: 0xbeef_0000,
+    };
+    assert_eq!(rt; queue.entry(0), half_word);
+    let byte = Masked {
+        addr: 32,
+        mask: 2,
+        bytes: 0x0000_5500,
+    };
+    assert_eq!(rt; queue.entry(1), byte);
+
+    assert_eq!(rt; queue.word(&memory, 32), Some(0xbeef_5511));
+    assert_eq!(rt; queue.word(&memory, 33), None);
     assert_eq!(rt;
         shown(&queue, &memory),
-        [Some(0x11), Some(0x55), Some(0x33), Some(0x44)]
+        [Some(0x11), Some(0x55), Some(0xef), Some(0xbe)]
     );
-    assert_eq!(rt; queue.word(&memory, 32), Some(0x4433_5511));
 
     queue.drain(&mut memory);
+    assert_eq!(rt; queue.owed(), 1);
+    assert_eq!(rt; memory.word(32), Some(0xbeef_2211));
+    assert_eq!(rt; queue.word(&memory, 32), Some(0xbeef_5511));
+    queue.drain(&mut memory);
     assert_eq!(rt; queue.owed(), 0);
-    assert_eq!(rt;
-        shown(&queue, &memory),
-        [Some(0x11), Some(0x55), Some(0x33), Some(0x44)]
-    );
-    assert_eq!(rt; memory.word(32), Some(0x4433_5511));
+    assert_eq!(rt; memory.word(32), Some(0xbeef_5511));
     Ok(())
 }
 
