@@ -48,9 +48,10 @@ impl Masked {
     }
 
     /// Writes its bytes to memory, where all of them are inside.
-    #[tactic(auto, unfolding(crate::specs::Masked::merge))]
+    #[tactic(auto, using(crate::proofs::Merging::lane_within), unfolding(crate::specs::Masked::merge))]
     pub(crate) fn put_to(&self, memory: &mut Memory)
-        requires { IsWithin memory.old self.now }
+        requires sound { IsMasked self.now }
+        requires within { IsWithin memory.old self.now }
         ensures { memory.new ≡ merge memory.old self.now }
     {
         self.put_lane(memory, 0);
@@ -62,6 +63,7 @@ impl Masked {
     // Writes the byte at one place of the word, if it is to be written.
     fn put_lane(&self, memory: &mut Memory, place: u32)
         requires place { place < 4 }
+        requires sound { IsMasked self.now }
         requires within { IsWithin memory.old self.now }
         ensures { memory.new ≡ put_lane self.now place memory.old }
     {

@@ -1,9 +1,8 @@
 // The stores that are not in memory yet, the oldest first.
 ghost use Rattle.std.specs.Prelude.{◌≡◌, ◌≤◌, ◌<◌, ℕ, ◌+◌, ◌-◌, ◌%◌, ◌^◌, ◌==◌, ◌⊎◌, ◌↔◌, [], ◌∷◌, ◌++◌, drop, take, length, slice_get, IfOk, IsSome};
-ghost use Rattle.std.specs.List.{list_all};
 ghost use Rattle.std.specs.Option.{ForSome};
 ghost use Rattle.circular_buffer.specs.Buffer.{Buffer, buffer};
-ghost use Rattle.diva_memory.specs.Bytes.{Bytes, IsInside, byte_at, word_at, HasWord};
+ghost use Rattle.diva_memory.specs.Bytes.{Bytes, IsInside, byte_at, word_at};
 
 use crate::{Masked, Store};
 use circular_buffer::HeapCircularBuffer;
@@ -92,7 +91,7 @@ impl StoreQueue {
 
     /// Writes the oldest store to memory, where all its bytes are inside. Where there is no store,
     /// nothing changes.
-    #[tactic(auto, using(crate::proofs::Laying::merge_base, crate::proofs::Laying::merge_length))]
+    #[tactic(auto, using(crate::proofs::Merging::merge_base, crate::proofs::Merging::merge_length))]
     pub fn drain(&mut self, memory: &mut Memory)
         requires { ForSome (slice_get self.old.items 0) (λ e. IsWithin memory.old e) }
         ensures oldest { memory.new ≡ laid memory.old (take 1 self.old.items) }
@@ -127,22 +126,22 @@ impl StoreQueue {
         ensures value { result ≡ word_at (laid memory.now self.now.items) addr }
         ensures inside { IsSome result ↔ ((addr % 4 ≡ 0) × IsInside memory.now addr 4) }
     {
-        let word = memory.word(addr)?;
         if self.owed() == 0 {
-            return Some(word);
+            return memory.word(addr);
         }
-        Some(self.over(addr, word))
+        self.merged(memory, addr)
     }
 
-    // The word at an address, a multiple of 4, with all stores laid over it.
-    fn over(&self, addr: u32, word: u32) -> u32
-        requires { addr % 4 ≡ 0 }
-        ensures { (m : Bytes) → HasWord m addr word → HasWord (laid m self.now.items) addr result }
+    // The same, with the entries laid over the word one after the other.
+    #[tactic(auto, using(crate::proofs::Laying::laid_word_none))]
+    fn merged(&self, memory: &Memory, addr: u32) -> Option<u32>
+        ensures value { result ≡ word_at (laid memory.now self.now.items) addr }
+        ensures inside { IsSome result ↔ ((addr % 4 ≡ 0) × IsInside memory.now addr 4) }
     {
-        let mut word = word;
-        for entry in self.entries.iter() {
+        let mut word = memory.word(addr)?;
+        for entry in &self.entries {
             word = entry.over(addr, word);
         }
-        word
+        Some(word)
     }
 }

@@ -21,17 +21,16 @@ pub struct Store {
 }
 
 impl Store {
-    ghost use Rattle.diva_storeq.specs.Masked.{IsMasked};
     ghost use Rattle.diva_storeq.specs.Stores.{masked};
 
     /// What it writes to the word in which its bytes lie. Its address is a multiple of its width, so they lie in one.
     pub(crate) fn masked(&self) -> Masked
         requires { self.now.addr % self.now.width ≡ 0 }
-        ensures value { result ≡ masked self.now }
-        ensures sound { IsMasked result }
+        ensures { result ≡ masked self.now }
     {
         let place = self.addr % 4;
         let unused = 32 - 8 * u32::from(self.width);
+        // The bytes that it does not write are shifted out, and the others to their place.
         Masked {
             addr: self.addr - place,
             mask: ((1 << self.width) - 1) << place,

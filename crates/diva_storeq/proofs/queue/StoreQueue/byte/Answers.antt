@@ -1,4 +1,4 @@
--- One store more is laid over the byte, and a byte outside stays outside.
+-- One entry more is laid over the byte, and a byte outside stays outside.
 use Rattle.std.proofs.Common.{◌≡◌, None, sym, rules, map}
 use Rattle.std.proofs.lemmas.List.{map-append}
 use Rattle.diva_memory.specs.Bytes.{byte_at}
@@ -10,6 +10,6 @@ returns-in_err-byte-clause-value c =
     let outside : byte_at c.args.memory.now c.args.addr ≡ None = search rules in
     rw c.from_residual.ensures (sym (laid_none c.args.memory.now c.args.self.now.items c.args.addr outside))
 
-pub loop-store-preserved : goal.loop-store-preserved
-loop-store-preserved c =
-    simp map-append (rw (c.unwrap_or-byte.ensures, c.byte-in-loop-store.ensures) (laid_more c.args.memory.now (map (λ s. s.now) c.loop-store.yielded) c.in-Some.store.now c.args.addr c.loop-store.byte c.loop-store.invariant))
+pub loop-entry-preserved : goal.loop-entry-preserved
+loop-entry-preserved c =
+    simp map-append (rw (c.unwrap_or-byte.ensures, c.byte-in-loop-entry.ensures) (laid_more c.args.memory.now (map (λ e. e.now) c.loop-entry.yielded) c.in-Some.entry.now c.args.addr c.loop-entry.byte c.loop-entry.invariant))

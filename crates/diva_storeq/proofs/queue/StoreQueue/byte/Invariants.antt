@@ -1,8 +1,8 @@
--- The byte under the stores so far.
+-- The byte under the entries so far.
 use Rattle.std.proofs.Common.{◌≡◌, Some, map}
 use Rattle.diva_memory.specs.Bytes.{byte_at}
 use Rattle.diva_storeq.specs.Stores.{laid}
 use Rattle.diva_storeq.proofs.queue.StoreQueue.byte.Given as goal
 
-abbrev pub invariant-loop-store : goal.invariant-loop-store
-invariant-loop-store l = byte_at (laid l.memory (map (λ s. s.now) l.yielded)) l.addr ≡ Some l.byte
+abbrev pub invariant-loop-entry : goal.invariant-loop-entry
+invariant-loop-entry l = byte_at (laid l.memory (map (λ e. e.now) l.yielded)) l.addr ≡ Some l.byte
