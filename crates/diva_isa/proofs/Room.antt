@@ -1,5 +1,6 @@
--- There is room for what the due record does: a store that does not trap is inside memory, and a byte that is put finds an output that is not full.
+-- There is room for what the due record does: a store that does not trap is inside memory, at a multiple of its width, and a byte that is put finds an output that is not full.
 use Rattle.std.proofs.Common.{◌≡◌, ◌<◌, ℕ, zero, suc, ◌+◌, ◌*◌, ◌%◌, ◌^◌, ◌==◌, length, Option, Some, None, Bool, true, false, cond, refl, arith, if◌then◌else◌}
+use Rattle.std.specs.Bool.{⊤}
 use Rattle.std.specs.Option.{option_map, option_and_then}
 use Rattle.std.proofs.lemmas.Bool.Decides.{nat_tests}
 use Rattle.diva_decode.specs.declared.instr.Instr.{Instr}
@@ -12,7 +13,8 @@ use Rattle.diva_isa.specs.declared.kind.Kind.{Kind}
 use Rattle.diva_isa.specs.declared.kind.Kind.TheVariants.{LoadUpper, AddUpper, Jump, JumpRegister, Branch, Load, Store, Immediate, Register, Fence, Call, Break}
 use Rattle.diva_isa.specs.declared.kind.Width.{Width}
 use Rattle.diva_isa.specs.declared.kind.Width.TheVariants.{Byte, Half, Word}
-use Rattle.diva_isa.specs.declared.effect.Effect.TheVariants.{Nothing, Puts}
+use Rattle.diva_isa.specs.declared.effect.Effect.{Effect}
+use Rattle.diva_isa.specs.declared.effect.Effect.TheVariants.{Nothing, Writes, Stores, Puts}
 use Rattle.diva_isa.specs.Step.{record_of, fetched, said, whole, outcome, source1, source2, address, call, stored, ended, trap, effect, effect_by, effect_of, HasRoom}
 
 -- a number is there only where its lowest byte is, and the others
@@ -74,3 +76,51 @@ fetched_has_room s (Some w) e = said_has_room s w (row_of w) e
 pub room : (s : State) → (record_of s).end ≡ 0 → HasRoom s (effect_of (record_of s))
 unfolding record_of
 room s e = fetched_has_room s (word_of s s.pc) e
+
+-- ---- a store that does not trap stands at a multiple of its width
+
+abbrev pub IsAligned : Effect → Type 0
+IsAligned Nothing = ⊤
+IsAligned (Writes rd value) = ⊤
+IsAligned (Stores width addr value) = addr % size width ≡ 0
+IsAligned (Puts byte) = ⊤
+
+not_trapped : (c : Bool) (pc b n : ℕ) (o : Option ℕ) → (cond c (stored pc b n o) (ended pc (trap 6))).end ≡ 0 → c ≡ true
+not_trapped true pc b n o e = refl
+not_trapped false pc b n o e = absurd (omega arith)
+
+multiple : (addr n : ℕ) → (addr % n == 0) ≡ true → addr % n ≡ 0
+multiple addr n h = grind (arith, nat_tests)
+
+put_is_aligned : (c : Bool) (byte : ℕ) → IsAligned (if c then Puts byte else Nothing)
+put_is_aligned true byte = tt
+put_is_aligned false byte = tt
+
+kind_is_aligned : (k : Kind) (s : State) (i : Instr) (pc w a b addr : ℕ) → (outcome k s i pc a b addr).end ≡ 0 → IsAligned (effect k i (whole pc w a b addr (outcome k s i pc a b addr)))
+kind_is_aligned LoadUpper s i pc w a b addr e = tt
+kind_is_aligned AddUpper s i pc w a b addr e = tt
+kind_is_aligned Jump s i pc w a b addr e = tt
+kind_is_aligned JumpRegister s i pc w a b addr e = tt
+kind_is_aligned Branch s i pc w a b addr e = tt
+kind_is_aligned (Load width) s i pc w a b addr e = tt
+kind_is_aligned (Store width) s i pc w a b addr e =
+    multiple addr (size width) (not_trapped (addr % size width == 0) pc b (size width) (number_of s (size width) addr) e)
+kind_is_aligned Immediate s i pc w a b addr e = tt
+kind_is_aligned Register s i pc w a b addr e = tt
+kind_is_aligned Fence s i pc w a b addr e = tt
+kind_is_aligned Call s i pc w a b addr e = put_is_aligned (a == 1) ((call s pc a b).value % 2 ^ 8)
+kind_is_aligned Break s i pc w a b addr e = tt
+
+said_is_aligned : (s : State) (w : ℕ) (o : Option Instr) → (said s true w o).end ≡ 0 → IsAligned (effect_by o (said s true w o))
+said_is_aligned s w None e = tt
+said_is_aligned s w (Some i) e =
+    let a = source1 (kind i.op) s i in
+    kind_is_aligned (kind i.op) s i s.pc w a (source2 (kind i.op) s i) (address (kind i.op) i a) e
+
+fetched_is_aligned : (s : State) (o : Option ℕ) → (fetched s o).end ≡ 0 → IsAligned (effect_of (fetched s o))
+fetched_is_aligned s None e = absurd (omega arith)
+fetched_is_aligned s (Some w) e = said_is_aligned s w (row_of w) e
+
+pub aligned_store : (s : State) → (record_of s).end ≡ 0 → IsAligned (effect_of (record_of s))
+unfolding record_of
+aligned_store s e = fetched_is_aligned s (word_of s s.pc) e
