@@ -83,7 +83,7 @@ word_0 m q v =
     cc
 
 pub merge_masked : (m : Bytes) (s : Store) → s.addr % s.width ≡ 0 → merge m (masked s) ≡ lay m s
-unfolding lay
+unfolding lay masked
 merge_masked m s h =
     let here : s.addr - s.addr % 4 + s.addr % 4 ≡ s.addr = omega arith in
     rw here at (placed (IsLaid m) s.width (s.addr % 4) s.addr s.sized h refl (byte_0 m) (byte_1 m) (byte_2 m) (byte_3 m) (half_0 m) (half_2 m) (word_0 m) (s.addr - s.addr % 4) s.value)
@@ -98,6 +98,7 @@ set_inside w k i set = (
 )
 
 pub within_masked : (m : Bytes) (s : Store) → IsInside m s.addr s.width → IsWithin m (masked s)
+unfolding masked
 within_masked m s h = λ i lt set.
     let from = h.from in let to = h.to in
     let place = set_inside s.width (s.addr % 4) i set in
@@ -144,6 +145,7 @@ abbrev IsSmall : ℕ → ℕ → Type 0
 IsSmall w k = 2 ^ (k + w) - 2 ^ k < 2 ^ 4
 
 pub masked_sound : (s : Store) → s.addr % s.width ≡ 0 → IsMasked (masked s)
+unfolding masked
 masked_sound s h = record {
   aligned = omega arith;
   mask = placed IsSmall s.width (s.addr % 4) s.addr s.sized h refl (omega arith) (omega arith) (omega arith) (omega arith) (omega arith) (omega arith) (omega arith);

@@ -18,7 +18,7 @@ unfoldable pub lay : Bytes → Store → Bytes
 lay m s = put_all m s.addr (store_bytes s)
 
 -- the entry of a store at a multiple of its width: its bytes stand in one word, from its address on
-abbrev pub masked : Store → Masked
+unfoldable pub masked : Store → Masked
 masked s = let place = s.addr % 4 in record {
   addr = s.addr - place;
   mask = 2 ^ (place + s.width) - 2 ^ place;

@@ -24,6 +24,7 @@ impl Store {
     ghost use Rattle.diva_storeq.specs.Stores.{masked};
 
     /// What it writes to the word in which its bytes lie. Its address is a multiple of its width, so they lie in one.
+    #[tactic(auto, unfolding(crate::specs::Stores::masked))]
     pub(crate) fn masked(&self) -> Masked
         requires { self.now.addr % self.now.width ≡ 0 }
         ensures { result ≡ masked self.now }
