@@ -3,11 +3,14 @@ use Rattle.std.proofs.Common.{◌≡◌, ◌≤◌, ℕ, ◌+◌, ◌^◌, true,
 use Rattle.std.proofs.lemmas.List.{append-nil, length-append}
 use Rattle.diva_memory.specs.Bytes.{Bytes, IsInside, put_all, low_bytes}
 use Rattle.diva_memory.proofs.Writing.{put_all_base}
+use Rattle.diva_storeq.specs.declared.masked.Masked.{Masked}
 use Rattle.diva_storeq.specs.declared.store.Store.{Store}
-use Rattle.diva_storeq.specs.Stores.{lay, laid}
+use Rattle.diva_storeq.specs.Masked.{IsWithin}
+use Rattle.diva_storeq.specs.Stores.{lay, laid, masked}
+use Rattle.diva_storeq.proofs.Placing.{within_masked}
 use Rattle.diva_storeq.proofs.Laying.{inside_laid}
 use Rattle.diva_isa.specs.Step.{apply, record_of, effect_by, effect_of, with_bytes, with_effect, HasRoom}
-use Rattle.diva_isa.proofs.Room.{room}
+use Rattle.diva_isa.proofs.Room.{IsAligned, aligned_store, room}
 use Rattle.diva_isa.specs.State.{State}
 use Rattle.diva_decode.specs.declared.instr.Instr.{Instr}
 use Rattle.diva_decode.specs.Table.{row_of}
@@ -17,18 +20,18 @@ use Rattle.diva_isa.specs.declared.effect.Effect.{Effect}
 use Rattle.diva_core.specs.Cycle.{number, puts_store}
 use Rattle.diva_commit.specs.Committing.{AreInside, IsQueued, state_of}
 
-inside_more : (m : Bytes) (stores : List Store) (s : Store) → AreInside m stores → IsInside m s.addr s.width → AreInside m (stores ++ s ∷ [])
+inside_more : (m : Bytes) (stores : List Masked) (s : Masked) → AreInside m stores → IsWithin m s → AreInside m (stores ++ s ∷ [])
 inside_more m [] s h i = (i, tt)
 inside_more m (t ∷ stores) s h i = (h.0, inside_more m stores s h.1 i)
 
 -- a further store that lies inside the state's memory
-pub inside_pushed : (m : Bytes) (stores : List Store) (s : Store) (n : ℕ) → s.width ≡ n → IsInside (laid m stores) s.addr n → AreInside m stores → AreInside m (stores ++ s ∷ [])
+pub inside_pushed : (m : Bytes) (stores : List Masked) (s : Store) (n : ℕ) → s.width ≡ n → IsInside (laid m stores) s.addr n → AreInside m stores → AreInside m (stores ++ masked s ∷ [])
 inside_pushed m stores s n w i h =
     let j : IsInside m s.addr n = inside_laid m stores s.addr n i in
-    inside_more m stores s h (rw w j)
+    inside_more m stores (masked s) h (within_masked m s (rw w j))
 
 -- what lies inside the state's memory ends at 2^32 at the latest
-pub range_fits : (m : Bytes) (stores : List Store) (addr width n : ℕ) → m.base + length m.items ≤ 2 ^ 32 → width ≡ n → IsInside (laid m stores) addr n → addr + width ≤ 2 ^ 32
+pub range_fits : (m : Bytes) (stores : List Masked) (addr width n : ℕ) → m.base + length m.items ≤ 2 ^ 32 → width ≡ n → IsInside (laid m stores) addr n → addr + width ≤ 2 ^ 32
 range_fits m stores addr width n range w i =
     let j : IsInside m addr n = inside_laid m stores addr n i in
     let to = j.to in
@@ -49,6 +52,11 @@ pub room_by : (s : State) (r : Record) (form : Option Instr) → r ≡ record_of
 room_by s r form due is on =
     rw (is, due) (room s (rw due at on))
 
+-- and what it stores stands at a multiple of its width
+pub aligned_by : (s : State) (r : Record) (form : Option Instr) → r ≡ record_of s → form ≡ row_of r.word → r.end ≡ 0 → IsAligned (effect_by form r)
+aligned_by s r form due is on =
+    rw (is, due) (aligned_store s (rw due at on))
+
 -- what a record does that goes on
 moves : (s : State) (r : Record) → s.end ≡ 0 → r.end ≡ 0 → apply s r ≡ record (with_effect s (effect_of r)) { pc = r.next }
 unfolding apply
@@ -64,12 +72,12 @@ applied s t r form e on goes off is does has =
 
 -- ---- the queue
 
-pub queued_none : (stores : List Store) (r : Record) → puts_store r ≡ false → IsQueued stores r stores
+pub queued_none : (stores : List Masked) (r : Record) → puts_store r ≡ false → IsQueued stores r stores
 queued_none stores r h = record { added = []; count = sym (ap number h); behind = sym (append-nil stores) }
 
-pub queued_one : (stores : List Store) (s : Store) (r : Record) → puts_store r ≡ true → IsQueued stores r (stores ++ s ∷ [])
+pub queued_one : (stores : List Masked) (s : Masked) (r : Record) → puts_store r ≡ true → IsQueued stores r (stores ++ s ∷ [])
 queued_one stores s r h = record { added = s ∷ []; count = sym (ap number h); behind = refl }
 
 -- how many are owed
-pub owed_more : (before after : List Store) (r : Record) → IsQueued before r after → length after ≡ length before + number (puts_store r)
-owed_more before after r q = ap (λ (xs : List Store). length xs) q.behind ∙ rw length-append (ap (λ (n : ℕ). length before + n) q.count)
+pub owed_more : (before after : List Masked) (r : Record) → IsQueued before r after → length after ≡ length before + number (puts_store r)
+owed_more before after r q = ap (λ (xs : List Masked). length xs) q.behind ∙ rw length-append (ap (λ (n : ℕ). length before + n) q.count)

@@ -1,7 +1,8 @@
 -- What becomes of a record that is to commit.
 use Rattle.std.specs.Prelude.{ℕ, ◌≡◌, ◌-◌, ◌==◌, ◌&&◌, nat_lt, Bool, true, false, List, [], ◌∷◌, ◌++◌, length, Option, Some, None, if◌then◌else◌}
-use Rattle.diva_memory.specs.Bytes.{Bytes, IsInside}
-use Rattle.diva_storeq.specs.declared.store.Store.{Store}
+use Rattle.diva_memory.specs.Bytes.{Bytes}
+use Rattle.diva_storeq.specs.declared.masked.Masked.{Masked}
+use Rattle.diva_storeq.specs.Masked.{IsWithin}
 use Rattle.diva_isa.specs.State.{State}
 use Rattle.diva_isa.specs.declared.record.Record.{Record}
 use Rattle.diva_core.specs.declared.differences.Diff.{Diff}
@@ -14,9 +15,9 @@ abbrev pub state_of : (regs : List ℕ) (pc : ℕ) → Bytes → (output : List 
 state_of regs pc m output end = record { regs = regs; pc = pc; base = m.base; bytes = m.items; output = output; end = end }
 
 -- each of the stores lies inside memory
-abbrev pub AreInside : Bytes → List Store → Type 0
+abbrev pub AreInside : Bytes → List Masked → Type 0
 AreInside m [] = Unit {0}
-AreInside m (s ∷ stores) = IsInside m s.addr s.width × AreInside m stores
+AreInside m (s ∷ stores) = IsWithin m s × AreInside m stores
 
 -- how a state has ended, if it has, by its end
 abbrev pub ending : ℕ → Committed
@@ -36,7 +37,7 @@ is_committed Held = false
 is_committed (Differs d) = false
 
 -- the stores of the queue: a store that does not trap stands behind those that were there, another record adds none
-pub record IsQueued (before : List Store) (r : Record) (after : List Store) : Type 0 where
-  pub added : List Store
+pub record IsQueued (before : List Masked) (r : Record) (after : List Masked) : Type 0 where
+  pub added : List Masked
   pub count : length added ≡ number (puts_store r)
   pub behind : after ≡ before ++ added

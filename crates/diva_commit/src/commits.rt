@@ -1,5 +1,5 @@
 // What becomes of a record that is to commit.
-ghost use Rattle.std.specs.Prelude.{◌≡◌, ◌<◌, ◌+◌, ◌==◌, ℕ, List, true, false, length, None, Some, IfSome};
+ghost use Rattle.std.specs.Prelude.{◌≡◌, ◌<◌, ◌+◌, ◌%◌, ◌==◌, ℕ, List, true, false, length, None, Some, IfSome};
 ghost use Rattle.diva_decode.specs.Table.{row_of, HasRegisters};
 ghost use Rattle.diva_storeq.specs.Stores.{laid};
 ghost use Rattle.diva_memory.specs.Bytes.{IsInside};
@@ -132,6 +132,7 @@ fn ended(end: u32) -> Committed
 // Puts a store behind the others of the queue.
 fn store(memory: &Memory, queue: &mut StoreQueue, width: Width, addr: u32, value: u32)
     requires inside { IsInside (laid memory.now queue.old.items) addr (size width) }
+    requires aligned { addr % size width ≡ 0 }
     requires space { length queue.old.items < queue.old.capacity }
     ensures laid { (regs : List ℕ) (pc : ℕ) (output : List ℕ) (end : ℕ)
         → state_of regs pc (laid memory.now queue.new.items) output end

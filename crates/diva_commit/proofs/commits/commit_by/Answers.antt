@@ -2,9 +2,10 @@ use Rattle.std.proofs.Common.{◌≡◌, sym, subst, ◌∙◌, refl, arith}
 use Rattle.diva_isa.specs.declared.record.Record.{Record}
 use Rattle.diva_isa.specs.Step.{IsEnd, HasRoom, with_effect}
 use Rattle.diva_isa.proofs.Ends.{end_record_of}
+use Rattle.diva_isa.proofs.Room.{IsAligned}
 use Rattle.diva_storeq.specs.Stores.{laid}
 use Rattle.diva_commit.specs.Committing.{state_of}
-use Rattle.diva_commit.proofs.Storing.{applied, room_by}
+use Rattle.diva_commit.proofs.Storing.{aligned_by, applied, room_by}
 use Rattle.diva_commit.proofs.commits.commit_by.Goals as goal
 use Rattle.diva_commit.proofs.commits.commit_by.Goals.{in-Nothing, in-Writes, in-Stores+else-full, in-Puts}
 
@@ -15,6 +16,11 @@ pub store-requires-clause-inside : goal.store-requires-clause-inside
 store-requires-clause-inside c =
     let s = state_of c.args.regs.now c.args.pc.now (laid c.args.memory.now c.args.queue.now.items) c.args.output.now 0 in
     subst (HasRoom s) (sym c.effect_by.ensures.effect ∙ c.in-Stores.is) (room_by s c.args.r.now c.args.form (c.requires.due c.in_default.is) c.requires.form (omega arith))
+
+pub store-requires-clause-aligned : goal.store-requires-clause-aligned
+store-requires-clause-aligned c =
+    let s = state_of c.args.regs.now c.args.pc.now (laid c.args.memory.now c.args.queue.now.items) c.args.output.now 0 in
+    subst IsAligned (sym c.effect_by.ensures.effect ∙ c.in-Stores.is) (aligned_by s c.args.r.now c.args.form (c.requires.due c.in_default.is) c.requires.form (omega arith))
 
 pub push-requires : goal.push-requires
 push-requires c =

@@ -15,8 +15,8 @@ returns-clause-laid c = λ regs pc output end.
     ∙ store_laid _ _ regs pc output end (size c.args.width) c.args.addr c.args.value c.size-width.ensures refl refl
 
 pub returns-clause-queued : goal.returns-clause-queued
-returns-clause-queued c = λ r h. rw c.push.ensures.stores (queued_one c.args.queue.now.items _ r h)
+returns-clause-queued c = λ r h. rw c.push.ensures.entries (queued_one c.args.queue.now.items _ r h)
 
 pub returns-clause-inside : goal.returns-clause-inside
 returns-clause-inside c = λ h.
-    rw c.push.ensures.stores (inside_pushed c.args.memory.now c.args.queue.now.items _ (size c.args.width) c.size-width.ensures c.requires.inside h)
+    rw c.push.ensures.entries (inside_pushed c.args.memory.now c.args.queue.now.items _ (size c.args.width) c.size-width.ensures c.requires.inside h)
