@@ -4,7 +4,7 @@ use Rattle.diva_isa.specs.State.{State}
 use Rattle.diva_isa.specs.Step.{IsEnd}
 use Rattle.diva_isa.specs.declared.record.Record.{Record}
 use Rattle.diva_memory.specs.Bytes.{Bytes}
-use Rattle.diva_storeq.specs.declared.store.Store.{Store}
+use Rattle.diva_storeq.specs.declared.masked.Masked.{Masked}
 use Rattle.diva_commit.specs.Committing.{AreInside}
 use Rattle.diva_core.specs.Timed.{Timed, Waiting}
 use Rattle.diva_core.specs.Machine.{IsMachine}
@@ -35,7 +35,7 @@ pub record Stored : Type 0 where
 
 -- what holds of the committed state: memory ends at 2^32 at the latest, the undrained stores lie inside it, and the end is
 -- one that a record can have
-pub record IsKept (m : Bytes) (stores : List Store) (end : ℕ) : Type 0 where
+pub record IsKept (m : Bytes) (stores : List Masked) (end : ℕ) : Type 0 where
   pub range : m.base + length m.items ≤ 2 ^ 32
   pub inside : AreInside m stores
   pub ends : IsEnd end
