@@ -1,0 +1,93 @@
+-- Step 5, issue: waiting entries begin to run.
+use Rattle.std.specs.Prelude.{ℕ, ◌+◌, ◌==◌, ◌&&◌, ◌||◌, nat_lt, not, List, [], ◌∷◌, ◌++◌, length, map, Bool, true, false, if◌then◌else◌}
+use Rattle.std.specs.List.{list_all}
+use Rattle.diva_isa.specs.State.{State}
+use Rattle.diva_isa.specs.Regs.{with_reg}
+use Rattle.diva_isa.specs.Step.{fetched}
+use Rattle.diva_isa.specs.declared.record.Record.{Record}
+use Rattle.diva_isa.specs.declared.effect.Effect.{Effect}
+use Rattle.diva_ahead.specs.Effects.{done_by}
+use Rattle.diva_ahead.specs.Lead.{Lead, seen}
+use Rattle.diva_ooo.specs.declared.entry.Entry.{Entry}
+use Rattle.diva_ooo.specs.declared.entry.Stage.{Stage}
+use Rattle.diva_ooo.specs.declared.entry.Stage.TheVariants.{Waiting, Running, Done}
+use Rattle.diva_ooo.specs.declared.shape.Class.{Class}
+use Rattle.diva_ooo.specs.declared.shape.Class.TheVariants.{Plain, Loads, Stores, Calls}
+
+abbrev pub is_waiting : Stage → Bool
+is_waiting Waiting = true
+is_waiting (Running left) = false
+is_waiting Done = false
+
+abbrev pub is_done : Stage → Bool
+is_done Waiting = false
+is_done (Running left) = false
+is_done Done = true
+
+abbrev pub is_storing : Class → Bool
+is_storing Plain = false
+is_storing Loads = false
+is_storing Stores = true
+is_storing Calls = false
+
+-- ---- who begins
+
+-- whether the youngest of some entries that write a register is still under way; `so` where none writes it
+abbrev pub is_awaited : (so : Bool) → List Entry → ℕ → Bool
+is_awaited so [] n = so
+is_awaited so (e ∷ older) n = is_awaited (if e.shape.rd == n then not (is_done e.stage) else so) older n
+
+-- a register is available where no older entry writes it, or the youngest that does is done; x0 always is
+abbrev pub is_available : List Entry → ℕ → Bool
+is_available older n = (n == 0) || not (is_awaited false older n)
+
+-- each older store is done
+abbrev pub are_stored : List Entry → Bool
+are_stored older = list_all (λ e. is_done e.stage || not (is_storing e.shape.class)) older
+
+-- a load waits for each older store, and a call until it is the oldest
+abbrev pub is_free : Class → List Entry → Bool
+is_free Plain older = true
+is_free Loads older = are_stored older
+is_free Stores older = true
+is_free Calls older = length older == 0
+
+unfoldable pub is_ready : List Entry → Entry → Bool
+is_ready older e = is_available older e.shape.rs1 && is_available older e.shape.rs2 && is_free e.shape.class older
+
+-- an entry begins that waits and is ready, where fewer than two have begun
+abbrev pub begins : (begun : ℕ) → List Entry → Entry → Bool
+begins begun older e = is_waiting e.stage && nat_lt begun 2 && is_ready older e
+
+-- ---- what it computes
+
+-- the registers behind some entries: those that are done have written theirs
+abbrev pub written : List ℕ → List Entry → List ℕ
+written regs [] = regs
+written regs (e ∷ older) = written (if is_done e.stage then with_reg regs e.shape.rd e.result.value else regs) older
+
+-- what an entry sees, as if the core had handed over the older ones: each byte of memory is that of the youngest older store
+-- of the window that covers it, else of the ring, else that of s
+abbrev pub seen_by : Lead → State → List Entry → Entry → State
+seen_by lead s older e =
+    seen (record lead { regs = written lead.regs older; pc = e.pc; ring = lead.ring ++ map (λ x. x.effect) older }) s
+
+-- an entry that begins with a record
+abbrev pub running : Entry → Record → Entry
+running e r = record e { stage = Running e.shape.cycles; result = r; effect = done_by r }
+
+-- it computes its record at once, by the word that was fetched
+unfoldable pub started : Lead → State → List Entry → Entry → Entry
+started lead s older e = running e (fetched (seen_by lead s older e) e.word)
+
+-- ---- the walk, oldest first
+
+-- the rest behind the older entries, which were looked at, and of which some have begun
+abbrev pub issued_from : Lead → State → (begun : ℕ) → List Entry → List Entry → List Entry
+issued_from lead s begun older [] = older
+issued_from lead s begun older (e ∷ rest) =
+    if begins begun older e then issued_from lead s (begun + 1) (older ++ started lead s older e ∷ []) rest
+    else issued_from lead s begun (older ++ e ∷ []) rest
+
+unfoldable pub issued : Lead → State → List Entry → List Entry
+issued lead s window = issued_from lead s 0 [] window

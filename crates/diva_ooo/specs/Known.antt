@@ -1,0 +1,24 @@
+-- What holds of each entry of a window.
+use Rattle.std.specs.Prelude.{◌≡◌, ◌<◌, IfSome}
+use Rattle.std.specs.Option.{option_and_then}
+use Rattle.diva_decode.specs.Table.{HasRegisters, row_of}
+use Rattle.diva_isa.specs.Step.{HasRegister}
+use Rattle.diva_ahead.specs.Effects.{done_by}
+use Rattle.diva_ooo.specs.declared.entry.Entry.{Entry}
+use Rattle.diva_ooo.specs.declared.entry.Stage.{Stage}
+use Rattle.diva_ooo.specs.declared.entry.Stage.TheVariants.{Waiting}
+use Rattle.diva_ooo.specs.declared.shape.Shape.{Shape}
+
+-- its registers are below 32
+pub record HasSources (s : Shape) : Type 0 where
+  pub rs1 : s.rs1 < 32
+  pub rs2 : s.rs2 < 32
+  pub rd : s.rd < 32
+
+-- what its word says is noted, and so is what its result does
+pub record IsKnown (e : Entry) : Type 0 where
+  pub form : e.form ≡ option_and_then row_of e.word
+  pub registers : IfSome e.form HasRegisters
+  pub sources : HasSources e.shape
+  pub effect : e.effect ≡ done_by e.result
+  pub register : HasRegister e.effect

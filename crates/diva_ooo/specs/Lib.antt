@@ -1,0 +1,6 @@
+pub mod Shape
+pub mod Finish
+pub mod Issue
+pub mod Ooo
+pub mod Known
+pub mod Board

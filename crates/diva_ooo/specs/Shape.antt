@@ -1,0 +1,79 @@
+-- What the core notes of an instruction that it fetches, and where it fetches next.
+use Rattle.std.specs.Prelude.{ℕ, ◌+◌, ◌^◌, ◌%◌, ◌==◌, Bool, true, false, Option, Some, None, if◌then◌else◌, int_lt, pos}
+use Rattle.diva_decode.specs.declared.instr.Instr.{Instr}
+use Rattle.diva_decode.specs.declared.op.Op.{Op}
+use Rattle.diva_decode.specs.declared.op.Op.TheVariants.{Lb, Lh, Lw, Lbu, Lhu, Mul, Mulh, Mulhsu, Mulhu, Div, Divu, Rem, Remu}
+use Rattle.diva_isa.specs.Kind.{kind}
+use Rattle.diva_isa.specs.Step.{imm}
+use Rattle.diva_isa.specs.declared.kind.Kind.{Kind}
+use Rattle.diva_isa.specs.declared.kind.Kind.TheVariants.{LoadUpper, AddUpper, Jump, JumpRegister, Branch, Load, Store, Immediate, Register, Fence, Call, Break}
+use Rattle.diva_ooo.specs.declared.shape.Shape.{Shape}
+use Rattle.diva_ooo.specs.declared.shape.Class.{Class}
+use Rattle.diva_ooo.specs.declared.shape.Class.TheVariants.{Plain, Loads, Stores, Calls}
+
+-- the cycles that an operation runs
+abbrev pub cycles_of : Op → ℕ
+cycles_of Lb = 2
+cycles_of Lh = 2
+cycles_of Lw = 2
+cycles_of Lbu = 2
+cycles_of Lhu = 2
+cycles_of Mul = 3
+cycles_of Mulh = 3
+cycles_of Mulhsu = 3
+cycles_of Mulhu = 3
+cycles_of Div = 8
+cycles_of Divu = 8
+cycles_of Rem = 8
+cycles_of Remu = 8
+cycles_of op = 1
+
+abbrev pub shaped : (rs1 rs2 rd : ℕ) → Class → (cycles : ℕ) → Shape
+shaped rs1 rs2 rd class cycles = record { rs1 = rs1; rs2 = rs2; rd = rd; class = class; cycles = cycles }
+
+-- the registers that an instruction reads and writes, x0 where it reads or writes none. A call reads none here: it waits until
+-- no older instruction is under way
+abbrev pub shape_by : Kind → Instr → Shape
+shape_by LoadUpper i = shaped 0 0 i.rd Plain (cycles_of i.op)
+shape_by AddUpper i = shaped 0 0 i.rd Plain (cycles_of i.op)
+shape_by Jump i = shaped 0 0 i.rd Plain (cycles_of i.op)
+shape_by JumpRegister i = shaped i.rs1 0 i.rd Plain (cycles_of i.op)
+shape_by Branch i = shaped i.rs1 i.rs2 0 Plain (cycles_of i.op)
+shape_by (Load width) i = shaped i.rs1 0 i.rd Loads (cycles_of i.op)
+shape_by (Store width) i = shaped i.rs1 i.rs2 0 Stores (cycles_of i.op)
+shape_by Immediate i = shaped i.rs1 0 i.rd Plain (cycles_of i.op)
+shape_by Register i = shaped i.rs1 i.rs2 i.rd Plain (cycles_of i.op)
+shape_by Fence i = shaped 0 0 0 Plain (cycles_of i.op)
+shape_by Call i = shaped 0 0 0 Calls (cycles_of i.op)
+shape_by Break i = shaped 0 0 0 Plain (cycles_of i.op)
+
+-- the same of what a word says; one that says nothing, and no word, run one cycle
+abbrev pub shape_of : Option Instr → Shape
+shape_of None = shaped 0 0 0 Plain 1
+shape_of (Some i) = shape_by (kind i.op) i
+
+-- ---- the prediction
+
+-- a jump, and a branch backwards, are predicted to be taken
+abbrev pub is_taken_by : Kind → Instr → Bool
+is_taken_by LoadUpper i = false
+is_taken_by AddUpper i = false
+is_taken_by Jump i = true
+is_taken_by JumpRegister i = false
+is_taken_by Branch i = int_lt i.imm (pos 0)
+is_taken_by (Load width) i = false
+is_taken_by (Store width) i = false
+is_taken_by Immediate i = false
+is_taken_by Register i = false
+is_taken_by Fence i = false
+is_taken_by Call i = false
+is_taken_by Break i = false
+
+abbrev pub target_or_next : (pc target : ℕ) → ℕ
+target_or_next pc target = if target % 4 == 0 then target else (pc + 4) % 2 ^ 32
+
+-- where the instruction behind one at pc is fetched: at the target of what is predicted to be taken, if that is a
+-- multiple of 4, else at the next word
+abbrev pub predicted : Option Instr → ℕ → ℕ
+predicted None pc = (pc + 4) % 2 ^ 32
+predicted (Some i) pc = if is_taken_by (kind i.op) i then target_or_next pc ((pc + imm i) % 2 ^ 32) else (pc + 4) % 2 ^ 32
