@@ -1,0 +1,55 @@
+// An instruction under way.
+ghost use Rattle.std.specs.Prelude.{◌≡◌};
+ghost use Rattle.diva_ooo.specs.Issue.{is_done, is_waiting};
+
+use crate::shape::Shape;
+use diva_decode::Instr;
+use diva_isa::{Effect, Record};
+
+/// How far an instruction is.
+#[derive(Clone, Copy, Debug, PartialEq, Eq)]
+pub enum Stage {
+    /// It has not begun.
+    Waiting,
+    /// It runs for so many cycles more, one at least.
+    Running(u8),
+    /// It is to be handed over.
+    Done,
+}
+
+impl Stage {
+    /// Whether it has not begun.
+    pub fn is_waiting(self) -> bool
+        ensures { result ≡ is_waiting self }
+    {
+        matches!(self, Stage::Waiting)
+    }
+
+    /// Whether it is to be handed over.
+    pub fn is_done(self) -> bool
+        ensures { result ≡ is_done self }
+    {
+        matches!(self, Stage::Done)
+    }
+}
+
+/// An instruction under way.
+#[derive(Clone, Copy, Debug, PartialEq, Eq)]
+pub struct Entry {
+    /// The address where it was fetched.
+    pub pc: u32,
+    /// The word that was fetched, none outside memory.
+    pub word: Option<u32>,
+    /// What the word says, `None` where it says nothing.
+    pub form: Option<Instr>,
+    /// What it waits for, and how long it runs.
+    pub shape: Shape,
+    /// Where the next instruction was fetched.
+    pub predicted: u32,
+    /// How far it is.
+    pub stage: Stage,
+    /// Its record, once it has begun; until then all zeros.
+    pub result: Record,
+    /// What that does besides moving the pc: nothing where it ends, or where it has not begun.
+    pub effect: Effect,
+}

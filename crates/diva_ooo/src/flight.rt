@@ -1,0 +1,98 @@
+// The state that an instruction reads.
+ghost use Rattle.std.specs.Prelude.{◌≡◌, ◌≤◌, ◌<◌, ◌++◌, length, map, take, IsSome, IsTrue, true};
+ghost use Rattle.std.specs.List.{list_all};
+ghost use Rattle.diva_isa.specs.State.{byte_of, word_of};
+ghost use Rattle.diva_core.specs.Effects.{is_apart, with_effects};
+
+use crate::window::Window;
+use diva_ahead::Ahead;
+use diva_core::{View, byte_in, is_apart};
+use diva_isa::{Look, Regs, Width};
+
+/// The state that the entry at a place reads: registers with what the older ones wrote, and the machine's memory with what
+/// the core handed over and then what the older entries store laid over it.
+#[derive(Drop)]
+pub(crate) struct Flight<'a> {
+    pub regs: &'a Regs,
+    pub pc: u32,
+    pub ahead: &'a Ahead,
+    pub window: &'a Window,
+    pub at: usize,
+    pub view: &'a View<'a>,
+    pub ghost within: { at ≤ length window.now },
+}
+
+impl Flight<'_> {
+    #[inline]
+    fn find_word(&self, addr: u32) -> Option<u32>
+        ensures { result ≡ word_of (with_effects self.now.view.now (self.now.ahead.now.ring ++ map (λ x. x.effect) (take self.now.at self.now.window.now))) addr }
+    {
+        let word = self.ahead.ring().word(self.view, addr)?;
+        if self.is_apart(addr) {
+            return Some(word);
+        }
+        self.overlaid(addr)
+    }
+
+    // The same, byte by byte: few reads meet a store in flight.
+    #[cold]
+    fn overlaid(&self, addr: u32) -> Option<u32>
+        requires { IsSome (word_of (with_effects self.now.view.now self.now.ahead.now.ring) addr) }
+        ensures { result ≡ word_of (with_effects self.now.view.now (self.now.ahead.now.ring ++ map (λ x. x.effect) (take self.now.at self.now.window.now))) addr }
+    {
+        Some(u32::from_le_bytes([
+            self.byte(addr)?,
+            self.byte(addr + 1)?,
+            self.byte(addr + 2)?,
+            self.byte(addr + 3)?,
+        ]))
+    }
+
+    // Whether no older entry stores a byte of the word at an address.
+    fn is_apart(&self, addr: u32) -> bool
+        ensures { IsTrue result → list_all (λ e. is_apart e addr 4) (map (λ x. x.effect) (take self.now.at self.now.window.now)) ≡ true }
+    {
+        for place in 0..self.at {
+            if !is_apart(&self.window.entry(place).effect, addr, 4) {
+                return false;
+            }
+        }
+        true
+    }
+}
+
+impl Look for Flight<'_> {
+    ghost use Rattle.std.specs.Prelude.{◌++◌, map, take};
+    ghost use Rattle.diva_ahead.specs.Lead.{seen};
+
+    ghost shows = { λ x. seen (record x.ahead.now { regs = x.regs.now; pc = x.pc; ring = x.ahead.now.ring ++ map (λ e. e.effect) (take x.at x.window.now) }) x.view.now };
+
+    fn pc(&self) -> u32 {
+        self.pc
+    }
+
+    fn reg(&self, n: u8) -> u32 {
+        self.regs.get(n)
+    }
+
+    fn byte(&self, addr: u32) -> Option<u8> {
+        let mut byte = self.ahead.ring().byte(self.view, addr)?;
+        for place in 0..self.at {
+            byte = byte_in(&self.window.entry(place).effect, addr).unwrap_or(byte);
+        }
+        Some(byte)
+    }
+
+    fn word(&self, addr: u32) -> Option<u32> {
+        self.find_word(addr)
+    }
+
+    #[tactic(auto, using(diva_core::proofs::Laying::effects_there))]
+    fn has(&self, addr: u32, width: Width) -> bool {
+        self.view.has(addr, width)
+    }
+
+    fn out_len(&self) -> u32 {
+        self.ahead.out_len()
+    }
+}

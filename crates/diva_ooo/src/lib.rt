@@ -1,0 +1,25 @@
+//! A sample out-of-order core.
+//!
+//! - `shape`: what the core notes of an instruction that it fetches; `predicting`: where it fetches next;
+//! - `entry`, `window`: the instructions under way, in program order;
+//! - `finishing`: what runs has one cycle less to run;
+//! - `board`: what is known behind the entries that were looked at;
+//! - `flight`: the state that an instruction reads;
+//! - `issuing`: waiting instructions begin to run;
+//! - `ooo`: the core, `Ooo`.
+//!
+//! `specs/Ooo.antt` has one definition for each of the six steps of a call, over `Finish`, `Issue` and `Shape` beside it.
+//! `specs/Known.antt` and `Board.antt` are what the parts of the core promise one another.
+#![tactic(auto)]
+
+mod board;
+mod entry;
+mod finishing;
+mod flight;
+mod issuing;
+mod ooo;
+mod predicting;
+mod shape;
+mod window;
+
+pub use ooo::Ooo;

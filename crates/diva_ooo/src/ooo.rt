@@ -1,0 +1,221 @@
+// The core.
+ghost use Rattle.std.specs.Prelude.{◌≡◌, ◌≤◌, ◌<◌, ◌+◌, ℕ, suc, [], IfOk, length, if◌then◌else◌};
+ghost use Rattle.std.specs.Option.{option_and_then};
+ghost use Rattle.diva_decode.specs.Table.{row_of};
+ghost use Rattle.diva_isa.specs.State.{State};
+ghost use Rattle.diva_ahead.specs.Lead.{is_epoch};
+ghost use Rattle.diva_ooo.specs.Ooo.{IsOooCall, call_of, completed, dropped, fetched, fetching, handed_over, new_pipeline, ooo_call, restarted, with_issued, with_word, worked};
+
+use crate::entry::{Entry, Stage};
+use crate::finishing::{Turn, finish};
+use crate::issuing::issue;
+use crate::predicting::predicted;
+use crate::shape::Shape;
+use crate::window::Window;
+use diva_ahead::Ahead;
+use diva_core::{Claims, Core, Told, View};
+use diva_isa::{Effect, Record, effect_of, form_of};
+use std::alloc::{AllocError, Global};
+use std::marker::Model;
+
+/// A core that runs instructions out of order, and hands them over in program order. It predicts where branches lead, and
+/// throws away what it fetched where they lead elsewhere. Its claims may be wrong: it fetches words over which stores in
+/// flight lie. The checker finds that.
+#[derive(Drop)]
+pub struct Ooo {
+    ahead: Ahead,
+    window: Window,
+    fetch_pc: u32,
+    dry: bool,
+}
+
+impl Model for Ooo {
+    ghost use Rattle.diva_ooo.specs.Ooo.{Pipeline};
+
+    ghost Value = { Pipeline };
+
+    ghost view = { λ c. record { ahead = c.ahead; window = c.window; fetch_pc = c.fetch_pc; dry = c.dry } };
+}
+
+/// The record of what has not begun.
+const BLANK: Record = Record {
+    pc: 0,
+    word: 0,
+    src1: 0,
+    src2: 0,
+    addr: 0,
+    value: 0,
+    next: 0,
+    end: 0,
+};
+
+impl Ooo {
+    /// A core that has not taken the machine's state yet. The one error is that memory runs out, and no later call takes
+    /// any.
+    pub fn new(alloc: Global) -> Result<Self, AllocError>
+        ensures { IfOk result (λ c. c ≡ new_pipeline) }
+    {
+        Ok(Ooo {
+            ahead: Ahead::new(alloc)?,
+            window: Window::new(alloc)?,
+            fetch_pc: 0,
+            dry: false,
+        })
+    }
+
+    // Takes the machine's state.
+    #[tactic(auto, unfolding(crate::specs::Ooo::restarted))]
+    fn restart(&mut self, told: &Told, view: &View<'_>)
+        ensures { self.new ≡ restarted self.old told.now view.now }
+    {
+        self.ahead.sync(told, view);
+        self.window.clear();
+        self.fetch_pc = view.pc();
+        self.dry = false;
+    }
+
+    // Drops what is no longer pending.
+    fn trim(&mut self, told: &Told)
+        ensures dropped { self.new ≡ dropped self.old told.now }
+        ensures few { length self.new.ahead.ring ≤ told.now.pending }
+    {
+        self.ahead.trim(told);
+    }
+
+    // What runs has one cycle less to run.
+    #[tactic(auto, unfolding(crate::specs::Ooo::completed))]
+    fn finish(&mut self)
+        ensures completed { self.new ≡ completed self.old }
+        ensures ahead { self.new.ahead ≡ self.old.ahead }
+    {
+        let turn = finish(&mut self.window);
+        self.turn(turn);
+    }
+
+    fn turn(&mut self, turn: Turn)
+        ensures turned { self.new ≡ fetching self.old turn }
+        ensures ahead { self.new.ahead ≡ self.old.ahead }
+    {
+        match turn {
+            Turn::On => {}
+            Turn::Dry => self.dry = true,
+            Turn::To(pc) => {
+                self.fetch_pc = pc;
+                self.dry = false;
+            }
+        }
+    }
+
+    // Hands over at most `room` entries that are done, oldest first.
+    fn hand_over(&mut self, room: u32, out: &mut Claims)
+        requires list { out.old ≡ [] }
+        requires room { room ≤ 4 }
+        requires ring { length self.old.ahead.ring + room ≤ 64 }
+        ensures { (s : State) → call_of out.new self.new ≡ handed_over room s [] self.old self.old.window }
+    {
+        for _ in 0..room {
+            if !self.hand_over_oldest(out) {
+                return;
+            }
+        }
+    }
+
+    // Hands over the oldest entry, if it is done; says whether a further one may follow.
+    #[tactic(auto, using(crate::proofs::Handing::ring_more, crate::proofs::Handing::effect_going))]
+    fn hand_over_oldest(&mut self, out: &mut Claims) -> bool
+        requires list { length out.old < 8 }
+        requires ring { length self.old.ahead.ring < 64 }
+        ensures hands { (n : ℕ) (s : State) → handed_over (suc n) s out.old self.old self.old.window
+            ≡ (if result then handed_over n s out.new self.new self.new.window else call_of out.new self.new) }
+        ensures list { length out.new ≤ length out.old + 1 }
+        ensures ring { length self.new.ahead.ring ≤ length self.old.ahead.ring + 1 }
+    {
+        if self.window.len() == 0 {
+            return false;
+        }
+        let oldest = self.window.entry(0);
+        if !oldest.stage.is_done() {
+            return false;
+        }
+        out.push(oldest.result);
+        if oldest.result.end != 0 {
+            self.ahead
+                .hand_over(&oldest.result, effect_of(&oldest.result));
+            self.window.clear();
+            self.dry = true;
+            return false;
+        }
+        self.ahead.hand_over(&oldest.result, oldest.effect);
+        self.window.pop();
+        true
+    }
+
+    // Waiting entries begin to run.
+    fn issue(&mut self, view: &View<'_>)
+        ensures { self.new ≡ with_issued self.old view.now }
+    {
+        issue(&mut self.window, &self.ahead, view);
+    }
+
+    // Adds an entry, where there is room for it and the fetch goes on.
+    #[tactic(auto, unfolding(crate::specs::Ooo::fetched))]
+    fn fetch(&mut self, view: &View<'_>)
+        ensures { self.new ≡ fetched self.old view.now }
+    {
+        if self.window.len() < Window::MOST && !self.dry && !self.ahead.stopped() {
+            self.add(view.word(self.fetch_pc));
+        }
+    }
+
+    // Adds an entry of a word.
+    fn add(&mut self, word: Option<u32>)
+        requires { length self.old.window < 32 }
+        ensures { self.new ≡ with_word self.old word (option_and_then row_of word) }
+    {
+        let pc = self.fetch_pc;
+        let form = form_of(word);
+        self.fetch_pc = predicted(form, pc);
+        self.dry = word.is_none();
+        self.window.push(Entry {
+            pc,
+            word,
+            form,
+            shape: Shape::of(form),
+            predicted: self.fetch_pc,
+            stage: Stage::Waiting,
+            result: BLANK,
+            effect: Effect::Nothing,
+        });
+    }
+
+    // All that follows once the core is of the machine's epoch.
+    #[tactic(auto, unfolding(crate::specs::Ooo::worked))]
+    fn work(&mut self, told: &Told, view: &View<'_>, out: &mut Claims)
+        requires { out.old ≡ [] }
+        ensures lists { out.new ≡ (worked self.old told.now view.now).list }
+        ensures keeps { self.new ≡ (worked self.old told.now view.now).core }
+    {
+        self.trim(told);
+        self.finish();
+        self.hand_over(told.room, out);
+        self.issue(view);
+        self.fetch(view);
+        self.fetch(view);
+    }
+}
+
+impl Core for Ooo {
+    ghost use Rattle.diva_ooo.specs.Ooo.{IsOooCall};
+
+    ghost gives = { IsOooCall };
+
+    #[tactic(auto, unfolding(crate::specs::Ooo::ooo_call))]
+    fn cycle(&mut self, told: &Told, view: &View<'_>, out: &mut Claims) {
+        if self.ahead.is_of(told.epoch) {
+            self.work(told, view, out);
+        } else if told.room != 0 {
+            self.restart(told, view);
+            self.work(told, view, out);
+        }
+    }
+}

@@ -1,0 +1,107 @@
+// What the core notes of an instruction that it fetches.
+ghost use Rattle.std.specs.Prelude.{◌≡◌, IfSome};
+ghost use Rattle.diva_decode.specs.Table.{HasRegisters};
+ghost use Rattle.diva_isa.specs.Kind.{kind};
+ghost use Rattle.diva_ooo.specs.Issue.{is_storing};
+ghost use Rattle.diva_ooo.specs.Known.{HasSources};
+ghost use Rattle.diva_ooo.specs.Shape.{cycles_of, shape_by, shape_of, shaped};
+
+use diva_decode::{Instr, Op};
+use diva_isa::{Kind, kind_of};
+
+/// What else than its sources an instruction waits for.
+#[derive(Clone, Copy, Debug, PartialEq, Eq)]
+pub enum Class {
+    /// Nothing.
+    Plain,
+    /// A load: each older store has to be done.
+    Loads,
+    /// A store: nothing, but younger loads wait for it.
+    Stores,
+    /// A call: it has to be the oldest.
+    Calls,
+}
+
+impl Class {
+    /// Whether it is a store.
+    pub fn is_storing(self) -> bool
+        ensures { result ≡ is_storing self }
+    {
+        matches!(self, Class::Stores)
+    }
+}
+
+/// What the core notes of an instruction that it fetches.
+#[derive(Clone, Copy, Debug, PartialEq, Eq)]
+pub struct Shape {
+    /// The first register that it reads, 0 to 31; x0 where there is none.
+    pub rs1: u8,
+    /// The second register that it reads, 0 to 31; x0 where there is none.
+    pub rs2: u8,
+    /// The register that it writes, 0 to 31; x0 where there is none.
+    pub rd: u8,
+    /// What else it waits for.
+    pub class: Class,
+    /// How many cycles it runs: 1, 2, 3 or 8.
+    pub cycles: u8,
+}
+
+impl Shape {
+    /// The shape of an instruction; `form` is what its word says.
+    pub fn of(form: Option<Instr>) -> Shape
+        requires { IfSome form HasRegisters }
+        ensures value { result ≡ shape_of form }
+        ensures below { HasSources result }
+    {
+        match form {
+            Some(i) => Shape::by(&i),
+            None => Shape::with(0, 0, 0, Class::Plain, 1),
+        }
+    }
+
+    fn by(i: &Instr) -> Shape
+        requires { HasRegisters i.now }
+        ensures value { result ≡ shape_by (kind i.now.op) i.now }
+        ensures below { HasSources result }
+    {
+        let cycles = cycles_of(i.op);
+        match kind_of(i.op) {
+            Kind::LoadUpper | Kind::AddUpper | Kind::Jump => {
+                Shape::with(0, 0, i.rd, Class::Plain, cycles)
+            }
+            Kind::JumpRegister | Kind::Immediate => {
+                Shape::with(i.rs1, 0, i.rd, Class::Plain, cycles)
+            }
+            Kind::Branch => Shape::with(i.rs1, i.rs2, 0, Class::Plain, cycles),
+            Kind::Load(_) => Shape::with(i.rs1, 0, i.rd, Class::Loads, cycles),
+            Kind::Store(_) => Shape::with(i.rs1, i.rs2, 0, Class::Stores, cycles),
+            Kind::Register => Shape::with(i.rs1, i.rs2, i.rd, Class::Plain, cycles),
+            Kind::Fence | Kind::Break => Shape::with(0, 0, 0, Class::Plain, cycles),
+            Kind::Call => Shape::with(0, 0, 0, Class::Calls, cycles),
+        }
+    }
+
+    fn with(rs1: u8, rs2: u8, rd: u8, class: Class, cycles: u8) -> Shape
+        ensures { result ≡ shaped rs1 rs2 rd class cycles }
+    {
+        Shape {
+            rs1,
+            rs2,
+            rd,
+            class,
+            cycles,
+        }
+    }
+}
+
+/// The cycles that an operation runs.
+fn cycles_of(op: Op) -> u8
+    ensures { result ≡ cycles_of op }
+{
+    match op {
+        Op::Lb | Op::Lh | Op::Lw | Op::Lbu | Op::Lhu => 2,
+        Op::Mul | Op::Mulh | Op::Mulhsu | Op::Mulhu => 3,
+        Op::Div | Op::Divu | Op::Rem | Op::Remu => 8,
+        _ => 1,
+    }
+}

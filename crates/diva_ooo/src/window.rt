@@ -1,0 +1,122 @@
+// The instructions under way, in program order.
+ghost use Rattle.std.specs.Prelude.{◌≡◌, ◌≤◌, ◌<◌, ◌-◌, [], ◌∷◌, ◌++◌, length, drop, take, IfOk, Some, slice_get, slice_set};
+ghost use Rattle.diva_ooo.specs.Issue.{running};
+ghost use Rattle.diva_ooo.specs.Known.{IsKnown};
+
+use crate::entry::{Entry, Stage};
+use circular_buffer::HeapCircularBuffer;
+use diva_isa::{Effect, Record};
+use std::alloc::{AllocError, Global};
+use std::marker::Model;
+
+/// The instructions under way, in program order: at most 32.
+#[derive(Drop)]
+pub(crate) struct Window {
+    entries: HeapCircularBuffer<Entry>,
+}
+
+impl Model for Window {
+    ghost use Rattle.std.specs.Prelude.{List, ◌≡◌};
+    ghost use Rattle.std.specs.List.{All};
+    ghost use Rattle.diva_ooo.specs.declared.entry.Entry.{Entry};
+    ghost use Rattle.diva_ooo.specs.Known.{IsKnown};
+
+    ghost Value = { List Entry };
+
+    ghost view = { λ w. w.entries.items };
+
+    ghost invariant = { λ w. (w.entries.capacity ≡ 32) × All IsKnown w.entries.items };
+}
+
+impl Window {
+    ghost use Rattle.diva_ooo.specs.declared.entry.Entry.{Entry};
+    ghost use Rattle.diva_ahead.specs.Effects.{done_by};
+    ghost use Rattle.diva_isa.specs.Step.{HasRegister};
+
+    /// The most entries that a window holds.
+    pub(crate) const MOST: usize = 32;
+
+    /// An empty window. The one error is that memory runs out, and no later call takes any.
+    pub(crate) fn new(alloc: Global) -> Result<Self, AllocError>
+        ensures { IfOk result (λ w. w ≡ []) }
+    {
+        Ok(Window {
+            entries: HeapCircularBuffer::with_capacity(alloc, Self::MOST)?,
+        })
+    }
+
+    /// How many instructions are under way: at most 32.
+    pub(crate) fn len(&self) -> usize
+        ensures value { result ≡ length self.now }
+        ensures most { result ≤ 32 }
+    {
+        self.entries.len()
+    }
+
+    /// The entry at a place, the oldest being at 0.
+    #[inline]
+    pub(crate) fn entry(&self, at: usize) -> &Entry
+        requires { at < length self.now }
+        ensures value { slice_get self.now at ≡ Some result.now }
+        ensures known { IsKnown result.now }
+    {
+        self.entries.get(at).unwrap()
+    }
+
+    /// Says how far the entry at a place is now.
+    #[inline]
+    pub(crate) fn advance(&mut self, at: usize, stage: Stage)
+        requires { at < length self.old }
+        ensures set { (e : Entry) → slice_get self.old at ≡ Some e
+            → self.new ≡ slice_set self.old at (record e { stage = stage }) }
+        ensures length { length self.new ≡ length self.old }
+    {
+        let entry = self.entries.get_mut(at).unwrap();
+        entry.stage = stage;
+    }
+
+    /// Begins to run the entry at a place, which comes to a record that has this effect.
+    pub(crate) fn begin(&mut self, at: usize, r: Record, effect: Effect)
+        requires place { at < length self.old }
+        requires effect { effect ≡ done_by r }
+        requires register { HasRegister effect }
+        ensures set { (e : Entry) → slice_get self.old at ≡ Some e
+            → self.new ≡ slice_set self.old at (running e r) }
+        ensures length { length self.new ≡ length self.old }
+    {
+        let entry = self.entries.get_mut(at).unwrap();
+        entry.stage = Stage::Running(entry.shape.cycles);
+        entry.result = r;
+        entry.effect = effect;
+    }
+
+    /// Adds the youngest entry. There is room for it.
+    pub(crate) fn push(&mut self, entry: Entry)
+        requires room { length self.old < 32 }
+        requires known { IsKnown entry }
+        ensures { self.new ≡ self.old ++ entry ∷ [] }
+    {
+        let _ = self.entries.try_push_back(entry);
+    }
+
+    /// Removes the oldest entry, if there is one.
+    pub(crate) fn pop(&mut self)
+        ensures { self.new ≡ drop 1 self.old }
+    {
+        self.entries.pop_front();
+    }
+
+    /// Keeps the oldest `most`.
+    pub(crate) fn keep(&mut self, most: usize)
+        ensures { self.new ≡ take most self.old }
+    {
+        self.entries.truncate_back(most);
+    }
+
+    /// Removes all.
+    pub(crate) fn clear(&mut self)
+        ensures { self.new ≡ [] }
+    {
+        self.entries.clear();
+    }
+}
