@@ -1,0 +1,7 @@
+pub mod Places
+pub mod Knowing
+pub mod Finished
+pub mod Boarding
+pub mod Reading
+pub mod Issued
+pub mod Handing
