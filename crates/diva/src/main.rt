@@ -8,8 +8,8 @@ ghost use Rattle.std.specs.Prelude.{◌≡◌, IfOk, map};
 ghost use Rattle.std.specs.String.{string_bytes};
 
 use diva_cli::top;
+use diva_ooo::Ooo;
 use diva_outside::{DiskFiles, StdSink};
-use diva_tape::Lockstep;
 use std::alloc::{AllocError, Global};
 use std::process::ExitCode;
 use std::{env, io};
@@ -65,9 +65,12 @@ fn borrowed(alloc: Global, words: &[String]) -> Result<Vec<&str>, AllocError>
     Ok(texts)
 }
 
-/// Runs the program on the real files and standard output; its own core is `Lockstep`.
+/// Runs the program on the real files and standard output; its own core is the out-of-order one.
 fn status(rt: &HostRuntime, words: &[&str]) -> u8 {
     let mut files = DiskFiles::new(rt);
     let mut sink = StdSink::new(io::writer(rt));
-    top(rt.alloc(), words, &mut files, &mut sink, &mut Lockstep)
+    match Ooo::new(rt.alloc()) {
+        Ok(mut core) => top(rt.alloc(), words, &mut files, &mut sink, &mut core),
+        Err(AllocError) => NO_MEMORY,
+    }
 }
