@@ -12,6 +12,8 @@
 //! - `calls`: calls of a machine's parts, and of a machine that is driven;
 //! - `lists`: several claims in a cycle, right and wrong ones, and what each cycle commits:
 //!   `lists/tables` has the lists;
+//! - `out_of_order`: what the out-of-order core hands over, call by call: `out_of_order/tables` has the
+//!   programs;
 //! - `stages`: what each stage of the checker answers of a claim behind older ones: `stages/tables`
 //!   has the claims;
 //! - `vectors`: what arithmetic, branches and loads came to in an emulator that is not of this
@@ -27,6 +29,8 @@ mod calls;
 mod cores;
 #[cfg(test)]
 mod lists;
+#[cfg(test)]
+mod out_of_order;
 #[cfg(test)]
 mod programs;
 #[cfg(test)]

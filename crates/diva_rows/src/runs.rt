@@ -136,15 +136,25 @@ fn programs_that_run(rt: HostRuntime) -> Result<(), Fail> {
 /// Runs the program on each row, and compares status and text.
 fn compare_rows(rt: &impl Abort, alloc: Global, rows: &[Row]) -> Result<(), Fail> {
     for row in rows {
-        let outside = Outside {
-            script: Vec::from_slice(alloc, row.script)?,
-            tape: Vec::from_slice(alloc, row.tape)?,
-            ..Outside::sound(alloc, image_file(alloc, row.program)?)
-        };
-        let text = text_due(alloc, row)?;
-        compare(rt, row.line, outside, row.status, text.as_str())?;
+        compare_row(rt, alloc, &mut Flipped, row)?;
     }
     Ok(())
+}
+
+/// Runs the program on a row, with this core as its own, and compares status and text.
+fn compare_row<C: Core>(
+    rt: &impl Abort,
+    alloc: Global,
+    core: &mut C,
+    row: &Row,
+) -> Result<(), Fail> {
+    let outside = Outside {
+        script: Vec::from_slice(alloc, row.script)?,
+        tape: Vec::from_slice(alloc, row.tape)?,
+        ..Outside::sound(alloc, image_file(alloc, row.program)?)
+    };
+    let text = text_due(alloc, row)?;
+    compare_by(rt, core, row.line, outside, row.status, text.as_str())
 }
 
 /// An instruction that traps is counted, and changes nothing.

@@ -1,0 +1,68 @@
+// What the out-of-order core hands over, call by call, where nothing commits meanwhile.
+mod tables;
+
+use diva_core::{Claims, Core, Output, Told, View};
+use diva_isa::Regs;
+use diva_memory::Memory;
+use diva_ooo::Ooo;
+use diva_storeq::StoreQueue;
+use std::alloc::Global;
+use std::process::Abort;
+use std::test::Fail;
+use tables::{Call, Claimed, ROWS, Row};
+
+/// What the core is told in a call.
+fn told(cycle: u64, call: &Call) -> Told {
+    Told {
+        cycle,
+        count: 0,
+        pc: 0,
+        epoch: call.epoch,
+        pending: call.pending.min(60),
+        room: call.room.min(4),
+        idle: 0,
+        due: false,
+        ended: false,
+    }
+}
+
+/// 64 bytes of memory that begin with these words.
+fn memory(alloc: Global, words: &[u32]) -> Result<Memory, Fail> {
+    let mut bytes = Vec::new(alloc);
+    for word in words {
+        bytes.extend_from_slice(&word.to_le_bytes())?;
+    }
+    let fitting = bytes.get(..64).unwrap_or(&bytes);
+    Ok(Memory::new(alloc, 0, 64, fitting)?)
+}
+
+/// Calls a new core that is shown the row's program at reset, and compares the list of each call.
+fn compare_calls(rt: &impl Abort, alloc: Global, row: &Row) -> Result<(), Fail> {
+    let (regs, memory) = (Regs::new(), memory(alloc, row.words)?);
+    let (queue, output) = (StoreQueue::new(alloc, 1)?, Output::new(alloc)?);
+    let view = View::new(&regs, 0, &memory, &queue, &output);
+    let mut core = Ooo::new(alloc)?;
+    for (place, call) in (1..).zip(row.calls) {
+        let mut list = Claims::new();
+        core.cycle(&told(place, call), &view, &mut list);
+        let mut claimed = Vec::new(alloc);
+        for claim in list.as_slice() {
+            claimed.push(Claimed {
+                pc: claim.pc,
+                value: claim.value,
+                next: claim.next,
+                end: claim.end,
+            })?;
+        }
+        assert_eq!(rt; claimed.as_slice(), call.list, "{}, call {place}", row.name);
+    }
+    Ok(())
+}
+
+#[test]
+fn calls_of_the_core(rt: HostRuntime) -> Result<(), Fail> {
+    for row in &ROWS {
+        compare_calls(&rt, rt.alloc(), row)?;
+    }
+    Ok(())
+}
