@@ -1,11 +1,16 @@
 -- Step 3, finish: what runs has one cycle less to run.
-use Rattle.std.specs.Prelude.{ℕ, ◌-◌, ◌==◌, nat_le, List, [], ◌∷◌, ◌++◌, Bool, false, if◌then◌else◌}
+use Rattle.std.specs.Prelude.{ℕ, ◌-◌, ◌==◌, nat_le, List, [], ◌∷◌, ◌++◌, Bool, true, false, if◌then◌else◌}
 use Rattle.diva_isa.specs.declared.record.Record.{Record}
 use Rattle.diva_ooo.specs.declared.entry.Entry.{Entry}
 use Rattle.diva_ooo.specs.declared.entry.Stage.{Stage}
 use Rattle.diva_ooo.specs.declared.entry.Stage.TheVariants.{Waiting, Running, Done}
 use Rattle.diva_ooo.specs.declared.finishing.Turn.{Turn}
 use Rattle.diva_ooo.specs.declared.finishing.Turn.TheVariants.{On, Dry, To}
+
+abbrev pub is_running : Stage → Bool
+is_running Waiting = false
+is_running (Running left) = true
+is_running Done = false
 
 -- it has run its last cycle
 abbrev pub is_last : Stage → Bool

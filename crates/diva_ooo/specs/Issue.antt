@@ -55,9 +55,12 @@ is_free Calls older = length older == 0
 unfoldable pub is_ready : List Entry → Entry → Bool
 is_ready older e = is_available older e.shape.rs1 && is_available older e.shape.rs2 && is_free e.shape.class older
 
+abbrev pub can_begin : List Entry → Entry → Bool
+can_begin older e = is_waiting e.stage && is_ready older e
+
 -- an entry begins that waits and is ready, where fewer than two have begun
 abbrev pub begins : (begun : ℕ) → List Entry → Entry → Bool
-begins begun older e = is_waiting e.stage && nat_lt begun 2 && is_ready older e
+begins begun older e = nat_lt begun 2 && can_begin older e
 
 -- ---- what it computes
 

@@ -1,5 +1,6 @@
 // An instruction under way.
 ghost use Rattle.std.specs.Prelude.{◌≡◌};
+ghost use Rattle.diva_ooo.specs.Finish.{is_running};
 ghost use Rattle.diva_ooo.specs.Issue.{is_done, is_waiting};
 
 use crate::shape::Shape;
@@ -23,6 +24,13 @@ impl Stage {
         ensures { result ≡ is_waiting self }
     {
         matches!(self, Stage::Waiting)
+    }
+
+    /// Whether it has begun, and is not done.
+    pub fn is_running(self) -> bool
+        ensures { result ≡ is_running self }
+    {
+        matches!(self, Stage::Running(_))
     }
 
     /// Whether it is to be handed over.

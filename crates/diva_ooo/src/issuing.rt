@@ -1,12 +1,13 @@
 // Waiting instructions begin to run.
-ghost use Rattle.std.specs.Prelude.{◌≡◌, ◌+◌, ◌<◌, ◌≤◌, ◌∷◌, [], ◌++◌, ◌&&◌, drop, length, slice_get, slice_set, take, IfSome, Some, if◌then◌else◌, ℕ, List};
+ghost use Rattle.std.specs.Prelude.{◌≡◌, ◌+◌, ◌<◌, ◌≤◌, ◌++◌, drop, length, slice_get, slice_set, take, IfSome, Some, ℕ, List};
+ghost use Rattle.std.specs.List.{All};
 ghost use Rattle.std.specs.Option.{option_and_then};
 ghost use Rattle.diva_decode.specs.Table.{HasRegisters, row_of};
 ghost use Rattle.diva_isa.specs.Step.{HasRegister, fetched};
 ghost use Rattle.diva_ahead.specs.Effects.{done_by};
 ghost use Rattle.diva_ooo.specs.declared.entry.Entry.{Entry};
-ghost use Rattle.diva_ooo.specs.Board.{IsBoard};
-ghost use Rattle.diva_ooo.specs.Issue.{is_ready, is_waiting, issued, issued_from, started};
+ghost use Rattle.diva_ooo.specs.Board.{IsBoard, passed};
+ghost use Rattle.diva_ooo.specs.Issue.{can_begin, issued, started};
 ghost use Rattle.diva_ooo.specs.Known.{IsKnown};
 
 use crate::board::Board;
@@ -23,62 +24,61 @@ pub(crate) fn issue(window: &mut Window, ahead: &Ahead, view: &View<'_>)
     ensures { window.new ≡ issued ahead.now view.now window.old }
 {
     let mut board = Board::new(ahead.regs());
-    let mut begun: u8 = 0;
-    for at in 0..window.len() {
-        if begun == 2 {
+    let mut at = 0;
+    for _ in 0..2_u8 {
+        at = pass(window, at, &mut board);
+        if at == window.len() {
             return;
         }
-        if issue_at(window, at, &mut board, ahead, view) {
-            begun += 1;
+        begin_at(window, at, &board, ahead, view);
+        board.note(window.entry(at));
+        at += 1;
+    }
+}
+
+// The place of the first entry that can begin, from a place on; how many there are where none can. The board notes those
+// before it.
+fn pass(window: &Window, at: usize, board: &mut Board) -> usize
+    requires place { at ≤ length window.now }
+    ensures passes { (regs : List ℕ) → IsBoard regs (take at window.now) board.old
+        → result ≡ at + passed (take at window.now) (drop at window.now) }
+    ensures notes { (regs : List ℕ) → IsBoard regs (take at window.now) board.old
+        → IsBoard regs (take result window.now) board.new }
+    ensures within { result ≤ length window.now }
+{
+    let (front, back) = window.from(at);
+    let first = pass_part(front, at, board);
+    if first < front.len() {
+        at + first
+    } else {
+        at + first + pass_part(back, at + first, board)
+    }
+}
+
+// How many of some entries, the first of which is at a place, come before the first that can begin. The board notes them.
+fn pass_part(entries: &[Entry], at: usize, board: &mut Board) -> usize
+    requires known { All IsKnown entries.now }
+    requires few { at + length entries.now ≤ 32 }
+    ensures passes { (regs : List ℕ) (older : List Entry) → IsBoard regs older board.old → length older ≡ at
+        → result ≡ passed older entries.now }
+    ensures notes { (regs : List ℕ) (older : List Entry) → IsBoard regs older board.old → length older ≡ at
+        → IsBoard regs (older ++ take result entries.now) board.new }
+    ensures within { result ≤ length entries.now }
+{
+    for (place, entry) in entries.iter().enumerate() {
+        if can_begin(entry, at + place, board) {
+            return place;
         }
+        board.note(entry);
     }
+    entries.len()
 }
 
-// Looks at the entry at a place, where fewer than two have begun: it begins if it can, and the board notes it. Says whether
-// it began.
-fn issue_at(
-    window: &mut Window,
-    at: usize,
-    board: &mut Board,
-    ahead: &Ahead,
-    view: &View<'_>,
-) -> bool
-    requires place { at < length window.old }
-    requires board { IsBoard ahead.now.regs (take at window.old) board.old }
-    ensures issues { (begun : ℕ) → begun < 2
-        → issued_from ahead.now view.now (if result then begun + 1 else begun) (take (at + 1) window.new) (drop (at + 1) window.new)
-        ≡ issued_from ahead.now view.now begun (take at window.old) (drop at window.old) }
-    ensures board { IsBoard ahead.now.regs (take (at + 1) window.new) board.new }
-    ensures length { length window.new ≡ length window.old }
-{
-    let begins = start_at(window, at, board, ahead, view);
-    board.note(window.entry(at));
-    begins
-}
-
-// Begins to run the entry at a place, if it can; says whether it did.
-#[tactic(auto, using(crate::proofs::Issued::start_not))]
-fn start_at(window: &mut Window, at: usize, board: &Board, ahead: &Ahead, view: &View<'_>) -> bool
-    requires place { at < length window.old }
-    requires board { IsBoard ahead.now.regs (take at window.old) board.now }
-    ensures begins { (e : Entry) → slice_get window.old at ≡ Some e
-        → result ≡ (is_waiting e.stage && is_ready (take at window.old) e) }
-    ensures started { (e : Entry) → slice_get window.old at ≡ Some e
-        → window.new ≡ slice_set window.old at (if result then started ahead.now view.now (take at window.old) e else e) }
-    ensures length { length window.new ≡ length window.old }
-{
-    let begins = can_begin(window.entry(at), at, board);
-    if begins {
-        begin_at(window, at, board, ahead, view);
-    }
-    begins
-}
-
-// Whether the entry at a place has all that it waits for.
+// Whether the entry at a place waits, and has all that it waits for.
 fn can_begin(entry: &Entry, at: usize, board: &Board) -> bool
     requires { IsKnown entry.now }
     ensures { (regs : List ℕ) (older : List Entry) → IsBoard regs older board.now → length older ≡ at
-        → result ≡ (is_waiting entry.now.stage && is_ready older entry.now) }
+        → result ≡ can_begin older entry.now }
 {
     entry.stage.is_waiting() && board.is_ready(at, entry)
 }

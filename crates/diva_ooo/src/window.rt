@@ -1,5 +1,5 @@
 // The instructions under way, in program order.
-ghost use Rattle.std.specs.Prelude.{◌≡◌, ◌≤◌, ◌<◌, ◌-◌, [], ◌∷◌, ◌++◌, length, drop, take, IfOk, Some, slice_get, slice_set};
+ghost use Rattle.std.specs.Prelude.{◌≡◌, ◌≤◌, ◌<◌, ◌+◌, ◌-◌, [], ◌∷◌, ◌++◌, length, drop, take, IfOk, Some, slice_get, slice_set};
 ghost use Rattle.diva_ooo.specs.Issue.{running};
 ghost use Rattle.diva_ooo.specs.Known.{IsKnown};
 
@@ -29,6 +29,8 @@ impl Model for Window {
 }
 
 impl Window {
+    ghost use Rattle.std.specs.List.{All};
+    ghost use Rattle.diva_ooo.specs.Known.{IsKnown};
     ghost use Rattle.diva_ooo.specs.declared.entry.Entry.{Entry};
     ghost use Rattle.diva_ahead.specs.Effects.{done_by};
     ghost use Rattle.diva_isa.specs.Step.{HasRegister};
@@ -61,6 +63,40 @@ impl Window {
         ensures known { IsKnown result.now }
     {
         self.entries.get(at).unwrap()
+    }
+
+    /// The entries from a place on, in two parts that follow one another.
+    #[inline]
+    #[tactic(auto, using(crate::proofs::Places::drop_parts, crate::proofs::Places::drop_rest, crate::proofs::Places::long_parts))]
+    pub(crate) fn from(&self, place: usize) -> (&[Entry], &[Entry])
+        requires { place ≤ length self.now }
+        ensures value { result.0.now ++ result.1.now ≡ drop place self.now }
+        ensures known { All IsKnown (drop place self.now) }
+        ensures all { place + (length result.0.now + length result.1.now) ≡ length self.now }
+        ensures most { length self.now ≤ 32 }
+    {
+        let _ = self.len();
+        let (front, back) = self.entries.as_slices();
+        if place < front.len() {
+            (&front[place..], back)
+        } else {
+            (&back[place - front.len()..], &[])
+        }
+    }
+
+    /// The entries before a place, in two parts that follow one another.
+    #[inline]
+    #[tactic(auto, using(crate::proofs::Places::take_parts))]
+    pub(crate) fn before(&self, place: usize) -> (&[Entry], &[Entry])
+        requires { place ≤ length self.now }
+        ensures { result.0.now ++ result.1.now ≡ take place self.now }
+    {
+        let (front, back) = self.entries.as_slices();
+        if place <= front.len() {
+            (&front[..place], &[])
+        } else {
+            (front, &back[..place - front.len()])
+        }
     }
 
     /// Says how far the entry at a place is now.

@@ -1,18 +1,32 @@
-use Rattle.std.proofs.Common.{sym, ◌∙◌, ap, ℕ, arith, take, drop, ◌≡◌, ◌≤◌, length}
-use Rattle.std.proofs.lemmas.List.{take-append-drop}
-use Rattle.diva_ooo.specs.Issue.{issued, issued_from}
-use Rattle.diva_ooo.proofs.Issued.{issued_end, issued_enough}
+use Rattle.std.proofs.Common.{sym, ◌∙◌, arith, take, ◌<◌, length}
+use Rattle.diva_ooo.specs.Issue.{issued}
+use Rattle.diva_ooo.proofs.Issued.{begun_next, board_next, issued_two, none_next}
 use Rattle.diva_ooo.proofs.issuing.issue.Goals as goal
 
-pub returns-then-begun-eq2 : goal.returns-then-begun-eq2
+pub loop-preserved : goal.loop-preserved
+loop-preserved c =
+    let lead = c.args.ahead.now in
+    let s = c.args.view.now in
+    let w = c.loop.window in
+    let at = c.pass-at.result in
+    let regs = c.args.ahead.now.regs in
+    let place = c.pass-at.ensures.passes regs c.loop.invariant.board in
+    let fits = c.pass-at.ensures.within in
+    let inside : at < length w = omega arith in
+    record {
+      left =
+          begun_next lead s c.loop.counter w c.begin_at.new.window c.loop.at at c.loop-test.true place inside c.begin_at.ensures.started ∙ c.loop.invariant.left;
+      board =
+          board_next regs lead s w c.begin_at.new.window at c.entry.result.now c.note.new.self inside c.begin_at.ensures.started c.entry.ensures.value (c.note.ensures regs (take at w) (c.pass-at.ensures.notes regs c.loop.invariant.board));
+      within = let same = c.begin_at.ensures.length in omega arith;
+    }
+
+pub returns-then-at-len : goal.returns-then-at-len
 unfolding issued
-returns-then-begun-eq2 c =
-    let w = c.loop-at.window in
-    let at = c.loop-at.at in
-    sym (ap (λ (n : ℕ). issued_from c.args.ahead.now c.args.view.now n (take at w) (drop at w)) c.if-begun-eq2.true ∙ issued_enough c.args.ahead.now c.args.view.now (take at w) (drop at w) ∙ take-append-drop at w)
-    ∙ c.loop-at.invariant.left
+returns-then-at-len c =
+    none_next c.args.ahead.now c.args.view.now c.loop.counter c.loop.window c.loop.at c.pass-at.result (c.pass-at.ensures.passes c.args.ahead.now.regs c.loop.invariant.board) (omega arith) ∙ c.loop.invariant.left
 
 pub returns : goal.returns
 unfolding issued
 returns c =
-    sym (issued_end c.args.ahead.now c.args.view.now c.loop-at.begun c.loop-at.window c.loop-at.at (omega arith)) ∙ c.loop-at.invariant.left
+    sym (issued_two c.args.ahead.now c.args.view.now c.loop.counter c.loop.at c.loop.window (omega arith)) ∙ c.loop.invariant.left
