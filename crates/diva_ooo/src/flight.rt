@@ -1,9 +1,10 @@
 // The state that an instruction reads.
-ghost use Rattle.std.specs.Prelude.{◌≡◌, ◌≤◌, ◌<◌, ◌++◌, length, map, take, IsSome, IsTrue, true};
+ghost use Rattle.std.specs.Prelude.{◌≡◌, ◌≤◌, ◌<◌, ◌++◌, length, map, take, IsSome, IsTrue, Some, true};
 ghost use Rattle.std.specs.List.{list_all};
-ghost use Rattle.diva_isa.specs.State.{byte_of, word_of};
+ghost use Rattle.diva_isa.specs.State.{State, byte_of, word_of};
 ghost use Rattle.diva_core.specs.Effects.{is_apart, with_effects};
 
+use crate::entry::Entry;
 use crate::window::Window;
 use diva_ahead::Ahead;
 use diva_core::{View, byte_in, is_apart};
@@ -49,16 +50,32 @@ impl Flight<'_> {
     }
 
     // Whether no older entry stores a byte of the word at an address.
+    #[tactic(auto, using(crate::proofs::Reading::apart_parts))]
     fn is_apart(&self, addr: u32) -> bool
         ensures { IsTrue result → list_all (λ e. is_apart e addr 4) (map (λ x. x.effect) (take self.now.at self.now.window.now)) ≡ true }
     {
-        for place in 0..self.at {
-            if !is_apart(&self.window.entry(place).effect, addr, 4) {
-                return false;
-            }
-        }
-        true
+        let (front, back) = self.window.before(self.at);
+        are_apart(front, addr) && are_apart(back, addr)
     }
+}
+
+// Whether none of some entries stores a byte of the word at an address.
+fn are_apart(entries: &[Entry], addr: u32) -> bool
+    ensures { result ≡ list_all (λ e. is_apart e.effect addr 4) entries.now }
+{
+    entries.iter().all(|entry| is_apart(&entry.effect, addr, 4))
+}
+
+// The byte that the youngest store of some entries has for an address, or else the one that memory has.
+fn youngest(entries: &[Entry], addr: u32, byte: u8) -> u8
+    ensures { (s : State) → byte_of s addr ≡ Some byte
+        → byte_of (with_effects s (map (λ x. x.effect) entries.now)) addr ≡ Some result }
+{
+    let mut youngest = byte;
+    for entry in entries {
+        youngest = byte_in(&entry.effect, addr).unwrap_or(youngest);
+    }
+    youngest
 }
 
 impl Look for Flight<'_> {
@@ -76,11 +93,9 @@ impl Look for Flight<'_> {
     }
 
     fn byte(&self, addr: u32) -> Option<u8> {
-        let mut byte = self.ahead.ring().byte(self.view, addr)?;
-        for place in 0..self.at {
-            byte = byte_in(&self.window.entry(place).effect, addr).unwrap_or(byte);
-        }
-        Some(byte)
+        let byte = self.ahead.ring().byte(self.view, addr)?;
+        let (front, back) = self.window.before(self.at);
+        Some(youngest(back, addr, youngest(front, addr, byte)))
     }
 
     fn word(&self, addr: u32) -> Option<u32> {

@@ -1,7 +1,7 @@
-use Rattle.std.proofs.Common.{◌≡◌, None, sym, rules, take}
+use Rattle.std.proofs.Common.{◌≡◌, None, Some, sym, rules, take}
 use Rattle.diva_isa.specs.State.{byte_of}
 use Rattle.diva_core.specs.Effects.{with_effects}
-use Rattle.diva_ooo.proofs.Reading.{effects, older_none, older_more}
+use Rattle.diva_ooo.proofs.Reading.{byte_parts, effects, older_none}
 use Rattle.diva_ooo.proofs.flight.FlightLook.byte.Goals as goal
 
 pub returns-in_err-byte : goal.returns-in_err-byte
@@ -10,7 +10,11 @@ returns-in_err-byte c =
     let outside : byte_of (with_effects f.view.now f.ahead.now.ring) c.args.addr ≡ None = search rules in
     rw c.from_residual.ensures (sym (older_none f.view.now f.ahead.now.ring (effects (take f.at f.window.now)) c.args.addr outside))
 
-pub loop-place-preserved : goal.loop-place-preserved
-loop-place-preserved c =
+pub returns : goal.returns
+returns c =
     let f = c.args.self.now in
-    rw (c.unwrap_or-byte.ensures, c.byte_in.ensures) (older_more f.view.now f.ahead.now.ring f.window.now c.loop-place.place c.entry.result.now c.args.addr c.loop-place.byte c.entry.ensures.value c.loop-place.invariant)
+    let here : byte_of (with_effects f.view.now f.ahead.now.ring) c.args.addr ≡ Some c.in_ok-byte.byte = search rules in
+    let ring = with_effects f.view.now f.ahead.now.ring in
+    let front = c.before-2.result.0.now in
+    let back = c.before-2.result.1.now in
+    sym (byte_parts f.view.now f.ahead.now.ring front back (take f.at f.window.now) c.args.addr c.youngest-2.result c.before-2.ensures (c.youngest-2.ensures (with_effects ring (effects front)) (c.youngest.ensures ring here)))
