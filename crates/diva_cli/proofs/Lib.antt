@@ -8,3 +8,4 @@ pub mod Stopping
 pub mod Preparing
 pub mod Working
 pub mod Completing
+pub mod Determining

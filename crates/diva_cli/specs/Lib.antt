@@ -10,3 +10,4 @@ pub mod Answers
 pub mod Statuses
 pub mod Tasks
 pub mod Parts
+pub mod Determined

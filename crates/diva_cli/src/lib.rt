@@ -9,7 +9,8 @@
 //! - `writing`: what is written otherwise, and the status that goes with it;
 //! - `lines`: the lines that are written where no job is done;
 //! - `stop`: why a job is not done, and why there is no whole answer;
-//! - `sure`: the program over files and a sink that never fail.
+//! - `sure`: the program over files and a sink that never fail;
+//! - `laws`: that the text of a run is determined.
 //!
 //! What is promised, in the order in which it is best read: `specs/Statuses.antt` says what each
 //! status says, and `Answers.antt` what is answered and why; `Wanted.antt` which files a job wants,
@@ -20,6 +21,7 @@
 #![tactic(auto)]
 
 mod driving;
+pub mod laws;
 mod lines;
 mod loading;
 mod program;

@@ -1,0 +1,86 @@
+-- Two runs of one core from one machine are one.
+use Rattle.std.proofs.Common.{◌≡◌, ◌≤◌, ℕ, ◌-◌, true, List, [], ◌∷◌, length, map, Option, Some, None, Result, Ok, refl, ap, sym, ◌∙◌, arith, subst}
+use Rattle.std.proofs.lemmas.List.{length-map}
+use Rattle.diva_outside.specs.Text.{Text}
+use Rattle.diva_outside.specs.declared.files.What.TheVariants.{Image, Script, Tape as TapeFile}
+use Rattle.diva_isa.specs.State.{State, goes_on}
+use Rattle.diva_isa.specs.declared.record.Record.{Record}
+use Rattle.diva_core.specs.Timed.{Timed, new_timed}
+use Rattle.diva_core.specs.Cycle.{cycle_of}
+use Rattle.diva_core.specs.Told.{Notice, notice_of}
+use Rattle.diva_core.specs.Log.{Meaning, IsLog, lists_of}
+use Rattle.diva_faults.specs.declared.rows.Row.{Row}
+use Rattle.diva_faults.specs.Reading.{script_of}
+use Rattle.diva_faults.specs.Spoiled.{spoiled}
+use Rattle.diva_faults.specs.Lists.{scripted}
+use Rattle.diva_trace.specs.Text.{text_of}
+use Rattle.diva_args.specs.Options.{RunOptions}
+use Rattle.diva_args.specs.declared.job.CoreChoice.{CoreChoice}
+use Rattle.diva_args.specs.declared.job.CoreChoice.TheVariants.{Own}
+use Rattle.diva_cli.specs.Wanted.{FileBytes}
+use Rattle.diva_cli.specs.Determined.{IsDetermined}
+use Rattle.diva_cli.specs.Driven.{AreHanded, ByTurns, IsDriven}
+use Rattle.diva_cli.specs.Runs.{AreRows, HasRun, shown_dump, sizes_of, start_in}
+
+module _ {C : Type 0} (gives : Meaning C) (determined : IsDetermined gives) where
+  -- the turns of two logs that were not broken off
+  last_same : (n : ℕ) (m last last' : Timed) (core after after' : C) (log log' : List (List Record × C))
+      → IsLog gives m core log last after → IsLog gives m core log' last' after'
+      → length log ≤ n → length log' ≤ n
+      → (goes_on last.arch ≡ true → length log ≡ n) → (goes_on last'.arch ≡ true → length log' ≡ n)
+      → last ≡ last'
+  last_same n m last last' core after after' [] [] i j most most' all all' = i.0 ∙ sym j.0
+  last_same n m last last' core after after' [] (t ∷ log') i j most most' all all' =
+      let on : goes_on last.arch ≡ true = ap (λ (x : Timed). goes_on x.arch) i.0 ∙ j.0 in
+      let none = all on in
+      absurd (omega arith)
+  last_same n m last last' core after after' (t ∷ log) [] i j most most' all all' =
+      let on : goes_on last'.arch ≡ true = ap (λ (x : Timed). goes_on x.arch) j.0 ∙ i.0 in
+      let none = all' on in
+      absurd (omega arith)
+  last_same n m last last' core after after' (t ∷ log) (t' ∷ log') i j most most' all all' =
+      let same = determined core (notice_of m) m.arch t.0 t'.0 t.1 t'.1 i.1.0 j.1.0 in
+      let next : IsLog gives (cycle_of m t.0) t.1 log' last' after' = subst (λ (x : List Record). IsLog gives (cycle_of m x) t.1 log' last' after') (sym same.0) (subst (λ (x : C). IsLog gives (cycle_of m t'.0) x log' last' after') (sym same.1) j.1.1) in
+      last_same (n - 1) (cycle_of m t.0) last last' t.1 after after' log log' i.1.1 next (omega arith) (omega arith) (λ on. let e = all on in omega arith) (λ on. let e = all' on in omega arith)
+
+-- the calls of a core under a script are determined, where its own are
+spoiled_determined : {C : Type 0} (gives : Meaning C) (rows : List Row) → IsDetermined gives → IsDetermined (spoiled rows gives)
+spoiled_determined gives rows determined = λ before told s list other after last i j.
+    let same = determined before told s i.inner j.inner after last i.given j.given in
+    (i.laid ∙ ap (λ (inner : List Record). scripted rows told.cycle inner) same.0 ∙ sym j.laid, same.1)
+
+rows_same : (name : Option (List ℕ)) (bytes : List ℕ) (rows rows' : List Row) → AreRows name bytes rows → AreRows name bytes rows' → rows ≡ rows'
+rows_same None bytes rows rows' i j = i ∙ sym j
+rows_same (Some name) bytes rows rows' i j = let e = sym i ∙ j in cc
+
+own_turns : {C : Type 0} (gives : Meaning C) (choice : CoreChoice) (tape : List (List Record)) (rows : List Row) (m : Timed) (core : C) (lists : List (List Record)) (last : Timed) (after : C)
+    → choice ≡ Own → AreHanded gives choice tape rows m core lists last after → ByTurns (spoiled rows gives) m core lists last after
+own_turns gives choice tape rows m core lists last after own h = subst (λ (x : CoreChoice). AreHanded gives x tape rows m core lists last after) own h
+
+-- the turns of a run
+record Ran {C : Type 0} (gives : Meaning C) (n : ℕ) (m : Timed) (core : C) (last : Timed) (after : C) : Type 0 where
+  log : List (List Record × C)
+  good : IsLog gives m core log last after
+  most : length log ≤ n
+  all : goes_on last.arch ≡ true → length log ≡ n
+
+ran : {C : Type 0} (gives : Meaning C) (options : RunOptions) (bytes : FileBytes) (core after : C) (status : Option ℕ) (text : Text) (rows : List Row)
+    → options.setup.core ≡ Own → (h : HasRun gives options bytes core after status text) → h.over.script ≡ rows
+    → Ran (spoiled rows gives) options.cycles (new_timed (sizes_of options.setup) (start_in bytes)) core h.last after
+ran gives options bytes core after status text rows own h is =
+    let driven = h.over.run.driven in
+    let turns = own_turns gives options.setup.core h.over.tape h.over.script (new_timed (sizes_of options.setup) (start_in bytes)) core driven.lists h.last after own driven.handed in
+    let long : length driven.lists ≡ length turns.log = ap length turns.in_order ∙ length-map turns.log (λ turn. turn.0) in
+    let most = driven.most in
+    let each = driven.each in
+    subst (λ (r : List Row). Ran (spoiled r gives) options.cycles (new_timed (sizes_of options.setup) (start_in bytes)) core h.last after) is
+    (record { log = turns.log; good = turns.good; most = omega arith; all = λ on. (let e = h.whole.all on in omega arith) })
+
+pub text_same : {C : Type 0} (gives : Meaning C) → IsDetermined gives → (options : RunOptions) (bytes : FileBytes) (core after last : C) (status other : Option ℕ) (text same : Text)
+    → options.setup.core ≡ Own → HasRun gives options bytes core after status text → HasRun gives options bytes core last other same → text ≡ same
+text_same gives determined options bytes core after last status other text same own h k =
+    let rows = k.over.script in
+    let i = ran gives options bytes core after status text rows own h (rows_same options.setup.script (bytes Script) h.over.script rows h.over.rows k.over.rows) in
+    let j = ran gives options bytes core last other same rows own k refl in
+    let ends : h.last ≡ k.last = last_same (spoiled rows gives) (spoiled_determined gives rows determined) options.cycles (new_timed (sizes_of options.setup) (start_in bytes)) h.last k.last core after last i.log j.log i.good j.good i.most j.most i.all j.all in
+    h.lines ∙ ap (λ (m : Timed). text_of m (shown_dump options.dump)) ends ∙ sym k.lines

@@ -1,0 +1,12 @@
+-- What is determined of a run.
+use Rattle.std.specs.Prelude.{◌≡◌, List}
+use Rattle.diva_isa.specs.State.{State}
+use Rattle.diva_isa.specs.declared.record.Record.{Record}
+use Rattle.diva_core.specs.Log.{Meaning}
+use Rattle.diva_core.specs.Told.{Notice}
+
+-- a core's list, and the core after a call, are determined by the core before, what it is told and the state that it is shown
+abbrev pub IsDetermined : {C : Type 0} → Meaning C → Type 0
+IsDetermined {C} gives =
+    (before : C) (told : Notice) (s : State) (list other : List Record) (after last : C)
+    → gives before told s list after → gives before told s other last → (list ≡ other) × (after ≡ last)
