@@ -67,6 +67,7 @@ fn are_apart(entries: &[Entry], addr: u32) -> bool
 }
 
 // The byte that the youngest store of some entries has for an address, or else the one that memory has.
+#[tactic(auto, using(crate::proofs::Reading::effects_next))]
 fn youngest(entries: &[Entry], addr: u32, byte: u8) -> u8
     ensures { (s : State) → byte_of s addr ≡ Some byte
         → byte_of (with_effects s (map (λ x. x.effect) entries.now)) addr ≡ Some result }

@@ -6,7 +6,8 @@
 //! - `board`: what is known behind the entries that were looked at;
 //! - `flight`: the state that an instruction reads;
 //! - `issuing`: waiting instructions begin to run;
-//! - `ooo`: the core, `Ooo`.
+//! - `ooo`: the core, `Ooo`;
+//! - `laws`: what follows of its calls.
 //!
 //! `specs/Ooo.antt` has one definition for each of the six steps of a call, over `Finish`, `Issue` and `Shape` beside it.
 //! `specs/Known.antt` and `Board.antt` are what the parts of the core promise one another.
@@ -17,6 +18,7 @@ mod entry;
 mod finishing;
 mod flight;
 mod issuing;
+pub mod laws;
 mod ooo;
 mod predicting;
 mod shape;
