@@ -7,6 +7,8 @@
 ghost use Rattle.std.specs.Prelude.{◌≡◌, IfOk, map};
 ghost use Rattle.std.specs.String.{string_bytes};
 
+pub mod laws;
+
 use diva_cli::top;
 use diva_ooo::Ooo;
 use diva_outside::{DiskFiles, StdSink};
