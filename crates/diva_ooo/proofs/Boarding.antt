@@ -28,13 +28,13 @@ get_none (suc k) (suc n) = get_none k n
 
 -- ---- the definitions behind one entry more
 
-awaited_more : (older : List Entry) (e : Entry) (so : Bool) (n : ℕ) → is_awaited so (older ++ e ∷ []) n ≡ (if e.shape.rd == n then not (is_done e.stage) else is_awaited so older n)
+awaited_more : (older : List Entry) (e : Entry) (so : Bool) (n : ℕ) → is_awaited so (older ++ e ∷ []) n ≡ (if e.profile.rd == n then not (is_done e.stage) else is_awaited so older n)
 awaited_more [] e so n = refl
-awaited_more (x ∷ older) e so n = awaited_more older e (if x.shape.rd == n then not (is_done x.stage) else so) n
+awaited_more (x ∷ older) e so n = awaited_more older e (if x.profile.rd == n then not (is_done x.stage) else so) n
 
-written_more : (regs : List ℕ) (older : List Entry) (e : Entry) → written regs (older ++ e ∷ []) ≡ (if is_done e.stage then with_reg (written regs older) e.shape.rd e.result.value else written regs older)
+written_more : (regs : List ℕ) (older : List Entry) (e : Entry) → written regs (older ++ e ∷ []) ≡ (if is_done e.stage then with_reg (written regs older) e.profile.rd e.result.value else written regs older)
 written_more regs [] e = refl
-written_more regs (x ∷ older) e = written_more (if is_done x.stage then with_reg regs x.shape.rd x.result.value else regs) older e
+written_more regs (x ∷ older) e = written_more (if is_done x.stage then with_reg regs x.profile.rd x.result.value else regs) older e
 
 and_true : (b : Bool) → (b && true) ≡ b
 and_true true = refl
@@ -44,11 +44,11 @@ and_assoc : (b c d : Bool) → (b && (c && d)) ≡ ((b && c) && d)
 and_assoc true c d = refl
 and_assoc false c d = refl
 
-stored_more : (older : List Entry) (e : Entry) → are_stored (older ++ e ∷ []) ≡ (are_stored older && (is_done e.stage || not (is_storing e.shape.class)))
-stored_more [] e = and_true (is_done e.stage || not (is_storing e.shape.class))
+stored_more : (older : List Entry) (e : Entry) → are_stored (older ++ e ∷ []) ≡ (are_stored older && (is_done e.stage || not (is_storing e.profile.class)))
+stored_more [] e = and_true (is_done e.stage || not (is_storing e.profile.class))
 stored_more (x ∷ older) e =
-    ap (λ (b : Bool). (is_done x.stage || not (is_storing x.shape.class)) && b) (stored_more older e)
-    ∙ and_assoc (is_done x.stage || not (is_storing x.shape.class)) (are_stored older) (is_done e.stage || not (is_storing e.shape.class))
+    ap (λ (b : Bool). (is_done x.stage || not (is_storing x.profile.class)) && b) (stored_more older e)
+    ∙ and_assoc (is_done x.stage || not (is_storing x.profile.class)) (are_stored older) (is_done e.stage || not (is_storing e.profile.class))
 
 -- ---- the board
 
@@ -82,27 +82,27 @@ open_by rd n true so v is h = let at : (n == 0) ≡ (rd == 0) = grind (arith, na
 open_by rd n false so v is h = h
 
 pub board_done : (regs : List ℕ) (older : List Entry) (e : Entry) (b : Board) → is_done e.stage ≡ true → IsBoard regs older b
-    → IsBoard regs (older ++ e ∷ []) (record b { regs = with_reg b.regs e.shape.rd e.result.value; awaited = slice_set b.awaited e.shape.rd false })
+    → IsBoard regs (older ++ e ∷ []) (record b { regs = with_reg b.regs e.profile.rd e.result.value; awaited = slice_set b.awaited e.profile.rd false })
 board_done regs older e b done i =
     record {
       known = rw i.known (sym (written_more regs older e ∙ rw done refl));
-      long = set_length b.awaited e.shape.rd false ∙ i.long;
+      long = set_length b.awaited e.profile.rd false ∙ i.long;
       available = λ n lt.
           ap (λ (so : Bool). (n == 0) || not so) (awaited_more older e false n ∙ rw done refl)
-          ∙ marked (n == 0) (e.shape.rd == n) (is_awaited false older n) (get_or b.awaited n false) (i.available n lt)
-          ∙ sym (ap not (set_get b.awaited e.shape.rd n false (omega (arith, i.long))));
+          ∙ marked (n == 0) (e.profile.rd == n) (is_awaited false older n) (get_or b.awaited n false) (i.available n lt)
+          ∙ sym (ap not (set_get b.awaited e.profile.rd n false (omega (arith, i.long))));
       stored = stored_more older e ∙ rw done (and_true (are_stored older)) ∙ i.stored;
     }
 
-pub board_open : (regs : List ℕ) (older : List Entry) (e : Entry) (b : Board) (storing : Bool) → is_done e.stage ≡ false → storing ≡ (b.storing || is_storing e.shape.class) → IsBoard regs older b
-    → IsBoard regs (older ++ e ∷ []) (record b { awaited = slice_set b.awaited e.shape.rd (not (e.shape.rd == 0)); storing = storing })
+pub board_open : (regs : List ℕ) (older : List Entry) (e : Entry) (b : Board) (storing : Bool) → is_done e.stage ≡ false → storing ≡ (b.storing || is_storing e.profile.class) → IsBoard regs older b
+    → IsBoard regs (older ++ e ∷ []) (record b { awaited = slice_set b.awaited e.profile.rd (not (e.profile.rd == 0)); storing = storing })
 board_open regs older e b storing open' stores i =
     record {
       known = i.known ∙ sym (written_more regs older e ∙ rw open' refl);
-      long = set_length b.awaited e.shape.rd (not (e.shape.rd == 0)) ∙ i.long;
+      long = set_length b.awaited e.profile.rd (not (e.profile.rd == 0)) ∙ i.long;
       available = λ n lt.
           ap (λ (so : Bool). (n == 0) || not so) (awaited_more older e false n ∙ rw open' refl)
-          ∙ open_by e.shape.rd n (e.shape.rd == n) (is_awaited false older n) (get_or b.awaited n false) refl (i.available n lt)
-          ∙ sym (ap not (set_get b.awaited e.shape.rd n (not (e.shape.rd == 0)) (omega (arith, i.long))));
-      stored = stored_more older e ∙ rw (open', i.stored, stores) (stalled (is_storing e.shape.class) b.storing);
+          ∙ open_by e.profile.rd n (e.profile.rd == n) (is_awaited false older n) (get_or b.awaited n false) refl (i.available n lt)
+          ∙ sym (ap not (set_get b.awaited e.profile.rd n (not (e.profile.rd == 0)) (omega (arith, i.long))));
+      stored = stored_more older e ∙ rw (open', i.stored, stores) (stalled (is_storing e.profile.class) b.storing);
     }

@@ -16,7 +16,7 @@ use Rattle.diva_ooo.specs.declared.entry.Entry.{Entry}
 use Rattle.diva_ooo.specs.Known.{IsKnown, HasSources}
 use Rattle.diva_ooo.specs.Issue.{running}
 use Rattle.diva_ooo.specs.Ooo.{new_entry, blank}
-use Rattle.diva_ooo.specs.Shape.{shape_of}
+use Rattle.diva_ooo.specs.Profile.{profile_of}
 
 pub known_at : (w : List Entry) (at : ℕ) (e : Entry) → slice_get w at ≡ Some e → All IsKnown w → IsKnown e
 known_at [] at e is all = absurd (cc)
@@ -28,19 +28,19 @@ pub known_begun : (w : List Entry) (at : ℕ) (e : Entry) (r : Record) (effect :
     → All IsKnown (slice_set w at (record (running e r) { effect = effect }))
 known_begun w at e r effect is all does register =
     let k = known_at w at e is all in
-    All-set IsKnown w at (record (running e r) { effect = effect }) (record { form = k.form; registers = k.registers; sources = k.sources; effect = does; register = register }) all
+    All-set IsKnown w at (record (running e r) { effect = effect }) (record { decoded = k.decoded; registers = k.registers; sources = k.sources; effect = does; register = register }) all
 
 blank_does : Nothing ≡ done_by blank
 unfolding done_by row_of
 blank_does = refl
 
 -- an entry that was fetched
-pub known_new : (pc : ℕ) (word : Option ℕ) (form : Option Instr) → form ≡ option_and_then row_of word → IfSome form HasRegisters → HasSources (shape_of form) → IsKnown (new_entry pc word form)
-known_new pc word form is registers sources =
-    record { form = is; registers = registers; sources = sources; effect = blank_does; register = search }
+pub known_new : (pc : ℕ) (word : Option ℕ) (decoded : Option Instr) → decoded ≡ option_and_then row_of word → IfSome decoded HasRegisters → HasSources (profile_of decoded) → IsKnown (new_entry pc word decoded)
+known_new pc word decoded is registers sources =
+    record { decoded = is; registers = registers; sources = sources; effect = blank_does; register = search }
 
 -- what the word of a record says
-pub form_kept : (s : State) (word : Option ℕ) (form : Option Instr) → form ≡ option_and_then row_of word → form ≡ row_of (fetched s word).word
+pub decoded_kept : (s : State) (word : Option ℕ) (decoded : Option Instr) → decoded ≡ option_and_then row_of word → decoded ≡ row_of (fetched s word).word
 unfolding row_of
-form_kept s None form is = is
-form_kept s (Some w) form is = is
+decoded_kept s None decoded is = is
+decoded_kept s (Some w) decoded is = is

@@ -11,8 +11,8 @@ use Rattle.diva_ahead.specs.Lead.{Lead, seen}
 use Rattle.diva_ooo.specs.declared.entry.Entry.{Entry}
 use Rattle.diva_ooo.specs.declared.entry.Stage.{Stage}
 use Rattle.diva_ooo.specs.declared.entry.Stage.TheVariants.{Waiting, Running, Done}
-use Rattle.diva_ooo.specs.declared.shape.Class.{Class}
-use Rattle.diva_ooo.specs.declared.shape.Class.TheVariants.{Plain, Loads, Stores, Calls}
+use Rattle.diva_ooo.specs.declared.profile.Class.{Class}
+use Rattle.diva_ooo.specs.declared.profile.Class.TheVariants.{Plain, Loads, Stores, Calls}
 
 abbrev pub is_waiting : Stage → Bool
 is_waiting Waiting = true
@@ -35,7 +35,7 @@ is_storing Calls = false
 -- whether the youngest of some entries that write a register is still under way; `so` where none writes it
 abbrev pub is_awaited : (so : Bool) → List Entry → ℕ → Bool
 is_awaited so [] n = so
-is_awaited so (e ∷ older) n = is_awaited (if e.shape.rd == n then not (is_done e.stage) else so) older n
+is_awaited so (e ∷ older) n = is_awaited (if e.profile.rd == n then not (is_done e.stage) else so) older n
 
 -- a register is available where no older entry writes it, or the youngest that does is done; x0 always is
 abbrev pub is_available : List Entry → ℕ → Bool
@@ -43,7 +43,7 @@ is_available older n = (n == 0) || not (is_awaited false older n)
 
 -- each older store is done
 abbrev pub are_stored : List Entry → Bool
-are_stored older = list_all (λ e. is_done e.stage || not (is_storing e.shape.class)) older
+are_stored older = list_all (λ e. is_done e.stage || not (is_storing e.profile.class)) older
 
 -- a load waits for each older store, and a call until it is the oldest
 abbrev pub is_free : Class → List Entry → Bool
@@ -53,7 +53,7 @@ is_free Stores older = true
 is_free Calls older = length older == 0
 
 unfoldable pub is_ready : List Entry → Entry → Bool
-is_ready older e = is_available older e.shape.rs1 && is_available older e.shape.rs2 && is_free e.shape.class older
+is_ready older e = is_available older e.profile.rs1 && is_available older e.profile.rs2 && is_free e.profile.class older
 
 abbrev pub can_begin : List Entry → Entry → Bool
 can_begin older e = is_waiting e.stage && is_ready older e
@@ -67,7 +67,7 @@ begins begun older e = nat_lt begun 2 && can_begin older e
 -- the registers behind some entries: those that are done have written theirs
 abbrev pub written : List ℕ → List Entry → List ℕ
 written regs [] = regs
-written regs (e ∷ older) = written (if is_done e.stage then with_reg regs e.shape.rd e.result.value else regs) older
+written regs (e ∷ older) = written (if is_done e.stage then with_reg regs e.profile.rd e.result.value else regs) older
 
 -- what an entry sees, as if the core had handed over the older ones: each byte of memory is that of the youngest older store
 -- of the window that covers it, else of the ring, else that of s
@@ -77,7 +77,7 @@ seen_by lead s older e =
 
 -- an entry that begins with a record
 abbrev pub running : Entry → Record → Entry
-running e r = record e { stage = Running e.shape.cycles; result = r; effect = done_by r }
+running e r = record e { stage = Running e.profile.cycles; result = r; effect = done_by r }
 
 -- it computes its record at once, by the word that was fetched
 unfoldable pub started : Lead → State → List Entry → Entry → Entry

@@ -7,18 +7,18 @@ use Rattle.diva_ahead.specs.Effects.{done_by}
 use Rattle.diva_ooo.specs.declared.entry.Entry.{Entry}
 use Rattle.diva_ooo.specs.declared.entry.Stage.{Stage}
 use Rattle.diva_ooo.specs.declared.entry.Stage.TheVariants.{Waiting}
-use Rattle.diva_ooo.specs.declared.shape.Shape.{Shape}
+use Rattle.diva_ooo.specs.declared.profile.Profile.{Profile}
 
 -- its registers are below 32
-pub record HasSources (s : Shape) : Type 0 where
+pub record HasSources (s : Profile) : Type 0 where
   pub rs1 : s.rs1 < 32
   pub rs2 : s.rs2 < 32
   pub rd : s.rd < 32
 
 -- what its word says is noted, and so is what its result does
 pub record IsKnown (e : Entry) : Type 0 where
-  pub form : e.form ≡ option_and_then row_of e.word
-  pub registers : IfSome e.form HasRegisters
-  pub sources : HasSources e.shape
+  pub decoded : e.decoded ≡ option_and_then row_of e.word
+  pub registers : IfSome e.decoded HasRegisters
+  pub sources : HasSources e.profile
   pub effect : e.effect ≡ done_by e.result
   pub register : HasRegister e.effect

@@ -1,4 +1,4 @@
-pub mod Shape
+pub mod Profile
 pub mod Finish
 pub mod Issue
 pub mod Ooo

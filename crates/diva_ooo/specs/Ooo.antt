@@ -13,7 +13,7 @@ use Rattle.diva_ooo.specs.declared.entry.Entry.{Entry}
 use Rattle.diva_ooo.specs.declared.entry.Stage.TheVariants.{Waiting}
 use Rattle.diva_ooo.specs.declared.finishing.Turn.{Turn}
 use Rattle.diva_ooo.specs.declared.finishing.Turn.TheVariants.{On, Dry, To}
-use Rattle.diva_ooo.specs.Shape.{predicted, shape_of}
+use Rattle.diva_ooo.specs.Profile.{predicted, profile_of}
 use Rattle.diva_ooo.specs.Finish.{Finish, finished}
 use Rattle.diva_ooo.specs.Issue.{issued, is_done}
 
@@ -83,15 +83,15 @@ with_issued p s = record p { window = issued p.ahead s p.window }
 abbrev pub blank : Record
 blank = record { pc = 0; word = 0; src1 = 0; src2 = 0; addr = 0; value = 0; next = 0; end = 0 }
 
--- an entry that waits, of the word at pc if there is one, which says form
+-- an entry that waits, of the word at pc if there is one, which says decoded
 abbrev pub new_entry : (pc : ℕ) → Option ℕ → Option Instr → Entry
-new_entry pc word form =
+new_entry pc word decoded =
     record {
       pc = pc;
       word = word;
-      form = form;
-      shape = shape_of form;
-      predicted = predicted form pc;
+      decoded = decoded;
+      profile = profile_of decoded;
+      predicted = predicted decoded pc;
       stage = Waiting;
       result = blank;
       effect = Nothing;
@@ -99,10 +99,10 @@ new_entry pc word form =
 
 -- the fetch stops where there is no word
 abbrev pub with_word : Pipeline → Option ℕ → Option Instr → Pipeline
-with_word p word form =
+with_word p word decoded =
     record p {
-      window = p.window ++ new_entry p.fetch_pc word form ∷ [];
-      fetch_pc = predicted form p.fetch_pc;
+      window = p.window ++ new_entry p.fetch_pc word decoded ∷ [];
+      fetch_pc = predicted decoded p.fetch_pc;
       dry = is_none word;
     }
 

@@ -6,7 +6,7 @@ ghost use Rattle.diva_ooo.specs.Issue.{are_stored, is_available, is_free, is_rea
 ghost use Rattle.diva_ooo.specs.Known.{IsKnown};
 
 use crate::entry::Entry;
-use crate::shape::Class;
+use crate::profile::Class;
 use diva_isa::Regs;
 
 /// What is known behind the entries that were looked at. So no entry has to look for the ones that it waits for.
@@ -39,8 +39,8 @@ impl Board {
         ensures { (regs : List ℕ) (older : List Entry) → IsBoard regs older self.now → length older ≡ at
             → result ≡ is_ready older entry.now }
     {
-        let shape = entry.shape;
-        self.has(shape.rs1) && self.has(shape.rs2) && self.is_free(at, shape.class)
+        let profile = entry.profile;
+        self.has(profile.rs1) && self.has(profile.rs2) && self.is_free(at, profile.class)
     }
 
     // Whether the word in a register is known.
@@ -69,13 +69,13 @@ impl Board {
         ensures { (regs : List ℕ) (older : List Entry) → IsBoard regs older self.old
             → IsBoard regs (older ++ entry.now ∷ []) self.new }
     {
-        let rd = entry.shape.rd;
+        let rd = entry.profile.rd;
         if entry.stage.is_done() {
             self.regs.set(rd, entry.result.value);
             self.awaited[usize::from(rd)] = false;
         } else {
             self.awaited[usize::from(rd)] = rd != 0;
-            self.storing |= entry.shape.class.is_storing();
+            self.storing |= entry.profile.class.is_storing();
         }
     }
 }

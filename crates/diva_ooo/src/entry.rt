@@ -3,7 +3,7 @@ ghost use Rattle.std.specs.Prelude.{◌≡◌};
 ghost use Rattle.diva_ooo.specs.Finish.{is_running};
 ghost use Rattle.diva_ooo.specs.Issue.{is_done, is_waiting};
 
-use crate::shape::Shape;
+use crate::profile::Profile;
 use diva_decode::Instr;
 use diva_isa::{Effect, Record};
 
@@ -49,9 +49,9 @@ pub struct Entry {
     /// The word that was fetched, none outside memory.
     pub word: Option<u32>,
     /// What the word says, `None` where it says nothing.
-    pub form: Option<Instr>,
+    pub decoded: Option<Instr>,
     /// What it waits for, and how long it runs.
-    pub shape: Shape,
+    pub profile: Profile,
     /// Where the next instruction was fetched.
     pub predicted: u32,
     /// How far it is.

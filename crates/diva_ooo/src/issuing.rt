@@ -84,7 +84,7 @@ fn can_begin(entry: &Entry, at: usize, board: &Board) -> bool
 }
 
 // Begins to run the entry at a place.
-#[tactic(auto, using(crate::proofs::Knowing::form_kept), unfolding(crate::specs::Issue::started))]
+#[tactic(auto, using(crate::proofs::Knowing::decoded_kept), unfolding(crate::specs::Issue::started))]
 fn begin_at(window: &mut Window, at: usize, board: &Board, ahead: &Ahead, view: &View<'_>)
     requires place { at < length window.old }
     requires board { IsBoard ahead.now.regs (take at window.old) board.now }
@@ -101,42 +101,42 @@ fn begin_at(window: &mut Window, at: usize, board: &Board, ahead: &Ahead, view: 
         at,
         view,
     };
-    let result = record_by(&flight, entry.word, entry.form);
-    let effect = effect_at(entry.form, &result);
+    let result = record_by(&flight, entry.word, entry.decoded);
+    let effect = effect_at(entry.decoded, &result);
     window.begin(at, result, effect);
 }
 
-// What a record does besides moving the pc; `form` is what its word says.
+// What a record does besides moving the pc; `decoded` is what its word says.
 #[tactic(auto, unfolding(diva_ahead::specs::Effects::done_by))]
-fn effect_at(form: Option<Instr>, r: &Record) -> Effect
-    requires form { form ≡ row_of r.now.word }
-    requires registers { IfSome form HasRegisters }
+fn effect_at(decoded: Option<Instr>, r: &Record) -> Effect
+    requires decoded { decoded ≡ row_of r.now.word }
+    requires registers { IfSome decoded HasRegisters }
     ensures effect { result ≡ done_by r.now }
     ensures register { HasRegister result }
 {
     if r.end == 0 {
-        effect_by(form, r)
+        effect_by(decoded, r)
     } else {
         Effect::Nothing
     }
 }
 
-// The record of a word that was fetched already, if there is one; `form` is what it says.
-fn record_by<L: Look>(state: &L, word: Option<u32>, form: Option<Instr>) -> Record
-    requires form { form ≡ option_and_then row_of word }
-    requires registers { IfSome form HasRegisters }
+// The record of a word that was fetched already, if there is one; `decoded` is what it says.
+fn record_by<L: Look>(state: &L, word: Option<u32>, decoded: Option<Instr>) -> Record
+    requires decoded { decoded ≡ option_and_then row_of word }
+    requires registers { IfSome decoded HasRegisters }
     ensures { result ≡ fetched (L.shows state.now) word }
 {
-    let sources = sources(state, form);
+    let sources = sources(state, decoded);
     let r = Record {
         pc: state.pc(),
         word: word.unwrap_or(0),
         src1: sources.first,
         src2: sources.second,
-        addr: address(form, sources.first),
+        addr: address(decoded, sources.first),
         value: 0,
         next: 0,
         end: 0,
     };
-    r.ending_in(finish(state, word.is_some(), form, &r))
+    r.ending_in(finish(state, word.is_some(), decoded, &r))
 }

@@ -1,6 +1,6 @@
 //! A sample out-of-order core.
 //!
-//! - `shape`: what the core notes of an instruction that it fetches; `predicting`: where it fetches next;
+//! - `profile`: what the core notes of an instruction that it fetches; `predicting`: where it fetches next;
 //! - `entry`, `window`: the instructions under way, in program order;
 //! - `finishing`: what runs has one cycle less to run;
 //! - `board`: what is known behind the entries that were looked at;
@@ -9,7 +9,7 @@
 //! - `ooo`: the core, `Ooo`;
 //! - `laws`: what follows of its calls.
 //!
-//! `specs/Ooo.antt` has one definition for each of the six steps of a call, over `Finish`, `Issue` and `Shape` beside it.
+//! `specs/Ooo.antt` has one definition for each of the six steps of a call, over `Finish`, `Issue` and `Profile` beside it.
 //! `specs/Known.antt` and `Board.antt` are what the parts of the core promise one another.
 #![tactic(auto)]
 
@@ -21,7 +21,7 @@ mod issuing;
 pub mod laws;
 mod ooo;
 mod predicting;
-mod shape;
+mod profile;
 mod window;
 
 pub use ooo::Ooo;

@@ -10,7 +10,7 @@ use crate::entry::{Entry, Stage};
 use crate::finishing::{Turn, finish};
 use crate::issuing::issue;
 use crate::predicting::predicted;
-use crate::shape::Shape;
+use crate::profile::Profile;
 use crate::window::Window;
 use diva_ahead::Ahead;
 use diva_core::{Claims, Core, Told, View};
@@ -173,14 +173,14 @@ impl Ooo {
         ensures { self.new ≡ with_word self.old word (option_and_then row_of word) }
     {
         let pc = self.fetch_pc;
-        let form = form_of(word);
-        self.fetch_pc = predicted(form, pc);
+        let decoded = form_of(word);
+        self.fetch_pc = predicted(decoded, pc);
         self.dry = word.is_none();
         self.window.push(Entry {
             pc,
             word,
-            form,
-            shape: Shape::of(form),
+            decoded,
+            profile: Profile::of(decoded),
             predicted: self.fetch_pc,
             stage: Stage::Waiting,
             result: BLANK,

@@ -1,16 +1,16 @@
 // Where the next instruction is fetched.
 ghost use Rattle.std.specs.Prelude.{◌≡◌};
 ghost use Rattle.diva_isa.specs.Kind.{kind};
-ghost use Rattle.diva_ooo.specs.Shape.{is_taken_by, predicted, target_or_next};
+ghost use Rattle.diva_ooo.specs.Profile.{is_taken_by, predicted, target_or_next};
 
 use diva_decode::Instr;
 use diva_isa::{Kind, kind_of};
 
-/// Where the instruction behind one at `pc` is fetched; `form` is what its word says.
-pub(crate) fn predicted(form: Option<Instr>, pc: u32) -> u32
-    ensures { result ≡ predicted form pc }
+/// Where the instruction behind one at `pc` is fetched; `decoded` is what its word says.
+pub(crate) fn predicted(decoded: Option<Instr>, pc: u32) -> u32
+    ensures { result ≡ predicted decoded pc }
 {
-    match form {
+    match decoded {
         Some(i) if is_taken(&i) => target_or_next(pc, pc.wrapping_add(i.imm.cast_unsigned())),
         _ => pc.wrapping_add(4),
     }

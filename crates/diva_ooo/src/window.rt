@@ -121,7 +121,7 @@ impl Window {
         ensures length { length self.new ≡ length self.old }
     {
         let entry = self.entries.get_mut(at).unwrap();
-        entry.stage = Stage::Running(entry.shape.cycles);
+        entry.stage = Stage::Running(entry.profile.cycles);
         entry.result = r;
         entry.effect = effect;
     }

@@ -7,9 +7,9 @@ use Rattle.diva_isa.specs.Kind.{kind}
 use Rattle.diva_isa.specs.Step.{imm}
 use Rattle.diva_isa.specs.declared.kind.Kind.{Kind}
 use Rattle.diva_isa.specs.declared.kind.Kind.TheVariants.{LoadUpper, AddUpper, Jump, JumpRegister, Branch, Load, Store, Immediate, Register, Fence, Call, Break}
-use Rattle.diva_ooo.specs.declared.shape.Shape.{Shape}
-use Rattle.diva_ooo.specs.declared.shape.Class.{Class}
-use Rattle.diva_ooo.specs.declared.shape.Class.TheVariants.{Plain, Loads, Stores, Calls}
+use Rattle.diva_ooo.specs.declared.profile.Profile.{Profile}
+use Rattle.diva_ooo.specs.declared.profile.Class.{Class}
+use Rattle.diva_ooo.specs.declared.profile.Class.TheVariants.{Plain, Loads, Stores, Calls}
 
 -- the cycles that an operation runs
 abbrev pub cycles_of : Op → ℕ
@@ -28,29 +28,29 @@ cycles_of Rem = 8
 cycles_of Remu = 8
 cycles_of op = 1
 
-abbrev pub shaped : (rs1 rs2 rd : ℕ) → Class → (cycles : ℕ) → Shape
-shaped rs1 rs2 rd class cycles = record { rs1 = rs1; rs2 = rs2; rd = rd; class = class; cycles = cycles }
+abbrev pub profiled : (rs1 rs2 rd : ℕ) → Class → (cycles : ℕ) → Profile
+profiled rs1 rs2 rd class cycles = record { rs1 = rs1; rs2 = rs2; rd = rd; class = class; cycles = cycles }
 
 -- the registers that an instruction reads and writes, x0 where it reads or writes none. A call reads none here: it waits until
 -- no older instruction is under way
-abbrev pub shape_by : Kind → Instr → Shape
-shape_by LoadUpper i = shaped 0 0 i.rd Plain (cycles_of i.op)
-shape_by AddUpper i = shaped 0 0 i.rd Plain (cycles_of i.op)
-shape_by Jump i = shaped 0 0 i.rd Plain (cycles_of i.op)
-shape_by JumpRegister i = shaped i.rs1 0 i.rd Plain (cycles_of i.op)
-shape_by Branch i = shaped i.rs1 i.rs2 0 Plain (cycles_of i.op)
-shape_by (Load width) i = shaped i.rs1 0 i.rd Loads (cycles_of i.op)
-shape_by (Store width) i = shaped i.rs1 i.rs2 0 Stores (cycles_of i.op)
-shape_by Immediate i = shaped i.rs1 0 i.rd Plain (cycles_of i.op)
-shape_by Register i = shaped i.rs1 i.rs2 i.rd Plain (cycles_of i.op)
-shape_by Fence i = shaped 0 0 0 Plain (cycles_of i.op)
-shape_by Call i = shaped 0 0 0 Calls (cycles_of i.op)
-shape_by Break i = shaped 0 0 0 Plain (cycles_of i.op)
+abbrev pub profile_by : Kind → Instr → Profile
+profile_by LoadUpper i = profiled 0 0 i.rd Plain (cycles_of i.op)
+profile_by AddUpper i = profiled 0 0 i.rd Plain (cycles_of i.op)
+profile_by Jump i = profiled 0 0 i.rd Plain (cycles_of i.op)
+profile_by JumpRegister i = profiled i.rs1 0 i.rd Plain (cycles_of i.op)
+profile_by Branch i = profiled i.rs1 i.rs2 0 Plain (cycles_of i.op)
+profile_by (Load width) i = profiled i.rs1 0 i.rd Loads (cycles_of i.op)
+profile_by (Store width) i = profiled i.rs1 i.rs2 0 Stores (cycles_of i.op)
+profile_by Immediate i = profiled i.rs1 0 i.rd Plain (cycles_of i.op)
+profile_by Register i = profiled i.rs1 i.rs2 i.rd Plain (cycles_of i.op)
+profile_by Fence i = profiled 0 0 0 Plain (cycles_of i.op)
+profile_by Call i = profiled 0 0 0 Calls (cycles_of i.op)
+profile_by Break i = profiled 0 0 0 Plain (cycles_of i.op)
 
 -- the same of what a word says; one that says nothing, and no word, run one cycle
-abbrev pub shape_of : Option Instr → Shape
-shape_of None = shaped 0 0 0 Plain 1
-shape_of (Some i) = shape_by (kind i.op) i
+abbrev pub profile_of : Option Instr → Profile
+profile_of None = profiled 0 0 0 Plain 1
+profile_of (Some i) = profile_by (kind i.op) i
 
 -- ---- the prediction
 

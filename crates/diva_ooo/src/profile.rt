@@ -4,7 +4,7 @@ ghost use Rattle.diva_decode.specs.Table.{HasRegisters};
 ghost use Rattle.diva_isa.specs.Kind.{kind};
 ghost use Rattle.diva_ooo.specs.Issue.{is_storing};
 ghost use Rattle.diva_ooo.specs.Known.{HasSources};
-ghost use Rattle.diva_ooo.specs.Shape.{cycles_of, shape_by, shape_of, shaped};
+ghost use Rattle.diva_ooo.specs.Profile.{cycles_of, profile_by, profile_of, profiled};
 
 use diva_decode::{Instr, Op};
 use diva_isa::{Kind, kind_of};
@@ -33,7 +33,7 @@ impl Class {
 
 /// What the core notes of an instruction that it fetches.
 #[derive(Clone, Copy, Debug, PartialEq, Eq)]
-pub struct Shape {
+pub struct Profile {
     /// The first register that it reads, 0 to 31; x0 where there is none.
     pub rs1: u8,
     /// The second register that it reads, 0 to 31; x0 where there is none.
@@ -46,45 +46,45 @@ pub struct Shape {
     pub cycles: u8,
 }
 
-impl Shape {
-    /// The shape of an instruction; `form` is what its word says.
-    pub fn of(form: Option<Instr>) -> Shape
-        requires { IfSome form HasRegisters }
-        ensures value { result ≡ shape_of form }
+impl Profile {
+    /// The profile of an instruction; `decoded` is what its word says.
+    pub fn of(decoded: Option<Instr>) -> Profile
+        requires { IfSome decoded HasRegisters }
+        ensures value { result ≡ profile_of decoded }
         ensures below { HasSources result }
     {
-        match form {
-            Some(i) => Shape::by(&i),
-            None => Shape::with(0, 0, 0, Class::Plain, 1),
+        match decoded {
+            Some(i) => Profile::by(&i),
+            None => Profile::with(0, 0, 0, Class::Plain, 1),
         }
     }
 
-    fn by(i: &Instr) -> Shape
+    fn by(i: &Instr) -> Profile
         requires { HasRegisters i.now }
-        ensures value { result ≡ shape_by (kind i.now.op) i.now }
+        ensures value { result ≡ profile_by (kind i.now.op) i.now }
         ensures below { HasSources result }
     {
         let cycles = cycles_of(i.op);
         match kind_of(i.op) {
             Kind::LoadUpper | Kind::AddUpper | Kind::Jump => {
-                Shape::with(0, 0, i.rd, Class::Plain, cycles)
+                Profile::with(0, 0, i.rd, Class::Plain, cycles)
             }
             Kind::JumpRegister | Kind::Immediate => {
-                Shape::with(i.rs1, 0, i.rd, Class::Plain, cycles)
+                Profile::with(i.rs1, 0, i.rd, Class::Plain, cycles)
             }
-            Kind::Branch => Shape::with(i.rs1, i.rs2, 0, Class::Plain, cycles),
-            Kind::Load(_) => Shape::with(i.rs1, 0, i.rd, Class::Loads, cycles),
-            Kind::Store(_) => Shape::with(i.rs1, i.rs2, 0, Class::Stores, cycles),
-            Kind::Register => Shape::with(i.rs1, i.rs2, i.rd, Class::Plain, cycles),
-            Kind::Fence | Kind::Break => Shape::with(0, 0, 0, Class::Plain, cycles),
-            Kind::Call => Shape::with(0, 0, 0, Class::Calls, cycles),
+            Kind::Branch => Profile::with(i.rs1, i.rs2, 0, Class::Plain, cycles),
+            Kind::Load(_) => Profile::with(i.rs1, 0, i.rd, Class::Loads, cycles),
+            Kind::Store(_) => Profile::with(i.rs1, i.rs2, 0, Class::Stores, cycles),
+            Kind::Register => Profile::with(i.rs1, i.rs2, i.rd, Class::Plain, cycles),
+            Kind::Fence | Kind::Break => Profile::with(0, 0, 0, Class::Plain, cycles),
+            Kind::Call => Profile::with(0, 0, 0, Class::Calls, cycles),
         }
     }
 
-    fn with(rs1: u8, rs2: u8, rd: u8, class: Class, cycles: u8) -> Shape
-        ensures { result ≡ shaped rs1 rs2 rd class cycles }
+    fn with(rs1: u8, rs2: u8, rd: u8, class: Class, cycles: u8) -> Profile
+        ensures { result ≡ profiled rs1 rs2 rd class cycles }
     {
-        Shape {
+        Profile {
             rs1,
             rs2,
             rd,
