@@ -2,8 +2,8 @@
 //! tests' own, and the answers of outside tools.
 //!
 //! - `programs`: small programs, the image files that they are, and the records of one of them;
-//! - `cores`: a core that claims a wrong value once, one that begins late, and one that hands over
-//!   the lists that it is given;
+//! - `cores`: a core that claims a wrong value once, one that repeats itself, one that begins late, and
+//!   one that hands over the lists that it is given;
 //! - `runs`: command lines over files and a sink in memory, with the status and the text that are
 //!   due: `runs/tables` has the programs that are run, `runs/pipelined` those that are run ahead of the
 //!   checker, `runs/tapes` tapes that are played, written and refused, `runs/scripts` scripts that are
