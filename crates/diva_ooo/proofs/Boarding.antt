@@ -1,13 +1,12 @@
 -- The board knows what is known behind the entries that were looked at.
-use Rattle.std.proofs.Common.{◌≡◌, ◌≢◌, ◌<◌, ℕ, zero, suc, ◌==◌, Bool, true, false, not, ◌&&◌, ◌||◌, List, [], ◌∷◌, ◌++◌, length, get_or, replicate, refl, ap, sym, ◌∙◌, arith, if◌then◌else◌}
+use Rattle.std.proofs.Common.{◌≡◌, ◌<◌, ℕ, zero, suc, ◌==◌, Bool, true, false, not, ◌&&◌, ◌||◌, List, [], ◌∷◌, ◌++◌, length, get_or, replicate, refl, ap, sym, ◌∙◌, arith, if◌then◌else◌}
 use Rattle.std.specs.Prelude.{slice_set}
-use Rattle.std.specs.List.{list_all}
 use Rattle.std.proofs.lemmas.Bool.Decides.{nat_tests}
 use Rattle.diva_isa.specs.Regs.{with_reg}
 use Rattle.diva_ooo.specs.declared.entry.Entry.{Entry}
 use Rattle.diva_ooo.specs.declared.board.Board.{Board}
 use Rattle.diva_ooo.specs.Board.{IsBoard}
-use Rattle.diva_ooo.specs.Issue.{are_stored, is_available, is_awaited, is_done, is_storing, written}
+use Rattle.diva_ooo.specs.Issue.{are_stored, is_awaited, is_done, is_storing, written}
 
 pub set_get : (xs : List Bool) (i n : ℕ) (v : Bool) → n < length xs → get_or (slice_set xs i v) n false ≡ (if i == n then v else get_or xs n false)
 set_get [] i n v h = absurd (omega arith)

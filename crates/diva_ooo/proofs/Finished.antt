@@ -1,5 +1,5 @@
 -- One entry after the other finishes.
-use Rattle.std.proofs.Common.{◌≡◌, ◌<◌, ◌≤◌, ℕ, ◌+◌, ◌-◌, nat_le, suc, Bool, cond, true, false, arith, append_assoc, List, [], ◌∷◌, ◌++◌, length, take, drop, Option, Some, None, refl, ap, sym, ◌∙◌, slice_get}
+use Rattle.std.proofs.Common.{◌≡◌, ◌<◌, ◌≤◌, ℕ, ◌+◌, ◌-◌, nat_le, suc, Bool, cond, true, false, arith, append_assoc, List, [], ◌∷◌, ◌++◌, length, take, drop, Some, None, refl, ap, sym, ◌∙◌, slice_get}
 use Rattle.std.specs.Prelude.{slice_set, nat_lt}
 use Rattle.std.proofs.lemmas.Bool.Decides.{nat_tests}
 use Rattle.std.proofs.lemmas.Bool.{true≢false}
@@ -10,7 +10,7 @@ use Rattle.diva_ooo.specs.declared.entry.Stage.{Stage}
 use Rattle.diva_ooo.specs.declared.entry.Stage.TheVariants.{Waiting, Running, Done}
 use Rattle.diva_ooo.specs.declared.finishing.Turn.{Turn}
 use Rattle.diva_ooo.specs.declared.finishing.Turn.TheVariants.{On}
-use Rattle.diva_ooo.specs.Finish.{Finish, finished_from, is_running, later, ran, turn_by, turn_of, turned}
+use Rattle.diva_ooo.specs.Finish.{finished_from, is_running, later, ran, turn_by, turn_of, turned}
 use Rattle.diva_ooo.proofs.Places.{drop_at, drop_more, take_more, take_set_at, drop_set_at, set_same}
 
 finish_one : (w : List Entry) (at : ℕ) (e : Entry) → slice_get w at ≡ Some e

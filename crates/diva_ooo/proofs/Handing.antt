@@ -1,6 +1,5 @@
 -- The oldest entries are handed over.
 use Rattle.std.proofs.Common.{◌≡◌, ◌<◌, ◌≤◌, ℕ, zero, suc, ◌+◌, ◌-◌, ◌==◌, Bool, true, false, if◌then◌else◌, sym, subst, List, [], ◌∷◌, ◌++◌, length, refl, ap, ◌∙◌, arith, length-append}
-use Rattle.std.proofs.lemmas.Bool.Decides.{nat_tests}
 use Rattle.diva_isa.specs.State.{State}
 use Rattle.diva_isa.specs.Step.{effect_of}
 use Rattle.diva_isa.specs.declared.record.Record.{Record}

@@ -1,5 +1,5 @@
 -- Entries are passed until one can begin.
-use Rattle.std.proofs.Common.{◌≡◌, ◌<◌, ◌≤◌, ℕ, zero, suc, ◌+◌, ◌==◌, List, [], ◌∷◌, ◌++◌, length, take, drop, Option, Some, Bool, true, false, ◌&&◌, refl, ap, sym, ◌∙◌, arith, slice_get, append_assoc, subst, if◌then◌else◌}
+use Rattle.std.proofs.Common.{◌≡◌, ◌<◌, ◌≤◌, ℕ, zero, suc, ◌+◌, List, [], ◌∷◌, ◌++◌, length, take, drop, Some, Bool, true, false, ◌&&◌, refl, ap, sym, ◌∙◌, arith, slice_get, append_assoc, subst}
 use Rattle.std.specs.Prelude.{slice_set, nat_lt}
 use Rattle.std.proofs.lemmas.Bool.Decides.{nat_tests}
 use Rattle.std.proofs.lemmas.Grind.{common_steps}
@@ -10,7 +10,7 @@ use Rattle.diva_ooo.specs.declared.entry.Entry.{Entry}
 use Rattle.diva_ooo.specs.declared.board.Board.{Board}
 use Rattle.diva_ooo.specs.Board.{IsBoard, passed}
 use Rattle.diva_ooo.specs.Issue.{begins, can_begin, issued_from, started}
-use Rattle.diva_ooo.proofs.Places.{drop_at, drop_more, get_set_at, take_at, take_more, take_set_at, drop_set_at}
+use Rattle.diva_ooo.proofs.Places.{drop_at, drop_more, get_set_at, take_more, take_set_at, drop_set_at}
 
 passed_none : (older rest : List Entry) (e : Entry) → can_begin older e ≡ true → passed older (e ∷ rest) ≡ 0
 passed_none older rest e can = rw can refl

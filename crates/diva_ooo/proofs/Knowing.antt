@@ -1,5 +1,5 @@
 -- What is known of the entries of a window.
-use Rattle.std.proofs.Common.{◌≡◌, ◌<◌, ℕ, zero, suc, [], ◌∷◌, subst, List, length, Option, Some, None, refl, ap, sym, ◌∙◌, arith, slice_get, IfSome}
+use Rattle.std.proofs.Common.{◌≡◌, ℕ, zero, suc, [], ◌∷◌, subst, List, Option, Some, None, refl, slice_get, IfSome}
 use Rattle.std.specs.Prelude.{slice_set}
 use Rattle.std.specs.Option.{option_and_then}
 use Rattle.std.specs.List.{All}

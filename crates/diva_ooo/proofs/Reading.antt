@@ -1,5 +1,5 @@
 -- What an entry reads of memory.
-use Rattle.std.proofs.Common.{◌≡◌, ◌<◌, ℕ, zero, suc, ◌+◌, arith, get_or, length, List, [], ◌∷◌, ◌++◌, take, map, Option, Some, None, Bool, true, false, ◌&&◌, refl, ap, sym, ◌∙◌, slice_get, append_assoc}
+use Rattle.std.proofs.Common.{◌≡◌, ◌<◌, ℕ, zero, suc, ◌+◌, arith, get_or, length, List, [], ◌∷◌, ◌++◌, take, map, Some, None, Bool, true, false, ◌&&◌, refl, ap, sym, ◌∙◌, slice_get}
 use Rattle.std.specs.Option.{unwrap_or}
 use Rattle.std.specs.List.{list_all}
 use Rattle.std.proofs.lemmas.List.{map-append}

@@ -5,7 +5,6 @@ use Rattle.diva_isa.specs.State.{State}
 use Rattle.diva_isa.specs.Regs.{with_reg}
 use Rattle.diva_isa.specs.Step.{fetched}
 use Rattle.diva_isa.specs.declared.record.Record.{Record}
-use Rattle.diva_isa.specs.declared.effect.Effect.{Effect}
 use Rattle.diva_ahead.specs.Effects.{done_by}
 use Rattle.diva_ahead.specs.Lead.{Lead, seen}
 use Rattle.diva_ooo.specs.declared.entry.Entry.{Entry}

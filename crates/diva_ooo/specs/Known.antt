@@ -5,8 +5,6 @@ use Rattle.diva_decode.specs.Table.{HasRegisters, row_of}
 use Rattle.diva_isa.specs.Step.{HasRegister}
 use Rattle.diva_ahead.specs.Effects.{done_by}
 use Rattle.diva_ooo.specs.declared.entry.Entry.{Entry}
-use Rattle.diva_ooo.specs.declared.entry.Stage.{Stage}
-use Rattle.diva_ooo.specs.declared.entry.Stage.TheVariants.{Waiting}
 use Rattle.diva_ooo.specs.declared.profile.Profile.{Profile}
 
 -- its registers are below 32

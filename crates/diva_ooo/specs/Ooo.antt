@@ -1,6 +1,6 @@
 -- One call of the sample out-of-order core, a definition for each of its six steps; `Finish` and `Issue` have the third and the
 -- fifth.
-use Rattle.std.specs.Prelude.{ℕ, zero, suc, ◌≡◌, ◌==◌, ◌&&◌, nat_lt, not, List, [], ◌∷◌, ◌++◌, length, Bool, true, false, Option, None, is_none, if◌then◌else◌}
+use Rattle.std.specs.Prelude.{ℕ, zero, suc, ◌≡◌, ◌==◌, ◌&&◌, nat_lt, not, List, [], ◌∷◌, ◌++◌, length, Bool, true, false, Option, is_none, if◌then◌else◌}
 use Rattle.std.specs.Option.{option_and_then}
 use Rattle.diva_decode.specs.declared.instr.Instr.{Instr}
 use Rattle.diva_decode.specs.Table.{row_of}
@@ -14,7 +14,7 @@ use Rattle.diva_ooo.specs.declared.entry.Stage.TheVariants.{Waiting}
 use Rattle.diva_ooo.specs.declared.finishing.Turn.{Turn}
 use Rattle.diva_ooo.specs.declared.finishing.Turn.TheVariants.{On, Dry, To}
 use Rattle.diva_ooo.specs.Profile.{predicted, profile_of}
-use Rattle.diva_ooo.specs.Finish.{Finish, finished}
+use Rattle.diva_ooo.specs.Finish.{finished}
 use Rattle.diva_ooo.specs.Issue.{issued, is_done}
 
 -- the core: where it stands and what it handed over, the instructions under way in program order, where it fetches, and
