@@ -1,5 +1,5 @@
 -- The kind of each operation: what its record has in common with others.
-use Rattle.std.specs.Prelude.{ℕ}
+use Rattle.std.specs.Prelude.{ℕ, Bool, true, false}
 use Rattle.diva_decode.specs.declared.op.Op.{Op}
 use Rattle.diva_decode.specs.declared.op.Op.TheVariants.{Lui, Auipc, Jal, Jalr, Beq, Bne, Blt, Bge, Bltu, Bgeu, Lb, Lh, Lw, Lbu, Lhu, Sb, Sh, Sw, Addi, Slti, Sltiu, Xori, Ori, Andi, Slli, Srli, Srai, Add, Sub, Sll, Slt, Sltu, Xor, Srl, Sra, Or, And, Fence as FenceOp, Ecall, Ebreak, Mul, Mulh, Mulhsu, Mulhu, Div, Divu, Rem, Remu}
 use Rattle.diva_isa.specs.declared.kind.Width.{Width}
@@ -62,3 +62,18 @@ abbrev pub size : Width → ℕ
 size Byte = 1
 size Half = 2
 size Word = 4
+
+-- an operation of the kind is a load or a store
+abbrev pub moves_memory : Kind → Bool
+moves_memory LoadUpper = false
+moves_memory AddUpper = false
+moves_memory Jump = false
+moves_memory JumpRegister = false
+moves_memory Branch = false
+moves_memory (Load width) = true
+moves_memory (Store width) = true
+moves_memory Immediate = false
+moves_memory Register = false
+moves_memory Fence = false
+moves_memory Call = false
+moves_memory Break = false

@@ -1,10 +1,10 @@
 // The record of a state's next instruction, and each part of it by itself.
 
-ghost use Rattle.std.specs.Prelude.{◌≡◌, ◌*◌, ◌%◌, ◌^◌, ◌<◌, IfSome};
+ghost use Rattle.std.specs.Prelude.{◌≡◌, ◌≢◌, false, ◌*◌, ◌%◌, ◌^◌, ◌<◌, IfSome};
 ghost use Rattle.std.specs.Option.{option_and_then};
 ghost use Rattle.diva_decode.specs.Table.{HasRegisters, row_of};
-ghost use Rattle.diva_isa.specs.State.{word_of};
-ghost use Rattle.diva_isa.specs.Kind.{kind, size};
+ghost use Rattle.diva_isa.specs.State.{State, word_of};
+ghost use Rattle.diva_isa.specs.Kind.{kind, moves_memory, size};
 ghost use Rattle.diva_isa.specs.Step.{call, ended, going, halt, load, outcome, outcome_of, record_of, source1, source2, source1_of, source2_of, address_of, store, to_target, trap};
 ghost use Rattle.diva_isa.specs.Trap.{trap_number};
 
@@ -65,6 +65,7 @@ pub fn record_by<L: Look>(state: &L, fetched: Option<u32>, form: Option<Instr>) 
 }
 
 /// The word of the next instruction, `None` exactly where `pc` is no multiple of 4 or a byte is outside memory.
+#[inline(always)]
 pub fn fetch<L: Look>(state: &L) -> Option<u32>
     ensures { let s = L.shows state.now in result ≡ word_of s s.pc }
 {
@@ -72,6 +73,7 @@ pub fn fetch<L: Look>(state: &L) -> Option<u32>
 }
 
 /// The words that an instruction reads: `form` is what its word says, and both are 0 where that is `None`.
+#[inline(always)]
 pub fn sources<L: Look>(state: &L, form: Option<Instr>) -> Operands
     requires { IfSome form HasRegisters }
     ensures { let s = L.shows state.now in
@@ -86,6 +88,7 @@ pub fn sources<L: Look>(state: &L, form: Option<Instr>) -> Operands
     }
 }
 
+#[inline(always)]
 fn reads<L: Look>(state: &L, i: &Instr) -> Operands
     requires { HasRegisters i.now }
     ensures { let s = L.shows state.now in let k = kind i.now.op in
@@ -107,6 +110,7 @@ fn reads<L: Look>(state: &L, i: &Instr) -> Operands
 
 /// The address of a load or a store that reads `base`: the sum with its immediate, modulo 2^32. It is 0 of another
 /// instruction, and where `form`, what the word says, is `None`.
+#[inline(always)]
 pub fn address(form: Option<Instr>, base: u32) -> u32
     ensures { result ≡ address_of form base }
 {
@@ -119,6 +123,7 @@ pub fn address(form: Option<Instr>, base: u32) -> u32
     }
 }
 
+#[inline(always)]
 fn going(pc: u32, value: u32) -> Outcome
     ensures { result ≡ going pc value }
 {
@@ -129,6 +134,7 @@ fn going(pc: u32, value: u32) -> Outcome
     }
 }
 
+#[inline(always)]
 fn trapped(pc: u32, cause: Trap) -> Outcome
     ensures { result ≡ ended pc (trap (trap_number cause)) }
 {
@@ -139,6 +145,7 @@ fn trapped(pc: u32, cause: Trap) -> Outcome
     }
 }
 
+#[inline(always)]
 fn halted(pc: u32, status: u32) -> Outcome
     requires { status < 256 }
     ensures { result ≡ ended pc (halt status) }
@@ -198,6 +205,7 @@ fn low_bytes(word: u32, width: Width) -> u32
     }
 }
 
+#[inline(always)]
 fn call<L: Look>(state: &L, r: &Record) -> Outcome
     ensures { result ≡ call (L.shows state.now) r.now.pc r.now.src1 r.now.src2 }
 {
@@ -211,6 +219,8 @@ fn call<L: Look>(state: &L, r: &Record) -> Outcome
 
 /// What an instruction comes to, by the first five fields of its record, by whether its word is there, and by `form`,
 /// what the word says.
+#[inline(always)]
+#[inline]
 pub fn finish<L: Look>(state: &L, there: bool, form: Option<Instr>, r: &Record) -> Outcome
     ensures { result ≡ outcome_of there form (L.shows state.now) r.now.pc r.now.src1 r.now.src2 r.now.addr }
 {
@@ -221,29 +231,49 @@ pub fn finish<L: Look>(state: &L, there: bool, form: Option<Instr>, r: &Record) 
     }
 }
 
+#[inline(always)]
+#[inline]
 fn come_to<L: Look>(state: &L, i: &Instr, r: &Record) -> Outcome
     ensures { let s = L.shows state.now in
         result ≡ outcome (kind i.now.op) s i.now r.now.pc r.now.src1 r.now.src2 r.now.addr }
 {
-    let imm = i.imm.cast_unsigned();
     match kind_of(i.op) {
+        Kind::Load(width) => load(state, r, i.op, width),
+        Kind::Store(width) => store(state, r, width),
+        _ => execute(state, i, r),
+    }
+}
+
+/// What an instruction comes to that is no load and no store, by the first four fields of its record.
+#[inline(always)]
+pub fn execute<L: Look>(state: &L, i: &Instr, r: &Record) -> Outcome
+    ensures { let s = L.shows state.now in moves_memory (kind i.now.op) ≡ false
+        → result ≡ outcome (kind i.now.op) s i.now r.now.pc r.now.src1 r.now.src2 r.now.addr }
+{
+    match kind_of(i.op) {
+        Kind::Call => call(state, r),
+        kind => compute(kind, i, r),
+    }
+}
+
+// The same of an instruction that does not call the environment either: no state is looked at.
+#[inline(always)]
+fn compute(kind: Kind, i: &Instr, r: &Record) -> Outcome
+    ensures { (s : State) → moves_memory kind ≡ false → kind ≢ Kind.Call
+        → result ≡ outcome kind s i.now r.now.pc r.now.src1 r.now.src2 r.now.addr }
+{
+    let imm = i.imm.cast_unsigned();
+    match kind {
         Kind::LoadUpper => going(r.pc, imm),
         Kind::AddUpper => going(r.pc, r.pc.wrapping_add(imm)),
         Kind::Jump => to_target(r.pc, r.pc.wrapping_add(4), r.pc.wrapping_add(imm)),
         Kind::JumpRegister => to_target(r.pc, r.pc.wrapping_add(4), r.src1.wrapping_add(imm) & !1),
-        Kind::Branch => {
-            if branch_taken(i.op, r.src1, r.src2) {
-                to_target(r.pc, 0, r.pc.wrapping_add(imm))
-            } else {
-                going(r.pc, 0)
-            }
+        Kind::Branch if branch_taken(i.op, r.src1, r.src2) => {
+            to_target(r.pc, 0, r.pc.wrapping_add(imm))
         }
-        Kind::Load(width) => load(state, r, i.op, width),
-        Kind::Store(width) => store(state, r, width),
         Kind::Immediate => going(r.pc, alu(i.op, r.src1, imm)),
         Kind::Register => going(r.pc, alu(i.op, r.src1, r.src2)),
-        Kind::Fence => going(r.pc, 0),
-        Kind::Call => call(state, r),
         Kind::Break => trapped(r.pc, Trap::Breakpoint),
+        Kind::Branch | Kind::Fence | Kind::Load(_) | Kind::Store(_) | Kind::Call => going(r.pc, 0),
     }
 }

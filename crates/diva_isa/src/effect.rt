@@ -47,6 +47,7 @@ pub fn effect_of(r: &Record) -> Effect
 }
 
 /// The same of a record whose word was decoded already: `form` is what it says.
+#[inline]
 pub fn effect_by(form: Option<Instr>, r: &Record) -> Effect
     ensures effect { result ≡ effect_by form r.now }
     ensures register { IfSome form HasRegisters → HasRegister result }

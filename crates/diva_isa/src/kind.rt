@@ -58,7 +58,21 @@ pub enum Kind {
     Break,
 }
 
+impl Kind {
+    ghost use Rattle.std.specs.Prelude.{◌≡◌};
+    ghost use Rattle.diva_isa.specs.Kind.{moves_memory};
+
+    /// Whether it is a load or a store.
+    #[inline]
+    pub fn moves_memory(self) -> bool
+        ensures { result ≡ moves_memory self }
+    {
+        matches!(self, Kind::Load(_) | Kind::Store(_))
+    }
+}
+
 /// The kind of an operation.
+#[inline]
 pub fn kind_of(op: Op) -> Kind
     ensures { result ≡ kind op }
 {

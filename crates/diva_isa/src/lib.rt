@@ -26,7 +26,7 @@ mod regs;
 mod trap;
 
 pub use arithmetic::{alu, branch_taken, load_value};
-pub use due::{address, fetch, finish, form_of, record_by, record_of, sources};
+pub use due::{address, execute, fetch, finish, form_of, record_by, record_of, sources};
 pub use effect::{Effect, effect_by, effect_of};
 pub use kind::{Kind, Width, kind_of};
 pub use look::Look;
