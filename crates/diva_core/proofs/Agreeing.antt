@@ -1,5 +1,5 @@
 -- What the due record is of, told by a claim that agrees with it so far.
-use Rattle.std.proofs.Common.{◌≡◌, ℕ, Option, Some, None, Bool, List, [], ◌∷◌, refl, sym, ap, ◌∙◌}
+use Rattle.std.proofs.Common.{◌≡◌, ◌≢◌, ◌==◌, ℕ, Option, Some, None, Bool, true, false, List, [], ◌∷◌, refl, sym, ap, ◌∙◌, if◌then◌else◌}
 use Rattle.std.specs.Option.{is_some, unwrap_or}
 use Rattle.diva_decode.specs.declared.instr.Instr.{Instr}
 use Rattle.diva_decode.specs.Table.{row_of}
@@ -7,10 +7,12 @@ use Rattle.diva_isa.specs.State.{State, word_of}
 use Rattle.diva_isa.specs.Step.{record_of, source1_of, source2_of, address_of, outcome_of, whole}
 use Rattle.diva_isa.specs.declared.record.Record.{Record}
 use Rattle.diva_isa.proofs.Parts.{parts, word_is}
-use Rattle.std.proofs.lemmas.Bool.{eq-eqb}
+use Rattle.std.proofs.lemmas.Bool.{eq-eqb, ne_eqb}
+use Rattle.diva_core.specs.declared.differences.Diff.{Diff}
 use Rattle.diva_core.specs.declared.differences.Field.{Field}
+use Rattle.diva_core.specs.declared.differences.Field.TheVariants.{Addr}
 use Rattle.diva_core.specs.Difference.{difference_in, field_of}
-use Rattle.diva_core.specs.Stages.{fetch_fields, read_fields, address_fields, is_memory, is_memory_by}
+use Rattle.diva_core.specs.Stages.{fetch_fields, read_fields, address_fields, execute_fields, outcome_fields, is_memory, is_memory_by}
 use Rattle.diva_core.proofs.Differing.{AreSame, in-none}
 
 -- a record with other operands, or another address
@@ -32,12 +34,22 @@ operands_filled r s h =
     let b = (parts s).src2 ∙ ap (λ (o : Option Instr). source2_of o s) form in
     λ i. record r { src1 = sym a i; src2 = sym b i }
 
+-- the operands of a claim whose pc and word are due
+pub operands_due : (r : Record) (s : State) → difference_in fetch_fields r (record_of s) ≡ None
+    → (source1_of (row_of r.word) s ≡ (record_of s).src1) × (source2_of (row_of r.word) s ≡ (record_of s).src2)
+operands_due r s h = let same = operands_filled r s h in (ap (λ (x : Record). x.src1) same, ap (λ (x : Record). x.src2) same)
+
 pub address_filled : (r : Record) (s : State) → difference_in read_fields r (record_of s) ≡ None
     → with_addr r (address_of (row_of r.word) r.src1) ≡ with_addr r (record_of s).addr
 address_filled r s h =
     let same = in-none read_fields r (record_of s) h in
     let a = (parts s).addr ∙ ap (λ (o : Option Instr). address_of o (record_of s).src1) (form_is r s same.1.0) ∙ ap (address_of (row_of r.word)) (sym same.1.1.0) in
     ap (with_addr r) (sym a)
+
+-- the address of a claim whose operands are due
+pub address_due : (r : Record) (s : State) → difference_in read_fields r (record_of s) ≡ None
+    → address_of (row_of r.word) r.src1 ≡ (record_of s).addr
+address_due r s h = ap (λ (x : Record). x.addr) (address_filled r s h)
 
 -- whether the word is there is asked only where it says nothing
 any_there : (b c : Bool) (form : Option Instr) (s : State) (pc x y z : ℕ) → (form ≡ None → b ≡ c) → outcome_of b form s pc x y z ≡ outcome_of c form s pc x y z
@@ -52,6 +64,9 @@ outcome_filled r s there form e t h =
     let is : form ≡ row_of (unwrap_or (word_of s s.pc) 0) = e ∙ sym (form_is r s same.1.0) in
     ap (whole r.pc r.word r.src1 r.src2 r.addr) (any_there there (is_some (word_of s s.pc)) form s r.pc r.src1 r.src2 r.addr t)
     ∙ rw (same.0, same.1.0, same.1.1.0, same.1.1.1.0, same.1.1.1.1.0, is) (sym (parts s).outcome)
+
+pub outcome_due : (r x : Record) (v n e : ℕ) → record r { value = v; next = n; end = e } ≡ x → (v ≡ x.value) × (n ≡ x.next) × (e ≡ x.end)
+outcome_due r x v n e h = (ap (λ (y : Record). y.value) h, ap (λ (y : Record). y.next) h, ap (λ (y : Record). y.end) h)
 
 pub none-in : (fs : List Field) (p r : Record) → AreSame fs p r → difference_in fs p r ≡ None
 none-in [] p r e = refl
@@ -71,3 +86,34 @@ pub read_agrees : (r x : Record) → difference_in address_fields r x ≡ None �
 read_agrees r x h =
     let same = in-none address_fields r x h in
     none-in read_fields r x (same.0, (same.1.0, (same.1.1.0, (same.1.1.1.0, tt))))
+
+-- ---- the stage that executes
+
+-- the addresses differ
+pub executed_addr : (claim due : Record) (a : ℕ) (b : Bool) → claim.addr ≢ a → a ≡ due.addr
+    → Some (record { field = Addr; claimed = claim.addr; due = a }) ≡ difference_in (execute_fields b) claim due
+executed_addr claim due a b n e = addr_first b (ne_eqb claim.addr a n)
+  where
+    addr_first : (b : Bool) → (claim.addr == a) ≡ false → Some (record { field = Addr; claimed = claim.addr; due = a }) ≡ difference_in (execute_fields b) claim due
+    addr_first true other = rw (← e, other) refl
+    addr_first false other = rw (← e, other) refl
+
+-- of a load or a store nothing else is compared
+pub executed_memory : (claim due : Record) (form : Option Instr) → form ≡ row_of claim.word → is_memory_by form ≡ true
+    → difference_in read_fields claim due ≡ None → claim.addr ≡ due.addr
+    → None ≡ difference_in (execute_fields (is_memory due)) claim due
+executed_memory claim due form f m h a =
+    rw (same_memory claim due true h (ap is_memory_by (sym f) ∙ m), eq-eqb claim.addr due.addr a) refl
+
+agrees_addr : (claim due : Record) → difference_in read_fields claim due ≡ None → claim.addr ≡ due.addr → difference_in address_fields claim due ≡ None
+agrees_addr claim due h a =
+    let same = in-none read_fields claim due h in
+    none-in address_fields claim due (same.0, (same.1.0, (same.1.1.0, (same.1.1.1.0, (a, tt)))))
+
+pub executed_other : (claim due : Record) (answer : Option Diff) (form : Option Instr) → form ≡ row_of claim.word → is_memory_by form ≡ false
+    → difference_in read_fields claim due ≡ None → claim.addr ≡ due.addr
+    → (difference_in address_fields claim due ≡ None → answer ≡ difference_in outcome_fields claim due)
+    → answer ≡ difference_in (execute_fields (is_memory due)) claim due
+executed_other claim due answer form f m h a o =
+    o (agrees_addr claim due h a)
+    ∙ rw (same_memory claim due false h (ap is_memory_by (sym f) ∙ m), eq-eqb claim.addr due.addr a) refl

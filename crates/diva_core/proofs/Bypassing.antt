@@ -1,12 +1,18 @@
 -- The state in which a pending claim stands, one older claim at a time.
-use Rattle.std.proofs.Common.{◌≡◌, ◌≢◌, ◌<◌, ℕ, zero, suc, ◌+◌, ◌-◌, ◌*◌, ◌^◌, ◌==◌, ◌&&◌, not, List, [], ◌∷◌, length, map, slice_get, slice_index, Option, Some, None, true, if◌then◌else◌, refl, sym, ap, ◌∙◌, arith, add-one}
+use Rattle.std.proofs.Common.{◌≡◌, ◌≢◌, ◌<◌, ℕ, zero, suc, ◌+◌, ◌-◌, ◌*◌, ◌^◌, ◌%◌, ◌==◌, ◌&&◌, not, ◌⊎◌, inl, inr, Bool, false, List, [], ◌∷◌, length, map, slice_get, slice_index, Option, Some, None, true, if◌then◌else◌, refl, sym, ap, ◌∙◌, arith, add-one}
 use Rattle.std.proofs.lemmas.Option.{none-some, same_Some}
 use Rattle.std.proofs.lemmas.Grind.{common_steps}
+use Rattle.std.proofs.lemmas.Bool.{eqb-false, eqb-true}
 use Rattle.std.proofs.lemmas.Bool.Decides.{nat_tests}
 use Rattle.diva_memory.proofs.Writing.{same_number}
-use Rattle.diva_isa.specs.State.{State, byte_of, memory_of, number_of, word_of}
+use Rattle.diva_isa.specs.State.{State, byte_of, memory_of, number_of, reg_of, word_of}
 use Rattle.diva_isa.specs.Regs.{with_reg}
-use Rattle.diva_isa.specs.Step.{apply, effect_of, with_effect}
+use Rattle.diva_isa.specs.Kind.{kind}
+use Rattle.diva_isa.specs.declared.kind.Kind.{Kind}
+use Rattle.diva_isa.specs.declared.kind.Kind.TheVariants.{LoadUpper, AddUpper, Jump, JumpRegister, Branch, Load, Store, Immediate, Register, Fence, Call, Break}
+use Rattle.diva_decode.specs.Table.{row_of}
+use Rattle.diva_decode.specs.declared.instr.Instr.{Instr}
+use Rattle.diva_isa.specs.Step.{apply, effect, effect_of, with_effect}
 use Rattle.diva_isa.specs.declared.effect.Effect.{Effect}
 use Rattle.diva_isa.specs.declared.effect.Effect.TheVariants.{Nothing, Writes, Stores, Puts}
 use Rattle.diva_isa.specs.declared.record.Record.{Record}
@@ -14,6 +20,7 @@ use Rattle.diva_core.specs.declared.pending.Entry.{Entry}
 use Rattle.diva_core.specs.Effects.{is_apart, with_effects}
 use Rattle.diva_core.specs.Older.{after, before_entry, bypassed, led, older, with_claims}
 use Rattle.std.specs.Option.{option_and_then, option_map}
+use Rattle.diva_core.proofs.Forms.{writes_target}
 use Rattle.diva_core.proofs.Laying.{apart_byte, effect_byte, over_none}
 
 -- ---- where the state goes on, it is what is looked at
@@ -75,6 +82,42 @@ led_last pc entries k e n h =
 
 pub with_reg_reads : (regs : List ℕ) (d v n : ℕ) → n < length regs → slice_index (with_reg regs d v) n ≡ (if (d == n) && not (n == 0) then v else slice_index regs n)
 with_reg_reads regs d v n h = grind (arith, common_steps)
+
+other_written : (s : State) (d v n : ℕ) → n < length s.regs → (d ≢ n) ⊎ (n ≡ 0) → reg_of (with_effect s (Writes d v)) n ≡ reg_of s n
+other_written s d v n h (inl o) = grind (arith, common_steps, nat_tests, with_reg_reads s.regs d v n h)
+other_written s d v n h (inr o) = grind (arith, common_steps, nat_tests, with_reg_reads s.regs d v n h)
+
+other_put : (b : Bool) (r : Record) (s : State) (n : ℕ) → reg_of (with_effect s (if b then Puts (r.value % 2 ^ 8) else Nothing)) n ≡ reg_of s n
+other_put true r s n = refl
+other_put false r s n = refl
+
+-- an instruction that has another register for its result leaves this one, and all leave x0
+other_register : (k : Kind) (i : Instr) (r : Record) (s : State) (n : ℕ) → n < length s.regs → (i.rd ≢ n) ⊎ (n ≡ 0) → reg_of (with_effect s (effect k i r)) n ≡ reg_of s n
+other_register LoadUpper i r s n h d = other_written s i.rd r.value n h d
+other_register AddUpper i r s n h d = other_written s i.rd r.value n h d
+other_register Jump i r s n h d = other_written s i.rd r.value n h d
+other_register JumpRegister i r s n h d = other_written s i.rd r.value n h d
+other_register Branch i r s n h d = refl
+other_register (Load width) i r s n h d = other_written s i.rd r.value n h d
+other_register (Store width) i r s n h d = refl
+other_register Immediate i r s n h d = other_written s i.rd r.value n h d
+other_register Register i r s n h d = other_written s i.rd r.value n h d
+other_register Fence i r s n h d = refl
+other_register Call i r s n h d = other_put (r.src1 == 1) r s n
+other_register Break i r s n h d = refl
+
+-- a claim whose instruction names the register d for its result, 0 where it has none, or is none
+pub target_reads : (s : State) (i : Instr) (r : Record) (n : ℕ) → row_of r.word ≡ Some i → n < length s.regs
+    → reg_of (with_effect s (effect_of r)) n ≡ (if (i.rd == n) && not (n == 0) then r.value else reg_of s n)
+target_reads s i r n e h = by_target (i.rd == n) (n == 0) refl refl
+  where
+    by_target : (b c : Bool) → (i.rd == n) ≡ b → (n == 0) ≡ c → reg_of (with_effect s (effect_of r)) n ≡ (if b && not c then r.value else reg_of s n)
+    by_target true true p q = rw e (other_register (kind i.op) i r s n h (inr (eqb-true _ _ q)))
+    by_target true false p q =
+        let d : i.rd ≡ n = eqb-true _ _ p in
+        let z : n ≢ 0 = eqb-false _ _ q in
+        rw (writes_target r i e (λ w. z (sym d ∙ w))) (grind (arith, common_steps, nat_tests, with_reg_reads s.regs i.rd r.value n h))
+    by_target false c p q = rw e (other_register (kind i.op) i r s n h (inl (eqb-false _ _ p)))
 
 with_reg_length : (regs : List ℕ) (d v : ℕ) → length (with_reg regs d v) ≡ length regs
 with_reg_length regs d v = grind (arith, common_steps)

@@ -2,10 +2,12 @@ pub mod Adding
 pub mod Agreeing
 pub mod Bypassing
 pub mod Calming
+pub mod Clear
 pub mod Commits
 pub mod Cycling
 pub mod Differing
 pub mod Ending
+pub mod Forms
 pub mod Holding
 pub mod Judging
 pub mod Keeping

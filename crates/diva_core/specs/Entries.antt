@@ -1,8 +1,20 @@
 -- What is noted of the claims that are pending.
-use Rattle.std.specs.Prelude.{◌≡◌, Some, IfSome}
+use Rattle.std.specs.Prelude.{ℕ, ◌≡◌, ◌≤◌, ◌+◌, ◌==◌, Bool, true, Some, IfSome}
+use Rattle.diva_decode.specs.Fields.{opcode}
 use Rattle.diva_decode.specs.Table.{row_of}
 use Rattle.diva_core.specs.declared.pending.Entry.{Entry}
 
 -- a decoded form is what the table says of the claim's word
 abbrev pub IsDecoded : Entry → Type 0
 IsDecoded e = IfSome e.decoded (λ i. row_of e.claim.word ≡ Some i)
+
+-- a word of this opcode is a store, if it is an instruction
+abbrev pub has_store_opcode : ℕ → Bool
+has_store_opcode word = opcode word == 0b0100011
+
+abbrev pub may_store : Entry → Bool
+may_store e = has_store_opcode e.claim.word
+
+-- what an entry may store lies at addresses from low on, before high
+abbrev pub IsWithin : (low high : ℕ) → Entry → Type 0
+IsWithin low high e = may_store e ≡ true → (low ≤ e.claim.addr) × (e.claim.addr + 4 ≤ high)

@@ -13,10 +13,8 @@ use Rattle.diva_decode.specs.declared.instr.Instr.{Instr}
 use Rattle.diva_decode.specs.Table.{row_of}
 use Rattle.diva_isa.specs.State.{State}
 use Rattle.diva_isa.specs.Step.{record_of}
-use Rattle.diva_isa.specs.Kind.{kind}
+use Rattle.diva_isa.specs.Kind.{kind, moves_memory}
 use Rattle.diva_isa.specs.declared.record.Record.{Record}
-use Rattle.diva_isa.specs.declared.kind.Kind.{Kind}
-use Rattle.diva_isa.specs.declared.kind.Kind.TheVariants.{LoadUpper, AddUpper, Jump, JumpRegister, Branch, Load, Store, Immediate, Register, Fence, Call, Break}
 use Rattle.diva_core.specs.declared.differences.Field.{Field}
 use Rattle.diva_core.specs.declared.differences.Field.TheVariants.{Pc, Word, Src1, Src2, Addr, Value, Next, End}
 use Rattle.diva_core.specs.declared.differences.Diff.{Diff}
@@ -33,20 +31,6 @@ operand_fields = Src1 ∷ Src2 ∷ []
 
 abbrev pub outcome_fields : List Field
 outcome_fields = Value ∷ Next ∷ End ∷ []
-
-abbrev pub moves_memory : Kind → Bool
-moves_memory LoadUpper = false
-moves_memory AddUpper = false
-moves_memory Jump = false
-moves_memory JumpRegister = false
-moves_memory Branch = false
-moves_memory (Load width) = true
-moves_memory (Store width) = true
-moves_memory Immediate = false
-moves_memory Register = false
-moves_memory Fence = false
-moves_memory Call = false
-moves_memory Break = false
 
 abbrev pub is_memory_by : Option Instr → Bool
 is_memory_by None = false

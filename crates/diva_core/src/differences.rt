@@ -66,6 +66,21 @@ pub struct Diff {
     pub due: u32,
 }
 
+impl Diff {
+    /// A difference in a field.
+    #[cold]
+    #[inline(never)]
+    pub fn new(field: Field, claimed: u32, due: u32) -> Diff
+        ensures { result ≡ record { field = field; claimed = claimed; due = due } }
+    {
+        Diff {
+            field,
+            claimed,
+            due,
+        }
+    }
+}
+
 /// The first field in which a claim differs from the due record, `None` exactly where they are equal.
 #[tactic(auto, using(crate::proofs::Differing::difference_names), unfolding(crate::specs::Difference::first_difference))]
 pub fn first_difference(claim: &Record, due: &Record) -> Option<Diff>
@@ -76,7 +91,6 @@ pub fn first_difference(claim: &Record, due: &Record) -> Option<Diff>
 }
 
 /// The first of some fields in which a claim differs from the due record, `None` where it does in none of them.
-#[inline]
 pub fn difference_in(fields: &[Field], claim: &Record, due: &Record) -> Option<Diff>
     ensures { result ≡ difference_in fields.now claim.now due.now }
 {

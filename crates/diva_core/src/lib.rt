@@ -5,7 +5,7 @@
 //! - `cores`: the trait `Core`, with its one meaning `gives`;
 //! - `output`: the bytes that the program put, `Output`;
 //! - `pending`: the claims that wait to be judged, `Entry` and `Pending`;
-//! - `bypass`: the state in which a pending claim stands, `Bypass`;
+//! - `bypass`: the state in which a pending claim stands, `Bypass`, over what `walks` finds in older claims;
 //! - `effects`: which bytes of memory an effect changes;
 //! - `differences`: how a claim differs from the due record, `Field`, `Diff` and `first_difference`;
 //! - `flushes`: why the machine flushed, `Cause` and `FlushRow`.
@@ -29,6 +29,7 @@ mod output;
 mod pending;
 mod told;
 mod view;
+mod walks;
 
 pub use bypass::Bypass;
 pub use claims::{Claim, Claims};

@@ -1,7 +1,11 @@
 // The claims that wait to be judged, the oldest first.
-ghost use Rattle.std.specs.Prelude.{◌≡◌, ◌≤◌, ◌<◌, [], ◌∷◌, ◌++◌, length, IfOk, IfSome, None, Some, slice_get, slice_set};
+ghost use Rattle.std.specs.Prelude.{◌≡◌, ◌≤◌, ◌<◌, [], ◌∷◌, ◌++◌, length, IfOk, IfSome, IsTrue, None, Some, slice_get, slice_set, true};
+ghost use Rattle.std.specs.List.{list_all};
 ghost use Rattle.std.specs.Option.{option_copied};
 ghost use Rattle.circular_buffer.specs.Buffer.{Buffer, buffer};
+ghost use Rattle.diva_isa.specs.Step.{effect_of};
+ghost use Rattle.diva_core.specs.Effects.{is_apart};
+ghost use Rattle.diva_core.specs.Entries.{has_store_opcode};
 
 use crate::claims::Claim;
 use crate::differences::Diff;
@@ -26,11 +30,12 @@ pub struct Entry {
 
 impl Entry {
     ghost use Rattle.diva_decode.specs.Table.{row_of, HasRegisters};
-    ghost use Rattle.diva_isa.specs.Step.{effect_of};
+    ghost use Rattle.diva_isa.specs.State.{State, reg_of};
+    ghost use Rattle.diva_isa.specs.Step.{effect_of, with_effect};
     ghost use Rattle.diva_core.specs.Entries.{IsDecoded};
 
     /// What the claim's word says, `None` where it says nothing. It is decoded here only where that was not noted.
-    #[inline]
+    #[inline(always)]
     #[tactic(auto, using(diva_decode::proofs::Unique::registers_by))]
     pub fn form(&self) -> Option<Instr>
         requires { IsDecoded self.now }
@@ -43,8 +48,38 @@ impl Entry {
         }
     }
 
+    /// The word in register `n` after the claim, `word` being the one before.
+    #[inline(always)]
+    #[tactic(auto, using(crate::proofs::Bypassing::target_reads))]
+    pub(crate) fn written(&self, n: u8, word: u32) -> u32
+        requires { IsDecoded self.now }
+        ensures { (s : State) → n < length s.regs → reg_of s n ≡ word
+            → reg_of (with_effect s (effect_of self.now.claim)) n ≡ result }
+    {
+        // An instruction that writes no register has x0 for it.
+        match self.decoded {
+            Some(form) if form.rd == n && n != 0 => self.claim.value,
+            Some(_) => word,
+            None => self.written_anew(n, word),
+        }
+    }
+
+    /// The same, where what the word says was not noted.
+    #[cold]
+    #[inline(never)]
+    #[tactic(auto, using(crate::proofs::Bypassing::target_reads))]
+    fn written_anew(&self, n: u8, word: u32) -> u32
+        ensures { (s : State) → n < length s.regs → reg_of s n ≡ word
+            → reg_of (with_effect s (effect_of self.now.claim)) n ≡ result }
+    {
+        match decode(self.claim.word) {
+            Some(form) if form.rd == n && n != 0 => self.claim.value,
+            Some(_) | None => word,
+        }
+    }
+
     /// What the claim does besides moving the pc, as if it went on.
-    #[inline]
+    #[inline(always)]
     pub(crate) fn effect(&self) -> Effect
         requires { IsDecoded self.now }
         ensures { result ≡ effect_of self.now.claim }
@@ -54,9 +89,17 @@ impl Entry {
 }
 
 /// A ring of pending claims, the oldest first: 64 at most. It takes no memory after its making.
+///
+/// Most reads of memory meet no store in flight. So the ring counts the claims that may be stores, and knows an interval of
+/// addresses in which they all lie: a read outside of that looks through no claim.
 #[derive(Drop)]
 pub struct Pending {
     entries: HeapCircularBuffer<Entry>,
+    /// How many of the claims may be stores.
+    stores: usize,
+    /// The lowest address of the interval, and the first behind it.
+    low: u32,
+    high: u64,
 }
 
 impl Model for Pending {
@@ -65,13 +108,15 @@ impl Model for Pending {
 
     ghost Value = { Buffer Entry };
 
-    ghost use Rattle.std.specs.Prelude.{◌≤◌};
+    ghost use Rattle.std.specs.Prelude.{◌≡◌, ◌≤◌, count_by};
     ghost use Rattle.std.specs.List.{All};
-    ghost use Rattle.diva_core.specs.Entries.{IsDecoded};
+    ghost use Rattle.diva_core.specs.Entries.{IsDecoded, IsWithin, may_store};
 
     ghost view = { λ p. p.entries };
 
-    ghost invariant = { λ p. All IsDecoded p.entries.items × (p.entries.capacity ≤ 64) };
+    ghost invariant = { λ p.
+        All IsDecoded p.entries.items × (p.entries.capacity ≤ 64)
+        × (p.stores ≡ count_by may_store p.entries.items) × All (IsWithin p.low p.high) p.entries.items };
 }
 
 impl Pending {
@@ -89,6 +134,9 @@ impl Pending {
     {
         Ok(Pending {
             entries: HeapCircularBuffer::with_capacity(alloc, q)?,
+            stores: 0,
+            low: 0,
+            high: 0,
         })
     }
 
@@ -125,7 +173,7 @@ impl Pending {
     }
 
     /// The same, lent.
-    #[inline]
+    #[inline(always)]
     pub fn at(&self, at: usize) -> &Entry
         requires { at < length self.now.items }
         ensures value { slice_get self.now.items at ≡ Some result.now }
@@ -157,6 +205,17 @@ impl Pending {
             (self.old.items ++ record { claim = claim; cycle = cycle; decoded = None; verdict = None } ∷ [])
             self.old.capacity }
     {
+        if has_store_opcode(claim.word) {
+            let end = u64::from(claim.addr) + 4;
+            if self.stores == 0 {
+                self.low = claim.addr;
+                self.high = end;
+            } else {
+                self.low = self.low.min(claim.addr);
+                self.high = self.high.max(end);
+            }
+            self.stores += 1;
+        }
         let _ = self.entries.try_push_back(Entry {
             claim,
             cycle,
@@ -170,7 +229,11 @@ impl Pending {
         requires { 0 < length self.old.items }
         ensures { self.old ≡ buffer (result ∷ self.new.items) self.new.capacity }
     {
-        self.entries.pop_front().unwrap()
+        let entry = self.entries.pop_front().unwrap();
+        if has_store_opcode(entry.claim.word) {
+            self.stores -= 1;
+        }
+        entry
     }
 
     /// Drops all claims.
@@ -178,5 +241,24 @@ impl Pending {
         ensures { self.new ≡ buffer [] self.old.capacity }
     {
         self.entries.clear();
+        self.stores = 0;
     }
+
+    /// Whether no claim can store one of the `n` bytes from an address on. Some that no claim stores are not told.
+    #[inline(always)]
+    pub(crate) fn is_clear(&self, addr: u32, n: u32) -> bool
+        ensures { IsTrue result → list_all (λ e. is_apart (effect_of e.claim) addr n) self.now.items ≡ true }
+    {
+        self.stores == 0
+            || u64::from(addr) + u64::from(n) <= u64::from(self.low)
+            || self.high <= u64::from(addr)
+    }
+}
+
+/// Whether a word has the opcode of stores. (RISC-V Unprivileged ISA, chapter "RV32/64G Instruction Set Listings".)
+#[inline]
+fn has_store_opcode(word: u32) -> bool
+    ensures { result ≡ has_store_opcode word }
+{
+    word & 0x7f == 0b0100011
 }

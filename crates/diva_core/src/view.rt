@@ -61,10 +61,25 @@ impl<'a> View<'a> {
             output,
         }
     }
+
+    /// A view of the same parts: what a seldom path is handed, so that the view itself can stay in registers.
+    #[inline(always)]
+    pub fn copied(&self) -> View<'a>
+        ensures { result ≡ self.now }
+    {
+        View {
+            regs: self.regs,
+            pc: self.pc,
+            memory: self.memory,
+            queue: self.queue,
+            output: self.output,
+        }
+    }
 }
 
 impl View<'_> {
     /// The committed pc.
+    #[inline(always)]
     pub fn pc(&self) -> u32
         ensures { result ≡ self.now.pc }
     {
@@ -72,6 +87,7 @@ impl View<'_> {
     }
 
     /// The word in the register `n`, 0 to 31. x0 reads 0.
+    #[inline(always)]
     pub fn reg(&self, n: u8) -> u32
         requires { n < 32 }
         ensures { result ≡ reg_of self.now n }
@@ -80,6 +96,7 @@ impl View<'_> {
     }
 
     /// The registers.
+    #[inline(always)]
     pub fn regs(&self) -> &Regs
         ensures value { result.now ≡ self.now.regs }
         ensures count { length result.now ≡ 32 }
@@ -89,6 +106,7 @@ impl View<'_> {
     }
 
     /// The byte at an address, `None` exactly outside memory.
+    #[inline(always)]
     pub fn byte(&self, addr: u32) -> Option<u8>
         ensures { result ≡ byte_of self.now addr }
     {
@@ -97,7 +115,7 @@ impl View<'_> {
 
     /// The word at an address, `None` exactly where the address is no multiple of 4 or a byte is outside
     /// memory. The lowest byte comes first.
-    #[inline]
+    #[inline(always)]
     pub fn word(&self, addr: u32) -> Option<u32>
         ensures { result ≡ word_of self.now addr }
     {
@@ -105,6 +123,7 @@ impl View<'_> {
     }
 
     /// How many bytes were put: at most 65,536.
+    #[inline(always)]
     pub fn out_len(&self) -> u32
         ensures len { result ≡ length self.now.output }
         ensures most { result ≤ 65536 }
@@ -116,23 +135,27 @@ impl View<'_> {
 impl Look for View<'_> {
     ghost shows = { λ v. v };
 
+    #[inline(always)]
     fn pc(&self) -> u32 {
         View::pc(self)
     }
 
+    #[inline(always)]
     fn reg(&self, n: u8) -> u32 {
         View::reg(self, n)
     }
 
+    #[inline(always)]
     fn byte(&self, addr: u32) -> Option<u8> {
         View::byte(self, addr)
     }
 
-    #[inline]
+    #[inline(always)]
     fn word(&self, addr: u32) -> Option<u32> {
         View::word(self, addr)
     }
 
+    #[inline(always)]
     fn out_len(&self) -> u32 {
         View::out_len(self)
     }

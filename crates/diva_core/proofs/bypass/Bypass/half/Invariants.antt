@@ -1,9 +1,0 @@
-use Rattle.std.proofs.Common.{◌≡◌, ◌+◌, Some}
-use Rattle.diva_isa.specs.State.{State, byte_of}
-use Rattle.diva_core.specs.Older.{older, with_claims}
-use Rattle.diva_core.proofs.bypass.Bypass.half.Given as goal
-
-abbrev pub invariant-loop-place : goal.invariant-loop-place
-invariant-loop-place l =
-    let s : State = with_claims l.self.view.now (older l.self.pending.now.items l.place) in
-    (byte_of s l.addr ≡ Some l.low) × (byte_of s (l.addr + 1) ≡ Some l.high)
