@@ -4,56 +4,131 @@
 //! that is due after the older claims: their stores in flight lie over memory, and the bytes that they put count.
 #![tactic(auto)]
 
-ghost use Rattle.std.specs.Prelude.{◌≡◌, ◌<◌, length, None, Some, slice_get};
+ghost use Rattle.std.specs.Prelude.{◌≡◌, false, ◌<◌, [], ◌∷◌, length, None, Some, slice_get};
 ghost use Rattle.diva_decode.specs.Table.{row_of};
 ghost use Rattle.diva_isa.specs.State.{State};
 ghost use Rattle.diva_isa.specs.Step.{record_of};
+ghost use Rattle.diva_isa.specs.declared.record.Record.{Record};
 ghost use Rattle.diva_core.specs.declared.pending.Entry.{Entry};
 ghost use Rattle.diva_core.specs.Difference.{difference_in};
 ghost use Rattle.diva_core.specs.Older.{before_entry};
-ghost use Rattle.diva_core.specs.Stages.{Answers, address_fields, execute_fields, is_memory_by, memory_fields, read_fields};
+ghost use Rattle.diva_core.specs.Stages.{Answers, address_fields, execute_fields, is_memory, is_memory_by, memory_fields, outcome_fields, read_fields};
 
-use diva_core::{Bypass, Diff, Field, Pending, View, difference_in};
+use diva_core::{Bypass, Claim, Diff, Field, Pending, View};
 use diva_decode::{Instr, decode};
-use diva_isa::{Kind, Look, Record, address, fetch, finish, kind_of};
+use diva_isa::{Look, Outcome, Record, address, execute, fetch, finish, kind_of};
 
 /// The first difference in addr and, but for loads and stores, in value, next and end between the claim at a place (the oldest
 /// is at 0) and the record that is due after the older claims, `None` where there is none. Where the older claims have ended
 /// the machine, or pc, word, src1 or src2 differs, nothing is said of the answer.
+#[inline(always)]
 pub fn check(pending: &Pending, at: usize, view: &View<'_>) -> Option<Diff>
     requires { at < length pending.now.items }
     ensures { (e : Entry) → slice_get pending.now.items at ≡ Some e
         → Answers read_fields execute_fields (before_entry view.now pending.now.items at) e.claim result }
 {
     let entry = pending.at(at);
-    let form = entry.form();
-    let placed = fill_address(entry.claim, form);
-    if is_memory(form) {
-        return difference_in(&[Field::Addr], &entry.claim, &placed);
+    let state = Bypass::new(pending, at, view);
+    match entry.decoded {
+        Some(form) => compare(&entry.claim, Some(form), &state),
+        None => check_anew(pending, at, &view.copied()),
     }
-    let due = fill_outcome(placed, form, &Bypass::new(pending, at, view));
-    difference_in(
-        &[Field::Addr, Field::Value, Field::Next, Field::End],
-        &entry.claim,
-        &due,
-    )
 }
 
 /// The first difference in value, next and end of a load or a store between the claim at a place (the oldest is at 0) and the
 /// record that is due after the older claims, `None` where there is none. Where the older claims have ended the machine, or a
 /// field before value differs, nothing is said of the answer.
+#[inline(always)]
 pub fn check_memory(pending: &Pending, at: usize, view: &View<'_>) -> Option<Diff>
     requires { at < length pending.now.items }
     ensures { (e : Entry) → slice_get pending.now.items at ≡ Some e
         → Answers address_fields memory_fields (before_entry view.now pending.now.items at) e.claim result }
 {
     let entry = pending.at(at);
-    let form = entry.form();
-    if !is_memory(form) {
+    match entry.decoded {
+        Some(form) if is_memory(Some(form)) => {
+            let view = view.copied();
+            compare_outcome(&entry.claim, Some(form), &Bypass::new(pending, at, &view))
+        }
+        Some(_) => None,
+        None => check_memory_anew(pending, at, &view.copied()),
+    }
+}
+
+/// The same, where what the word says was not noted.
+#[cold]
+#[inline(never)]
+fn check_memory_anew(pending: &Pending, at: usize, view: &View<'_>) -> Option<Diff>
+    requires { at < length pending.now.items }
+    ensures { (e : Entry) → slice_get pending.now.items at ≡ Some e
+        → Answers address_fields memory_fields (before_entry view.now pending.now.items at) e.claim result }
+{
+    let entry = pending.at(at);
+    let form = decode(entry.claim.word);
+    if is_memory(form) {
+        return compare_outcome(&entry.claim, form, &Bypass::new(pending, at, view));
+    }
+    None
+}
+
+/// The first difference in addr and, but for loads and stores, in value, next and end between a claim and the record that is
+/// due in a state. `form` is what the claim's word says.
+#[inline(always)]
+#[tactic(auto, using(diva_core::proofs::Agreeing::address_due))]
+fn compare<L: Look>(claim: &Claim, form: Option<Instr>, state: &L) -> Option<Diff>
+    requires { form ≡ row_of claim.now.word }
+    ensures { let due = record_of (L.shows state.now) in
+        difference_in read_fields claim.now due ≡ None → result ≡ difference_in (execute_fields (is_memory due)) claim.now due }
+{
+    let addr = address(form, claim.src1);
+    if claim.addr != addr {
+        return Some(Diff::new(Field::Addr, claim.addr, addr));
+    }
+    if is_memory(form) {
         return None;
     }
-    let due = fill_outcome(entry.claim, form, &Bypass::new(pending, at, view));
-    difference_in(&[Field::Value, Field::Next, Field::End], &entry.claim, &due)
+    compare_with(claim, outcome_apart(claim, form, state))
+}
+
+/// The same, where what the word says was not noted.
+#[cold]
+#[inline(never)]
+fn check_anew(pending: &Pending, at: usize, view: &View<'_>) -> Option<Diff>
+    requires { at < length pending.now.items }
+    ensures { (e : Entry) → slice_get pending.now.items at ≡ Some e
+        → Answers read_fields execute_fields (before_entry view.now pending.now.items at) e.claim result }
+{
+    let claim = &pending.at(at).claim;
+    compare(claim, decode(claim.word), &Bypass::new(pending, at, view))
+}
+
+/// The first difference in value, next and end between a claim and the record that is due in a state.
+#[inline(never)]
+fn compare_outcome<L: Look>(claim: &Claim, form: Option<Instr>, state: &L) -> Option<Diff>
+    requires { form ≡ row_of claim.now.word }
+    ensures { let due = record_of (L.shows state.now) in
+        difference_in address_fields claim.now due ≡ None → result ≡ difference_in outcome_fields claim.now due }
+{
+    compare_with(claim, outcome(claim, form, state))
+}
+
+/// The first difference in value, next and end between a claim and what is due.
+#[inline(always)]
+#[tactic(auto, using(diva_core::proofs::Agreeing::outcome_due))]
+fn compare_with(claim: &Claim, due: Outcome) -> Option<Diff>
+    ensures { (x : Record) → record claim.now { value = due.value; next = due.next; end = due.end } ≡ x
+        → result ≡ difference_in outcome_fields claim.now x }
+{
+    if claim.value != due.value {
+        return Some(Diff::new(Field::Value, claim.value, due.value));
+    }
+    if claim.next != due.next {
+        return Some(Diff::new(Field::Next, claim.next, due.next));
+    }
+    if claim.end != due.end {
+        return Some(Diff::new(Field::End, claim.end, due.end));
+    }
+    None
 }
 
 /// Gives a record whose pc, word, src1 and src2 are due in a state its other fields. Those four stay.
@@ -63,25 +138,27 @@ pub fn solo(r: &mut Record, view: &View<'_>)
         ≡ record r.new { pc = r.old.pc; word = r.old.word; src1 = r.old.src1; src2 = r.old.src2 } }
 {
     let form = decode(r.word);
-    *r = fill_outcome(fill_address(*r, form), form, view);
+    let placed = placed(*r, form);
+    *r = placed.ending_in(outcome(&placed, form, view));
 }
 
-/// Whether an instruction is a load or a store.
-fn is_memory(form: Option<Instr>) -> bool
+/// Whether what a word says is a load or a store.
+#[inline(always)]
+pub fn is_memory(form: Option<Instr>) -> bool
     ensures { result ≡ is_memory_by form }
 {
     match form {
-        Some(i) => matches!(kind_of(i.op), Kind::Load(_) | Kind::Store(_)),
+        Some(i) => kind_of(i.op).moves_memory(),
         None => false,
     }
 }
 
-#[inline]
-#[tactic(auto, using(diva_core::proofs::Agreeing::address_filled))]
-fn fill_address(r: Record, form: Option<Instr>) -> Record
+/// The record with the address that its instruction has.
+#[tactic(auto, using(diva_core::proofs::Agreeing::address_filled, diva_core::proofs::Agreeing::placed_agrees))]
+fn placed(r: Record, form: Option<Instr>) -> Record
     requires { form ≡ row_of r.word }
     ensures due { (s : State) → difference_in read_fields r (record_of s) ≡ None
-        → result ≡ record r { addr = (record_of s).addr } }
+        → difference_in address_fields result (record_of s) ≡ None }
     ensures rest { result ≡ record r { addr = result.addr } }
 {
     Record {
@@ -90,15 +167,31 @@ fn fill_address(r: Record, form: Option<Instr>) -> Record
     }
 }
 
-#[inline]
+/// What an instruction comes to in a state that is no load and no store, by the first five fields of its record.
+#[inline(always)]
+fn outcome_apart<L: Look>(r: &Record, form: Option<Instr>, state: &L) -> Outcome
+    requires row { form ≡ row_of r.now.word }
+    requires apart { is_memory_by form ≡ false }
+    ensures { let due = record_of (L.shows state.now) in
+        difference_in address_fields r.now due ≡ None
+        → record r.now { value = result.value; next = result.next; end = result.end } ≡ due }
+{
+    match form {
+        Some(i) => execute(state, &i, r),
+        None => outcome(r, form, state),
+    }
+}
+
+/// What an instruction comes to in a state, by the first five fields of its record.
+#[inline(always)]
 #[tactic(auto, using(diva_core::proofs::Agreeing::outcome_filled))]
-fn fill_outcome<L: Look>(r: Record, form: Option<Instr>, state: &L) -> Record
-    requires { form ≡ row_of r.word }
-    ensures due { let due = record_of (L.shows state.now) in
-        difference_in address_fields r due ≡ None → result ≡ due }
-    ensures rest { result ≡ record r { value = result.value; next = result.next; end = result.end } }
+fn outcome<L: Look>(r: &Record, form: Option<Instr>, state: &L) -> Outcome
+    requires { form ≡ row_of r.now.word }
+    ensures { let due = record_of (L.shows state.now) in
+        difference_in address_fields r.now due ≡ None
+        → record r.now { value = result.value; next = result.next; end = result.end } ≡ due }
 {
     // Whether the word is there tells a fetch outside memory from a word that is not of the table.
     let there = form.is_some() || fetch(state).is_some();
-    r.ending_in(finish(state, there, form, &r))
+    finish(state, there, form, r)
 }

@@ -12,21 +12,57 @@ ghost use Rattle.diva_core.specs.Difference.{difference_in};
 ghost use Rattle.diva_core.specs.Older.{before_entry};
 ghost use Rattle.diva_core.specs.Stages.{Answers, fetch_fields, operand_fields};
 
-use diva_core::{Bypass, Diff, Field, Pending, View, difference_in};
+use diva_core::{Bypass, Claim, Diff, Field, Pending, View};
 use diva_decode::{Instr, decode};
 use diva_isa::{Look, Record, sources};
 
 /// The first difference in src1 and src2 between the claim at a place (the oldest is at 0) and the record that is due after the
 /// older claims, `None` where there is none. Where the older claims have ended the machine, or pc and word differ, nothing is
 /// said of the answer.
+#[inline(always)]
 pub fn check(pending: &Pending, at: usize, view: &View<'_>) -> Option<Diff>
     requires { at < length pending.now.items }
     ensures { (e : Entry) → slice_get pending.now.items at ≡ Some e
         → Answers fetch_fields (λ memory. operand_fields) (before_entry view.now pending.now.items at) e.claim result }
 {
     let entry = pending.at(at);
-    let due = fill(entry.claim, entry.form(), &Bypass::new(pending, at, view));
-    difference_in(&[Field::Src1, Field::Src2], &entry.claim, &due)
+    let state = Bypass::new(pending, at, view);
+    match entry.decoded {
+        Some(form) => compare(&entry.claim, Some(form), &state),
+        None => check_anew(pending, at, &view.copied()),
+    }
+}
+
+/// The first difference in src1 and src2 between a claim and the record that is due in a state. `form` is what the claim's
+/// word says.
+#[inline(always)]
+#[tactic(auto, using(diva_core::proofs::Agreeing::operands_due))]
+fn compare<L: Look>(claim: &Claim, form: Option<Instr>, state: &L) -> Option<Diff>
+    requires row { form ≡ row_of claim.now.word }
+    requires registers { IfSome form HasRegisters }
+    ensures { let due = record_of (L.shows state.now) in
+        difference_in fetch_fields claim.now due ≡ None → result ≡ difference_in operand_fields claim.now due }
+{
+    let read = sources(state, form);
+    if claim.src1 != read.first {
+        return Some(Diff::new(Field::Src1, claim.src1, read.first));
+    }
+    if claim.src2 != read.second {
+        return Some(Diff::new(Field::Src2, claim.src2, read.second));
+    }
+    None
+}
+
+/// The same, where what the word says was not noted.
+#[cold]
+#[inline(never)]
+fn check_anew(pending: &Pending, at: usize, view: &View<'_>) -> Option<Diff>
+    requires { at < length pending.now.items }
+    ensures { (e : Entry) → slice_get pending.now.items at ≡ Some e
+        → Answers fetch_fields (λ memory. operand_fields) (before_entry view.now pending.now.items at) e.claim result }
+{
+    let claim = &pending.at(at).claim;
+    compare(claim, decode(claim.word), &Bypass::new(pending, at, view))
 }
 
 /// Gives a record whose pc and word are due the words that its instruction reads from a state. Its other fields stay.
