@@ -32,6 +32,7 @@ pub enum Committed {
 
 impl Committed {
     /// Whether the record committed.
+    #[inline(always)]
     pub fn is_committed(&self) -> bool
         ensures { result ≡ is_committed self.now }
     {
@@ -69,6 +70,7 @@ pub fn commit(
 }
 
 /// The same of a record whose word was decoded already: `form` is what it says.
+#[inline(always)]
 #[tactic(auto, unfolding(diva_core::specs::Cycle::puts_store, diva_isa::specs::Step::apply))]
 pub fn commit_by(
     regs: &mut Regs,

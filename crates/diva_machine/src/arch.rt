@@ -117,7 +117,7 @@ impl Arch {
 
     /// Judges a record by its verdict, and commits it where there is none and its store has a place: `form` is what its
     /// word says.
-    #[inline]
+    #[inline(always)]
     #[tactic(auto, using(diva_decode::proofs::Unique::registers_by))]
     pub fn commit(&mut self, form: Option<Instr>, r: &Record, verdict: Option<Diff>) -> Committed
         requires goes_on { GoesOn self.old.state }

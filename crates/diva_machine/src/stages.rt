@@ -2,12 +2,15 @@
 ghost use Rattle.std.specs.Prelude.{◌≡◌, ◌≤◌, ◌<◌, ◌+◌, ◌-◌, ℕ, length, map, None, Some, slice_get, slice_set};
 ghost use Rattle.diva_decode.specs.Table.{row_of};
 ghost use Rattle.diva_core.specs.declared.pending.Entry.{Entry};
+ghost use Rattle.diva_core.specs.Older.{before_entry};
+ghost use Rattle.diva_core.specs.Stages.{Answers, address_fields, memory_fields};
 ghost use Rattle.diva_machine.specs.Shown.{waiting_of};
 ghost use Rattle.diva_machine.specs.Staged.{IsAdvanced, IsFilled};
 
 use crate::arch::Arch;
-use diva_core::{Diff, Pending, View};
+use diva_core::{Diff, Field, Pending, View};
 use diva_decode::decode;
+use diva_execchk::is_memory;
 use diva_isa::Record;
 
 /// The age at which a claim, or the solo instruction, passes through the last stage.
@@ -15,7 +18,7 @@ pub(crate) const LAST_STAGE: u64 = 5;
 
 /// The claim at a place comes to an age, and passes through that age's stage. A difference that an earlier stage found
 /// stays.
-#[inline]
+#[inline(always)]
 pub(crate) fn pass(pending: &mut Pending, at: usize, arch: &Arch, age: u64)
     requires place { at < length pending.old.items }
     requires age { 1 ≤ age }
@@ -38,17 +41,35 @@ pub(crate) fn pass(pending: &mut Pending, at: usize, arch: &Arch, age: u64)
         1 => note(pending, at, diva_fetchchk::check(pending, at, &arch.view())),
         3 => note(pending, at, diva_opchk::check(pending, at, &arch.view())),
         4 => note(pending, at, diva_execchk::check(pending, at, &arch.view())),
-        LAST_STAGE => note(
-            pending,
-            at,
-            diva_execchk::check_memory(pending, at, &arch.view()),
-        ),
+        LAST_STAGE => note(pending, at, check_memory(pending, at, arch)),
         _ => {}
     }
 }
 
+/// The last stage: of a claim that is no load and no store it compares nothing, and needs no view.
+#[inline(always)]
+fn check_memory(pending: &Pending, at: usize, arch: &Arch) -> Option<Diff>
+    requires { at < length pending.now.items }
+    ensures { (e : Entry) → slice_get pending.now.items at ≡ Some e → Answers address_fields memory_fields
+        (before_entry (record arch.now.state { end = 0 }) pending.now.items at) e.claim result }
+{
+    match pending.at(at).decoded {
+        Some(form) if !is_memory(Some(form)) => None,
+        _ => check_access(pending, at, arch),
+    }
+}
+
+#[inline(never)]
+fn check_access(pending: &Pending, at: usize, arch: &Arch) -> Option<Diff>
+    requires { at < length pending.now.items }
+    ensures { (e : Entry) → slice_get pending.now.items at ≡ Some e → Answers address_fields memory_fields
+        (before_entry (record arch.now.state { end = 0 }) pending.now.items at) e.claim result }
+{
+    diva_execchk::check_memory(pending, at, &arch.view())
+}
+
 /// Decodes the claim at a place.
-#[inline]
+#[inline(always)]
 fn note_form(pending: &mut Pending, at: usize)
     requires { at < length pending.old.items }
     ensures items { (e : Entry) → slice_get pending.old.items at ≡ Some e
@@ -62,7 +83,7 @@ fn note_form(pending: &mut Pending, at: usize)
 }
 
 /// Gives the claim at a place, which has no verdict so far, what its stage found.
-#[inline]
+#[inline(always)]
 fn note(pending: &mut Pending, at: usize, found: Option<Diff>)
     requires place { at < length pending.old.items }
     requires open { (e : Entry) → slice_get pending.old.items at ≡ Some e → e.verdict ≡ None }
@@ -72,20 +93,22 @@ fn note(pending: &mut Pending, at: usize, found: Option<Diff>)
     ensures capacity { pending.new.capacity ≡ pending.old.capacity }
 {
     if let Some(diff) = found {
-        note_difference(pending, at, diff);
+        note_difference(pending, at, diff.field, diff.claimed, diff.due);
     }
 }
 
 #[cold]
-fn note_difference(pending: &mut Pending, at: usize, diff: Diff)
+#[inline(never)]
+fn note_difference(pending: &mut Pending, at: usize, field: Field, claimed: u32, due: u32)
     requires { at < length pending.old.items }
     ensures items { (e : Entry) → slice_get pending.old.items at ≡ Some e
-        → pending.new.items ≡ slice_set pending.old.items at (record e { verdict = Some diff }) }
+        → pending.new.items
+            ≡ slice_set pending.old.items at (record e { verdict = Some (record { field = field; claimed = claimed; due = due }) }) }
     ensures waits { map waiting_of pending.new.items ≡ map waiting_of pending.old.items }
     ensures capacity { pending.new.capacity ≡ pending.old.capacity }
 {
     let form = pending.at(at).decoded;
-    pending.set(at, form, Some(diff));
+    pending.set(at, form, Some(Diff::new(field, claimed, due)));
 }
 
 /// The record of the solo instruction comes to an age, and gets the fields of that age's stage.

@@ -186,7 +186,7 @@ impl Works {
     }
 
     /// Judges the front claim by its verdict, and commits it where there is none. It stays at the front.
-    #[inline]
+    #[inline(always)]
     #[tactic(auto, unfolding(diva_core::specs::Cycle::committed))]
     fn settle_front(&mut self) -> Committed
         requires there { 0 < length self.old.entries }
@@ -217,6 +217,7 @@ impl Works {
 
     /// Takes out the front claim, which has committed, and all others where that ended the machine; answers whether it
     /// goes on.
+    #[inline(always)]
     fn leave_front(&mut self) -> bool
         requires there { 0 < length self.old.entries }
         requires passed { 0 < self.old.passed }
@@ -235,7 +236,7 @@ impl Works {
 
     /// Judges the front claim, which is ready; answers whether a further one is to be judged. The
     /// definition is handed what follows, so that one claim can be judged without its number.
-    #[inline(never)]
+    #[inline(always)]
     #[tactic(auto, unfolding(diva_core::specs::Cycle::committed, diva_core::specs::Cycle::flushed))]
     fn judge_front(&mut self) -> bool
         requires ready { 0 < self.old.passed }
@@ -407,7 +408,7 @@ impl Works {
     }
 
     /// The claim at a place passes through the stage of its age.
-    #[inline]
+    #[inline(always)]
     fn pass_stage(&mut self, at: usize)
         requires place { at < length self.old.entries }
         requires few { at < 64 }
@@ -424,7 +425,9 @@ impl Works {
     {
         let age = self.cycles - self.pending.at(at).cycle;
         pass(&mut self.pending, at, &self.arch, age);
-        self.passed += usize::from(age == LAST_STAGE);
+        if age == LAST_STAGE {
+            self.passed += 1;
+        }
     }
 
     /// Phase 4: the admitted claims become pending, where phase 2 neither flushed nor ended.

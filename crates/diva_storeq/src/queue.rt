@@ -121,7 +121,7 @@ impl StoreQueue {
 
     /// The word at `addr` as it is once all stores are in memory, `None` exactly where `addr` is not
     /// a multiple of 4 or the word is not inside.
-    #[inline]
+    #[inline(always)]
     pub fn word(&self, memory: &Memory, addr: u32) -> Option<u32>
         ensures value { result ≡ word_at (laid memory.now self.now.items) addr }
         ensures inside { IsSome result ↔ ((addr % 4 ≡ 0) × IsInside memory.now addr 4) }

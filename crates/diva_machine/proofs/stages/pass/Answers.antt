@@ -1,4 +1,4 @@
-use Rattle.std.proofs.Common.{◌-◌, [], sym, ap, ◌∙◌, arith}
+use Rattle.std.proofs.Common.{◌-◌, [], refl, sym, ap, ◌∙◌, arith}
 use Rattle.std.specs.Option.{is_some}
 use Rattle.std.proofs.lemmas.Option.{same_Some}
 use Rattle.diva_core.specs.declared.pending.Entry.{Entry}
@@ -39,7 +39,7 @@ returns-in-4-clause-advanced c = λ now e here age adv.
 pub returns-in-5-clause-advanced : goal.returns-in-5-clause-advanced
 returns-in-5-clause-advanced c = λ now e here age adv.
     let none = open_at _ c.args.at e c.at.result.now c.at.ensures.value (sym c.is_some.ensures ∙ c.if-is_some.false) here in
-    stage_passed _ _ _ _ now c.args.at 4 e address_fields memory_fields _ here (c.note-in-5.ensures.items e here) c.view-in-5.ensures (let is = c.in-5.is in omega arith) (λ z. omega arith) (c.check_memory.ensures e here)
+    stage_passed _ _ _ _ now c.args.at 4 e address_fields memory_fields _ here (c.note-in-5.ensures.items e here) refl (let is = c.in-5.is in omega arith) (λ z. omega arith) (c.check_memory.ensures e here)
     (λ s. found_memory s e _ none) adv
 
 pub returns-in_default-clause-advanced : goal.returns-in_default-clause-advanced
