@@ -17,7 +17,7 @@ impl Core for Lockstep {
 
     fn cycle(&mut self, told: &Told, view: &View<'_>, out: &mut Claims) {
         if told.pending == 0 && told.room > 0 {
-            hand_over(view, out);
+            hand_over(&view.copied(), out);
         }
     }
 }
