@@ -1,5 +1,5 @@
 -- What the decoded form of a word tells of it: whether it may store, and where its result goes.
-use Rattle.std.proofs.Common.{◌≡◌, ◌≢◌, ℕ, ◌+◌, ◌^◌, ◌%◌, ◌==◌, Bool, true, false, ◌&&◌, not, Option, Some, None, length, refl, sym, ap, ◌∙◌, subst, if◌then◌else◌}
+use Rattle.std.proofs.Common.{◌≡◌, ◌≢◌, ℕ, ◌^◌, ◌%◌, ◌==◌, Bool, true, false, ◌&&◌, Option, Some, None, refl, ap, ◌∙◌, subst, if◌then◌else◌}
 use Rattle.std.proofs.lemmas.Bool.{eqb-true, eq-eqb}
 use Rattle.diva_decode.specs.Fields.{opcode}
 use Rattle.diva_decode.specs.Table.{fits, instr_of, row_of, shape}
@@ -11,8 +11,7 @@ use Rattle.diva_isa.specs.Kind.{kind}
 use Rattle.diva_isa.specs.declared.kind.Kind.{Kind}
 use Rattle.diva_isa.specs.declared.kind.Kind.TheVariants.{LoadUpper, AddUpper, Jump, JumpRegister, Branch, Load, Store, Immediate, Register, Fence, Call, Break}
 use Rattle.diva_isa.specs.Step.{effect, effect_by, effect_of}
-use Rattle.diva_isa.specs.declared.effect.Effect.{Effect}
-use Rattle.diva_isa.specs.declared.effect.Effect.TheVariants.{Nothing, Writes, Stores, Puts}
+use Rattle.diva_isa.specs.declared.effect.Effect.TheVariants.{Nothing, Writes, Puts}
 use Rattle.diva_isa.specs.declared.record.Record.{Record}
 use Rattle.diva_core.specs.Cycle.{is_store}
 use Rattle.diva_core.specs.Entries.{has_store_opcode}

@@ -1,5 +1,4 @@
-use Rattle.std.proofs.Common.{true, Some, None, sym}
-use Rattle.diva_isa.specs.declared.record.Record.{Record}
+use Rattle.std.proofs.Common.{true, Some}
 use Rattle.diva_core.proofs.Agreeing.{outcome_filled}
 use Rattle.diva_execchk.proofs.outcome_apart.Goals as goal
 
