@@ -82,11 +82,6 @@ placed_agrees r x h =
 pub same_memory : (r x : Record) (b : Bool) → difference_in read_fields r x ≡ None → is_memory_by (row_of r.word) ≡ b → is_memory x ≡ b
 same_memory r x b h e = ap (λ (w : ℕ). is_memory_by (row_of w)) (sym (in-none read_fields r x h).1.0) ∙ e
 
-pub read_agrees : (r x : Record) → difference_in address_fields r x ≡ None → difference_in read_fields r x ≡ None
-read_agrees r x h =
-    let same = in-none address_fields r x h in
-    none-in read_fields r x (same.0, (same.1.0, (same.1.1.0, (same.1.1.1.0, tt))))
-
 -- ---- the stage that executes
 
 -- the addresses differ

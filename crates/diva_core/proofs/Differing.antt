@@ -48,10 +48,6 @@ pub difference-none : (p r : Record) → first_difference p r ≡ None → p ≡
 unfolding first_difference
 difference-none p r e = same p r (in-none all_fields p r e)
 
-pub difference-same : (r : Record) → first_difference r r ≡ None
-unfolding first_difference
-difference-same r = in-same all_fields r
-
 -- the same of the answer
 pub difference_names : (p r : Record) → IfSome (first_difference p r) (IsDifference p r)
 difference_names p r = names (first_difference p r) refl
