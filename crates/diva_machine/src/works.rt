@@ -277,7 +277,7 @@ impl Works {
     }
 
     /// Judges at most `n` ready claims, oldest first.
-    #[inline(never)]
+    #[inline(always)]
     #[tactic(auto, using(crate::proofs::Fronts::judged_less))]
     fn judge(&mut self, n: u32)
         requires width { n ≤ 4 }
@@ -394,7 +394,7 @@ impl Works {
         }
     }
 
-    #[inline(never)]
+    #[inline(always)]
     fn pass_stages(&mut self)
         requires cycles { 1 ≤ self.old.timed.cycles }
         requires staged { IsStaged (self.old.timed.cycles - 1) self.old }
