@@ -2,6 +2,7 @@
 mod pipelined;
 mod refusals;
 mod scripts;
+mod staged;
 mod tables;
 mod tapes;
 mod texts;
@@ -15,7 +16,7 @@ use diva_outside::{Fail as SinkFail, MemFile, MemFiles, MemSink};
 use std::alloc::Global;
 use std::process::Abort;
 use std::test::Fail;
-use tables::{CHATTER, DIFFERING, ROWS, Row, TRAPS};
+use tables::{CHATTER, DIFFERING, FULL, ROWS, Row, TRAPS};
 use texts::{registers_text, text_due};
 
 /// The bytes that a sink takes, more than any of these runs writes.
@@ -172,21 +173,25 @@ fn programs_that_trap(rt: HostRuntime) -> Result<(), Fail> {
     Ok(())
 }
 
-/// A put of one byte more than the 65,536 that the output holds: 2 and 2 * 65,536 instructions come
-/// before the trap. In lockstep each takes 7 cycles; in the pipeline one commits in each from cycle 7 on.
+/// A put of one byte more than the 65,536 that the output holds: 87,383 instructions come before the trap, the
+/// last of them the put before it. In lockstep each takes 7 cycles; in the pipeline one commits in each from cycle 7 on. A claim
+/// of the trap as one more put, which forgets the put that is pending, flushes, and the checker's own trap comes 6 cycles later.
 #[test]
 fn output_that_is_full(rt: HostRuntime) -> Result<(), Fail> {
     let alloc = rt.alloc();
     let line = format!(in alloc; "out {}\n", "41".repeat(alloc, 32)?)?;
     let output = line.as_str().repeat(alloc, 2048)?;
     let registers = registers_text(alloc, &[(10, 0x41), (17, 1)])?;
-    for (core, cycles) in [("lockstep", 917525), ("scalar", 131081)] {
+    for &(options, script, flush, cycles, flushes) in &FULL {
         let counts = format!(in alloc;
-            "end trap 9\ncount 131075\ncycles {cycles}\nflushes 0 silent 0\noutput 65536\n"
+            "{flush}end trap 9\ncount 87384\ncycles {cycles}\nflushes {flushes} silent 0\noutput 65536\n"
         )?;
-        let text = format!(in alloc; "{counts}{output}{registers}pc 00000008\n")?;
-        let line = format!(in alloc; "run a.diva --core {core}")?;
-        let outside = Outside::sound(alloc, image_file(alloc, CHATTER)?);
+        let text = format!(in alloc; "{counts}{output}{registers}pc 0000000c\n")?;
+        let line = format!(in alloc; "run a.diva --core {options}")?;
+        let outside = Outside {
+            script: Vec::from_slice(alloc, script)?,
+            ..Outside::sound(alloc, image_file(alloc, CHATTER)?)
+        };
         compare(&rt, line.as_str(), outside, 3, text.as_str())?;
     }
     Ok(())

@@ -390,8 +390,33 @@ pub(super) static TRAPS: [(u8, &[u32]); 8] = [
     (8, &[0x0000_0073]), // ecall with x17 = 0
 ];
 
-/// Puts "A" for ever: addi x17, x0, 1; addi x10, x0, 65; ecall; jal x0, -4.
+/// Puts "A" for ever: addi x17, x0, 1; addi x10, x0, 65; ecall; ecall; ecall; jal x0, -12.
 pub(super) const CHATTER: Program = Program {
     size: 64,
-    words: &[0x0010_0893, 0x0410_0513, 0x0000_0073, 0xffdf_f06f],
+    words: &[
+        0x0010_0893,
+        0x0410_0513,
+        0x0000_0073,
+        0x0000_0073,
+        0x0000_0073,
+        0xff5f_f06f,
+    ],
 };
+
+/// A core and its script, and what becomes of `CHATTER` by them: the line of a flush, the cycles, and the number of
+/// flushes.
+pub(super) static FULL: [(&str, &[u8], &str, u32, u32); 3] = [
+    ("lockstep", b"", "", 611_688, 0),
+    ("scalar", b"", "", 87_390, 0),
+    (
+        "scalar --script a.script",
+        b"\
+at 87384 lane 0 set value 41
+at 87384 lane 0 set next 10
+at 87384 lane 0 set end 0
+",
+        "flush 87390 at 87383 value claimed 00000041 due 00000000\n",
+        87_396,
+        1,
+    ),
+];
