@@ -18,7 +18,7 @@ fn compare_pending(rt: &impl Abort, m: &Machine, due: &[(Record, u64)], at: &str
     for (place, &(claim, cycle)) in due.iter().enumerate() {
         let entry = m.entry(place);
         assert_eq!(rt; (entry.claim, entry.cycle), (claim, cycle), "{at} {place}");
-        let is_decoded = m.cycles() >= cycle + 2;
+        let is_decoded = m.cycles().saturating_sub(cycle) >= 2;
         assert_eq!(rt; entry.decoded.is_some(), is_decoded, "{at} {place}");
     }
 }
