@@ -173,9 +173,10 @@ fn programs_that_trap(rt: HostRuntime) -> Result<(), Fail> {
     Ok(())
 }
 
-/// A put of one byte more than the 65,536 that the output holds: 87,383 instructions come before the trap, the
-/// last of them the put before it. In lockstep each takes 7 cycles; in the pipeline one commits in each from cycle 7 on. A claim
-/// of the trap as one more put, which forgets the put that is pending, flushes, and the checker's own trap comes 6 cycles later.
+/// A put of one byte more than the 65,536 that the output holds: 87,383 instructions come before the trap, and
+/// the last of them is a put. In lockstep each takes 7 cycles; in the pipeline one commits in each from cycle 7 on,
+/// and that put is pending while the claim behind it is checked. A claim of one more put there overlooks it: it
+/// flushes, and the checker's own trap comes 6 cycles later.
 #[test]
 fn output_that_is_full(rt: HostRuntime) -> Result<(), Fail> {
     let alloc = rt.alloc();
