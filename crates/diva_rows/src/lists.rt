@@ -3,7 +3,7 @@ mod tables;
 
 use crate::cores::Lists;
 use crate::programs::image_file;
-use diva_core::Claims;
+use diva_core::{Claims, Diff};
 use diva_isa::Record;
 use diva_machine::{Config, Machine, turn};
 use std::alloc::Global;
@@ -21,6 +21,12 @@ fn compare_pending(rt: &impl Abort, m: &Machine, due: &[(Record, u64)], at: &str
         let is_decoded = m.cycles().saturating_sub(cycle) >= 2;
         assert_eq!(rt; entry.decoded.is_some(), is_decoded, "{at} {place}");
     }
+}
+
+/// Compares what the stages have found in the pending claim at a place.
+fn compare_verdict(rt: &impl Abort, m: &Machine, place: usize, verdict: Option<Diff>, at: &str) {
+    assert!(rt; place < m.told().pending as usize, "{at} {place}");
+    assert_eq!(rt; m.entry(place).verdict, verdict, "{at} {place}");
 }
 
 /// Takes the turns of a row, and compares what each cycle commits, and what is pending after some. A
@@ -42,7 +48,7 @@ fn compare_turns(rt: &impl Abort, alloc: Global, row: &Row) -> Result<(), Fail> 
             compare_pending(rt, &m, due, at.as_str());
         }
         for &(_, place, verdict) in row.verdicts.iter().filter(|(of, ..)| *of == cycle) {
-            assert_eq!(rt; m.entry(place).verdict, verdict, "{at} {place}");
+            compare_verdict(rt, &m, place, verdict, at.as_str());
         }
     }
     let flushes = u64::from(row.flush.is_some());
