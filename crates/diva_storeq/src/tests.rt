@@ -1,4 +1,4 @@
-// A half word and then a byte over a word.
+// A byte over a word, and a half word and then a byte.
 use crate::{Masked, Store, StoreQueue};
 use diva_memory::Memory;
 use std::test::Fail;
@@ -49,6 +49,33 @@ fn half_word_and_byte_over_a_word(rt: HostRuntime) -> Result<(), Fail> {
     queue.drain(&mut memory);
     assert_eq!(rt; queue.owed(), 0);
     assert_eq!(rt; memory.word(32), Some(0xbeef_5511));
+    Ok(())
+}
+
+#[test]
+fn byte_over_a_word(rt: HostRuntime) -> Result<(), Fail> {
+    let mut memory = Memory::new(rt.alloc(), 32, 4, &[0x11, 0x22, 0x33, 0x44])?;
+    let mut queue = StoreQueue::new(rt.alloc(), 2)?;
+    queue.push(Store {
+        addr: 33,
+        width: 1,
+        value: 0x55,
+    });
+    assert_eq!(rt; queue.owed(), 1);
+    let byte = Masked {
+        addr: 32,
+        mask: 2,
+        bytes: 0x0000_5500,
+    };
+    assert_eq!(rt; queue.entry(0), byte);
+
+    let due = [Some(0x11), Some(0x55), Some(0x33), Some(0x44)];
+    assert_eq!(rt; shown(&queue, &memory), due);
+
+    queue.drain(&mut memory);
+    assert_eq!(rt; shown(&queue, &memory), due);
+    assert_eq!(rt; queue.owed(), 0);
+    assert_eq!(rt; memory.word(32), Some(0x4433_5511));
     Ok(())
 }
 
