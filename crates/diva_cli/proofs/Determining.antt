@@ -1,16 +1,15 @@
 -- Two runs of one core from one machine are one.
-use Rattle.std.proofs.Common.{◌≡◌, ◌≤◌, ℕ, ◌-◌, true, List, [], ◌∷◌, length, map, Option, Some, None, Result, Ok, refl, ap, sym, ◌∙◌, arith, subst}
+use Rattle.std.proofs.Common.{◌≡◌, ◌≤◌, ℕ, ◌-◌, true, List, [], ◌∷◌, length, Option, Some, None, refl, ap, sym, ◌∙◌, arith, subst}
 use Rattle.std.proofs.lemmas.List.{length-map}
 use Rattle.diva_outside.specs.Text.{Text}
-use Rattle.diva_outside.specs.declared.files.What.TheVariants.{Image, Script, Tape as TapeFile}
-use Rattle.diva_isa.specs.State.{State, goes_on}
+use Rattle.diva_outside.specs.declared.files.What.TheVariants.{Script}
+use Rattle.diva_isa.specs.State.{goes_on}
 use Rattle.diva_isa.specs.declared.record.Record.{Record}
 use Rattle.diva_core.specs.Timed.{Timed, new_timed}
 use Rattle.diva_core.specs.Cycle.{cycle_of}
-use Rattle.diva_core.specs.Told.{Notice, notice_of}
-use Rattle.diva_core.specs.Log.{Meaning, IsLog, lists_of}
+use Rattle.diva_core.specs.Told.{notice_of}
+use Rattle.diva_core.specs.Log.{Meaning, IsLog}
 use Rattle.diva_faults.specs.declared.rows.Row.{Row}
-use Rattle.diva_faults.specs.Reading.{script_of}
 use Rattle.diva_faults.specs.Spoiled.{spoiled}
 use Rattle.diva_faults.specs.Lists.{scripted}
 use Rattle.diva_trace.specs.Text.{text_of}
@@ -19,7 +18,7 @@ use Rattle.diva_args.specs.declared.job.CoreChoice.{CoreChoice}
 use Rattle.diva_args.specs.declared.job.CoreChoice.TheVariants.{Own}
 use Rattle.diva_cli.specs.Wanted.{FileBytes}
 use Rattle.diva_cli.specs.Determined.{IsDetermined}
-use Rattle.diva_cli.specs.Driven.{AreHanded, ByTurns, IsDriven}
+use Rattle.diva_cli.specs.Driven.{AreHanded, ByTurns}
 use Rattle.diva_cli.specs.Runs.{AreRows, HasRun, shown_dump, sizes_of, start_in}
 
 module _ {C : Type 0} (gives : Meaning C) (determined : IsDetermined gives) where

@@ -52,7 +52,13 @@ impl Pending {
     /// The words in two registers after the oldest `count` claims.
     #[inline(never)]
     #[tactic(auto, using(crate::proofs::Bypassing::claims_regs))]
-    pub(crate) fn operands_after(&self, count: usize, first: u8, second: u8, operands: Operands) -> Operands
+    pub(crate) fn operands_after(
+        &self,
+        count: usize,
+        first: u8,
+        second: u8,
+        operands: Operands,
+    ) -> Operands
         requires { count ≤ length self.now.items }
         ensures { (s : State) → first < length s.regs → second < length s.regs
             → reg_of s first ≡ operands.first → reg_of s second ≡ operands.second

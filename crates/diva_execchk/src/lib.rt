@@ -47,11 +47,10 @@ pub fn check_memory(pending: &Pending, at: usize, view: &View<'_>) -> Option<Dif
     let entry = pending.at(at);
     match entry.decoded {
         Some(form) if is_memory(Some(form)) => {
-            let view = view.copied();
-            compare_outcome(&entry.claim, Some(form), &Bypass::new(pending, at, &view))
+            compare_outcome(&entry.claim, Some(form), &Bypass::new(pending, at, view))
         }
         Some(_) => None,
-        None => check_memory_anew(pending, at, &view.copied()),
+        None => check_memory_anew(pending, at, view),
     }
 }
 
@@ -103,7 +102,7 @@ fn check_anew(pending: &Pending, at: usize, view: &View<'_>) -> Option<Diff>
 }
 
 /// The first difference in value, next and end between a claim and the record that is due in a state.
-#[inline(never)]
+#[inline(always)]
 fn compare_outcome<L: Look>(claim: &Claim, form: Option<Instr>, state: &L) -> Option<Diff>
     requires { form ≡ row_of claim.now.word }
     ensures { let due = record_of (L.shows state.now) in

@@ -103,7 +103,7 @@ fn note_difference(pending: &mut Pending, at: usize, field: Field, claimed: u32,
     requires { at < length pending.old.items }
     ensures items { (e : Entry) → slice_get pending.old.items at ≡ Some e
         → pending.new.items
-            ≡ slice_set pending.old.items at (record e { verdict = Some (record { field = field; claimed = claimed; due = due }) }) }
+        ≡ slice_set pending.old.items at (record e { verdict = Some (record { field = field; claimed = claimed; due = due }) }) }
     ensures waits { map waiting_of pending.new.items ≡ map waiting_of pending.old.items }
     ensures capacity { pending.new.capacity ≡ pending.old.capacity }
 {
