@@ -2,3 +2,4 @@
 pub mod Clear
 pub mod Handing
 pub mod Leading
+pub mod Whole

@@ -7,7 +7,7 @@ ghost use Rattle.diva_core.specs.Effects.{is_apart, with_effects};
 use crate::effects::is_store;
 use circular_buffer::HeapCircularBuffer;
 use diva_core::{View, byte_in, is_apart};
-use diva_isa::Effect;
+use diva_isa::{Effect, Width};
 use std::alloc::{AllocError, Global};
 use std::marker::Model;
 
@@ -135,10 +135,31 @@ impl Ring {
         ensures { result ≡ word_of (with_effects view.now self.now) addr }
     {
         let word = view.word(addr)?;
-        if self.is_clear(addr, 4) || self.is_apart(addr, 4) {
+        if self.is_clear(addr, 4) {
             return Some(word);
         }
-        self.overlaid(view, addr)
+        self.latest(view, addr, word)
+    }
+
+    // The same, where `word` is the one in the view: most stores near a word are apart from it, or cover it whole.
+    #[inline(never)]
+    fn latest(&self, view: &View<'_>, addr: u32, word: u32) -> Option<u32>
+        requires { word_of view.now addr ≡ Some word }
+        ensures { result ≡ word_of (with_effects view.now self.now) addr }
+    {
+        let mut latest = word;
+        for effect in self.effects.iter() {
+            match *effect {
+                Effect::Stores {
+                    width: Width::Word,
+                    addr: from,
+                    value,
+                } if from == addr => latest = value,
+                _ if is_apart(effect, addr, 4) => {}
+                _ => return self.overlaid(view, addr),
+            }
+        }
+        Some(latest)
     }
 
     // The same, byte by byte: few reads meet a store in flight.
@@ -167,12 +188,5 @@ impl Ring {
         self.stores == 0
             || u64::from(addr) + u64::from(n) <= u64::from(self.low)
             || self.high <= u64::from(addr)
-    }
-
-    // Whether no store has one of the `n` bytes from an address on.
-    fn is_apart(&self, addr: u32, n: u32) -> bool
-        ensures { result ≡ list_all (λ e. is_apart e addr n) self.now }
-    {
-        self.effects.iter().all(|effect| is_apart(effect, addr, n))
     }
 }

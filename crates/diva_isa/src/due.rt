@@ -220,7 +220,6 @@ fn call<L: Look>(state: &L, r: &Record) -> Outcome
 /// What an instruction comes to, by the first five fields of its record, by whether its word is there, and by `form`,
 /// what the word says.
 #[inline(always)]
-#[inline]
 pub fn finish<L: Look>(state: &L, there: bool, form: Option<Instr>, r: &Record) -> Outcome
     ensures { result ≡ outcome_of there form (L.shows state.now) r.now.pc r.now.src1 r.now.src2 r.now.addr }
 {
@@ -232,7 +231,6 @@ pub fn finish<L: Look>(state: &L, there: bool, form: Option<Instr>, r: &Record) 
 }
 
 #[inline(always)]
-#[inline]
 fn come_to<L: Look>(state: &L, i: &Instr, r: &Record) -> Outcome
     ensures { let s = L.shows state.now in
         result ≡ outcome (kind i.now.op) s i.now r.now.pc r.now.src1 r.now.src2 r.now.addr }
