@@ -15,6 +15,7 @@ impl Core for Lockstep {
 
     ghost gives = { IsLockstepCall };
 
+    #[inline]
     fn cycle(&mut self, told: &Told, view: &View<'_>, out: &mut Claims) {
         if told.pending == 0 && told.room > 0 {
             hand_over(&view.copied(), out);
@@ -23,6 +24,7 @@ impl Core for Lockstep {
 }
 
 // Hands over the due record.
+#[inline(never)]
 fn hand_over(view: &View<'_>, out: &mut Claims)
     requires { out.old ≡ [] }
     ensures { out.new ≡ record_of view.now ∷ [] }

@@ -52,6 +52,7 @@ impl Core for Scalar {
 
     ghost gives = { IsScalarCall };
 
+    #[inline(always)]
     #[tactic(auto, unfolding(crate::specs::Scalar::scalar_call))]
     fn cycle(&mut self, told: &Told, view: &View<'_>, out: &mut Claims) {
         if told.room == 0 {
