@@ -148,6 +148,7 @@ impl Ahead {
     }
 
     /// Stands behind a record that is handed over, by its effect. There is room in the ring.
+    #[inline(always)]
     #[tactic(auto, using(crate::proofs::Handing::handed_is), unfolding(crate::specs::Effects::done_by))]
     pub fn hand_over(&mut self, r: &Record, effect: Effect)
         requires room { length self.old.ring < 64 }
@@ -162,10 +163,10 @@ impl Ahead {
         }
         self.ring.push(effect);
         self.pc = r.next;
-        match effect {
-            Effect::Writes { rd, value } => self.regs.set(rd, value),
-            Effect::Puts(_) => self.out_len = self.out_len.saturating_add(1),
-            Effect::Nothing | Effect::Stores { .. } => {}
+        if let Effect::Writes { rd, value } = effect {
+            self.regs.set(rd, value);
+        } else if let Effect::Puts(_) = effect {
+            self.out_len = self.out_len.saturating_add(1);
         }
     }
 }

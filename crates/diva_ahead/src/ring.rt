@@ -129,7 +129,7 @@ impl Ring {
 
     /// The word at an address of the view's memory with all effects laid over it, `None` where the address is no multiple
     /// of 4 or outside.
-    #[inline]
+    #[inline(always)]
     #[tactic(auto, using(diva_core::proofs::Laying::effects_word_none, diva_core::proofs::Laying::effects_word))]
     pub fn word(&self, view: &View<'_>, addr: u32) -> Option<u32>
         ensures { result ≡ word_of (with_effects view.now self.now) addr }

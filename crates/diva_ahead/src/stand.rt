@@ -29,6 +29,7 @@ impl Look for Stand<'_> {
         self.ahead.ring().byte(self.view, addr)
     }
 
+    #[inline(always)]
     fn word(&self, addr: u32) -> Option<u32> {
         self.ahead.ring().word(self.view, addr)
     }

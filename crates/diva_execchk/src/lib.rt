@@ -4,7 +4,7 @@
 //! that is due after the older claims: their stores in flight lie over memory, and the bytes that they put count.
 #![tactic(auto)]
 
-ghost use Rattle.std.specs.Prelude.{◌≡◌, false, ◌<◌, [], ◌∷◌, length, None, Some, slice_get};
+ghost use Rattle.std.specs.Prelude.{◌≡◌, false, ◌<◌, [], ◌∷◌, length, IsTrue, None, Some, slice_get};
 ghost use Rattle.diva_decode.specs.Table.{row_of};
 ghost use Rattle.diva_isa.specs.State.{State};
 ghost use Rattle.diva_isa.specs.Step.{record_of};
@@ -86,7 +86,11 @@ fn compare<L: Look>(claim: &Claim, form: Option<Instr>, state: &L) -> Option<Dif
     if is_memory(form) {
         return None;
     }
-    compare_with(claim, outcome_apart(claim, form, state))
+    let due = outcome_apart(claim, form, state);
+    if agrees(claim, &due) {
+        return None;
+    }
+    compare_with(claim, due)
 }
 
 /// The same, where what the word says was not noted.
@@ -108,11 +112,25 @@ fn compare_outcome<L: Look>(claim: &Claim, form: Option<Instr>, state: &L) -> Op
     ensures { let due = record_of (L.shows state.now) in
         difference_in address_fields claim.now due ≡ None → result ≡ difference_in outcome_fields claim.now due }
 {
-    compare_with(claim, outcome(claim, form, state))
+    let due = outcome(claim, form, state);
+    if agrees(claim, &due) {
+        return None;
+    }
+    compare_with(claim, due)
+}
+
+/// Whether a claim agrees in value, next and end with what is due, as most do.
+#[inline(always)]
+fn agrees(claim: &Claim, due: &Outcome) -> bool
+    ensures { (x : Record) → record claim.now { value = due.now.value; next = due.now.next; end = due.now.end } ≡ x
+        → IsTrue result → difference_in outcome_fields claim.now x ≡ None }
+{
+    claim.value == due.value && claim.next == due.next && claim.end == due.end
 }
 
 /// The first difference in value, next and end between a claim and what is due.
-#[inline(always)]
+#[cold]
+#[inline(never)]
 #[tactic(auto, using(diva_core::proofs::Agreeing::outcome_due))]
 fn compare_with(claim: &Claim, due: Outcome) -> Option<Diff>
     ensures { (x : Record) → record claim.now { value = due.value; next = due.next; end = due.end } ≡ x

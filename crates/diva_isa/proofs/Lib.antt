@@ -5,3 +5,4 @@ pub mod Registers
 pub mod Room
 pub mod Ends
 pub mod Stored
+pub mod Unread

@@ -1,11 +1,11 @@
 // The record of a state's next instruction, and each part of it by itself.
 
-ghost use Rattle.std.specs.Prelude.{◌≡◌, ◌≢◌, false, ◌*◌, ◌%◌, ◌^◌, ◌<◌, IfSome};
+ghost use Rattle.std.specs.Prelude.{◌≡◌, ◌≢◌, false, ℕ, ◌*◌, ◌%◌, ◌^◌, ◌<◌, IfSome, None};
 ghost use Rattle.std.specs.Option.{option_and_then};
 ghost use Rattle.diva_decode.specs.Table.{HasRegisters, row_of};
 ghost use Rattle.diva_isa.specs.State.{State, word_of};
 ghost use Rattle.diva_isa.specs.Kind.{kind, moves_memory, size};
-ghost use Rattle.diva_isa.specs.Step.{call, ended, going, halt, load, outcome, outcome_of, record_of, source1, source2, source1_of, source2_of, address_of, store, to_target, trap};
+ghost use Rattle.diva_isa.specs.Step.{address, call, ended, going, halt, load, outcome, outcome_of, record_of, source1, source2, source1_of, source2_of, address_of, store, to_target, trap, whole};
 ghost use Rattle.diva_isa.specs.Trap.{trap_number};
 
 use crate::arithmetic::{alu, branch_taken, load_value};
@@ -50,18 +50,68 @@ pub fn record_by<L: Look>(state: &L, fetched: Option<u32>, form: Option<Instr>) 
     ensures { result ≡ record_of (L.shows state.now) }
 {
     let word = fetched.unwrap_or(0);
-    let sources = sources(state, form);
+    match form {
+        // The kinds that programs have most of are told apart first: what is done for such a kind is then one piece.
+        Some(i) => match kind_of(i.op) {
+            Kind::Immediate => record_as(state, word, &i, Kind::Immediate),
+            Kind::Register => record_as(state, word, &i, Kind::Register),
+            Kind::Branch => record_as(state, word, &i, Kind::Branch),
+            kind => record_as(state, word, &i, kind),
+        },
+        None => unread(state.pc(), fetched),
+    }
+}
+
+/// The record of an instruction of a kind.
+#[inline(always)]
+fn record_as<L: Look>(state: &L, word: u32, i: &Instr, kind: Kind) -> Record
+    requires { HasRegisters i.now }
+    ensures { let s = L.shows state.now in let a = source1 kind s i.now in let b = source2 kind s i.now in
+        let addr = address kind i.now a in
+        result ≡ whole s.pc word a b addr (outcome kind s i.now s.pc a b addr) }
+{
+    let read = reads(state, i, kind);
     let r = Record {
         pc: state.pc(),
         word,
-        src1: sources.first,
-        src2: sources.second,
-        addr: address(form, sources.first),
+        src1: read.first,
+        src2: read.second,
+        addr: address_as(i, read.first, kind),
         value: 0,
         next: 0,
         end: 0,
     };
-    r.ending_in(finish(state, fetched.is_some(), form, &r))
+    r.ending_in(come_to(state, i, &r, kind))
+}
+
+/// The record where the word of the next instruction says nothing, or is not there.
+#[cold]
+#[inline(never)]
+fn unread(pc: u32, fetched: Option<u32>) -> Record
+    requires { option_and_then row_of fetched ≡ None }
+    ensures { (s : State) → s.pc ≡ pc → word_of s pc ≡ fetched → result ≡ record_of s }
+{
+    match fetched {
+        Some(word) => trap_before(pc, word, Trap::Illegal),
+        None => trap_before(pc, 0, Trap::FetchOutside),
+    }
+}
+
+/// The record of an instruction that traps before it is known what it is.
+fn trap_before(pc: u32, word: u32, cause: Trap) -> Record
+    ensures { result ≡ whole pc word 0 0 0 (ended pc (trap (trap_number cause))) }
+{
+    let r = Record {
+        pc,
+        word,
+        src1: 0,
+        src2: 0,
+        addr: 0,
+        value: 0,
+        next: 0,
+        end: 0,
+    };
+    r.ending_in(trapped(pc, cause))
 }
 
 /// The word of the next instruction, `None` exactly where `pc` is no multiple of 4 or a byte is outside memory.
@@ -80,7 +130,7 @@ pub fn sources<L: Look>(state: &L, form: Option<Instr>) -> Operands
         result ≡ record { first = source1_of form s; second = source2_of form s } }
 {
     match form {
-        Some(i) => reads(state, &i),
+        Some(i) => reads(state, &i, kind_of(i.op)),
         None => Operands {
             first: 0,
             second: 0,
@@ -89,12 +139,12 @@ pub fn sources<L: Look>(state: &L, form: Option<Instr>) -> Operands
 }
 
 #[inline(always)]
-fn reads<L: Look>(state: &L, i: &Instr) -> Operands
+fn reads<L: Look>(state: &L, i: &Instr, kind: Kind) -> Operands
     requires { HasRegisters i.now }
-    ensures { let s = L.shows state.now in let k = kind i.now.op in
-        result ≡ record { first = source1 k s i.now; second = source2 k s i.now } }
+    ensures { let s = L.shows state.now in
+        result ≡ record { first = source1 kind s i.now; second = source2 kind s i.now } }
 {
-    match kind_of(i.op) {
+    match kind {
         Kind::LoadUpper | Kind::AddUpper | Kind::Jump | Kind::Fence | Kind::Break => Operands {
             first: 0,
             second: 0,
@@ -115,11 +165,18 @@ pub fn address(form: Option<Instr>, base: u32) -> u32
     ensures { result ≡ address_of form base }
 {
     match form {
-        Some(i) => match kind_of(i.op) {
-            Kind::Load(_) | Kind::Store(_) => base.wrapping_add(i.imm.cast_unsigned()),
-            _ => 0,
-        },
+        Some(i) => address_as(&i, base, kind_of(i.op)),
         None => 0,
+    }
+}
+
+#[inline(always)]
+fn address_as(i: &Instr, base: u32, kind: Kind) -> u32
+    ensures { result ≡ address kind i.now base }
+{
+    match kind {
+        Kind::Load(_) | Kind::Store(_) => base.wrapping_add(i.imm.cast_unsigned()),
+        _ => 0,
     }
 }
 
@@ -224,21 +281,31 @@ pub fn finish<L: Look>(state: &L, there: bool, form: Option<Instr>, r: &Record) 
     ensures { result ≡ outcome_of there form (L.shows state.now) r.now.pc r.now.src1 r.now.src2 r.now.addr }
 {
     match form {
-        Some(i) => come_to(state, &i, r),
-        None if there => trapped(r.pc, Trap::Illegal),
-        None => trapped(r.pc, Trap::FetchOutside),
+        Some(i) => come_to(state, &i, r, kind_of(i.op)),
+        None => not_read(r.pc, there),
     }
 }
 
 #[inline(always)]
-fn come_to<L: Look>(state: &L, i: &Instr, r: &Record) -> Outcome
-    ensures { let s = L.shows state.now in
-        result ≡ outcome (kind i.now.op) s i.now r.now.pc r.now.src1 r.now.src2 r.now.addr }
+fn not_read(pc: u32, there: bool) -> Outcome
+    ensures { (s : State) (a : ℕ) (b : ℕ) (addr : ℕ) → result ≡ outcome_of there None s pc a b addr }
 {
-    match kind_of(i.op) {
+    if there {
+        trapped(pc, Trap::Illegal)
+    } else {
+        trapped(pc, Trap::FetchOutside)
+    }
+}
+
+#[inline(always)]
+fn come_to<L: Look>(state: &L, i: &Instr, r: &Record, kind: Kind) -> Outcome
+    ensures { result ≡ outcome kind (L.shows state.now) i.now r.now.pc r.now.src1 r.now.src2 r.now.addr }
+{
+    match kind {
         Kind::Load(width) => load(state, r, i.op, width),
         Kind::Store(width) => store(state, r, width),
-        _ => execute(state, i, r),
+        Kind::Call => call(state, r),
+        kind => compute(kind, i, r),
     }
 }
 

@@ -1,4 +1,4 @@
-use Rattle.std.proofs.Common.{◌≡◌, Option, sym, ◌∙◌, ap}
+use Rattle.std.proofs.Common.{◌≡◌, Option, None, sym, ◌∙◌, ap}
 use Rattle.diva_decode.specs.declared.instr.Instr.{Instr}
 use Rattle.diva_isa.specs.Step.{address_of, record_of}
 use Rattle.diva_core.specs.Stages.{is_memory}
@@ -19,9 +19,17 @@ returns-then-is_memory c c' = λ agrees.
     let addr : claim.addr ≡ (record_of s).addr = c'.if-claim-addr.false ∙ c'.address-addr.ensures ∙ ap (λ (o : Option Instr). address_of o claim.src1) c'.requires ∙ address_due claim s agrees in
     executed_memory claim (record_of s) c'.args.form c'.requires (sym c'.is_memory.ensures ∙ c'.if-is_memory.true) agrees addr
 
+pub returns-then-agrees : goal.returns-then-agrees
+returns-then-agrees c c' = λ agrees.
+    let s = c.L.Look.shows c'.args.state.now in
+    let claim = c'.args.claim.now in
+    let addr : claim.addr ≡ (record_of s).addr = c'.if-claim-addr.false ∙ c'.address-addr.ensures ∙ ap (λ (o : Option Instr). address_of o claim.src1) c'.requires ∙ address_due claim s agrees in
+    executed_other claim (record_of s) None c'.args.form c'.requires (sym c'.is_memory.ensures ∙ c'.if-is_memory.false) agrees addr
+    (λ agree. sym (c'.agrees.ensures (record_of s) (c'.outcome_apart-due.ensures agree) c'.if-agrees.true))
+
 pub returns : goal.returns
 returns c c' = λ agrees.
     let s = c.L.Look.shows c'.args.state.now in
     let claim = c'.args.claim.now in
     let addr : claim.addr ≡ (record_of s).addr = c'.if-claim-addr.false ∙ c'.address-addr.ensures ∙ ap (λ (o : Option Instr). address_of o claim.src1) c'.requires ∙ address_due claim s agrees in
-    executed_other claim (record_of s) c'.compare_with.result c'.args.form c'.requires (sym c'.is_memory.ensures ∙ c'.if-is_memory.false) agrees addr (λ agree. c'.compare_with.ensures (record_of s) (c'.outcome_apart.ensures agree))
+    executed_other claim (record_of s) c'.compare_with.result c'.args.form c'.requires (sym c'.is_memory.ensures ∙ c'.if-is_memory.false) agrees addr (λ agree. c'.compare_with.ensures (record_of s) (c'.outcome_apart-due.ensures agree))
