@@ -228,6 +228,7 @@ fn to_target(pc: u32, value: u32, target: u32) -> Outcome
     }
 }
 
+#[inline(always)]
 fn load<L: Look>(state: &L, r: &Record, op: Op, width: Width) -> Outcome
     ensures { result ≡ load (L.shows state.now) r.now.pc r.now.addr op (size width) }
 {
@@ -240,6 +241,7 @@ fn load<L: Look>(state: &L, r: &Record, op: Op, width: Width) -> Outcome
     }
 }
 
+#[inline(always)]
 fn store<L: Look>(state: &L, r: &Record, width: Width) -> Outcome
     ensures { result ≡ store (L.shows state.now) r.now.pc r.now.addr r.now.src2 (size width) }
 {
