@@ -54,10 +54,8 @@ impl Bytes {
     pub fn push_zeros(&mut self, count: u32) -> Result<(), AllocError>
         ensures { OnOk result (self.new ≡ self.old ++ replicate count 0) }
     {
-        for zero in 0..count {
-            self.push(0)?;
-        }
-        Ok(())
+        let len = self.bytes.len();
+        self.bytes.resize(len + count as usize, 0)
     }
 
     pub fn into_vec(self) -> Vec<u8>

@@ -1,1 +1,55 @@
-// Sources and words.
+// Sources and words that were worked out by hand, and some that an assembler made.
+
+mod sources;
+
+use crate::{AsmFault, assemble, list_line};
+use sources::{FAULTS, IMAGES, LISTED, WORDS};
+use std::test::Fail;
+
+#[test]
+fn words_of_sources(rt: HostRuntime) -> Result<(), Fail> {
+    for &(source, words) in &WORDS {
+        let mut due = Vec::new(rt.alloc());
+        for word in words {
+            due.extend_from_slice(&word.to_le_bytes())?;
+        }
+        let image = assemble(rt.alloc(), source.as_bytes())?;
+        assert_eq!(rt; image.payload.bytes(), due.as_slice(), "{source:?}");
+    }
+    Ok(())
+}
+
+#[test]
+fn images_of_sources(rt: HostRuntime) -> Result<(), Fail> {
+    for &(source, base, size, entry, bytes) in &IMAGES {
+        let image = assemble(rt.alloc(), source.as_bytes())?;
+        assert_eq!(rt;
+            (image.base, image.size, image.entry),
+            (base, size, entry),
+            "{source:?}"
+        );
+        assert_eq!(rt; image.payload.bytes(), bytes, "{source:?}");
+    }
+    Ok(())
+}
+
+#[test]
+fn faults_of_sources(rt: HostRuntime) {
+    for &(source, line, kind) in &FAULTS {
+        match assemble(rt.alloc(), source.as_bytes()) {
+            Ok(_) => assert!(rt; false, "{source:?}"),
+            Err(fault) => assert_eq!(rt; fault, AsmFault::Bad { line, kind }, "{source:?}"),
+        }
+    }
+}
+
+#[test]
+fn lines_of_words(rt: HostRuntime) {
+    for &(addr, word, text) in &LISTED {
+        assert_eq!(rt;
+            list_line(addr, word).bytes(),
+            text.as_bytes(),
+            "{word:08x}"
+        );
+    }
+}
