@@ -42,10 +42,9 @@ impl Built {
     pub fn with_line(self, base: u32, labels: &Labels<'_>, line: &[u8]) -> Result<Self, Stop>
         ensures { Gives (built_text base labels.now self (without_comment line.now)) result }
     {
-        match read_statement(without_labels(without_comment(line))) {
-            Ok(None) => Ok(self),
-            Ok(Some(statement)) => self.with_statement(base, labels, &statement),
-            Err(kind) => Err(Stop::Fault(kind)),
+        match read_statement(without_labels(without_comment(line)))? {
+            Some(statement) => self.with_statement(base, labels, &statement),
+            None => Ok(self),
         }
     }
 
@@ -53,10 +52,8 @@ impl Built {
         requires { IsRead s.now.mnemonic s.now.operands }
         ensures { Gives (built_by base labels.now self (Some s.now)) result }
     {
-        match value_of(labels, &s.operands.place) {
-            Some(address) => self.with_statement_at(base, s.mnemonic, &s.operands, address),
-            None => Err(Stop::Fault(Kind::UndefinedName)),
-        }
+        let address = value_of(labels, &s.operands.place).ok_or(Kind::UndefinedName)?;
+        self.with_statement_at(base, s.mnemonic, &s.operands, address)
     }
 
     #[tactic(auto, unfolding(crate::specs::Building::built_at))]
@@ -99,12 +96,10 @@ fn without_labels(text: &[u8]) -> &[u8]
     ensures { result.now ≡ (labelled text.now).rest }
 {
     let mut left = text;
-    'label: loop {
-        match first_label(left) {
-            Some((_, rest)) => left = rest,
-            None => return left,
-        }
+    'label: while let Some((_, rest)) = first_label(left) {
+        left = rest;
     }
+    left
 }
 
 /// A label's address with the number added, or the number alone.
@@ -174,13 +169,8 @@ fn push_operation(bytes: &mut Bytes, op: Op, v: &Operands<'_>, offset: u32) -> R
     requires { Keeps (uses (shape_operands (shape op)) unused) v.now }
     ensures { Appends (in_bytes (one_instruction op v.now offset)) bytes.old bytes.new result }
 {
-    match instruction(op, v, offset) {
-        Ok(i) => {
-            push(bytes, &i)?;
-            Ok(())
-        }
-        Err(kind) => Err(Stop::Fault(kind)),
-    }
+    push(bytes, &instruction(op, v, offset)?)?;
+    Ok(())
 }
 
 fn push_two(bytes: &mut Bytes, rd: u8, value: u32) -> Result<(), AllocError>

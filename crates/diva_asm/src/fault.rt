@@ -2,7 +2,7 @@
 ghost use Rattle.std.specs.Prelude.{◌≡◌};
 ghost use Rattle.diva_asm.specs.Gives.{stopped_at};
 ghost use Rattle.diva_asm.specs.Kinds.{number_of_kind};
-ghost use Rattle.diva_asm.specs.declared.fault.Stop.TheVariants.{Memory};
+ghost use Rattle.diva_asm.specs.declared.fault.Stop.TheVariants.{Fault, Memory};
 
 use std::alloc::{AllocError, AllocFailed};
 
@@ -90,6 +90,14 @@ impl Stop {
             },
             Stop::Memory => AsmFault::Memory,
         }
+    }
+}
+
+impl From<Kind> for Stop {
+    ghost from_gives = { λ kind stop. stop ≡ Fault kind };
+
+    fn from(kind: Kind) -> Self {
+        Stop::Fault(kind)
     }
 }
 

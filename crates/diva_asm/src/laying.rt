@@ -58,18 +58,14 @@ impl<'a> Laid<'a> {
     {
         let mut laid = self;
         let mut text = without_comment(line);
-        'label: loop {
-            match first_label(text) {
-                Some((name, rest)) => {
-                    laid = match laid.with_label(name) {
-                        Ok(laid) => laid,
-                        Err(stop) => return Err(stop),
-                    };
-                    text = rest;
-                }
-                None => return laid.with_statement_of(text),
-            }
+        'label: while let Some((name, rest)) = first_label(text) {
+            laid = match laid.with_label(name) {
+                Ok(laid) => laid,
+                Err(stop) => return Err(stop),
+            };
+            text = rest;
         }
+        laid.with_statement_of(text)
     }
 
     /// With the statement of a text that begins with no label, if there is one.
@@ -78,10 +74,9 @@ impl<'a> Laid<'a> {
         ensures gives { Gives (with_statement_of self.entry text.now) result }
         ensures total { IfOk result (λ laid. laid.total ≤ LIMIT) }
     {
-        match read_statement(text) {
-            Ok(Some(statement)) => self.with_statement(&statement),
-            Ok(None) => Ok(self),
-            Err(kind) => Err(Stop::Fault(kind)),
+        match read_statement(text)? {
+            Some(statement) => self.with_statement(&statement),
+            None => Ok(self),
         }
     }
 

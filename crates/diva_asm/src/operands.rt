@@ -2,9 +2,11 @@
 ghost use Rattle.std.specs.Prelude.{◌≡◌, ◌<◌, ◌%◌, ◌^◌, ℤ, pos, neg_ℤ, ◌≤ℤ◌, ◌<ℤ◌, IfSome};
 ghost use Rattle.std.specs.Map.{lookup};
 ghost use Rattle.std.specs.Str.{bytes_eq};
-ghost use Rattle.std.specs.Option.{option_map};
+ghost use Rattle.std.specs.Option.{ok_or, option_map};
+ghost use Rattle.diva_asm.specs.declared.fault.Kind.TheVariants.{NoRegister, BadNumber};
 ghost use Rattle.diva_asm.specs.Operands.{Place as ThePlace, register_of, digits_of, unsigned_of, number_of, number_in, word_from, offset_of, place_at, place_of};
 
+use crate::fault::Kind;
 use crate::texts::{name_len, trim};
 use diva_outside::{decimal, hex};
 use std::marker::Model;
@@ -130,11 +132,12 @@ pub(crate) struct Operands<'a> {
     pub place: Place<'a>,
 }
 
+/// The register of a name.
 #[tactic(auto, unfolding(crate::specs::Operands::register_of))]
-pub(crate) fn register(word: &[u8]) -> Option<u8>
-    ensures { result ≡ register_of word.now }
+pub(crate) fn register(word: &[u8]) -> Result<u8, Kind>
+    ensures { result ≡ ok_or (register_of word.now) NoRegister }
 {
-    number_named(&REGISTERS, word)
+    number_named(&REGISTERS, word).ok_or(Kind::NoRegister)
 }
 
 fn number_named(names: &[(&[u8], u8)], word: &[u8]) -> Option<u8>
@@ -189,12 +192,12 @@ fn number(text: &[u8]) -> Option<i64>
 
 /// The number, where it is from low to high.
 #[tactic(auto, unfolding(crate::specs::Operands::number_in))]
-pub(crate) fn number_in(low: i64, high: i64, text: &[u8]) -> Option<i64>
-    ensures { result ≡ number_in low high text.now }
+pub(crate) fn number_in(low: i64, high: i64, text: &[u8]) -> Result<i64, Kind>
+    ensures { result ≡ ok_or (number_in low high text.now) BadNumber }
 {
     match number(text) {
-        Some(number) if low <= number && number <= high => Some(number),
-        _ => None,
+        Some(number) if low <= number && number <= high => Ok(number),
+        _ => Err(Kind::BadNumber),
     }
 }
 
@@ -221,20 +224,16 @@ fn offset(text: &[u8]) -> Option<i64>
     }
 }
 
+/// A number, a name, or a name with a number added or taken away.
 #[tactic(auto, unfolding(crate::specs::Operands::place_of))]
-pub(crate) fn read_place(text: &[u8]) -> Option<Place<'_>>
-    ensures { result ≡ place_of text.now }
+pub(crate) fn read_place(text: &[u8]) -> Result<Place<'_>, Kind>
+    ensures { result ≡ ok_or (place_of text.now) BadNumber }
 {
     let len = name_len(text);
     if len == 0 {
-        match number_in(LEAST, LARGEST, text) {
-            Some(number) => Some(Place::new(None, number)),
-            None => None,
-        }
+        Ok(Place::new(None, number_in(LEAST, LARGEST, text)?))
     } else {
-        match offset(&text[len..]) {
-            Some(offset) => Some(Place::new(Some(&text[..len]), offset)),
-            None => None,
-        }
+        let offset = offset(&text[len..]).ok_or(Kind::BadNumber)?;
+        Ok(Place::new(Some(&text[..len]), offset))
     }
 }

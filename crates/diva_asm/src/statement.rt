@@ -51,13 +51,8 @@ pub(crate) fn read_statement(rest: &[u8]) -> Result<Option<Statement<'_>>, Kind>
         return Err(Kind::WrongShape);
     }
     let len = mnemonic_len(text);
-    match Mnemonic::of(&text[..len]) {
-        Some(mnemonic) => match statement_with(mnemonic, trim(&text[len..])) {
-            Ok(statement) => Ok(Some(statement)),
-            Err(kind) => Err(kind),
-        },
-        None => Err(Kind::UnknownMnemonic),
-    }
+    let mnemonic = Mnemonic::of(&text[..len]).ok_or(Kind::UnknownMnemonic)?;
+    Ok(Some(statement_with(mnemonic, trim(&text[len..]))?))
 }
 
 #[tactic(auto, unfolding(crate::specs::Statements::statement_with))]
@@ -70,10 +65,8 @@ fn statement_with(mnemonic: Mnemonic, text: &[u8]) -> Result<Statement<'_>, Kind
     if !have_shapes(operands, texts) {
         return Err(Kind::WrongShape);
     }
-    match with_operands(operands, texts) {
-        Ok(operands) => Ok(Statement { mnemonic, operands }),
-        Err(kind) => Err(kind),
-    }
+    let operands = with_operands(operands, texts)?;
+    Ok(Statement { mnemonic, operands })
 }
 
 /// The first text of some that commas separate, and the others.
@@ -146,10 +139,7 @@ fn with_operands<'a>(
         match texts {
             Some(left) => {
                 let (text, others) = first_text(left);
-                values = match with_operand(*operand, text, values) {
-                    Ok(values) => values,
-                    Err(kind) => return Err(kind),
-                };
+                values = with_operand(*operand, text, values)?;
                 texts = others;
             }
             None => return Ok(values),
@@ -167,44 +157,38 @@ fn with_operand<'a>(
     ensures { result ≡ with_operand operand text.now values.entry }
 {
     match operand {
-        Operand::Rd => match register(text) {
-            Some(rd) => Ok(Operands { rd, ..values }),
-            None => Err(Kind::NoRegister),
-        },
-        Operand::Rs1 => match register(text) {
-            Some(rs1) => Ok(Operands { rs1, ..values }),
-            None => Err(Kind::NoRegister),
-        },
-        Operand::Rs2 => match register(text) {
-            Some(rs2) => Ok(Operands { rs2, ..values }),
-            None => Err(Kind::NoRegister),
-        },
-        Operand::Number { low, high } => match number_in(low, high, text) {
-            Some(number) => Ok(Operands { number, ..values }),
-            None => Err(Kind::BadNumber),
-        },
-        Operand::Upper => match number_in(0, 0xf_ffff, text) {
-            Some(number) => Ok(Operands { number, ..values }),
-            None => Err(Kind::BadNumber),
-        },
-        Operand::Target => match read_place(text) {
-            Some(place) => Ok(Operands { place, ..values }),
-            None => Err(Kind::BadNumber),
-        },
+        Operand::Rd => Ok(Operands {
+            rd: register(text)?,
+            ..values
+        }),
+        Operand::Rs1 => Ok(Operands {
+            rs1: register(text)?,
+            ..values
+        }),
+        Operand::Rs2 => Ok(Operands {
+            rs2: register(text)?,
+            ..values
+        }),
+        Operand::Number { low, high } => Ok(Operands {
+            number: number_in(low, high, text)?,
+            ..values
+        }),
+        Operand::Upper => Ok(Operands {
+            number: number_in(0, 0xf_ffff, text)?,
+            ..values
+        }),
+        Operand::Target => Ok(Operands {
+            place: read_place(text)?,
+            ..values
+        }),
         Operand::Memory => {
             let (number, after) = cut(text, b'(');
-            let (register_text, _) = cut(after, b')');
-            let Some(number) = number_in(-2048, 2047, trim(number)) else {
-                return Err(Kind::BadNumber);
-            };
-            match register(trim(register_text)) {
-                Some(rs1) => Ok(Operands {
-                    number,
-                    rs1,
-                    ..values
-                }),
-                None => Err(Kind::NoRegister),
-            }
+            let (name, _) = cut(after, b')');
+            Ok(Operands {
+                number: number_in(-2048, 2047, trim(number))?,
+                rs1: register(trim(name))?,
+                ..values
+            })
         }
     }
 }

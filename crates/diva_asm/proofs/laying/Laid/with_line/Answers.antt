@@ -22,7 +22,7 @@ label-preserved c =
       total = c.in-Ok.ensures.total;
     }
 
-pub returns-in-None-clause-gives : goal.returns-in-None-clause-gives
-returns-in-None-clause-gives c =
+pub returns-clause-gives : goal.returns-clause-gives
+returns-clause-gives c =
     given (with_statement_of c.label.laid c.label.text.now) _ c.with_statement_of.result
-    (c.label.invariant.same ∙ text_ends c.label.laid c.label.text.now c.in-None.ensures.label) c.with_statement_of.ensures.gives
+    (c.label.invariant.same ∙ text_ends c.label.laid c.label.text.now c.in_default.ensures.label) c.with_statement_of.ensures.gives
