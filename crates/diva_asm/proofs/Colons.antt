@@ -1,7 +1,7 @@
 -- The labels that a text begins with.
 use Rattle.std.proofs.Common.{◌≡◌, ◌<◌, ℕ, ◌+◌, suc, List, [], ◌∷◌, ◌++◌, length, take, drop, Bool, true, false, cond, not, refl, sym, ◌∙◌, ap, arith, append_assoc, append-nil}
 use Rattle.std.specs.List.{position_or_len, before_first, after_first}
-use Rattle.diva_asm.specs.Texts.{trim, is_name, is_colon, Labelled, onto_names, labels_after, labelled}
+use Rattle.diva_asm.specs.Texts.{trim, is_name, is_colon, Labelled, onto_names, labels_after, labels_of}
 
 abbrev bare : List ℕ → Labelled
 bare text = record { names = []; rest = text }
@@ -36,15 +36,15 @@ first_colon seen (b ∷ text) h = step (first_colon (seen ++ b ∷ []) text) (is
         rw (p, one, two) (more (omega arith) ∙ rw (append_assoc seen (b ∷ []) (take n text), append_assoc seen (b ∷ []) text) refl)
 
 -- a text without a colon, one whose first colon follows no name, and one that begins with a label
-pub no_label : (text : List ℕ) → position_or_len is_colon text ≡ length text → labelled text ≡ bare text
-unfolding labelled
+pub no_label : (text : List ℕ) → position_or_len is_colon text ≡ length text → labels_of text ≡ bare text
+unfolding labels_of
 no_label text e = no_colon [] text e
 
 pub one_label : (text : List ℕ) → position_or_len is_colon text < length text → is_name (trim (before_first is_colon text)) ≡ true
-    → labelled text ≡ onto_names (trim (before_first is_colon text)) (labelled (after_first is_colon text))
-unfolding labelled
+    → labels_of text ≡ onto_names (trim (before_first is_colon text)) (labels_of (after_first is_colon text))
+unfolding labels_of
 one_label text h f = first_colon [] text h ∙ rw f refl
 
-pub no_name : (text : List ℕ) → position_or_len is_colon text < length text → is_name (trim (before_first is_colon text)) ≡ false → labelled text ≡ bare text
-unfolding labelled
+pub no_name : (text : List ℕ) → position_or_len is_colon text < length text → is_name (trim (before_first is_colon text)) ≡ false → labels_of text ≡ bare text
+unfolding labels_of
 no_name text h f = first_colon [] text h ∙ rw f refl

@@ -6,7 +6,7 @@ use Rattle.diva_asm.specs.Gives.{Gives, Appends}
 use Rattle.diva_asm.specs.declared.fault.Stop.{Stop}
 use Rattle.diva_asm.specs.declared.fault.Stop.TheVariants.{Fault, Memory}
 use Rattle.diva_asm.specs.Steps.{and_then}
-use Rattle.diva_asm.specs.Texts.{labelled, onto_names}
+use Rattle.diva_asm.specs.Texts.{labels_of, onto_names}
 use Rattle.diva_asm.specs.Laying.{with_label, with_labels, with_text, with_statement_of}
 use Rattle.diva_asm.specs.declared.fault.Kind.{Kind}
 use Rattle.diva_asm.specs.declared.laying.Laid.{Laid}
@@ -16,13 +16,13 @@ and_then-twice (Ok x) f g = refl
 and_then-twice (Err k) f g = refl
 
 -- one label more
-pub text_more : (laid : Laid) (text name rest : Text) → labelled text ≡ onto_names name (labelled rest) → with_text laid text ≡ and_then (with_label laid name) (λ next. with_text next rest)
+pub text_more : (laid : Laid) (text name rest : Text) → labels_of text ≡ onto_names name (labels_of rest) → with_text laid text ≡ and_then (with_label laid name) (λ next. with_text next rest)
 unfolding with_text with_labels
 text_more laid text name rest e =
-    rw e (and_then-twice (with_label laid name) (λ next. with_labels next (labelled rest).names) (λ next. with_statement_of next (labelled rest).rest))
+    rw e (and_then-twice (with_label laid name) (λ next. with_labels next (labels_of rest).names) (λ next. with_statement_of next (labels_of rest).rest))
 
 -- no label more
-pub text_ends : (laid : Laid) (text : Text) → labelled text ≡ record { names = []; rest = text } → with_text laid text ≡ with_statement_of laid text
+pub text_ends : (laid : Laid) (text : Text) → labels_of text ≡ record { names = []; rest = text } → with_text laid text ≡ with_statement_of laid text
 unfolding with_text with_labels
 text_ends laid text e = rw e refl
 

@@ -12,7 +12,7 @@ use Rattle.diva_decode.specs.declared.op.Op.TheVariants.{Lui, Addi, Jal, Jalr}
 use Rattle.diva_decode.specs.declared.instr.Instr.{Instr}
 use Rattle.diva_outside.specs.Text.{Text}
 use Rattle.diva_asm.specs.Labels.{Labels, address_of}
-use Rattle.diva_asm.specs.Texts.{without_comment, labelled}
+use Rattle.diva_asm.specs.Texts.{without_comment, labels_of}
 use Rattle.diva_asm.specs.Operands.{Place, word_from, is_within}
 use Rattle.diva_asm.specs.Statements.{statement_of}
 use Rattle.diva_asm.specs.Steps.{and_then, numbered}
@@ -131,7 +131,7 @@ built_by base labels built (Some s) =
 
 -- what follows the labels of a line, which has no fault of pass 1
 unfoldable pub built_text : ℕ → Labels → Built → Text → Result Built Kind
-built_text base labels built text = and_then (statement_of (labelled text).rest) (λ s. built_by base labels built s)
+built_text base labels built text = and_then (statement_of (labels_of text).rest) (λ s. built_by base labels built s)
 
 abbrev pub built_line : ℕ → Labels → Built → Text → Result Built ℕ
 built_line base labels built line = numbered (built_text base labels built (without_comment line))

@@ -4,7 +4,7 @@ use Rattle.std.specs.Int.{cast_signed, w32}
 use Rattle.std.specs.Option.{unwrap_or}
 use Rattle.diva_outside.specs.Text.{Text}
 use Rattle.diva_asm.specs.Labels.{address_of, with_address}
-use Rattle.diva_asm.specs.Texts.{without_comment, labelled}
+use Rattle.diva_asm.specs.Texts.{without_comment, labels_of}
 use Rattle.diva_asm.specs.Operands.{word_from, is_within}
 use Rattle.diva_asm.specs.Statements.{statement_of}
 use Rattle.diva_asm.specs.Steps.{and_then, numbered}
@@ -87,7 +87,7 @@ with_statement_of laid text = and_then (statement_of text) (λ s. with_any laid 
 
 -- labels, then a statement or none
 unfoldable pub with_text : Laid → Text → Result Laid Kind
-with_text laid text = and_then (with_labels laid (labelled text).names) (λ next. with_statement_of next (labelled text).rest)
+with_text laid text = and_then (with_labels laid (labels_of text).names) (λ next. with_statement_of next (labels_of text).rest)
 
 abbrev pub with_line : Laid → Text → Result Laid ℕ
 with_line laid line = numbered (with_text laid (without_comment line))

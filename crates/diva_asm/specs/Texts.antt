@@ -51,7 +51,7 @@ pub record Labelled : Type 0 where
   pub rest : Text
 
 abbrev pub onto_names : Text → Labelled → Labelled
-onto_names name labelled = record { names = name ∷ labelled.names; rest = labelled.rest }
+onto_names name text = record { names = name ∷ text.names; rest = text.rest }
 
 -- the names that stand before colons at the beginning, and what follows them; `passed` stands behind the last colon
 abbrev pub labels_after : Text → Text → Labelled
@@ -62,8 +62,8 @@ labels_after passed (b ∷ text) =
     else record { names = []; rest = passed ++ b ∷ text })
     else labels_after (passed ++ b ∷ []) text
 
-unfoldable pub labelled : Text → Labelled
-labelled text = labels_after [] text
+unfoldable pub labels_of : Text → Labelled
+labels_of text = labels_after [] text
 
 -- ---- operands
 

@@ -4,7 +4,7 @@ ghost use Rattle.diva_decode.specs.Table.{shape, IsValid};
 ghost use Rattle.diva_asm.specs.Mnemonics.{shape_operands};
 ghost use Rattle.diva_asm.specs.Reads.{Keeps, uses, unused, IsRead};
 ghost use Rattle.diva_asm.specs.Building.{nothing_built, value_of, two_words, in_bytes, one_instruction, instructions, bytes_of_words, bytes_of, is_entry, built_at, built_by, built_text};
-ghost use Rattle.diva_asm.specs.Texts.{without_comment, labelled};
+ghost use Rattle.diva_asm.specs.Texts.{without_comment, labels_of};
 ghost use Rattle.diva_asm.specs.Gives.{Gives, Appends};
 
 use crate::bytes::Bytes;
@@ -93,7 +93,7 @@ fn is_entry(mnemonic: Mnemonic) -> bool
 
 /// What follows a line's labels.
 fn without_labels(text: &[u8]) -> &[u8]
-    ensures { result.now ≡ (labelled text.now).rest }
+    ensures { result.now ≡ (labels_of text.now).rest }
 {
     let mut left = text;
     'label: while let Some((_, rest)) = first_label(left) {

@@ -3,7 +3,7 @@ ghost use Rattle.std.specs.Prelude.{◌≡◌, ◌≤◌, ◌+◌, ◌++◌, ◌
 ghost use Rattle.std.specs.Fmt.{signed_decimal, digits, digit_glyph};
 ghost use Rattle.std.specs.List.{sum_by, flat_map};
 ghost use Rattle.diva_decode.specs.Table.{row_of};
-ghost use Rattle.diva_asm.specs.Listing.{register, width, lead, place_text, operand_text, operands_text, text_of, listed};
+ghost use Rattle.diva_asm.specs.Listing.{register, width, lead, address_text, operand_text, operands_text, text_of, list_line};
 
 use crate::mnemonic::{op_name, op_operands};
 use crate::operand::Operand;
@@ -11,9 +11,9 @@ use diva_decode::{Instr, decode};
 use diva_outside::Line;
 
 /// The line of the word at an address: the address, the word, and the instruction that it is.
-#[tactic(auto, unfolding(crate::specs::Listing::listed))]
+#[tactic(auto, unfolding(crate::specs::Listing::list_line))]
 pub fn list_line(addr: u32, word: u32) -> Line
-    ensures { result ≡ listed addr word }
+    ensures { result ≡ list_line addr word }
 {
     let mut line = Line::new();
     line.hex_word(addr);
@@ -81,14 +81,14 @@ fn push_operand(line: &mut Line, addr: u32, i: &Instr, operand: Operand)
             push_register(line, i.rs1);
             line.push(b')');
         }
-        Operand::Target => push_place(line, addr.wrapping_add(i.imm.cast_unsigned())),
+        Operand::Target => push_address(line, addr.wrapping_add(i.imm.cast_unsigned())),
     }
 }
 
-#[tactic(auto, unfolding(crate::specs::Listing::place_text))]
-fn push_place(line: &mut Line, n: u32)
+#[tactic(auto, unfolding(crate::specs::Listing::address_text))]
+fn push_address(line: &mut Line, n: u32)
     requires { length line.old + 10 ≤ 128 }
-    ensures bytes { line.new ≡ line.old ++ place_text n }
+    ensures bytes { line.new ≡ line.old ++ address_text n }
     ensures len { length line.new ≡ length line.old + 10 }
 {
     line.text(b"0x");

@@ -1,7 +1,7 @@
 // The labels and the statement of a line.
 ghost use Rattle.std.specs.Prelude.{◌≡◌, ◌<◌, ◌∷◌, length, List, [], Some, MatchOption, IfSome, IfOk};
 ghost use Rattle.std.specs.Option.{option_map};
-ghost use Rattle.diva_asm.specs.Texts.{labelled, onto_names, operand_texts};
+ghost use Rattle.diva_asm.specs.Texts.{labels_of, onto_names, operand_texts};
 ghost use Rattle.diva_asm.specs.Statements.{is_memory, has_shape, have_shapes, no_operands, with_operand, with_operands, statement_with, statement_of};
 ghost use Rattle.diva_asm.specs.Reads.{IsRead};
 
@@ -21,7 +21,7 @@ pub(crate) struct Statement<'a> {
 /// The first label of a text, and what follows its colon; None where it begins with no label.
 #[tactic(auto, using(crate::proofs::Colons::no_label, crate::proofs::Colons::one_label, crate::proofs::Colons::no_name))]
 pub(crate) fn first_label(text: &[u8]) -> Option<(&[u8], &[u8])>
-    ensures label { MatchOption result (labelled text.now ≡ record { names = []; rest = text.now }) (λ l. labelled text.now ≡ onto_names l.0.now (labelled l.1.now)) }
+    ensures label { MatchOption result (labels_of text.now ≡ record { names = []; rest = text.now }) (λ l. labels_of text.now ≡ onto_names l.0.now (labels_of l.1.now)) }
     ensures shorter { IfSome result (λ l. length l.1.now < length text.now) }
 {
     match split(text, b':') {

@@ -1,20 +1,44 @@
 // Sources and words that were worked out by hand, and some that an assembler made.
 
+mod gnu;
 mod sources;
 
 use crate::{AsmFault, assemble, list_line};
+use gnu::{PROGRAMS, STATEMENTS};
 use sources::{FAULTS, IMAGES, LISTED, WORDS};
 use std::test::Fail;
 
 #[test]
 fn words_of_sources(rt: HostRuntime) -> Result<(), Fail> {
-    for &(source, words) in &WORDS {
+    for &(source, words) in WORDS.iter().chain(&PROGRAMS) {
         let mut due = Vec::new(rt.alloc());
         for word in words {
             due.extend_from_slice(&word.to_le_bytes())?;
         }
         let image = assemble(rt.alloc(), source.as_bytes())?;
         assert_eq!(rt; image.payload.bytes(), due.as_slice(), "{source:?}");
+    }
+    Ok(())
+}
+
+/// Each statement has its word, and the text that lists the word has it again.
+#[test]
+fn statements_and_listed_texts(rt: HostRuntime) -> Result<(), Fail> {
+    for &(statement, word) in &STATEMENTS {
+        let image = assemble(rt.alloc(), statement.as_bytes())?;
+        assert_eq!(rt;
+            image.payload.bytes(),
+            word.to_le_bytes().as_slice(),
+            "{statement}"
+        );
+        let line = list_line(0, word);
+        let text = line.bytes().get(18..).ok_or("no text")?;
+        let image = assemble(rt.alloc(), text)?;
+        assert_eq!(rt;
+            image.payload.bytes(),
+            word.to_le_bytes().as_slice(),
+            "{statement}"
+        );
     }
     Ok(())
 }
