@@ -1,6 +1,6 @@
 -- Where texts are cut.
-use Rattle.std.proofs.Common.{◌≡◌, ◌<◌, ◌≤◌, ◌-◌, ◌+◌, ℕ, List, [], take, drop, length, Bool, not, ap, sym, ◌∙◌, arith}
-use Rattle.std.specs.Prelude.{◌==◌, Some, None, unwrap_or}
+use Rattle.std.proofs.Common.{◌≡◌, ◌<◌, ◌≤◌, ◌-◌, ◌+◌, ℕ, [], take, drop, length, Bool, not, ap, sym, ◌∙◌, arith}
+use Rattle.std.specs.Prelude.{Some, None, unwrap_or}
 use Rattle.std.specs.List.{before_first, after_first, position, position_or_len}
 use Rattle.std.proofs.Math.Seq.{drop-length}
 use Rattle.std.proofs.lemmas.Grind.{common_steps}

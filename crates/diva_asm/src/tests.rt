@@ -6,16 +6,23 @@ mod sources;
 use crate::{AsmFault, assemble, list_line};
 use gnu::{PROGRAMS, STATEMENTS};
 use sources::{FAULTS, IMAGES, LISTED, WORDS};
+use std::alloc::{AllocError, Global};
 use std::test::Fail;
+
+/// The bytes of words, the lowest byte of each first.
+fn bytes_of(alloc: Global, words: &[u32]) -> Result<Vec<u8>, AllocError> {
+    let mut bytes = Vec::new(alloc);
+    for word in words {
+        bytes.extend_from_slice(&word.to_le_bytes())?;
+    }
+    Ok(bytes)
+}
 
 #[test]
 fn words_of_sources(rt: HostRuntime) -> Result<(), Fail> {
     for &(source, words) in WORDS.iter().chain(&PROGRAMS) {
-        let mut due = Vec::new(rt.alloc());
-        for word in words {
-            due.extend_from_slice(&word.to_le_bytes())?;
-        }
         let image = assemble(rt.alloc(), source.as_bytes())?;
+        let due = bytes_of(rt.alloc(), words)?;
         assert_eq!(rt; image.payload.bytes(), due.as_slice(), "{source:?}");
     }
     Ok(())
