@@ -28,11 +28,12 @@ use Rattle.diva_asm.specs.declared.building.Built.{Built}
 -- ---- places
 
 -- a label's address with the number added, modulo 2 ^ 32, or the number alone
+abbrev pub value_at : Labels → Option Text → ℤ → Option ℕ
+value_at labels None offset = Some (word_from offset)
+value_at labels (Some name) offset = option_map (λ address. (address + word_from offset) % 2 ^ 32) (address_of labels name)
+
 unfoldable pub value_of : Labels → Place → Option ℕ
-value_of labels place = elim (place.label) [
-  | None ↦ Some (word_from place.offset)
-  | Some name ↦ option_map (λ address. (address + word_from place.offset) % 2 ^ 32) (address_of labels name)
-]
+value_of labels place = value_at labels place.label place.offset
 
 -- from pc to an address, modulo 2 ^ 32
 abbrev pub offset_to : ℕ → ℕ → ℕ

@@ -10,7 +10,7 @@
 //! - `listing`: `list_line`, the line of a word.
 //! - `tests`: sources and words that were worked out by hand, and some that an assembler made.
 //!
-//! `specs/Sources.antt` has the image of a source, `specs/Mnemonics.antt` the table of mnemonics, and `specs/Listing.antt` the
+//! `docs/FORMATS.md` has the language of a source. `specs/Sources.antt` has the image of a source, `specs/Mnemonics.antt` the table of mnemonics, and `specs/Listing.antt` the
 //! text of a word.
 #![tactic(auto)]
 

@@ -11,29 +11,25 @@ use crate::operand::Operand;
 use crate::operands::{Operands, Place, number_in, read_place, register};
 use crate::texts::{count_of, cut, is_name, mnemonic_len, split, trim};
 
-/// A mnemonic or directive, and what its operands say.
+/// A statement: its mnemonic, and what its operands say.
 #[derive(Drop)]
 pub(crate) struct Statement<'a> {
     pub mnemonic: Mnemonic,
     pub operands: Operands<'a>,
 }
 
-/// The first label of a text, and what follows its colon; None where it begins with no label.
+/// The first label of a text, and what follows its colon; `None` where it begins with no label.
 #[tactic(auto, using(crate::proofs::Colons::no_label, crate::proofs::Colons::one_label, crate::proofs::Colons::no_name))]
 pub(crate) fn first_label(text: &[u8]) -> Option<(&[u8], &[u8])>
     ensures label { MatchOption result (labels_of text.now ≡ record { names = []; rest = text.now }) (λ l. labels_of text.now ≡ onto_names l.0.now (labels_of l.1.now)) }
     ensures shorter { IfSome result (λ l. length l.1.now < length text.now) }
 {
-    match split(text, b':') {
-        Some((front, rest)) => {
-            let name = trim(front);
-            if is_name(name) {
-                Some((name, rest))
-            } else {
-                None
-            }
-        }
-        None => None,
+    let (front, rest) = split(text, b':')?;
+    let name = trim(front);
+    if is_name(name) {
+        Some((name, rest))
+    } else {
+        None
     }
 }
 
@@ -55,6 +51,7 @@ pub(crate) fn read_statement(rest: &[u8]) -> Result<Option<Statement<'_>>, Kind>
     Ok(Some(statement_with(mnemonic, trim(&text[len..]))?))
 }
 
+/// The statement of a mnemonic and the text behind it.
 #[tactic(auto, unfolding(crate::specs::Statements::statement_with))]
 fn statement_with(mnemonic: Mnemonic, text: &[u8]) -> Result<Statement<'_>, Kind>
     ensures value { result ≡ statement_with mnemonic text.now }
