@@ -7,7 +7,7 @@ use Rattle.std.proofs.lemmas.Slice.Eq.{bytes_eq-Decides}
 use Rattle.clap.specs.Walk.{Text, nothing_held, walked}
 use Rattle.clap.specs.Simple.{Shape, argument_words, built}
 use Rattle.clap.proofs.WalkLemmas.{both}
-use Rattle.diva_args.specs.Command.{Leaf, diva, leaves, run, tape}
+use Rattle.diva_args.specs.Command.{Leaf, diva, leaves, run, tape, asm, dis}
 use Rattle.diva_args.specs.Line.{command_of, job_from, taken, values_of}
 use Rattle.diva_args.specs.Plain.{IsPlainLine, PlainLine, are_distinct, given_in, has_text, is_plain_word, job_on, names_in, option_words, value_in}
 use Rattle.diva_args.proofs.PlainSteps.{Stands, first_given, given_row}
@@ -43,8 +43,28 @@ tape_sound = record {
   distinct = refl;
 }
 
+asm_sound : IsSound asm
+unfolding diva walked
+asm_sound = record {
+  enters = record { walk_is = refl; turn = refl; sub = refl; label = refl; bare = refl; negates = refl };
+  places = (refl, refl, refl, tt);
+  names = refl;
+  apart = refl;
+  distinct = refl;
+}
+
+dis_sound : IsSound dis
+unfolding diva walked
+dis_sound = record {
+  enters = record { walk_is = refl; turn = refl; sub = refl; label = refl; bare = refl; negates = refl };
+  places = (refl, refl, refl, tt);
+  names = refl;
+  apart = refl;
+  distinct = refl;
+}
+
 each_sound : (l : Leaf) → Contains leaves l → IsSound l
-each_sound l listed = All-contains IsSound leaves l (All-from_recursion IsSound leaves (run_sound, (tape_sound, tt))) listed
+each_sound l listed = All-contains IsSound leaves l (All-from_recursion IsSound leaves (run_sound, (tape_sound, (asm_sound, (dis_sound, tt))))) listed
 
 -- ---- names and words
 

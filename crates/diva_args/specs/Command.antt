@@ -30,8 +30,14 @@ tape = record {
   options = setup_options ++ codes "cycles" ∷ [];
 }
 
+abbrev pub asm : Leaf
+asm = record { name = codes "asm"; positionals = codes "SRC" ∷ []; options = [] }
+
+abbrev pub dis : Leaf
+dis = record { name = codes "dis"; positionals = codes "IMAGE" ∷ []; options = [] }
+
 abbrev pub leaves : List Leaf
-leaves = run ∷ tape ∷ []
+leaves = run ∷ tape ∷ asm ∷ dis ∷ []
 
 -- ---- the same for `clap`
 

@@ -74,6 +74,8 @@ abbrev pub job_from : Text → (Text → Option Text) → Option Job
 job_from name value =
     if bytes_eq name (codes "run") then option_map job.Run (run_from value)
     else if bytes_eq name (codes "tape") then option_map job.Tape (tape_from value)
+    else if bytes_eq name (codes "asm") then option_map job.Asm (value (codes "SRC"))
+    else if bytes_eq name (codes "dis") then option_map job.Dis (value (codes "IMAGE"))
     else None
 
 -- the first value of each positional and option in the matches

@@ -18,7 +18,7 @@ pub(crate) struct Leaf {
 }
 
 // The commands of the program.
-static LEAVES: [Leaf; 2] = [
+static LEAVES: [Leaf; 4] = [
     Leaf {
         name: "run",
         positionals: &["IMAGE"],
@@ -32,6 +32,16 @@ static LEAVES: [Leaf; 2] = [
         options: &[
             "core", "script", "tape", "width", "window", "stores", "watchdog", "cycles",
         ],
+    },
+    Leaf {
+        name: "asm",
+        positionals: &["SRC"],
+        options: &[],
+    },
+    Leaf {
+        name: "dis",
+        positionals: &["IMAGE"],
+        options: &[],
     },
 ];
 

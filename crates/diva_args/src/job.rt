@@ -9,6 +9,10 @@ pub enum Job {
     Run(RunOptions),
     /// `tape IMAGE`: runs an image, and writes down the lists that were handed over.
     Tape(TapeOptions),
+    /// `asm SRC`: assembles the source of this name. The name is the word as it is, as `IMAGE` of `run` is.
+    Asm(FileName),
+    /// `dis IMAGE`: lists the image of this name. The name is the word as it is.
+    Dis(FileName),
 }
 
 /// What commands have in common that run an image: the image, the core, the script, and the numbers of the machine.

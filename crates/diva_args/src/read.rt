@@ -57,6 +57,8 @@ fn job(alloc: Global, matches: &ArgMatches<'_>) -> Result<Job, ArgsFault>
     match name {
         "run" => Ok(Job::Run(run(alloc, found)?)),
         "tape" => Ok(Job::Tape(tape(alloc, found)?)),
+        "asm" => Ok(Job::Asm(file_of(alloc, found, "SRC")?)),
+        "dis" => Ok(Job::Dis(file_of(alloc, found, "IMAGE")?)),
         _ => Err(ArgsFault::Usage),
     }
 }
@@ -96,6 +98,18 @@ fn tape(alloc: Global, found: &ArgMatches<'_>) -> Result<TapeOptions, ArgsFault>
         return Err(ArgsFault::Usage);
     };
     Ok(TapeOptions { setup, cycles })
+}
+
+// The name of the file that a positional names.
+fn file_of(alloc: Global, found: &ArgMatches<'_>, id: &str) -> Result<FileName, ArgsFault>
+    ensures name { IfOk result (λ name. values_of (rows_of (found_of found.now)) id.now ≡ Some name) }
+    ensures usage { result ≡ Err ArgsFault.Usage
+        → values_of (rows_of (found_of found.now)) id.now ≡ None }
+{
+    let Some(name) = text_of(found, id) else {
+        return Err(ArgsFault::Usage);
+    };
+    Ok(FileName::new(alloc, name)?)
 }
 
 // What commands have in common that run an image.

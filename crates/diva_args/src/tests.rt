@@ -7,7 +7,7 @@ use std::test::Fail;
 fn run(alloc: Global, words: &[&str]) -> Result<RunOptions, Fail> {
     match read_words(alloc, words)? {
         Job::Run(options) => Ok(options),
-        Job::Tape(_) => Err(Fail::new("this is a line of tape")),
+        _ => Err(Fail::new("this is no line of run")),
     }
 }
 
@@ -15,7 +15,7 @@ fn run(alloc: Global, words: &[&str]) -> Result<RunOptions, Fail> {
 fn tape(alloc: Global, words: &[&str]) -> Result<TapeOptions, Fail> {
     match read_words(alloc, words)? {
         Job::Tape(options) => Ok(options),
-        Job::Run(_) => Err(Fail::new("this is a line of run")),
+        _ => Err(Fail::new("this is no line of tape")),
     }
 }
 
@@ -101,6 +101,19 @@ fn lines_of_tape(rt: HostRuntime) -> Result<(), Fail> {
 }
 
 #[test]
+fn lines_of_asm_and_dis(rt: HostRuntime) -> Result<(), Fail> {
+    match read_words(rt.alloc(), &["asm", "p1.s"])? {
+        Job::Asm(source) => assert_eq!(rt; source.as_str(), "p1.s"),
+        _ => assert!(rt; false),
+    }
+    match read_words(rt.alloc(), &["dis", "--", "-x"])? {
+        Job::Dis(image) => assert_eq!(rt; image.as_str(), "-x"),
+        _ => assert!(rt; false),
+    }
+    Ok(())
+}
+
+#[test]
 fn cores_and_their_tapes(rt: HostRuntime) -> Result<(), Fail> {
     let lines: [(&[&str], (&str, Option<&str>)); 5] = [
         (&["run", "p", "--core", "lockstep"], ("lockstep", None)),
@@ -145,7 +158,7 @@ fn any_word_is_a_name(rt: HostRuntime) -> Result<(), Fail> {
 
 #[test]
 fn lines_that_are_refused(rt: HostRuntime) {
-    let lines: [&[&str]; 27] = [
+    let lines: [&[&str]; 32] = [
         &[],
         &["run"],
         &["run", "a", "b"],
@@ -173,6 +186,11 @@ fn lines_that_are_refused(rt: HostRuntime) {
         &["run", "a", "--dump", "fffffffc:5"],
         &["tape"],
         &["tape", "a", "--dump", "0:4"],
+        &["asm"],
+        &["asm", "a", "b"],
+        &["asm", "a", "--core", "own"],
+        &["dis"],
+        &["dis", "--help"],
     ];
     for line in lines {
         let answer = read_words(rt.alloc(), line);

@@ -7,5 +7,7 @@ pub mod Replaying
 pub mod Stopping
 pub mod Preparing
 pub mod Working
+pub mod Alone
+pub mod Listing
 pub mod Completing
 pub mod Determining

@@ -5,6 +5,7 @@ pub mod Stops
 pub mod Driven
 pub mod Runs
 pub mod TapeTexts
+pub mod ImageTexts
 pub mod Texts
 pub mod Answers
 pub mod Statuses

@@ -4,16 +4,19 @@ use Rattle.std.specs.Prelude.{◌≡◌, ◌⊎◌, ℕ, Option}
 use Rattle.diva_outside.specs.Text.{Text}
 use Rattle.diva_core.specs.Log.{Meaning}
 use Rattle.diva_args.specs.declared.job.Job.{Job}
-use Rattle.diva_args.specs.declared.job.Job.TheVariants.{Run, Tape}
+use Rattle.diva_args.specs.declared.job.Job.TheVariants.{Run, Tape, Asm, Dis}
 use Rattle.diva_cli.specs.Wanted.{FileBytes}
 use Rattle.diva_cli.specs.Runs.{HasRun}
 use Rattle.diva_cli.specs.TapeTexts.{HasTape}
+use Rattle.diva_cli.specs.ImageTexts.{HasAssembled, HasListing}
 
 -- ---- a line for each command
 
 abbrev pub HasText : {C : Type 0} → Meaning C → Job → FileBytes → (core after : C) → (status : Option ℕ) → Text → Type 0
 HasText gives (Run options) bytes core after status text = HasRun gives options bytes core after status text
 HasText gives (Tape options) bytes core after status text = HasTape gives options bytes core after status text
+HasText gives (Asm name) bytes core after status text = HasAssembled bytes core after status text
+HasText gives (Dis name) bytes core after status text = HasListing bytes core after status text
 
 -- the statuses of commands whose text was written whole
 abbrev pub IsDone : ℕ → Type 0
@@ -23,3 +26,5 @@ IsDone status = (status ≡ 0) ⊎ ((status ≡ 3) ⊎ (status ≡ 4))
 abbrev pub CanEnd : Job → ℕ → Type 0
 CanEnd (Run options) status = IsDone status
 CanEnd (Tape options) status = IsDone status
+CanEnd (Asm name) status = status ≡ 0
+CanEnd (Dis name) status = status ≡ 0

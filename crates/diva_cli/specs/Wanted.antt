@@ -2,7 +2,7 @@
 use Rattle.std.specs.Prelude.{◌≡◌, ◌≤◌, ℕ, List, [], ◌∷◌, ◌++◌, length, Option, Some, None, Err, IsOk}
 use Rattle.diva_outside.specs.Files.{ToldFiles, Has}
 use Rattle.diva_outside.specs.declared.files.What.{What}
-use Rattle.diva_outside.specs.declared.files.What.TheVariants.{Image, Script, Tape as TapeFile}
+use Rattle.diva_outside.specs.declared.files.What.TheVariants.{Image, Script, Tape as TapeFile, Source}
 use Rattle.diva_image.specs.Images.{fault, fault_of}
 use Rattle.diva_faults.specs.Reading.{script_of}
 use Rattle.diva_tape.specs.Tapes.{tape_of}
@@ -10,7 +10,8 @@ use Rattle.diva_args.specs.Options.{Setup}
 use Rattle.diva_args.specs.declared.job.CoreChoice.{CoreChoice}
 use Rattle.diva_args.specs.declared.job.CoreChoice.TheVariants.{Own, Lockstep, Scalar, Silent, Tape as OfTape}
 use Rattle.diva_args.specs.declared.job.Job.{Job}
-use Rattle.diva_args.specs.declared.job.Job.TheVariants.{Run, Tape}
+use Rattle.diva_args.specs.declared.job.Job.TheVariants.{Run, Tape, Asm, Dis}
+use Rattle.diva_asm.specs.Sources.{source_of}
 
 -- the most bytes that a file may have
 abbrev pub file_limit : ℕ
@@ -45,6 +46,8 @@ machine_files setup = file Image setup.image ∷ (file_if Script setup.script ++
 abbrev pub wanted : Job → List Wanted
 wanted (Run options) = machine_files options.setup
 wanted (Tape options) = machine_files options.setup
+wanted (Asm name) = file Source name ∷ []
+wanted (Dis name) = file Image name ∷ []
 
 -- ---- the first fault of a file's bytes, by what the file is for; no command wants the others yet
 
@@ -52,12 +55,14 @@ abbrev pub IsFaultless : What → List ℕ → Type 0
 IsFaultless Image bytes = fault_of bytes ≡ None
 IsFaultless Script bytes = IsOk (script_of bytes)
 IsFaultless TapeFile bytes = IsOk (tape_of bytes)
+IsFaultless Source bytes = IsOk (source_of bytes)
 IsFaultless _ bytes = ⊥
 
 abbrev pub HasFault : What → List ℕ → (kind place : ℕ) → Type 0
 HasFault Image bytes kind place = fault_of bytes ≡ fault kind place
 HasFault Script bytes kind line = script_of bytes ≡ Err (record { line = line; kind = kind })
 HasFault TapeFile bytes kind line = tape_of bytes ≡ Err (record { line = line; kind = kind })
+HasFault Source bytes kind line = source_of bytes ≡ Err (record { line = line; kind = kind })
 HasFault _ bytes kind place = ⊥
 
 -- ---- files that can be used

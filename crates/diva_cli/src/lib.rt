@@ -1,7 +1,7 @@
 //! The whole program, over the files, the sink and the core that it is handed.
 //!
 //! - `program`: `top`, from the words to the status; `work` has an arm for each command;
-//! - `run`, `tape`: these commands;
+//! - `run`, `tape`, `asm`, `dis`: these commands;
 //! - `loading`: the files of a job, loaded and read one after another;
 //! - `driving`: the core that the command line chose, and what is done with it and a machine;
 //! - `tasks`: the things that are done with a core and a machine, under a script;
@@ -16,10 +16,12 @@
 //! status says, and `Answers.antt` what is answered and why; `Wanted.antt` which files a job wants,
 //! and what is wrong with their bytes, `Stops.antt` at which of them loading stops; `Texts.antt` has
 //! the text of each command, `Runs.antt` that of `run`, with what holds of the machine, `TapeTexts.antt`
-//! that of `tape`, and `Driven.antt` what drove the machine. `Tasks.antt` and `Parts.antt` are what the
+//! that of `tape`, `ImageTexts.antt` those of `asm` and `dis`, and `Driven.antt` what drove the machine. `Tasks.antt` and `Parts.antt` are what the
 //! parts of the program promise one another.
 #![tactic(auto)]
 
+mod asm;
+mod dis;
 mod driving;
 pub mod laws;
 mod lines;

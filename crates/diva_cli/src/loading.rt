@@ -3,6 +3,7 @@ ghost use Rattle.std.specs.Prelude.{◌≡◌, ◌≤◌, ◌∷◌, [], length,
 ghost use Rattle.diva_outside.specs.Files.{Has};
 ghost use Rattle.diva_image.specs.Images.{image_of};
 ghost use Rattle.diva_image.specs.View.{layout};
+ghost use Rattle.diva_asm.specs.Sources.{source_of};
 ghost use Rattle.diva_core.specs.Machine.{IsSizes};
 ghost use Rattle.diva_faults.specs.Reading.{script_of};
 ghost use Rattle.diva_tape.specs.Tapes.{tape_of};
@@ -13,6 +14,7 @@ ghost use Rattle.diva_cli.specs.Parts.{Stops, Holds, HoldsCore, HoldsReady, Hold
 use crate::driving::CoreInUse;
 use crate::stop::Stop;
 use diva_args::{CoreChoice, FileName, Setup};
+use diva_asm::{AsmFault, assemble};
 use diva_faults::{Script, ScriptFault};
 use diva_image::{Image, ImageFault, read};
 use diva_machine::{Config, Machine};
@@ -114,7 +116,11 @@ fn load_machine_files<F: Files>(alloc: Global, files: &mut F, setup: &Setup) -> 
 }
 
 /// The image of this name.
-fn load_image<F: Files>(alloc: Global, files: &mut F, name: &FileName) -> Result<Image, Stop>
+pub(crate) fn load_image<F: Files>(
+    alloc: Global,
+    files: &mut F,
+    name: &FileName,
+) -> Result<Image, Stop>
     ensures stays { F.told files.new ≡ F.told files.old }
     ensures later { (w : What) → F.faults files.old w ≤ F.faults files.new w }
     ensures holds { IfOk result (λ image. Holds (F.told files.old)
@@ -134,6 +140,34 @@ fn load_image<F: Files>(alloc: Global, files: &mut F, name: &FileName) -> Result
             place: u64::from(place),
         }),
         Err(ImageFault::Memory) => Err(Stop::Memory),
+    }
+}
+
+/// The image that the source of this name is assembled to.
+pub(crate) fn load_source<F: Files>(
+    alloc: Global,
+    files: &mut F,
+    name: &FileName,
+) -> Result<Image, Stop>
+    ensures stays { F.told files.new ≡ F.told files.old }
+    ensures later { (w : What) → F.faults files.old w ≤ F.faults files.new w }
+    ensures holds { IfOk result (λ image. Holds (F.told files.old)
+        (file What.Source name.now) (λ bytes. source_of bytes ≡ Ok (layout image))) }
+    ensures stopped { IfErr result (λ stop. Stops (F.told files.old) (F.faults files.old)
+        (F.faults files.new) (file What.Source name.now ∷ []) stop) }
+{
+    let bytes = match load(alloc, files, What::Source, name) {
+        Ok(bytes) => bytes,
+        Err(stop) => return Err(stop),
+    };
+    match assemble(alloc, &bytes) {
+        Ok(image) => Ok(image),
+        Err(AsmFault::Bad { line, kind }) => Err(Stop::Refused {
+            what: What::Source,
+            kind,
+            place: line,
+        }),
+        Err(AsmFault::Memory) => Err(Stop::Memory),
     }
 }
 

@@ -8,6 +8,8 @@ ghost use Rattle.diva_cli.specs.Answers.{IsMisused, HasUnread, HasRefused};
 ghost use Rattle.diva_cli.specs.Statuses.{HasWorked, HasLine, IsCut, HasNoMemory, CanWork, HasEnded, IsStatus};
 ghost use Rattle.diva_cli.specs.Parts.{Answers, status_of};
 
+use crate::asm::asm;
+use crate::dis::dis;
 use crate::lines::usage_line;
 use crate::run::run;
 use crate::stop::Failure;
@@ -23,7 +25,7 @@ use std::alloc::Global;
 ///
 /// | status | comes |
 /// |---|---|
-/// | 0 | the run halted |
+/// | 0 | the run halted; of `asm` and `dis`, the whole text was written |
 /// | 2 | the words are not a valid command line; the usage line is written |
 /// | 3 | the run trapped |
 /// | 4 | exactly the cycles asked for were run, and the machine goes on |
@@ -125,5 +127,7 @@ fn work<F: Files, S: Sink, C: Core>(
     match job {
         Job::Run(options) => run(alloc, options, files, sink, core),
         Job::Tape(options) => tape(alloc, options, files, sink, core),
+        Job::Asm(source) => asm(alloc, source, files, sink, core),
+        Job::Dis(image) => dis(alloc, image, files, sink, core),
     }
 }

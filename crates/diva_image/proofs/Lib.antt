@@ -1,1 +1,4 @@
--- This crate needs no lemmas.
+-- what is written is read again
+pub mod Again
+-- the rules of an image
+pub mod Rules

@@ -1,8 +1,8 @@
--- The image that bytes are, and the first fault of bytes that are not an image.
-use Rattle.std.specs.Prelude.{ℕ, ◌+◌, ◌%◌, ◌^◌, ◌==◌, ◌&&◌, not, nat_lt, nat_le, nat_eq, Bool, List, length, drop, codes, Option, Some, None, if◌then◌else◌}
+-- The image that bytes are, the first fault of bytes that are not an image, and the bytes of an image.
+use Rattle.std.specs.Prelude.{ℕ, ◌+◌, ◌%◌, ◌^◌, ◌==◌, ◌&&◌, not, nat_lt, nat_le, nat_eq, Bool, List, length, drop, ◌++◌, codes, Option, Some, None, is_none, if◌then◌else◌}
 use Rattle.std.specs.List.{starts_with}
 use Rattle.std.specs.Option.{option_or}
-use Rattle.byteorder.specs.Endian.{little_number}
+use Rattle.byteorder.specs.Endian.{little_bytes, little_number}
 use Rattle.diva_image.specs.Layout.{Layout}
 use Rattle.diva_image.specs.declared.header.Header.{Header}
 use Rattle.diva_image.specs.declared.fault.Fault.{Fault}
@@ -68,3 +68,15 @@ fault_of bytes =
 -- the image of bytes that have no fault
 abbrev pub image_of : List ℕ → Layout
 image_of bytes = record { base = word_at 8 bytes; size = word_at 12 bytes; entry = word_at 16 bytes; payload = drop 24 bytes }
+
+-- the image of these parts, if they keep the rules
+abbrev pub image_from : ℕ → ℕ → ℕ → List ℕ → Option Layout
+image_from base size entry payload =
+    if is_none (header_fault (record { base = base; size = size; entry = entry; len = length payload }))
+    then Some (record { base = base; size = size; entry = entry; payload = payload }) else None
+
+-- the bytes of an image: the letters, the version, base, size, entry, length, and the payload
+abbrev pub bytes_of : Layout → List ℕ
+bytes_of i =
+    codes "DIVA" ++ little_bytes 4 1 ++ little_bytes 4 i.base ++ little_bytes 4 i.size ++ little_bytes 4 i.entry
+    ++ little_bytes 4 (length i.payload) ++ i.payload

@@ -1,8 +1,9 @@
 // An image, whose type keeps its rules.
-ghost use Rattle.std.specs.Prelude.{length};
+ghost use Rattle.std.specs.Prelude.{◌≡◌, length, option_map};
 ghost use Rattle.diva_image.specs.Layout.{IsLayout};
 
 use crate::Payload;
+use crate::header::Header;
 
 /// What a machine starts with: its memory, which ends at 2^32 at the latest, and where it is entered.
 #[derive(Drop)]
@@ -16,4 +17,34 @@ pub struct Image {
     /// The first bytes of memory, `size` at most. Zeros follow them.
     pub payload: Payload,
     ghost rules: { IsLayout base size entry (length payload) },
+}
+
+impl Image {
+    ghost use Rattle.diva_image.specs.Images.{image_from};
+    ghost use Rattle.diva_image.specs.View.{layout};
+
+    /// The image of these parts, `None` exactly where they break one of its rules.
+    #[tactic(auto, using(crate::proofs::Rules::too_long))]
+    pub fn new(base: u32, size: u32, entry: u32, payload: Vec<u8>) -> Option<Self>
+        ensures { option_map layout result ≡ image_from base size entry payload.items }
+    {
+        if (size as usize) < payload.len() {
+            return None;
+        }
+        let header = Header {
+            base,
+            size,
+            entry,
+            len: payload.len() as u32,
+        };
+        if header.fault().is_some() {
+            return None;
+        }
+        Some(Image {
+            base,
+            size,
+            entry,
+            payload: Payload::new(payload),
+        })
+    }
 }

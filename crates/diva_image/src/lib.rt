@@ -6,9 +6,10 @@
 //! - `image`: `Image`, whose type keeps the rules of an image.
 //! - `payload`: `Payload`, the bytes of an image.
 //! - `reading`: `read`, from bytes to an image or to their first fault.
+//! - `writing`: `write`, from an image to its bytes.
 //! - `header`: the header's numbers, and their faults.
 //! - `fault`: `ImageFault`, why bytes are not an image.
-//! - `tests`: an image, and three faults of it.
+//! - `tests`: an image, read and written, and three faults of it.
 #![tactic(auto)]
 
 mod fault;
@@ -18,8 +19,10 @@ mod payload;
 mod reading;
 #[cfg(test)]
 mod tests;
+mod writing;
 
 pub use fault::ImageFault;
 pub use image::Image;
 pub use payload::Payload;
 pub use reading::read;
+pub use writing::write;

@@ -11,13 +11,13 @@ use byteorder::{ByteOrder, LittleEndian};
 use std::alloc::Global;
 
 /// The first bytes of a file.
-const MAGIC: &[u8; 4] = b"DIVA";
+pub(crate) const MAGIC: &[u8; 4] = b"DIVA";
 
-/// The version that is read.
-const VERSION: u32 = 1;
+/// The version that is read and written.
+pub(crate) const VERSION: u32 = 1;
 
 /// The length of the header, in bytes.
-const HEADER: usize = 24;
+pub(crate) const HEADER: usize = 24;
 
 /// The image of the bytes. The error is their first fault, or `Memory` where memory runs out.
 pub fn read(alloc: Global, bytes: &[u8]) -> Result<Image, ImageFault>

@@ -1,5 +1,5 @@
-// An image, and three faults of it.
-use crate::{ImageFault, read};
+// An image, read and written, and three faults of it.
+use crate::{ImageFault, read, write};
 use std::test::Fail;
 
 /// An image of three words, which lie at 0 in a memory of 64 bytes and are entered at 0; and one byte more.
@@ -13,6 +13,13 @@ fn reads_an_image(rt: HostRuntime) -> Result<(), Fail> {
     let image = read(rt.alloc(), &BYTES[..36])?;
     assert_eq!(rt; (image.base, image.size, image.entry), (0, 64, 0));
     assert_eq!(rt; image.payload.bytes(), &BYTES[24..36]);
+    Ok(())
+}
+
+#[test]
+fn writes_an_image(rt: HostRuntime) -> Result<(), Fail> {
+    let image = read(rt.alloc(), &BYTES[..36])?;
+    assert_eq!(rt; write(rt.alloc(), &image)?.as_slice(), &BYTES[..36]);
     Ok(())
 }
 

@@ -2,6 +2,7 @@
 mod pipelined;
 mod refusals;
 mod scripts;
+mod sources;
 mod staged;
 mod tables;
 mod tapes;
@@ -22,27 +23,29 @@ use texts::{registers_text, text_due};
 /// The bytes that a sink takes, more than any of these runs writes.
 const ROOM: usize = 1 << 18;
 
-/// The files that are there, an image `a.diva`, a script `a.script` and a tape `a.tape`, and how loads of
-/// them and the sink fail.
+/// The files that are there, an image `a.diva`, a script `a.script`, a tape `a.tape` and a source `a.s`, and how
+/// loads of them and the sink fail.
 #[derive(Drop)]
 struct Outside {
     alloc: Global,
     file: Vec<u8>,
     script: Vec<u8>,
     tape: Vec<u8>,
+    source: Vec<u8>,
     load_fails: Vec<u64>,
     room: usize,
     put_fails: Vec<SinkFail>,
 }
 
 impl Outside {
-    /// An image with these bytes, an empty script and an empty tape, where nothing fails.
+    /// An image with these bytes, and an empty file of each other kind, where nothing fails.
     fn sound(alloc: Global, file: Vec<u8>) -> Self {
         Outside {
             alloc,
             file,
             script: Vec::new(alloc),
             tape: Vec::new(alloc),
+            source: Vec::new(alloc),
             load_fails: Vec::new(alloc),
             room: ROOM,
             put_fails: Vec::new(alloc),
@@ -96,6 +99,7 @@ fn run_program<C: Core>(core: &mut C, line: &str, outside: Outside) -> Result<An
         ("a.diva", outside.file),
         ("a.script", outside.script),
         ("a.tape", outside.tape),
+        ("a.s", outside.source),
     ] {
         there.push(MemFile::new(String::from_str(alloc, name)?, bytes))?;
     }

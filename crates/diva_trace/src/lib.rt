@@ -16,6 +16,7 @@ mod report;
 mod tests;
 mod writers;
 
+pub use line_list::{LineList, write_lines};
 pub use lines::{
     commit_line, count_line, cycles_line, end_line, flush_line, flushes_line, mem_line, out_line,
     output_line, pc_line, registers_line,

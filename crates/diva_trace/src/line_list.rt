@@ -6,7 +6,7 @@ ghost use Rattle.diva_outside.specs.Sink.{Puts};
 use diva_outside::{Line, Sink, SinkFailed};
 
 /// Lines, each made when it is asked for, so that they take no memory.
-pub(crate) trait LineList {
+pub trait LineList {
     /// The lines, in order.
     ghost lines: { Self → List (List ℕ) };
 
@@ -20,8 +20,8 @@ pub(crate) trait LineList {
         ensures { result ≡ slice_index_or (lines self.now) at [] };
 }
 
-/// Puts the lines, one after the other. Where one fails, no line after it is put.
-pub(crate) fn write_lines<L: LineList, S: Sink>(list: &L, sink: &mut S) -> Result<(), SinkFailed>
+/// Puts the lines, one after the other. Where one fails, a prefix of their text was appended, and no line after it is put.
+pub fn write_lines<L: LineList, S: Sink>(list: &L, sink: &mut S) -> Result<(), SinkFailed>
     ensures { Puts (concat (L.lines list.now))
         (S.contents sink.old) (S.contents sink.new) (S.faults sink.old) (S.faults sink.new) result }
 {

@@ -1,0 +1,13 @@
+-- The lines that are left make of what was built so far what all lines make of nothing.
+use Rattle.std.proofs.Common.{◌≡◌, ◌≤◌, ◌+◌, length}
+use Rattle.diva_outside.specs.Lines.{lines_of, over_lines}
+use Rattle.diva_asm.specs.Building.{nothing_built, built_line}
+use Rattle.diva_asm.proofs.assembling.build_lines.Given as goal
+
+abbrev pub invariant-loop-line : goal.invariant-loop-line
+invariant-loop-line l = record {
+  can_next : (goal.iterator-loop-line).can_next l.line-iterator;
+  is_finite : (goal.iterator-loop-line).is_finite l.line-iterator;
+  counted : l.number + length l.line-iterator ≤ length l.source;
+  same : over_lines (built_line l.base l.laid.labels) 1 nothing_built (lines_of l.source) ≡ over_lines (built_line l.base l.laid.labels) (l.number + 1) l.built l.line-iterator;
+}

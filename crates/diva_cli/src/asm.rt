@@ -1,0 +1,40 @@
+// The command `asm`: it assembles a source, and writes the bytes of the image.
+ghost use Rattle.std.specs.Prelude.{◌≡◌, Some};
+ghost use Rattle.diva_args.specs.declared.job.Job.TheVariants.{Asm};
+ghost use Rattle.diva_cli.specs.Parts.{Answers};
+
+use crate::loading::load_source;
+use crate::stop::Failure;
+use crate::writing::write_stop;
+use diva_args::FileName;
+use diva_core::Core;
+use diva_image::write;
+use diva_outside::{Files, Sink};
+use std::alloc::Global;
+
+/// Assembles a source, and writes the bytes of its image in one put. All memory is taken before that, and the core can't be
+/// asked.
+pub(crate) fn asm<F: Files, S: Sink, C: Core>(
+    alloc: Global,
+    source: FileName,
+    files: &mut F,
+    sink: &mut S,
+    _core: &C,
+) -> Result<u8, Failure>
+    ensures { Answers C.gives (Some (Asm source)) (F.told files.old) (F.faults files.old)
+        (F.faults files.new) _core.now _core.now (S.contents sink.old) (S.contents sink.new)
+        (S.faults sink.old) (S.faults sink.new) result }
+{
+    let image = match load_source(alloc, files, &source) {
+        Ok(image) => image,
+        Err(stop) => return write_stop(stop, sink),
+    };
+    let bytes = match write(alloc, &image) {
+        Ok(bytes) => bytes,
+        Err(_) => return Err(Failure::Memory),
+    };
+    match sink.put(&bytes) {
+        Ok(()) => Ok(0),
+        Err(_) => Err(Failure::Cut),
+    }
+}

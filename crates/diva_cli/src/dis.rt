@@ -1,0 +1,84 @@
+// The command `dis`: it lists the words of an image.
+ghost use Rattle.std.specs.Prelude.{◌≡◌, ◌≤◌, Some, length, slice_index};
+ghost use Rattle.diva_args.specs.declared.job.Job.TheVariants.{Dis};
+ghost use Rattle.diva_asm.specs.Listing.{word_at};
+ghost use Rattle.diva_cli.specs.Parts.{Answers};
+
+use crate::loading::load_image;
+use crate::stop::Failure;
+use crate::writing::write_stop;
+use diva_args::FileName;
+use diva_asm::list_line;
+use diva_core::Core;
+use diva_image::Image;
+use diva_outside::{Files, Line, Sink};
+use diva_trace::{LineList, write_lines};
+use std::alloc::Global;
+
+/// Lists an image, each line in one put. The core can't be asked.
+pub(crate) fn dis<F: Files, S: Sink, C: Core>(
+    alloc: Global,
+    image: FileName,
+    files: &mut F,
+    sink: &mut S,
+    _core: &C,
+) -> Result<u8, Failure>
+    ensures { Answers C.gives (Some (Dis image)) (F.told files.old) (F.faults files.old)
+        (F.faults files.new) _core.now _core.now (S.contents sink.old) (S.contents sink.new)
+        (S.faults sink.old) (S.faults sink.new) result }
+{
+    let listed = match load_image(alloc, files, &image) {
+        Ok(listed) => listed,
+        Err(stop) => return write_stop(stop, sink),
+    };
+    match write_lines(&ListingLines { image: &listed }, sink) {
+        Ok(()) => Ok(0),
+        Err(_) => Err(Failure::Cut),
+    }
+}
+
+// The lines of an image: one for each word in which its payload has a byte.
+#[derive(Drop)]
+struct ListingLines<'a> {
+    image: &'a Image,
+}
+
+impl LineList for ListingLines<'_> {
+    ghost use Rattle.diva_image.specs.View.{layout};
+    ghost use Rattle.diva_asm.specs.Listing.{listing_of};
+
+    ghost lines = { λ s. listing_of (layout s.image.now) };
+
+    #[tactic(auto, using(crate::proofs::Listing::length_listing))]
+    fn count(&self) -> usize {
+        self.image.payload.bytes().len().div_ceil(4)
+    }
+
+    fn line(&self, at: usize) -> Line {
+        let place = 4 * at;
+        let word = word_at(self.image.payload.bytes(), place);
+        list_line(self.image.base + place as u32, word)
+    }
+}
+
+// The word of a payload at a place, the lowest byte first; behind the payload are zeros.
+#[tactic(auto, using(std::proofs::lemmas::List::take_rest))]
+fn word_at(payload: &[u8], place: usize) -> u32
+    requires { place ≤ length payload.now }
+    ensures { result ≡ word_at payload.now place }
+{
+    let rest = &payload[place..];
+    u32::from_le_bytes([
+        byte_at(rest, 0),
+        byte_at(rest, 1),
+        byte_at(rest, 2),
+        byte_at(rest, 3),
+    ])
+}
+
+// The byte at a place, and 0 behind the end.
+fn byte_at(bytes: &[u8], place: usize) -> u8
+    ensures { result ≡ slice_index bytes.now place }
+{
+    bytes.get(place).copied().unwrap_or(0)
+}
