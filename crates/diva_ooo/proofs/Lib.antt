@@ -5,3 +5,4 @@ pub mod Boarding
 pub mod Reading
 pub mod Issued
 pub mod Handing
+pub mod Marking

@@ -1,3 +1,4 @@
+pub mod PlaceSets
 pub mod Profile
 pub mod Finish
 pub mod Issue

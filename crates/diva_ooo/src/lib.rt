@@ -1,7 +1,7 @@
 //! A sample out-of-order core.
 //!
 //! - `profile`: what the core notes of an instruction that it fetches; `predicting`: where it fetches next;
-//! - `entry`, `window`: the instructions under way, in program order;
+//! - `entry`, `window`: the instructions under way, in program order; `place_set`: some of their places;
 //! - `finishing`: what runs has one cycle less to run;
 //! - `board`: what is known behind the entries that were looked at;
 //! - `flight`: the state that an instruction reads;
@@ -20,6 +20,7 @@ mod flight;
 mod issuing;
 pub mod laws;
 mod ooo;
+mod place_set;
 mod predicting;
 mod profile;
 mod window;

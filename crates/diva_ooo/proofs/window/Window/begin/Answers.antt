@@ -1,9 +1,16 @@
-use Rattle.std.proofs.Common.{◌≡◌, Some, rules, slice_get}
+use Rattle.std.proofs.Common.{◌≡◌, Some, refl, rules, slice_get, true}
+use Rattle.diva_ooo.specs.Finish.{is_running}
+use Rattle.diva_ooo.specs.Issue.{running}
 use Rattle.diva_ooo.proofs.Knowing.{known_begun}
+use Rattle.diva_ooo.proofs.Marking.{those_set}
 use Rattle.diva_ooo.proofs.window.Window.begin.Goals as goal
 
 pub invariant_of-self : goal.invariant_of-self
 invariant_of-self c =
     let w = c.self.inside.entries.items in
-    let here : slice_get w c.args.at ≡ Some c.unwrap-entry.result.now = search rules in
-    (c.self.invariant.0, known_begun w c.args.at c.unwrap-entry.result.now c.args.r c.args.effect here c.self.invariant.1 c.requires.effect c.requires.register)
+    let e = c.unwrap-entry.result.now in
+    let here : slice_get w c.args.at ≡ Some e = search rules in (
+      c.self.invariant.0,
+      known_begun w c.args.at e c.args.r c.args.effect here c.self.invariant.1 c.requires.effect c.requires.register,
+      those_set (λ x. is_running x.stage) w c.args.at e (record (running e c.args.r) { effect = c.args.effect }) true c.self.inside.running c.add.new.self c.self.invariant.2 here refl c.add.ensures,
+    )

@@ -1,0 +1,14 @@
+use Rattle.std.proofs.lemmas.List.Elements.{All-take}
+use Rattle.diva_ooo.specs.Finish.{is_running}
+use Rattle.diva_ooo.specs.Known.{IsKnown}
+use Rattle.diva_ooo.proofs.Marking.{those_keep}
+use Rattle.diva_ooo.proofs.window.Window.keep.Goals as goal
+
+pub invariant_of-self : goal.invariant_of-self
+invariant_of-self c =
+    let w = c.self.inside.entries.items in
+    rw c.truncate_back.ensures (
+      c.self.invariant.0,
+      All-take IsKnown c.args.most w c.self.invariant.1,
+      those_keep (λ x. is_running x.stage) w c.args.most c.self.inside.running c.keep.new.self c.self.invariant.2 c.keep.ensures,
+    )
