@@ -1,4 +1,4 @@
-pub mod PlaceSets
+pub mod MarkSets
 pub mod Profile
 pub mod Finish
 pub mod Issue

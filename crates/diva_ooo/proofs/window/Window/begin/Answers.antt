@@ -1,8 +1,6 @@
-use Rattle.std.proofs.Common.{◌≡◌, Some, refl, rules, slice_get, true}
-use Rattle.diva_ooo.specs.Finish.{is_running}
+use Rattle.std.proofs.Common.{◌≡◌, Some, refl, rules, slice_get}
 use Rattle.diva_ooo.specs.Issue.{running}
 use Rattle.diva_ooo.proofs.Knowing.{known_begun}
-use Rattle.diva_ooo.proofs.Marking.{those_set}
 use Rattle.diva_ooo.proofs.window.Window.begin.Goals as goal
 
 pub invariant_of-self : goal.invariant_of-self
@@ -12,5 +10,6 @@ invariant_of-self c =
     let here : slice_get w c.args.at ≡ Some e = search rules in (
       c.self.invariant.0,
       known_begun w c.args.at e c.args.r c.args.effect here c.self.invariant.1 c.requires.effect c.requires.register,
-      those_set (λ x. is_running x.stage) w c.args.at e (record (running e c.args.r) { effect = c.args.effect }) true c.self.inside.running c.add.new.self c.self.invariant.2 here refl c.add.ensures,
+      c.begin.ensures.board w e (record (running e c.args.r) { effect = c.args.effect }) c.self.invariant.2 here (c.requires.waits e (rw (← c.self.view_is) here)) refl refl,
+      rw c.begin.ensures.base c.self.invariant.3,
     )
