@@ -148,6 +148,7 @@ impl Ahead {
     }
 
     /// Stands behind a record that is handed over, by its effect. There is room in the ring.
+    #[inline(always)]
     #[tactic(auto, using(crate::proofs::Handing::handed_is), unfolding(crate::specs::Effects::done_by))]
     pub fn hand_over(&mut self, r: &Record, effect: Effect)
         requires room { length self.old.ring < 64 }
