@@ -1,107 +1,799 @@
--- The board knows what is known behind the entries that were looked at.
-use Rattle.std.proofs.Common.{◌≡◌, ◌<◌, ℕ, zero, suc, ◌==◌, Bool, true, false, not, ◌&&◌, ◌||◌, List, [], ◌∷◌, ◌++◌, length, get_or, replicate, refl, ap, sym, ◌∙◌, arith, if◌then◌else◌}
-use Rattle.std.specs.Prelude.{slice_set}
+-- The board follows the entries of its window.
+use Rattle.std.proofs.Common.{◌≡◌, ◌<◌, ◌≤◌, ℕ, zero, suc, ◌+◌, ◌-◌, ◌==◌, Bool, true, false, not, ◌&&◌, ◌||◌, List, [], ◌∷◌, ◌++◌, length, get_or, replicate, take, Some, refl, ap, sym, ◌∙◌, arith, slice_get, append_assoc, if◌then◌else◌}
+use Rattle.std.specs.Prelude.{slice_set, nat_lt, nat_le}
 use Rattle.std.proofs.lemmas.Bool.Decides.{nat_tests}
-use Rattle.diva_isa.specs.Regs.{with_reg}
+use Rattle.std.proofs.lemmas.Grind.{common_steps}
+use Rattle.std.proofs.lemmas.List.{append-nil}
 use Rattle.diva_ooo.specs.declared.entry.Entry.{Entry}
+use Rattle.diva_ooo.specs.declared.entry.Stage.{Stage}
+use Rattle.diva_ooo.specs.declared.entry.Stage.TheVariants.{Waiting, Running, Done}
 use Rattle.diva_ooo.specs.declared.board.Board.{Board}
-use Rattle.diva_ooo.specs.Board.{IsBoard}
-use Rattle.diva_ooo.specs.Issue.{are_stored, is_awaited, is_done, is_storing, written}
+use Rattle.diva_ooo.specs.declared.mark_set.MarkSet.{MarkSet}
+use Rattle.diva_ooo.specs.declared.profile.Class.{Class}
+use Rattle.diva_ooo.specs.declared.profile.Class.TheVariants.{Plain, Loads, Stores, Calls}
+use Rattle.diva_ooo.specs.declared.profile.Profile.{Profile}
+use Rattle.diva_ooo.specs.Board.{IsBoard, IsCandidate, IsLastOf, IsNextOf, can_at, could_at, has_result, is_load, is_loading, is_open_store, no_mark, reads, writes}
+use Rattle.diva_ooo.specs.Finish.{is_running}
+use Rattle.diva_ooo.specs.Issue.{are_stored, can_begin, is_available, is_awaited, is_done, is_free, is_ready, is_storing, is_waiting}
+use Rattle.diva_ooo.specs.MarkSets.{AreThose, IsLast, IsNext, has, holds_at}
+use Rattle.diva_ooo.proofs.Marking.{holds_end, holds_take, those_drop, those_dropped, those_none, those_pop, those_push, those_same, those_set}
 
-pub set_get : (xs : List Bool) (i n : ℕ) (v : Bool) → n < length xs → get_or (slice_set xs i v) n false ≡ (if i == n then v else get_or xs n false)
-set_get [] i n v h = absurd (omega arith)
-set_get (x ∷ xs) zero zero v h = refl
-set_get (x ∷ xs) zero (suc n) v h = let other : (0 == suc n) ≡ false = grind (arith, nat_tests) in rw other refl
-set_get (x ∷ xs) (suc i) zero v h = let other : (suc i == 0) ≡ false = grind (arith, nat_tests) in rw other refl
-set_get (x ∷ xs) (suc i) (suc n) v h = let same : (suc i == suc n) ≡ (i == n) = grind (arith, nat_tests) in rw same (set_get xs i n v (omega arith))
+-- ---- what holds of each stage
 
-pub set_length : (xs : List Bool) (i : ℕ) (v : Bool) → length (slice_set xs i v) ≡ length xs
-set_length [] i v = refl
-set_length (x ∷ xs) zero v = refl
-set_length (x ∷ xs) (suc i) v = ap suc (set_length xs i v)
+pub waits_only : (s : Stage) → is_waiting s ≡ true → (is_running s ≡ false) × (is_done s ≡ false)
+waits_only Waiting is = (refl, refl)
+waits_only (Running left) is = absurd (cc)
+waits_only Done is = absurd (cc)
 
-get_none : (k n : ℕ) → get_or (replicate k false) n false ≡ false
-get_none zero n = refl
-get_none (suc k) zero = refl
-get_none (suc k) (suc n) = get_none k n
+pub runs_only : (s : Stage) → is_running s ≡ true → (is_waiting s ≡ false) × (is_done s ≡ false)
+runs_only Waiting is = absurd (cc)
+runs_only (Running left) is = (refl, refl)
+runs_only Done is = absurd (cc)
 
--- ---- the definitions behind one entry more
+pub done_only : (s : Stage) → is_done s ≡ true → (is_waiting s ≡ false) × (is_running s ≡ false)
+done_only Waiting is = absurd (cc)
+done_only (Running left) is = absurd (cc)
+done_only Done is = (refl, refl)
+
+-- ---- what is available
 
 awaited_more : (older : List Entry) (e : Entry) (so : Bool) (n : ℕ) → is_awaited so (older ++ e ∷ []) n ≡ (if e.profile.rd == n then not (is_done e.stage) else is_awaited so older n)
 awaited_more [] e so n = refl
 awaited_more (x ∷ older) e so n = awaited_more older e (if x.profile.rd == n then not (is_done x.stage) else so) n
 
-written_more : (regs : List ℕ) (older : List Entry) (e : Entry) → written regs (older ++ e ∷ []) ≡ (if is_done e.stage then with_reg (written regs older) e.profile.rd e.result.value else written regs older)
-written_more regs [] e = refl
-written_more regs (x ∷ older) e = written_more (if is_done x.stage then with_reg regs x.profile.rd x.result.value else regs) older e
+available_more : (o : List Entry) (e : Entry) (n : ℕ) → is_available (o ++ e ∷ []) n ≡ ((n == 0) || not (if e.profile.rd == n then not (is_done e.stage) else is_awaited false o n))
+available_more o e n = ap (λ (b : Bool). (n == 0) || not b) (awaited_more o e false n)
 
-and_true : (b : Bool) → (b && true) ≡ b
-and_true true = refl
-and_true false = refl
+more_by : (c z d a b : Bool) → (z || not a) ≡ (z || not b) → (z || not (if c then not d else a)) ≡ (z || not (if c then not d else b))
+more_by true z d a b h = refl
+more_by false z d a b h = h
 
-and_assoc : (b c d : Bool) → (b && (c && d)) ≡ ((b && c) && d)
-and_assoc true c d = refl
-and_assoc false c d = refl
+-- the same is available behind both, but maybe for one register
+abbrev AreAlike : (r : ℕ) → List Entry → List Entry → Type 0
+AreAlike r o1 o2 = (n : ℕ) → ((n == r) && not (r == 0)) ≡ false → is_available o1 n ≡ is_available o2 n
 
-stored_more : (older : List Entry) (e : Entry) → are_stored (older ++ e ∷ []) ≡ (are_stored older && (is_done e.stage || not (is_storing e.profile.class)))
-stored_more [] e = and_true (is_done e.stage || not (is_storing e.profile.class))
-stored_more (x ∷ older) e =
-    ap (λ (b : Bool). (is_done x.stage || not (is_storing x.profile.class)) && b) (stored_more older e)
-    ∙ and_assoc (is_done x.stage || not (is_storing x.profile.class)) (are_stored older) (is_done e.stage || not (is_storing e.profile.class))
+alike_more : (r : ℕ) (o1 o2 : List Entry) (x : Entry) → AreAlike r o1 o2 → AreAlike r (o1 ++ x ∷ []) (o2 ++ x ∷ [])
+alike_more r o1 o2 x alike = λ n other.
+    available_more o1 x n
+    ∙ more_by (x.profile.rd == n) (n == 0) (is_done x.stage) (is_awaited false o1 n) (is_awaited false o2 n) (alike n other)
+    ∙ sym (available_more o2 x n)
+
+unread : (a b z : Bool) → ((a || b) && z) ≡ false → ((a && z) ≡ false) × ((b && z) ≡ false)
+unread true true true h = absurd (cc)
+unread true false true h = absurd (cc)
+unread false true true h = absurd (cc)
+unread false false true h = (refl, refl)
+unread true true false h = (refl, refl)
+unread true false false h = (refl, refl)
+unread false true false h = (refl, refl)
+unread false false false h = (refl, refl)
+
+could_alike : (r : ℕ) (o1 o2 w : List Entry) (i : ℕ) → AreAlike r o1 o2 → holds_at (reads r) w i ≡ false → could_at o1 w i ≡ could_at o2 w i
+could_alike r o1 o2 [] i alike not_read = refl
+could_alike r o1 o2 (e ∷ w) zero alike not_read =
+    let both = unread (e.profile.rs1 == r) (e.profile.rs2 == r) (not (r == 0)) not_read in
+    ap (λ (b : Bool). is_waiting e.stage && (b && is_available o1 e.profile.rs2)) (alike e.profile.rs1 both.0)
+    ∙ ap (λ (b : Bool). is_waiting e.stage && (is_available o2 e.profile.rs1 && b)) (alike e.profile.rs2 both.1)
+could_alike r o1 o2 (e ∷ w) (suc i) alike not_read = could_alike r (o1 ++ e ∷ []) (o2 ++ e ∷ []) w i (alike_more r o1 o2 e alike) not_read
+
+and_off : (b : Bool) → (b && false) ≡ false
+and_off true = refl
+and_off false = refl
+
+none_reads : (w : List Entry) (i : ℕ) → holds_at (reads 0) w i ≡ false
+none_reads [] i = refl
+none_reads (e ∷ w) zero = and_off ((e.profile.rs1 == 0) || (e.profile.rs2 == 0))
+none_reads (e ∷ w) (suc i) = none_reads w i
+
+could_same : (o1 o2 w : List Entry) (i : ℕ) → ((n : ℕ) → is_available o1 n ≡ is_available o2 n) → could_at o1 w i ≡ could_at o2 w i
+could_same o1 o2 w i same = could_alike 0 o1 o2 w i (λ n other. same n) (none_reads w i)
+
+-- ---- an entry that is further
+
+staged_same : (o : List Entry) (x y : Entry) → y.profile ≡ x.profile → is_done y.stage ≡ is_done x.stage → (n : ℕ) → is_available (o ++ y ∷ []) n ≡ is_available (o ++ x ∷ []) n
+staged_same o x y profile stage n =
+    available_more o y n
+    ∙ ap (λ (p : Profile). (n == 0) || not (if p.rd == n then not (is_done y.stage) else is_awaited false o n)) profile
+    ∙ ap (λ (b : Bool). (n == 0) || not (if x.profile.rd == n then not b else is_awaited false o n)) stage
+    ∙ sym (available_more o x n)
+
+waits_not : (older w : List Entry) (y : Entry) → is_waiting y.stage ≡ false → could_at older (y ∷ w) 0 ≡ false
+waits_not older w y idle = rw idle refl
+
+could_begun : (older w : List Entry) (at i : ℕ) (x y : Entry) → slice_get w at ≡ Some x → y.profile ≡ x.profile → is_done y.stage ≡ is_done x.stage → is_waiting y.stage ≡ false
+    → could_at older w i ≡ false → could_at older (slice_set w at y) i ≡ false
+could_begun older [] at i x y is profile stage idle h = h
+could_begun older (e ∷ w) zero zero x y is profile stage idle h = waits_not older w y idle
+could_begun older (e ∷ w) zero (suc i) x y is profile stage idle h =
+    let here : e ≡ x = cc in
+    could_same (older ++ y ∷ []) (older ++ x ∷ []) w i (staged_same older x y profile stage) ∙ ap (λ (z : Entry). could_at (older ++ z ∷ []) w i) (sym here) ∙ h
+could_begun older (e ∷ w) (suc at) zero x y is profile stage idle h = h
+could_begun older (e ∷ w) (suc at) (suc i) x y is profile stage idle h = could_begun (older ++ e ∷ []) w at i x y is profile stage idle h
+
+zero_by : (b : Bool) (n r : ℕ) → (n == 0) ≡ b → r ≡ n → ((n == r) && not (r == 0)) ≡ false → (n == 0) ≡ true
+zero_by true n r is same other = is
+zero_by false n r is same other =
+    let equal : (n == r) ≡ true = grind (arith, nat_tests) in
+    let some : (r == 0) ≡ false = grind (arith, nat_tests) in
+    let off : (true && not false) ≡ false = ap (λ (c : Bool). c && not false) (sym equal) ∙ ap (λ (c : Bool). (n == r) && not c) (sym some) ∙ other in
+    absurd (cc)
+
+finished_by : (c : Bool) (o : List Entry) (x y : Entry) (n : ℕ) → y.profile ≡ x.profile → (x.profile.rd == n) ≡ c → ((n == x.profile.rd) && not (x.profile.rd == 0)) ≡ false
+    → is_available (o ++ y ∷ []) n ≡ is_available (o ++ x ∷ []) n
+finished_by true o x y n profile is other =
+    let same : x.profile.rd ≡ n = grind (arith, nat_tests) in
+    let none : (n == 0) ≡ true = zero_by (n == 0) n (x.profile.rd) refl same other in
+    rw none refl
+finished_by false o x y n profile is other =
+    available_more o y n
+    ∙ ap (λ (p : Profile). (n == 0) || not (if p.rd == n then not (is_done y.stage) else is_awaited false o n)) profile
+    ∙ rw is refl
+    ∙ ap (λ (c : Bool). (n == 0) || not (if c then not (is_done x.stage) else is_awaited false o n)) (sym is)
+    ∙ sym (available_more o x n)
+
+could_finished : (older w : List Entry) (at i : ℕ) (x y : Entry) → slice_get w at ≡ Some x → y.profile ≡ x.profile → is_waiting y.stage ≡ false → holds_at (reads x.profile.rd) w i ≡ false
+    → could_at older w i ≡ false → could_at older (slice_set w at y) i ≡ false
+could_finished older [] at i x y is profile idle unread' h = h
+could_finished older (e ∷ w) zero zero x y is profile idle unread' h = waits_not older w y idle
+could_finished older (e ∷ w) zero (suc i) x y is profile idle unread' h =
+    let here : e ≡ x = cc in
+    could_alike x.profile.rd (older ++ y ∷ []) (older ++ x ∷ []) w i (λ n other. finished_by (x.profile.rd == n) older x y n profile refl other) unread'
+    ∙ ap (λ (z : Entry). could_at (older ++ z ∷ []) w i) (sym here)
+    ∙ h
+could_finished older (e ∷ w) (suc at) zero x y is profile idle unread' h = h
+could_finished older (e ∷ w) (suc at) (suc i) x y is profile idle unread' h = could_finished (older ++ e ∷ []) w at i x y is profile idle unread' h
+
+-- ---- the window gets longer and shorter
+
+gone_by : (c z : Bool) → (z || not (if c then false else false)) ≡ (z || true)
+gone_by true z = refl
+gone_by false z = refl
+
+gone_same : (e : Entry) → is_done e.stage ≡ true → (n : ℕ) → is_available (e ∷ []) n ≡ is_available [] n
+gone_same e done n = rw done (gone_by (e.profile.rd == n) (n == 0))
+
+could_pushed : (older w : List Entry) (e : Entry) (i : ℕ) → (i ≡ length w → ⊥) → could_at older (w ++ e ∷ []) i ≡ could_at older w i
+could_pushed older [] e zero other = absurd (other refl)
+could_pushed older [] e (suc i) other = refl
+could_pushed older (x ∷ w) e zero other = refl
+could_pushed older (x ∷ w) e (suc i) other = could_pushed (older ++ x ∷ []) w e i (λ is. other (omega arith))
+
+could_dropped : (older w : List Entry) (e : Entry) (i : ℕ) → could_at older (w ++ e ∷ []) i ≡ false → could_at older w i ≡ false
+could_dropped older [] e i h = refl
+could_dropped older (x ∷ w) e zero h = h
+could_dropped older (x ∷ w) e (suc i) h = could_dropped (older ++ x ∷ []) w e i h
+
+could_waits : (older w : List Entry) (i : ℕ) → holds_at (λ e. is_waiting e.stage) w i ≡ false → could_at older w i ≡ false
+could_waits older [] i h = refl
+could_waits older (e ∷ w) zero h = waits_not older w e h
+could_waits older (e ∷ w) (suc i) h = could_waits (older ++ e ∷ []) w i h
 
 -- ---- the board
 
-or_true : (b : Bool) → (b || true) ≡ true
-or_true true = refl
-or_true false = refl
+get_blank : (k n : ℕ) → get_or (replicate k no_mark) n no_mark ≡ no_mark
+get_blank zero n = refl
+get_blank (suc k) zero = refl
+get_blank (suc k) (suc n) = get_blank k n
 
-pub board_new : (regs : List ℕ) → IsBoard regs [] (record { regs = regs; awaited = replicate 32 false; storing = false })
-board_new regs =
-    record { known = refl; long = refl; available = λ n lt. or_true (n == 0) ∙ sym (ap not (get_none 32 n)); stored = refl }
+pub blank_those : (p : Entry → Bool) (n : ℕ) → AreThose p [] 0 (get_or (replicate 32 no_mark) n no_mark)
+blank_those p n = λ i. ap (λ (s : MarkSet). has s (0 + i)) (get_blank 32 n) ∙ those_none p 0 i
 
--- a register behind an entry that is done, or is under way
-marked : (zero' same : Bool) (so v : Bool) → ((zero' || not so) ≡ not v) → (zero' || not (if same then false else so)) ≡ not (if same then false else v)
-marked true true so v h = refl
-marked true false so v h = h
-marked false true so v h = refl
-marked false false so v h = h
+gone_one : (c : Bool) (w : List Entry) (e : Entry) (b : Board) (n : ℕ) → IsBoard (e ∷ w) b → is_done e.stage ≡ true → nat_lt n b.base ≡ c → n < b.base + 1 → has b.done n ≡ true
+gone_one true w e b n i is less h = let before : n < b.base = grind (arith, nat_tests) in i.gone n before
+gone_one false w e b n i is less h =
+    let here : n ≡ b.base + 0 = grind (arith, nat_tests) in
+    ap (has b.done) here ∙ i.done 0 ∙ is
 
-flip : (b : Bool) → (b || false) ≡ not (not b)
-flip true = refl
-flip false = refl
+apart_mark : (base at n : ℕ) → n < base → (n == base + at) ≡ false
+apart_mark base at n h = grind (arith, nat_tests)
 
-stalled : (stores storing : Bool) → (not storing && (false || not stores)) ≡ not (storing || stores)
-stalled true true = refl
-stalled true false = refl
-stalled false true = refl
-stalled false false = refl
-
-open_by : (rd n : ℕ) (same : Bool) (so v : Bool) → (rd == n) ≡ same → ((n == 0) || not so) ≡ not v → ((n == 0) || not (if same then true else so)) ≡ not (if same then not (rd == 0) else v)
-open_by rd n true so v is h = let at : (n == 0) ≡ (rd == 0) = grind (arith, nat_tests) in rw at (flip (rd == 0))
-open_by rd n false so v is h = h
-
-pub board_done : (regs : List ℕ) (older : List Entry) (e : Entry) (b : Board) → is_done e.stage ≡ true → IsBoard regs older b
-    → IsBoard regs (older ++ e ∷ []) (record b { regs = with_reg b.regs e.profile.rd e.result.value; awaited = slice_set b.awaited e.profile.rd false })
-board_done regs older e b done i =
+pub board_pop : (w : List Entry) (e : Entry) (b : Board) → b.base < 32 → IsBoard (e ∷ w) b → is_done e.stage ≡ true → IsBoard w (record b { base = b.base + 1 })
+board_pop w e b few i is =
     record {
-      known = rw i.known (sym (written_more regs older e ∙ rw done refl));
-      long = set_length b.awaited e.profile.rd false ∙ i.long;
-      available = λ n lt.
-          ap (λ (so : Bool). (n == 0) || not so) (awaited_more older e false n ∙ rw done refl)
-          ∙ marked (n == 0) (e.profile.rd == n) (is_awaited false older n) (get_or b.awaited n false) (i.available n lt)
-          ∙ sym (ap not (set_get b.awaited e.profile.rd n false (omega (arith, i.long))));
-      stored = stored_more older e ∙ rw done (and_true (are_stored older)) ∙ i.stored;
+      base = omega arith;
+      waiting = those_pop (λ x. is_waiting x.stage) w e b.base b.waiting i.waiting;
+      running = those_pop (λ x. is_running x.stage) w e b.base b.running i.running;
+      done = those_pop (λ x. is_done x.stage) w e b.base b.done i.done;
+      gone = λ n h. gone_one (nat_lt n b.base) w e b n i is refl h;
+      storing = those_pop is_open_store w e b.base b.storing i.storing;
+      loads = those_pop is_load w e b.base b.loads i.loads;
+      candidates = λ n none.
+          let at : b.base + 1 + n ≡ b.base + suc n = omega arith in
+          sym (could_same (e ∷ []) [] w n (gone_same e is)) ∙ i.candidates (suc n) (ap (has b.candidates) (sym at) ∙ none);
+      write_sets = i.write_sets;
+      read_sets = i.read_sets;
+      writers = λ n h. those_pop (writes n) w e b.base (get_or b.writers n no_mark) (i.writers n h);
+      readers = λ n h. those_pop (reads n) w e b.base (get_or b.readers n no_mark) (i.readers n h);
     }
 
-pub board_open : (regs : List ℕ) (older : List Entry) (e : Entry) (b : Board) (storing : Bool) → is_done e.stage ≡ false → storing ≡ (b.storing || is_storing e.profile.class) → IsBoard regs older b
-    → IsBoard regs (older ++ e ∷ []) (record b { awaited = slice_set b.awaited e.profile.rd (not (e.profile.rd == 0)); storing = storing })
-board_open regs older e b storing open' stores i =
+not_open : (x y : Entry) → y.profile ≡ x.profile → is_done y.stage ≡ is_done x.stage → is_open_store y ≡ is_open_store x
+not_open x y profile stage = ap (λ (p : Profile). not (is_done y.stage) && is_storing p.class) profile ∙ ap (λ (c : Bool). not c && is_storing x.profile.class) stage
+
+load_same : (x y : Entry) → y.profile ≡ x.profile → is_load y ≡ is_load x
+load_same x y profile = ap (λ (p : Profile). is_loading p.class) profile
+
+written_same : (n : ℕ) (x y : Entry) → y.profile ≡ x.profile → writes n y ≡ writes n x
+written_same n x y profile = ap (λ (p : Profile). (p.rd == n) && not (n == 0)) profile
+
+read_same : (n : ℕ) (x y : Entry) → y.profile ≡ x.profile → reads n y ≡ reads n x
+read_same n x y profile = ap (λ (p : Profile). ((p.rs1 == n) || (p.rs2 == n)) && not (n == 0)) profile
+
+-- an entry that runs goes on
+pub board_runs : (w : List Entry) (at : ℕ) (x y : Entry) (b : Board) → IsBoard w b → slice_get w at ≡ Some x → is_running x.stage ≡ true → is_running y.stage ≡ true → y.profile ≡ x.profile → IsBoard (slice_set w at y) b
+board_runs w at x y b i is was now profile =
+    let before = runs_only x.stage was in
+    let after = runs_only y.stage now in
     record {
-      known = i.known ∙ sym (written_more regs older e ∙ rw open' refl);
-      long = set_length b.awaited e.profile.rd (not (e.profile.rd == 0)) ∙ i.long;
-      available = λ n lt.
-          ap (λ (so : Bool). (n == 0) || not so) (awaited_more older e false n ∙ rw open' refl)
-          ∙ open_by e.profile.rd n (e.profile.rd == n) (is_awaited false older n) (get_or b.awaited n false) refl (i.available n lt)
-          ∙ sym (ap not (set_get b.awaited e.profile.rd n (not (e.profile.rd == 0)) (omega (arith, i.long))));
-      stored = stored_more older e ∙ rw (open', i.stored, stores) (stalled (is_storing e.profile.class) b.storing);
+      base = i.base;
+      waiting = those_same (λ e. is_waiting e.stage) w at x y b.base b.waiting i.waiting is (after.0 ∙ sym before.0);
+      running = those_same (λ e. is_running e.stage) w at x y b.base b.running i.running is (now ∙ sym was);
+      done = those_same (λ e. is_done e.stage) w at x y b.base b.done i.done is (after.1 ∙ sym before.1);
+      gone = i.gone;
+      storing = those_same is_open_store w at x y b.base b.storing i.storing is (not_open x y profile (after.1 ∙ sym before.1));
+      loads = those_same is_load w at x y b.base b.loads i.loads is (load_same x y profile);
+      candidates = λ n none. could_begun [] w at n x y is profile (after.1 ∙ sym before.1) after.0 (i.candidates n none);
+      write_sets = i.write_sets;
+      read_sets = i.read_sets;
+      writers = λ n h. those_same (writes n) w at x y b.base (get_or b.writers n no_mark) (i.writers n h) is (written_same n x y profile);
+      readers = λ n h. those_same (reads n) w at x y b.base (get_or b.readers n no_mark) (i.readers n h) is (read_same n x y profile);
+    }
+
+-- an entry begins
+pub board_begun : (w : List Entry) (at : ℕ) (x y : Entry) (b : Board) (waiting running : MarkSet) → IsBoard w b → slice_get w at ≡ Some x → is_waiting x.stage ≡ true → is_running y.stage ≡ true → y.profile ≡ x.profile
+    → ((i : ℕ) → has waiting i ≡ (if i == b.base + at then false else has b.waiting i))
+    → ((i : ℕ) → has running i ≡ (if i == b.base + at then true else has b.running i))
+    → IsBoard (slice_set w at y) (record b { waiting = waiting; running = running })
+board_begun w at x y b waiting running i is was now profile takes puts =
+    let before = waits_only x.stage was in
+    let after = runs_only y.stage now in
+    record {
+      base = i.base;
+      waiting = those_set (λ e. is_waiting e.stage) w at x y b.base false b.waiting waiting i.waiting is after.0 takes;
+      running = those_set (λ e. is_running e.stage) w at x y b.base true b.running running i.running is now puts;
+      done = those_same (λ e. is_done e.stage) w at x y b.base b.done i.done is (after.1 ∙ sym before.1);
+      gone = i.gone;
+      storing = those_same is_open_store w at x y b.base b.storing i.storing is (not_open x y profile (after.1 ∙ sym before.1));
+      loads = those_same is_load w at x y b.base b.loads i.loads is (load_same x y profile);
+      candidates = λ n none. could_begun [] w at n x y is profile (after.1 ∙ sym before.1) after.0 (i.candidates n none);
+      write_sets = i.write_sets;
+      read_sets = i.read_sets;
+      writers = λ n h. those_same (writes n) w at x y b.base (get_or b.writers n no_mark) (i.writers n h) is (written_same n x y profile);
+      readers = λ n h. those_same (reads n) w at x y b.base (get_or b.readers n no_mark) (i.readers n h) is (read_same n x y profile);
+    }
+
+closed : (y : Entry) → is_done y.stage ≡ true → is_open_store y ≡ false
+closed y is = rw is refl
+
+or_off : (a b : Bool) → (a || b) ≡ false → (a ≡ false) × (b ≡ false)
+or_off true b h = absurd (cc)
+or_off false true h = absurd (cc)
+or_off false false h = (refl, refl)
+
+-- an entry is done
+pub board_done : (w : List Entry) (at : ℕ) (x y : Entry) (b : Board) (running done storing candidates : MarkSet) → IsBoard w b → x.profile.rd < 32 → slice_get w at ≡ Some x → is_running x.stage ≡ true → is_done y.stage ≡ true → y.profile ≡ x.profile
+    → ((i : ℕ) → has running i ≡ (if i == b.base + at then false else has b.running i))
+    → ((i : ℕ) → has done i ≡ (if i == b.base + at then true else has b.done i))
+    → ((i : ℕ) → has storing i ≡ (if i == b.base + at then false else has b.storing i))
+    → ((i : ℕ) → has candidates i ≡ (has b.candidates i || has (get_or b.readers x.profile.rd no_mark) i))
+    → IsBoard (slice_set w at y) (record b { running = running; done = done; storing = storing; candidates = candidates })
+board_done w at x y b running done storing candidates i below is was now profile takes puts closes adds =
+    let before = runs_only x.stage was in
+    let after = done_only y.stage now in
+    record {
+      base = i.base;
+      waiting = those_same (λ e. is_waiting e.stage) w at x y b.base b.waiting i.waiting is (after.0 ∙ sym before.0);
+      running = those_set (λ e. is_running e.stage) w at x y b.base false b.running running i.running is after.1 takes;
+      done = those_set (λ e. is_done e.stage) w at x y b.base true b.done done i.done is now puts;
+      gone = λ n h. puts n ∙ ap (λ (c : Bool). if c then true else has b.done n) (apart_mark b.base at n h) ∙ i.gone n h;
+      storing = those_set is_open_store w at x y b.base false b.storing storing i.storing is (closed y now) closes;
+      loads = those_same is_load w at x y b.base b.loads i.loads is (load_same x y profile);
+      candidates = λ n none.
+          let neither = or_off (has b.candidates (b.base + n)) (has (get_or b.readers x.profile.rd no_mark) (b.base + n)) (sym (adds (b.base + n)) ∙ none) in
+          could_finished [] w at n x y is profile after.0 (sym (i.readers x.profile.rd below n) ∙ neither.1) (i.candidates n neither.0);
+      write_sets = i.write_sets;
+      read_sets = i.read_sets;
+      writers = λ n h. those_same (writes n) w at x y b.base (get_or b.writers n no_mark) (i.writers n h) is (written_same n x y profile);
+      readers = λ n h. those_same (reads n) w at x y b.base (get_or b.readers n no_mark) (i.readers n h) is (read_same n x y profile);
+    }
+
+passed_by : (c : Bool) (w : List Entry) (at n : ℕ) (b : Board) → IsBoard w b → could_at [] w at ≡ false → (b.base + n == b.base + at) ≡ c → (if c then false else has b.candidates (b.base + n)) ≡ false → could_at [] w n ≡ false
+passed_by true w at n b i idle is none = let same : n ≡ at = grind (arith, nat_tests) in ap (could_at [] w) same ∙ idle
+passed_by false w at n b i idle is none = i.candidates n none
+
+-- an entry is no candidate
+pub board_passed : (w : List Entry) (at : ℕ) (b : Board) (candidates : MarkSet) → IsBoard w b → could_at [] w at ≡ false
+    → ((i : ℕ) → has candidates i ≡ (if i == b.base + at then false else has b.candidates i)) → IsBoard w (record b { candidates = candidates })
+board_passed w at b candidates i idle takes =
+    record {
+      base = i.base;
+      waiting = i.waiting;
+      running = i.running;
+      done = i.done;
+      gone = i.gone;
+      storing = i.storing;
+      loads = i.loads;
+      candidates = λ n none. passed_by (b.base + n == b.base + at) w at n b i idle refl (sym (takes (b.base + n)) ∙ none);
+      write_sets = i.write_sets;
+      read_sets = i.read_sets;
+      writers = i.writers;
+      readers = i.readers;
+    }
+
+-- ---- the sets by register
+
+get_set : (xs : List MarkSet) (k n : ℕ) (t : MarkSet) → n < length xs → get_or (slice_set xs k t) n no_mark ≡ (if k == n then t else get_or xs n no_mark)
+get_set [] k n t h = absurd (omega arith)
+get_set (x ∷ xs) zero zero t h = refl
+get_set (x ∷ xs) zero (suc n) t h = let other : (0 == suc n) ≡ false = grind (arith, nat_tests) in rw other refl
+get_set (x ∷ xs) (suc k) zero t h = let other : (suc k == 0) ≡ false = grind (arith, nat_tests) in rw other refl
+get_set (x ∷ xs) (suc k) (suc n) t h = let same : (suc k == suc n) ≡ (k == n) = grind (arith, nat_tests) in rw same (get_set xs k n t (omega arith))
+
+pub set_length : (xs : List MarkSet) (k : ℕ) (t : MarkSet) → length (slice_set xs k t) ≡ length xs
+set_length [] k t = refl
+set_length (x ∷ xs) zero t = refl
+set_length (x ∷ xs) (suc k) t = ap suc (set_length xs k t)
+
+as_was : (c : Bool) (s : MarkSet) (mark i : ℕ) → (i == mark) ≡ c → has s i ≡ (if c then has s mark else has s i)
+as_was true s mark i is = let same : i ≡ mark = grind (arith, nat_tests) in ap (has s) same
+as_was false s mark i is = refl
+
+put_sets_by : (c : Bool) (xs : List MarkSet) (r mark : ℕ) (b : Bool) (t : MarkSet) (n i : ℕ) → n < length xs → (r == n) ≡ c
+    → ((k : ℕ) → has t k ≡ (if k == mark then b || has (get_or xs r no_mark) mark else has (get_or xs r no_mark) k))
+    → has (if c then t else get_or xs n no_mark) i ≡ (if i == mark then (c && b) || has (get_or xs n no_mark) mark else has (get_or xs n no_mark) i)
+put_sets_by true xs r mark b t n i h is puts =
+    let same : r ≡ n = grind (arith, nat_tests) in
+    puts i ∙ ap (λ (m : ℕ). if i == mark then b || has (get_or xs m no_mark) mark else has (get_or xs m no_mark) i) same
+put_sets_by false xs r mark b t n i h is puts = as_was (i == mark) (get_or xs n no_mark) mark i refl
+
+put_sets : (xs : List MarkSet) (r mark : ℕ) (b : Bool) (t : MarkSet) → ((k : ℕ) → has t k ≡ (if k == mark then b || has (get_or xs r no_mark) mark else has (get_or xs r no_mark) k))
+    → (n : ℕ) → n < length xs → (i : ℕ) → has (get_or (slice_set xs r t) n no_mark) i ≡ (if i == mark then ((r == n) && b) || has (get_or xs n no_mark) mark else has (get_or xs n no_mark) i)
+put_sets xs r mark b t puts n h i = ap (λ (s : MarkSet). has s i) (get_set xs r n t h) ∙ put_sets_by (r == n) xs r mark b t n i h refl puts
+
+remove_sets_by : (c : Bool) (xs : List MarkSet) (r mark : ℕ) (t : MarkSet) (n i : ℕ) → n < length xs → (r == n) ≡ c
+    → ((k : ℕ) → has t k ≡ (if k == mark then false else has (get_or xs r no_mark) k))
+    → has (if c then t else get_or xs n no_mark) i ≡ (if i == mark then (if c then false else has (get_or xs n no_mark) mark) else has (get_or xs n no_mark) i)
+remove_sets_by true xs r mark t n i h is removes =
+    let same : r ≡ n = grind (arith, nat_tests) in
+    removes i ∙ ap (λ (m : ℕ). if i == mark then false else has (get_or xs m no_mark) i) same
+remove_sets_by false xs r mark t n i h is removes = as_was (i == mark) (get_or xs n no_mark) mark i refl
+
+remove_sets : (xs : List MarkSet) (r mark : ℕ) (t : MarkSet) → ((k : ℕ) → has t k ≡ (if k == mark then false else has (get_or xs r no_mark) k))
+    → (n : ℕ) → n < length xs → (i : ℕ) → has (get_or (slice_set xs r t) n no_mark) i ≡ (if i == mark then (if r == n then false else has (get_or xs n no_mark) mark) else has (get_or xs n no_mark) i)
+remove_sets xs r mark t removes n h i = ap (λ (s : MarkSet). has s i) (get_set xs r n t h) ∙ remove_sets_by (r == n) xs r mark t n i h refl removes
+
+dropped_by : (k : Bool) (p : Entry → Bool) (w : List Entry) (e : Entry) (base : ℕ) (s t : MarkSet) → AreThose p (w ++ e ∷ []) base s
+    → ((i : ℕ) → has t i ≡ (if i == base + length w then (if k then false else has s (base + length w)) else has s i)) → (k ≡ false → p e ≡ false) → AreThose p w base t
+dropped_by true p w e base s t those removes other = those_drop p w e base s t those removes
+dropped_by false p w e base s t those removes other = λ i.
+    removes (base + i) ∙ sym (as_was (base + i == base + length w) s (base + length w) (base + i) refl) ∙ those_dropped p w e base s those (other refl) i
+
+-- a register that is not x0
+zero_same : (c : Bool) (r n : ℕ) → (r == n) ≡ c → ((r == n) && not (r == 0)) ≡ ((r == n) && not (n == 0))
+zero_same true r n is = let same : r ≡ n = grind (arith, nat_tests) in ap (λ (m : ℕ). (r == n) && not (m == 0)) same
+zero_same false r n is = rw is refl
+
+pub writers_push : (w : List Entry) (e : Entry) (base : ℕ) (xs : List MarkSet) (r : ℕ) (b : Bool) (t : MarkSet) → r ≡ e.profile.rd → b ≡ not (r == 0) → length xs ≡ 32
+    → ((n : ℕ) → n < 32 → AreThose (writes n) w base (get_or xs n no_mark))
+    → ((k : ℕ) → has t k ≡ (if k == base + length w then b || has (get_or xs r no_mark) (base + length w) else has (get_or xs r no_mark) k))
+    → (n : ℕ) → n < 32 → AreThose (writes n) (w ++ e ∷ []) base (get_or (slice_set xs r t) n no_mark)
+writers_push w e base xs r b t is some long those puts n h =
+    those_push (writes n) w e base (get_or xs n no_mark) (get_or (slice_set xs r t) n no_mark) ((r == n) && b) (those n h)
+    (ap (λ (c : Bool). (r == n) && c) some ∙ zero_same (r == n) r n refl ∙ ap (λ (m : ℕ). (m == n) && not (n == 0)) is)
+    (put_sets xs r (base + length w) b t puts n (omega arith))
+
+either : (a b c : Bool) → (a || (b || c)) ≡ ((a || b) || c)
+either true b c = refl
+either false b c = refl
+
+or_self : (z : Bool) → (z || z) ≡ z
+or_self true = refl
+or_self false = refl
+
+joined : (a b z : Bool) → ((a && z) || (b && z)) ≡ ((b || a) && z)
+joined true true z = or_self z
+joined true false true = refl
+joined true false false = refl
+joined false true z = refl
+joined false false z = refl
+
+joint : (c a b : Bool) (i mark : ℕ) (s : MarkSet) → (i == mark) ≡ c → (if c then a || (if mark == mark then b || has s mark else has s mark) else (if i == mark then b || has s mark else has s i)) ≡ (if c then (a || b) || has s mark else has s i)
+joint true a b i mark s is = let same : (mark == mark) ≡ true = grind (arith, nat_tests) in rw same (either a b (has s mark))
+joint false a b i mark s is = rw is refl
+
+pub readers_push : (w : List Entry) (e : Entry) (base : ℕ) (xs : List MarkSet) (r1 r2 : ℕ) (b1 b2 : Bool) (t1 t2 : MarkSet) → r1 ≡ e.profile.rs1 → r2 ≡ e.profile.rs2 → b1 ≡ not (r1 == 0) → b2 ≡ not (r2 == 0) → length xs ≡ 32
+    → ((n : ℕ) → n < 32 → AreThose (reads n) w base (get_or xs n no_mark))
+    → ((k : ℕ) → has t1 k ≡ (if k == base + length w then b1 || has (get_or xs r1 no_mark) (base + length w) else has (get_or xs r1 no_mark) k))
+    → ((k : ℕ) → has t2 k ≡ (if k == base + length w then b2 || has (get_or (slice_set xs r1 t1) r2 no_mark) (base + length w) else has (get_or (slice_set xs r1 t1) r2 no_mark) k))
+    → (n : ℕ) → n < 32 → AreThose (reads n) (w ++ e ∷ []) base (get_or (slice_set (slice_set xs r1 t1) r2 t2) n no_mark)
+readers_push w e base xs r1 r2 b1 b2 t1 t2 is1 is2 some1 some2 long those puts1 puts2 n h =
+    let mark = base + length w in
+    let s = get_or xs n no_mark in
+    let longer = set_length xs r1 t1 in
+    let first = put_sets xs r1 mark b1 t1 puts1 n (omega arith) in
+    let second = put_sets (slice_set xs r1 t1) r2 mark b2 t2 puts2 n (omega arith) in
+    those_push (reads n) w e base s (get_or (slice_set (slice_set xs r1 t1) r2 t2) n no_mark) (((r2 == n) && b2) || ((r1 == n) && b1)) (those n h)
+    (ap (λ (c : Bool). ((r2 == n) && c) || ((r1 == n) && b1)) some2
+    ∙ ap (λ (c : Bool). ((r2 == n) && not (r2 == 0)) || ((r1 == n) && c)) some1
+    ∙ ap (λ (c : Bool). c || ((r1 == n) && not (r1 == 0))) (zero_same (r2 == n) r2 n refl)
+    ∙ ap (λ (c : Bool). ((r2 == n) && not (n == 0)) || c) (zero_same (r1 == n) r1 n refl)
+    ∙ joined (r2 == n) (r1 == n) (not (n == 0))
+    ∙ ap (λ (m : ℕ). ((m == n) || (r2 == n)) && not (n == 0)) is1
+    ∙ ap (λ (m : ℕ). ((e.profile.rs1 == n) || (m == n)) && not (n == 0)) is2)
+    (λ i.
+    second i
+    ∙ ap (λ (c : Bool). if i == mark then ((r2 == n) && b2) || c else has (get_or (slice_set xs r1 t1) n no_mark) i) (first mark)
+    ∙ ap (λ (c : Bool). if i == mark then ((r2 == n) && b2) || (if mark == mark then ((r1 == n) && b1) || has s mark else has s mark) else c) (first i)
+    ∙ joint (i == mark) ((r2 == n) && b2) ((r1 == n) && b1) i mark s refl)
+
+pub writers_drop : (w : List Entry) (e : Entry) (base : ℕ) (xs : List MarkSet) (r : ℕ) (t : MarkSet) → r ≡ e.profile.rd → length xs ≡ 32
+    → ((n : ℕ) → n < 32 → AreThose (writes n) (w ++ e ∷ []) base (get_or xs n no_mark))
+    → ((k : ℕ) → has t k ≡ (if k == base + length w then false else has (get_or xs r no_mark) k))
+    → (n : ℕ) → n < 32 → AreThose (writes n) w base (get_or (slice_set xs r t) n no_mark)
+writers_drop w e base xs r t is long those removes n h =
+    dropped_by (r == n) (writes n) w e base (get_or xs n no_mark) (get_or (slice_set xs r t) n no_mark) (those n h) (remove_sets xs r (base + length w) t removes n (omega arith))
+    (λ other. ap (λ (m : ℕ). (m == n) && not (n == 0)) (sym is) ∙ rw other refl)
+
+neither : (c a b : Bool) (i mark : ℕ) (s : MarkSet) → (i == mark) ≡ c
+    → (if c then (if a then false else (if mark == mark then (if b then false else has s mark) else has s mark)) else (if i == mark then (if b then false else has s mark) else has s i)) ≡ (if c then (if b || a then false else has s mark) else has s i)
+neither true true true i mark s is = refl
+neither true true false i mark s is = refl
+neither true false true i mark s is = let same : (mark == mark) ≡ true = grind (arith, nat_tests) in rw same refl
+neither true false false i mark s is = let same : (mark == mark) ≡ true = grind (arith, nat_tests) in rw same refl
+neither false a b i mark s is = rw is refl
+
+pub readers_drop : (w : List Entry) (e : Entry) (base : ℕ) (xs : List MarkSet) (r1 r2 : ℕ) (t1 t2 : MarkSet) → r1 ≡ e.profile.rs1 → r2 ≡ e.profile.rs2 → length xs ≡ 32
+    → ((n : ℕ) → n < 32 → AreThose (reads n) (w ++ e ∷ []) base (get_or xs n no_mark))
+    → ((k : ℕ) → has t1 k ≡ (if k == base + length w then false else has (get_or xs r1 no_mark) k))
+    → ((k : ℕ) → has t2 k ≡ (if k == base + length w then false else has (get_or (slice_set xs r1 t1) r2 no_mark) k))
+    → (n : ℕ) → n < 32 → AreThose (reads n) w base (get_or (slice_set (slice_set xs r1 t1) r2 t2) n no_mark)
+readers_drop w e base xs r1 r2 t1 t2 is1 is2 long those removes1 removes2 n h =
+    let mark = base + length w in
+    let s = get_or xs n no_mark in
+    let longer = set_length xs r1 t1 in
+    let first = remove_sets xs r1 mark t1 removes1 n (omega arith) in
+    let second = remove_sets (slice_set xs r1 t1) r2 mark t2 removes2 n (omega arith) in
+    dropped_by ((r1 == n) || (r2 == n)) (reads n) w e base s (get_or (slice_set (slice_set xs r1 t1) r2 t2) n no_mark) (those n h)
+    (λ i.
+    second i
+    ∙ ap (λ (c : Bool). if i == mark then (if r2 == n then false else c) else has (get_or (slice_set xs r1 t1) n no_mark) i) (first mark)
+    ∙ ap (λ (c : Bool). if i == mark then (if r2 == n then false else (if mark == mark then (if r1 == n then false else has s mark) else has s mark)) else c) (first i)
+    ∙ neither (i == mark) (r2 == n) (r1 == n) i mark s refl)
+    (λ other.
+    ap (λ (m : ℕ). ((m == n) || (e.profile.rs2 == n)) && not (n == 0)) (sym is1)
+    ∙ ap (λ (m : ℕ). ((r1 == n) || (m == n)) && not (n == 0)) (sym is2)
+    ∙ rw other refl)
+
+-- ---- an entry more, and an entry less
+
+pushed_by : (c : Bool) (w : List Entry) (e : Entry) (n : ℕ) (b : Board) → IsBoard w b → (b.base + n == b.base + length w) ≡ c → (if c then true else has b.candidates (b.base + n)) ≡ false → could_at [] (w ++ e ∷ []) n ≡ false
+pushed_by true w e n b i is none = absurd (cc)
+pushed_by false w e n b i is none =
+    let other : n ≡ length w → ⊥ = λ at. absurd (grind (arith, nat_tests)) in
+    could_pushed [] w e n other ∙ i.candidates n none
+
+pub board_pushed : (w : List Entry) (e : Entry) (b c : Board) → IsBoard w b
+    → (bw br bd bs bl : Bool) → bw ≡ is_waiting e.stage → br ≡ is_running e.stage → bd ≡ is_done e.stage → bs ≡ is_open_store e → bl ≡ is_load e
+    → ((i : ℕ) → has c.waiting i ≡ (if i == b.base + length w then bw || has b.waiting (b.base + length w) else has b.waiting i))
+    → ((i : ℕ) → has c.running i ≡ (if i == b.base + length w then br || has b.running (b.base + length w) else has b.running i))
+    → ((i : ℕ) → has c.done i ≡ (if i == b.base + length w then bd || has b.done (b.base + length w) else has b.done i))
+    → ((i : ℕ) → has c.storing i ≡ (if i == b.base + length w then bs || has b.storing (b.base + length w) else has b.storing i))
+    → ((i : ℕ) → has c.loads i ≡ (if i == b.base + length w then bl || has b.loads (b.base + length w) else has b.loads i))
+    → ((i : ℕ) → has c.candidates i ≡ (if i == b.base + length w then true else has b.candidates i))
+    → length c.writers ≡ 32 → length c.readers ≡ 32
+    → ((n : ℕ) → n < 32 → AreThose (writes n) (w ++ e ∷ []) b.base (get_or c.writers n no_mark))
+    → ((n : ℕ) → n < 32 → AreThose (reads n) (w ++ e ∷ []) b.base (get_or c.readers n no_mark))
+    → IsBoard (w ++ e ∷ []) (record c { base = b.base })
+board_pushed w e b c i bw br bd bs bl isw isr isd iss isl putw putr putd puts putl putc ws rs writers readers =
+    record {
+      base = i.base;
+      waiting = those_push (λ x. is_waiting x.stage) w e b.base b.waiting c.waiting bw i.waiting isw putw;
+      running = those_push (λ x. is_running x.stage) w e b.base b.running c.running br i.running isr putr;
+      done = those_push (λ x. is_done x.stage) w e b.base b.done c.done bd i.done isd putd;
+      gone = λ n h. putd n ∙ ap (λ (k : Bool). if k then bd || has b.done (b.base + length w) else has b.done n) (apart_mark b.base (length w) n h) ∙ i.gone n h;
+      storing = those_push is_open_store w e b.base b.storing c.storing bs i.storing iss puts;
+      loads = those_push is_load w e b.base b.loads c.loads bl i.loads isl putl;
+      candidates = λ n none. pushed_by (b.base + n == b.base + length w) w e n b i refl (sym (putc (b.base + n)) ∙ none);
+      write_sets = ws;
+      read_sets = rs;
+      writers = writers;
+      readers = readers;
+    }
+
+pub board_dropped : (w : List Entry) (e : Entry) (b c : Board) → IsBoard (w ++ e ∷ []) b
+    → ((i : ℕ) → has c.waiting i ≡ (if i == b.base + length w then false else has b.waiting i))
+    → ((i : ℕ) → has c.running i ≡ (if i == b.base + length w then false else has b.running i))
+    → ((i : ℕ) → has c.done i ≡ (if i == b.base + length w then false else has b.done i))
+    → ((i : ℕ) → has c.storing i ≡ (if i == b.base + length w then false else has b.storing i))
+    → ((i : ℕ) → has c.loads i ≡ (if i == b.base + length w then false else has b.loads i))
+    → length c.writers ≡ 32 → length c.readers ≡ 32
+    → ((n : ℕ) → n < 32 → AreThose (writes n) w b.base (get_or c.writers n no_mark))
+    → ((n : ℕ) → n < 32 → AreThose (reads n) w b.base (get_or c.readers n no_mark))
+    → IsBoard w (record c { base = b.base; candidates = b.candidates })
+board_dropped w e b c i takew taker taked takes takel ws rs writers readers =
+    record {
+      base = i.base;
+      waiting = those_drop (λ x. is_waiting x.stage) w e b.base b.waiting c.waiting i.waiting takew;
+      running = those_drop (λ x. is_running x.stage) w e b.base b.running c.running i.running taker;
+      done = those_drop (λ x. is_done x.stage) w e b.base b.done c.done i.done taked;
+      gone = λ n h. taked n ∙ ap (λ (k : Bool). if k then false else has b.done n) (apart_mark b.base (length w) n h) ∙ i.gone n h;
+      storing = those_drop is_open_store w e b.base b.storing c.storing i.storing takes;
+      loads = those_drop is_load w e b.base b.loads c.loads i.loads takel;
+      candidates = λ n none. could_dropped [] w e n (i.candidates n none);
+      write_sets = ws;
+      read_sets = rs;
+      writers = writers;
+      readers = readers;
+    }
+
+-- ---- what the board is asked
+
+pub next_of : (p : Entry → Bool) (w : List Entry) (base : ℕ) (s : MarkSet) (from m : ℕ) → AreThose p w base s → IsNext s (base + from) m → IsNextOf p w from (m - base)
+next_of p w base s from m those next =
+    let behind = next.behind in
+    let at : base + (m - base) ≡ m = omega arith in
+    record {
+      behind = omega arith;
+      there = sym (those (m - base)) ∙ ap (has s) at ∙ next.there;
+      first = λ i h k. sym (those i) ∙ next.first (base + i) (omega arith) (omega arith);
+    }
+
+pub none_of : (p : Entry → Bool) (w : List Entry) (base : ℕ) (s : MarkSet) (from i : ℕ) → AreThose p w base s → ((k : ℕ) → base + from ≤ k → has s k ≡ false) → from ≤ i → holds_at p w i ≡ false
+none_of p w base s from i those none h = sym (those i) ∙ none (base + i) (omega arith)
+
+-- ---- a register
+
+not_zero : (a b : Bool) → (a && not b) ≡ true → (a ≡ true) × (b ≡ false)
+not_zero true true h = absurd (cc)
+not_zero true false h = (refl, refl)
+not_zero false b h = absurd (cc)
+
+unwritten_by : (c : Bool) (n : ℕ) (e : Entry) → (e.profile.rd == n) ≡ c → (n == 0) ≡ false → writes n e ≡ false → (e.profile.rd == n) ≡ false
+unwritten_by true n e is some none =
+    let both : (true && not false) ≡ false = ap (λ (k : Bool). k && not false) (sym is) ∙ ap (λ (k : Bool). (e.profile.rd == n) && not k) (sym some) ∙ none in
+    absurd (cc)
+unwritten_by false n e is some none = is
+
+awaited_none : (so : Bool) (w : List Entry) (n : ℕ) → (n == 0) ≡ false → ((i : ℕ) → holds_at (writes n) w i ≡ false) → is_awaited so w n ≡ so
+awaited_none so [] n some none = refl
+awaited_none so (e ∷ w) n some none =
+    let other = unwritten_by (e.profile.rd == n) n e refl some (none 0) in
+    rw other (awaited_none so w n some (λ i. none (suc i)))
+
+awaited_last : (so : Bool) (w : List Entry) (n j : ℕ) → (n == 0) ≡ false → holds_at (writes n) w j ≡ true → ((i : ℕ) → j < i → holds_at (writes n) w i ≡ false) → is_awaited so w n ≡ not (holds_at (λ e. is_done e.stage) w j)
+awaited_last so [] n j some there last = absurd (cc)
+awaited_last so (e ∷ w) n zero some there last =
+    let here = not_zero (e.profile.rd == n) (n == 0) there in
+    ap (λ (c : Bool). is_awaited (if c then not (is_done e.stage) else so) w n) here.0 ∙ awaited_none (not (is_done e.stage)) w n some (λ i. last (suc i) (omega arith))
+awaited_last so (e ∷ w) n (suc j) some there last = awaited_last (if e.profile.rd == n then not (is_done e.stage) else so) w n j some there (λ i h. last (suc i) (omega arith))
+
+available_by : (c : Bool) (w : List Entry) (n : ℕ) → (n == 0) ≡ c → ((i : ℕ) → holds_at (writes n) w i ≡ false) → (c || not (is_awaited false w n)) ≡ true
+available_by true w n is none = refl
+available_by false w n is none = rw (awaited_none false w n is none) refl
+
+available_none : (w : List Entry) (n : ℕ) → ((i : ℕ) → holds_at (writes n) w i ≡ false) → is_available w n ≡ true
+available_none w n none = available_by (n == 0) w n refl none
+
+writes_some : (w : List Entry) (n j : ℕ) → holds_at (writes n) w j ≡ true → (n == 0) ≡ false
+writes_some [] n j there = absurd (cc)
+writes_some (e ∷ w) n zero there = (not_zero (e.profile.rd == n) (n == 0) there).1
+writes_some (e ∷ w) n (suc j) there = writes_some w n j there
+
+twice : (b : Bool) → not (not b) ≡ b
+twice true = refl
+twice false = refl
+
+available_last : (w : List Entry) (n j : ℕ) → holds_at (writes n) w j ≡ true → ((i : ℕ) → j < i → holds_at (writes n) w i ≡ false) → is_available w n ≡ holds_at (λ e. is_done e.stage) w j
+available_last w n j there last =
+    let some = writes_some w n j there in
+    rw (some, awaited_last false w n j some there last) (twice (holds_at (λ e. is_done e.stage) w j))
+
+-- the entries before a place
+before_by : (c : Bool) (p : Entry → Bool) (w : List Entry) (at i : ℕ) → nat_lt i at ≡ c → (i < at → holds_at p w i ≡ false) → holds_at p (take at w) i ≡ false
+before_by true p w at i is none = let h : i < at = grind (arith, nat_tests) in holds_take p w at i h ∙ none h
+before_by false p w at i is none =
+    let h : at ≤ i = grind (arith, nat_tests) in
+    holds_end p (take at w) i (grind (arith, common_steps))
+
+pub before_none : (p : Entry → Bool) (w : List Entry) (at i : ℕ) → (i < at → holds_at p w i ≡ false) → holds_at p (take at w) i ≡ false
+before_none p w at i none = before_by (nat_lt i at) p w at i refl none
+
+pub available_free : (w : List Entry) (b : Board) (at n : ℕ) → IsBoard w b → n < 32 → ((i : ℕ) → i < b.base + at → has (get_or b.writers n no_mark) i ≡ false) → true ≡ is_available (take at w) n
+available_free w b at n board h none =
+    sym (available_none (take at w) n (λ i. before_none (writes n) w at i (λ lt. sym (board.writers n h i) ∙ none (b.base + i) (omega arith))))
+
+available_at_by : (c : Bool) (w : List Entry) (b : Board) (at n m : ℕ) → IsBoard w b → n < 32 → IsLast (get_or b.writers n no_mark) (b.base + at) m → nat_lt m b.base ≡ c → has b.done m ≡ is_available (take at w) n
+available_at_by true w b at n m board h last is =
+    let old : m < b.base = grind (arith, nat_tests) in
+    board.gone m old ∙ sym (available_none (take at w) n (λ i. before_none (writes n) w at i (λ lt. sym (board.writers n h i) ∙ last.last (b.base + i) (omega arith) (omega arith))))
+available_at_by false w b at n m board h last is =
+    let new : b.base ≤ m = grind (arith, nat_tests) in
+    let here : b.base + (m - b.base) ≡ m = omega arith in
+    let lt = last.before in
+    let place : m - b.base < at = omega arith in
+    let there : holds_at (writes n) w (m - b.base) ≡ true = sym (board.writers n h (m - b.base)) ∙ ap (has (get_or b.writers n no_mark)) here ∙ last.there in
+    ap (has b.done) (sym here)
+    ∙ board.done (m - b.base)
+    ∙ sym (holds_take (λ e. is_done e.stage) w at (m - b.base) place)
+    ∙ sym (available_last (take at w) n (m - b.base) (holds_take (writes n) w at (m - b.base) place ∙ there)
+    (λ i k. before_none (writes n) w at i (λ l. sym (board.writers n h i) ∙ last.last (b.base + i) (omega arith) (omega arith))))
+
+pub available_at : (w : List Entry) (b : Board) (at n m : ℕ) → IsBoard w b → n < 32 → IsLast (get_or b.writers n no_mark) (b.base + at) m → has b.done m ≡ is_available (take at w) n
+available_at w b at n m board h last = available_at_by (nat_lt m b.base) w b at n m board h last refl
+
+-- ---- the older stores
+
+open_by : (d s : Bool) → (not d && s) ≡ false → (d || not s) ≡ true
+open_by true s h = refl
+open_by false true h = absurd (cc)
+open_by false false h = refl
+
+open_not : (d s : Bool) → (not d && s) ≡ true → (d || not s) ≡ false
+open_not true s h = absurd (cc)
+open_not false true h = refl
+open_not false false h = absurd (cc)
+
+open_store : (e : Entry) → is_open_store e ≡ false → (is_done e.stage || not (is_storing e.profile.class)) ≡ true
+open_store e none = open_by (is_done e.stage) (is_storing e.profile.class) none
+
+stored_none : (w : List Entry) → ((i : ℕ) → holds_at is_open_store w i ≡ false) → are_stored w ≡ true
+stored_none [] none = refl
+stored_none (e ∷ w) none = rw (open_store e (none 0)) (stored_none w (λ i. none (suc i)))
+
+stored_some : (w : List Entry) (j : ℕ) → holds_at is_open_store w j ≡ true → are_stored w ≡ false
+stored_some [] j there = absurd (cc)
+stored_some (e ∷ w) zero there = rw (open_not (is_done e.stage) (is_storing e.profile.class) there) refl
+stored_some (e ∷ w) (suc j) there = rw (stored_some w j there) (and_off (is_done e.stage || not (is_storing e.profile.class)))
+
+pub stored_free : (w : List Entry) (b : Board) (at : ℕ) → IsBoard w b → ((i : ℕ) → b.base ≤ i → has b.storing i ≡ false) → true ≡ are_stored (take at w)
+stored_free w b at board none = sym (stored_none (take at w) (λ i. before_none is_open_store w at i (λ lt. sym (board.storing i) ∙ none (b.base + i) (omega arith))))
+
+stored_at_by : (c : Bool) (w : List Entry) (b : Board) (at m : ℕ) → IsBoard w b → IsNext b.storing b.base m → nat_le (b.base + at) m ≡ c → c ≡ are_stored (take at w)
+stored_at_by true w b at m board next is =
+    let far : b.base + at ≤ m = grind (arith, nat_tests) in
+    sym (stored_none (take at w) (λ i. before_none is_open_store w at i (λ lt. sym (board.storing i) ∙ next.first (b.base + i) (omega arith) (omega arith))))
+stored_at_by false w b at m board next is =
+    let near : m < b.base + at = grind (arith, nat_tests) in
+    let behind = next.behind in
+    let here : b.base + (m - b.base) ≡ m = omega arith in
+    let place : m - b.base < at = omega arith in
+    sym (stored_some (take at w) (m - b.base) (holds_take is_open_store w at (m - b.base) place ∙ sym (board.storing (m - b.base)) ∙ ap (has b.storing) here ∙ next.there))
+
+pub stored_at : (w : List Entry) (b : Board) (at m : ℕ) → IsBoard w b → IsNext b.storing b.base m → nat_le (b.base + at) m ≡ are_stored (take at w)
+stored_at w b at m board next = stored_at_by (nat_le (b.base + at) m) w b at m board next refl
+
+-- ---- the last result
+
+holds_both : (p q : Entry → Bool) (w : List Entry) (i : ℕ) → (holds_at p w i && holds_at q w i) ≡ holds_at (λ e. p e && q e) w i
+holds_both p q [] i = refl
+holds_both p q (e ∷ w) zero = refl
+holds_both p q (e ∷ w) (suc i) = holds_both p q w i
+
+pub results_those : (w : List Entry) (b : Board) (s : MarkSet) (n : ℕ) → IsBoard w b → n < 32 → ((k : ℕ) → has s k ≡ (has (get_or b.writers n no_mark) k && has b.done k)) → AreThose (has_result n) w b.base s
+results_those w b s n board h both = λ i.
+    both (b.base + i)
+    ∙ ap (λ (c : Bool). c && has b.done (b.base + i)) (board.writers n h i)
+    ∙ ap (λ (c : Bool). holds_at (writes n) w i && c) (board.done i)
+    ∙ holds_both (writes n) (λ e. is_done e.stage) w i
+
+pub last_of : (p : Entry → Bool) (w : List Entry) (base : ℕ) (s : MarkSet) (at m : ℕ) → AreThose p w base s → base ≤ m → IsLast s (base + at) m → IsLastOf p w at (m - base)
+last_of p w base s at m those h last =
+    let here : base + (m - base) ≡ m = omega arith in
+    let before = last.before in
+    record {
+      before = omega arith;
+      there = sym (those (m - base)) ∙ ap (has s) here ∙ last.there;
+      last = λ i k l. sym (those i) ∙ last.last (base + i) (omega arith) (omega arith);
+    }
+
+pub last_none_of : (p : Entry → Bool) (w : List Entry) (base : ℕ) (s : MarkSet) (at i : ℕ) → AreThose p w base s → ((k : ℕ) → k < base + at → has s k ≡ false) → i < at → holds_at p w i ≡ false
+last_none_of p w base s at i those none h = sym (those i) ∙ none (base + i) (omega arith)
+
+pub last_old_of : (p : Entry → Bool) (w : List Entry) (base : ℕ) (s : MarkSet) (at m i : ℕ) → AreThose p w base s → m < base → IsLast s (base + at) m → i < at → holds_at p w i ≡ false
+last_old_of p w base s at m i those old last h = sym (those i) ∙ last.last (base + i) (omega arith) (omega arith)
+
+-- ---- those that may begin
+
+not_le : (c : Bool) (m n : ℕ) → nat_le m n ≡ c → not c ≡ false → m ≤ n
+not_le true m n is h = grind (arith, nat_tests)
+not_le false m n is h = absurd (cc)
+
+stalled_by : (a b : Bool) → (a && (b && false)) ≡ false
+stalled_by true true = refl
+stalled_by true false = refl
+stalled_by false b = refl
+
+stalled : (e : Entry) (older : List Entry) (c : Class) → e.profile.class ≡ c → is_loading c ≡ true → are_stored older ≡ false → can_begin older e ≡ false
+unfolding is_ready
+stalled e older Plain is load open' = absurd (cc)
+stalled e older Loads is load open' = rw (is, open') (stalled_by (is_waiting e.stage) (is_available older e.profile.rs1 && is_available older e.profile.rs2))
+stalled e older Stores is load open' = absurd (cc)
+stalled e older Calls is load open' = absurd (cc)
+
+abbrev could : List Entry → Entry → Bool
+could older e = is_waiting e.stage && (is_available older e.profile.rs1 && is_available older e.profile.rs2)
+
+never_waits : (a b d : Bool) → (a && b) ≡ false → (a && (b && d)) ≡ false
+never_waits true true d h = absurd (cc)
+never_waits true false d h = refl
+never_waits false b d h = refl
+
+could_can : (older : List Entry) (e : Entry) → could older e ≡ false → can_begin older e ≡ false
+unfolding is_ready
+could_can older e none = never_waits (is_waiting e.stage) (is_available older e.profile.rs1 && is_available older e.profile.rs2) (is_free e.profile.class older) none
+
+could_can_at : (older w : List Entry) (i : ℕ) → could_at older w i ≡ false → can_at older w i ≡ false
+could_can_at older [] i none = refl
+could_can_at older (e ∷ w) zero none = could_can older e none
+could_can_at older (e ∷ w) (suc i) none = could_can_at (older ++ e ∷ []) w i none
+
+and_right : (a b : Bool) → (a && b) ≡ true → b ≡ true
+and_right true b h = h
+and_right false b h = absurd (cc)
+
+and_left : (a b : Bool) → (a && b) ≡ true → a ≡ true
+and_left true b h = refl
+and_left false b h = absurd (cc)
+
+not_candidate : (a : Bool) (w : List Entry) (b : Board) (i : ℕ) → IsBoard w b → has b.candidates (b.base + i) ≡ a → (a && has b.waiting (b.base + i)) ≡ false → could_at [] w i ≡ false
+not_candidate true w b i board is none = could_waits [] w i (sym (board.waiting i) ∙ none)
+not_candidate false w b i board is none = board.candidates i is
+
+load_stalls : (older w : List Entry) (i : ℕ) → holds_at is_load w i ≡ true → are_stored (older ++ take i w) ≡ false → can_at older w i ≡ false
+load_stalls older [] i load open' = refl
+load_stalls older (e ∷ w) zero load open' = stalled e older e.profile.class refl load (ap are_stored (sym (append-nil older)) ∙ open')
+load_stalls older (e ∷ w) (suc i) load open' = load_stalls (older ++ e ∷ []) w i load (ap are_stored (append_assoc older (e ∷ []) (take i w)) ∙ open')
+
+-- a load and a store are not the same
+apart_by : (c : Class) → is_loading c ≡ true → is_storing c ≡ false
+apart_by Plain h = refl
+apart_by Loads h = refl
+apart_by Stores h = absurd (cc)
+apart_by Calls h = refl
+
+load_open : (w : List Entry) (i : ℕ) → holds_at is_load w i ≡ true → holds_at is_open_store w i ≡ true → ⊥
+load_open [] i load open' = absurd (cc)
+load_open (e ∷ w) zero load open' = let none = apart_by e.profile.class load in let some = and_right (not (is_done e.stage)) (is_storing e.profile.class) open' in absurd (cc)
+load_open (e ∷ w) (suc i) load open' = load_open w i load open'
+
+waits_behind : (w : List Entry) (b : Board) (m i : ℕ) → IsBoard w b → IsNext b.storing b.base m → has b.loads (b.base + i) ≡ true → m ≤ b.base + i → can_at [] w i ≡ false
+waits_behind w b m i board next load h =
+    let behind = next.behind in
+    let here : b.base + (m - b.base) ≡ m = omega arith in
+    let is_load' : holds_at is_load w i ≡ true = sym (board.loads i) ∙ load in
+    let open' : holds_at is_open_store w (m - b.base) ≡ true = sym (board.storing (m - b.base)) ∙ ap (has b.storing) here ∙ next.there in
+    let other : i ≡ m - b.base → ⊥ = λ is. load_open w i is_load' (ap (holds_at is_open_store w) is ∙ open') in
+    let before : m - b.base < i = omega (arith, other) in
+    load_stalls [] w i is_load' (stored_some (take i w) (m - b.base) (holds_take is_open_store w i (m - b.base) before ∙ open'))
+
+pub eligible_all : (w : List Entry) (b : Board) (s : MarkSet) (i : ℕ) → IsBoard w b → ((k : ℕ) → has s k ≡ (has b.candidates k && has b.waiting k)) → has s (b.base + i) ≡ false → can_at [] w i ≡ false
+eligible_all w b s i board both none = could_can_at [] w i (not_candidate (has b.candidates (b.base + i)) w b i board refl (sym (both (b.base + i)) ∙ none))
+
+pub eligible_waits : (w : List Entry) (b : Board) (s : MarkSet) (i : ℕ) → IsBoard w b → ((k : ℕ) → has s k ≡ (has b.candidates k && has b.waiting k)) → has s (b.base + i) ≡ true → holds_at (λ e. is_waiting e.stage) w i ≡ true
+eligible_waits w b s i board both there = sym (board.waiting i) ∙ and_right (has b.candidates (b.base + i)) (has b.waiting (b.base + i)) (sym (both (b.base + i)) ∙ there)
+
+except_by : (a l : Bool) (w : List Entry) (b : Board) (s : MarkSet) (m i : ℕ) → IsBoard w b → ((k : ℕ) → has s k ≡ (has b.candidates k && has b.waiting k)) → IsNext b.storing b.base m
+    → has s (b.base + i) ≡ a → has b.loads (b.base + i) ≡ l → (a && not (l && nat_le m (b.base + i))) ≡ false → can_at [] w i ≡ false
+except_by false l w b s m i board both next is load none = eligible_all w b s i board both is
+except_by true false w b s m i board both next is load none = absurd (cc)
+except_by true true w b s m i board both next is load none =
+    let h : m ≤ b.base + i = not_le (nat_le m (b.base + i)) m (b.base + i) refl none in
+    waits_behind w b m i board next load h
+
+pub eligible_but : (w : List Entry) (b : Board) (s t : MarkSet) (m i : ℕ) → IsBoard w b → ((k : ℕ) → has s k ≡ (has b.candidates k && has b.waiting k)) → IsNext b.storing b.base m
+    → ((k : ℕ) → has t k ≡ (has s k && not (has b.loads k && nat_le m k))) → has t (b.base + i) ≡ false → can_at [] w i ≡ false
+eligible_but w b s t m i board both next but none = except_by (has s (b.base + i)) (has b.loads (b.base + i)) w b s m i board both next refl refl (sym (but (b.base + i)) ∙ none)
+
+pub eligible_but_waits : (w : List Entry) (b : Board) (s t : MarkSet) (m i : ℕ) → IsBoard w b → ((k : ℕ) → has s k ≡ (has b.candidates k && has b.waiting k))
+    → ((k : ℕ) → has t k ≡ (has s k && not (has b.loads k && nat_le m k))) → has t (b.base + i) ≡ true → holds_at (λ e. is_waiting e.stage) w i ≡ true
+eligible_but_waits w b s t m i board both but there = eligible_waits w b s i board both (and_left (has s (b.base + i)) (not (has b.loads (b.base + i) && nat_le m (b.base + i))) (sym (but (b.base + i)) ∙ there))
+
+pub candidate_of : (w : List Entry) (b : Board) (s : MarkSet) (from m : ℕ) → ((i : ℕ) → has s (b.base + i) ≡ true → holds_at (λ e. is_waiting e.stage) w i ≡ true) → ((i : ℕ) → has s (b.base + i) ≡ false → can_at [] w i ≡ false)
+    → IsNext s (b.base + from) m → IsCandidate w from (m - b.base)
+candidate_of w b s from m waiting others next =
+    let behind = next.behind in
+    let at : b.base + (m - b.base) ≡ m = omega arith in
+    record {
+      behind = omega arith;
+      there = waiting (m - b.base) (ap (has s) at ∙ next.there);
+      first = λ i h k. others i (next.first (b.base + i) (omega arith) (omega arith));
     }

@@ -1,10 +1,10 @@
 -- One entry after the other finishes.
-use Rattle.std.proofs.Common.{◌≡◌, ◌<◌, ◌≤◌, ℕ, ◌+◌, ◌-◌, nat_le, suc, Bool, cond, true, false, arith, append_assoc, List, [], ◌∷◌, ◌++◌, length, take, drop, Some, None, refl, ap, sym, ◌∙◌, slice_get}
-use Rattle.std.specs.Prelude.{slice_set, nat_lt}
+use Rattle.std.proofs.Common.{◌≡◌, ◌<◌, ◌≤◌, ℕ, ◌+◌, ◌-◌, nat_le, suc, Bool, true, false, arith, append_assoc, List, [], ◌∷◌, ◌++◌, take, drop, Some, refl, ap, sym, ◌∙◌, slice_get}
+use Rattle.std.specs.Prelude.{slice_set}
 use Rattle.std.proofs.lemmas.Bool.Decides.{nat_tests}
 use Rattle.std.proofs.lemmas.Bool.{true≢false}
 use Rattle.std.proofs.lemmas.List.{append-nil}
-use Rattle.std.specs.List.{position, position_or_len}
+use Rattle.std.specs.List.{position_or_len}
 use Rattle.diva_ooo.specs.declared.entry.Entry.{Entry}
 use Rattle.diva_ooo.specs.declared.entry.Stage.{Stage}
 use Rattle.diva_ooo.specs.declared.entry.Stage.TheVariants.{Waiting, Running, Done}
@@ -77,65 +77,5 @@ idle_passed : (older rest : List Entry) → finished_from older rest ≡ finishe
 idle_passed older [] = ap (λ (x : List Entry). finished_from x []) (sym (append-nil older))
 idle_passed older (e ∷ rest) = idle_by (is_running e.stage) older rest e refl (λ longer. idle_passed longer rest)
 
--- ---- in two parts
-
-first_by : (b : Bool) (e : Entry) (xs ys : List Entry) → is_running e.stage ≡ b → (running_place xs < length xs → running_place (xs ++ ys) ≡ running_place xs) → running_place (e ∷ xs) < length (e ∷ xs)
-    → running_place (e ∷ xs ++ ys) ≡ running_place (e ∷ xs)
-first_by true e xs ys is more h = place_first e (xs ++ ys) is ∙ sym (place_first e xs is)
-first_by false e xs ys is more h =
-    let later = place_later e xs is in
-    place_later e (xs ++ ys) is ∙ ap suc (more (omega arith)) ∙ sym later
-
-place_front : (xs ys : List Entry) → running_place xs < length xs → running_place (xs ++ ys) ≡ running_place xs
-place_front [] ys h = absurd (omega arith)
-place_front (e ∷ xs) ys h = first_by (is_running e.stage) e xs ys refl (place_front xs ys) h
-
-second_by : (b : Bool) (e : Entry) (xs ys : List Entry) → is_running e.stage ≡ b → (length xs ≤ running_place xs → running_place (xs ++ ys) ≡ length xs + running_place ys) → length (e ∷ xs) ≤ running_place (e ∷ xs)
-    → running_place (e ∷ xs ++ ys) ≡ length (e ∷ xs) + running_place ys
-second_by true e xs ys is more h = let first = place_first e xs is in absurd (omega arith)
-second_by false e xs ys is more h =
-    let later = place_later e xs is in
-    let all = place_later e (xs ++ ys) is in
-    let rest = more (omega arith) in
-    omega arith
-
-place_back : (xs ys : List Entry) → length xs ≤ running_place xs → running_place (xs ++ ys) ≡ length xs + running_place ys
-place_back [] ys h = omega arith
-place_back (e ∷ xs) ys h = second_by (is_running e.stage) e xs ys refl (place_back xs ys) h
-
-passed_at : (w : List Entry) (at n : ℕ) → n ≡ running_place (drop at w) → finished_from (take at w) (drop at w) ≡ finished_from (take (at + n) w) (drop (at + n) w)
-passed_at w at n is = rw is (idle_passed (take at w) (drop at w) ∙ rw (sym (take_more w at (running_place (drop at w))), drop_more w at (running_place (drop at w))) refl)
-
-pub passed_front : (w xs ys : List Entry) (at n : ℕ) → xs ++ ys ≡ drop at w → n ≡ running_place xs → n < length xs → finished_from (take at w) (drop at w) ≡ finished_from (take (at + n) w) (drop (at + n) w)
-passed_front w xs ys at n parts is h =
-    passed_at w at n (is ∙ sym (place_front xs ys (omega arith)) ∙ ap running_place parts)
-
-pub passed_back : (w xs ys : List Entry) (at n k : ℕ) → xs ++ ys ≡ drop at w → n ≡ running_place xs → n ≡ length xs → k ≡ running_place ys → finished_from (take at w) (drop at w) ≡ finished_from (take (at + n + k) w) (drop (at + n + k) w)
-passed_back w xs ys at n k parts is all has =
-    let sum : at + n + k ≡ at + (n + k) = omega arith in
-    let both : length xs + running_place ys ≡ n + k = omega arith in
-    rw sum (passed_at w at (n + k) (sym both ∙ sym (place_back xs ys (omega arith)) ∙ ap running_place parts))
-
--- ---- the place of the first
-
-within_by : (b : Bool) (e : Entry) (w : List Entry) → is_running e.stage ≡ b → running_place w ≤ length w → running_place (e ∷ w) ≤ length (e ∷ w)
-within_by true e w is h = let first = place_first e w is in omega arith
-within_by false e w is h = let later = place_later e w is in omega arith
-
-none_by : (b : Bool) (w : List Entry) → nat_lt (running_place w) (length w) ≡ b → cond b (Some (running_place w)) None ≡ None → running_place w ≤ length w → length w ≡ running_place w
-none_by true w is none h = absurd (cc)
-none_by false w is none h = grind (arith, nat_tests)
-
-some_by : (b : Bool) (w : List Entry) (n : ℕ) → nat_lt (running_place w) (length w) ≡ b → cond b (Some (running_place w)) None ≡ Some n → n ≡ running_place w
-some_by true w n is some = cc
-some_by false w n is some = absurd (cc)
-
-place_within : (w : List Entry) → running_place w ≤ length w
-place_within [] = omega arith
-place_within (e ∷ w) = within_by (is_running e.stage) e w refl (place_within w)
-
-pub none_running : (w : List Entry) → position (λ e. is_running e.stage) w ≡ None → length w ≡ running_place w
-none_running w is = none_by (nat_lt (running_place w) (length w)) w refl is (place_within w)
-
-pub some_running : (w : List Entry) (n : ℕ) → position (λ e. is_running e.stage) w ≡ Some n → n ≡ running_place w
-some_running w n is = some_by (nat_lt (running_place w) (length w)) w n refl is
+pub passed : (w : List Entry) (at n : ℕ) → n ≡ at + running_place (drop at w) → finished_from (take at w) (drop at w) ≡ finished_from (take n w) (drop n w)
+passed w at n is = rw is (idle_passed (take at w) (drop at w) ∙ rw (sym (take_more w at (running_place (drop at w))), drop_more w at (running_place (drop at w))) refl)

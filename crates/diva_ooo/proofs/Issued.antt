@@ -1,16 +1,15 @@
 -- Entries are passed until one can begin.
-use Rattle.std.proofs.Common.{◌≡◌, ◌<◌, ◌≤◌, ℕ, zero, suc, ◌+◌, List, [], ◌∷◌, ◌++◌, length, take, drop, Some, Bool, true, false, ◌&&◌, refl, ap, sym, ◌∙◌, arith, slice_get, append_assoc, subst}
+use Rattle.std.proofs.Common.{◌≡◌, ◌<◌, ◌≤◌, ℕ, zero, suc, ◌+◌, ◌-◌, List, [], ◌∷◌, ◌++◌, length, take, drop, Some, Bool, true, false, ◌&&◌, refl, ap, sym, ◌∙◌, arith, slice_get, append_assoc}
 use Rattle.std.specs.Prelude.{slice_set, nat_lt}
 use Rattle.std.proofs.lemmas.Bool.Decides.{nat_tests}
 use Rattle.std.proofs.lemmas.Grind.{common_steps}
-use Rattle.std.proofs.lemmas.List.{append-nil, take-append-drop}
+use Rattle.std.proofs.lemmas.List.{append-nil, length-drop, take-append-drop}
 use Rattle.diva_isa.specs.State.{State}
 use Rattle.diva_ahead.specs.Lead.{Lead}
 use Rattle.diva_ooo.specs.declared.entry.Entry.{Entry}
-use Rattle.diva_ooo.specs.declared.board.Board.{Board}
-use Rattle.diva_ooo.specs.Board.{IsBoard, passed}
+use Rattle.diva_ooo.specs.Board.{can_at, passed}
 use Rattle.diva_ooo.specs.Issue.{begins, can_begin, issued_from, started}
-use Rattle.diva_ooo.proofs.Places.{drop_at, drop_more, get_set_at, take_more, take_set_at, drop_set_at}
+use Rattle.diva_ooo.proofs.Places.{drop_at, drop_more, take_more, take_set_at, drop_set_at}
 
 passed_none : (older rest : List Entry) (e : Entry) → can_begin older e ≡ true → passed older (e ∷ rest) ≡ 0
 passed_none older rest e can = rw can refl
@@ -105,37 +104,6 @@ issued_end lead s begun w at h =
     let none : drop at w ≡ [] = grind (arith, common_steps) in
     rw (all, none) refl
 
--- ---- in two parts
-
-front_by : (b : Bool) (older xs ys : List Entry) (e : Entry) → can_begin older e ≡ b
-    → (passed (older ++ e ∷ []) xs < length xs → passed (older ++ e ∷ []) (xs ++ ys) ≡ passed (older ++ e ∷ []) xs)
-    → passed older (e ∷ xs) < length (e ∷ xs) → passed older (e ∷ xs ++ ys) ≡ passed older (e ∷ xs)
-front_by true older xs ys e can more h = passed_none older (xs ++ ys) e can ∙ sym (passed_none older xs e can)
-front_by false older xs ys e idle more h =
-    let one = passed_one older xs e idle in
-    passed_one older (xs ++ ys) e idle ∙ ap suc (more (omega arith)) ∙ sym one
-
-pub passed_front : (older xs ys : List Entry) → passed older xs < length xs → passed older (xs ++ ys) ≡ passed older xs
-passed_front older [] ys h = absurd (omega arith)
-passed_front older (e ∷ xs) ys h = front_by (can_begin older e) older xs ys e refl (passed_front (older ++ e ∷ []) xs ys) h
-
-back_by : (b : Bool) (older xs ys : List Entry) (e : Entry) → can_begin older e ≡ b
-    → (length xs ≤ passed (older ++ e ∷ []) xs → passed (older ++ e ∷ []) (xs ++ ys) ≡ length xs + passed ((older ++ e ∷ []) ++ xs) ys)
-    → length (e ∷ xs) ≤ passed older (e ∷ xs) → passed older (e ∷ xs ++ ys) ≡ length (e ∷ xs) + passed (older ++ e ∷ xs) ys
-back_by true older xs ys e can more h = let none = passed_none older xs e can in absurd (omega arith)
-back_by false older xs ys e idle more h =
-    let one = passed_one older xs e idle in
-    let all = passed_one older (xs ++ ys) e idle in
-    let rest = more (omega arith) in
-    let same : passed ((older ++ e ∷ []) ++ xs) ys ≡ passed (older ++ e ∷ xs) ys = ap (λ (o : List Entry). passed o ys) (append_assoc older (e ∷ []) xs) in
-    omega arith
-
-pub passed_back : (older xs ys : List Entry) → length xs ≤ passed older xs → passed older (xs ++ ys) ≡ length xs + passed (older ++ xs) ys
-passed_back older [] ys h =
-    let e : 0 + passed older ys ≡ passed older ys = omega arith in
-    sym (ap (λ (o : List Entry). 0 + passed o ys) (append-nil older) ∙ e)
-passed_back older (e ∷ xs) ys h = back_by (can_begin older e) older xs ys e refl (passed_back (older ++ e ∷ []) xs ys) h
-
 -- ---- one round of the walk
 
 get_some : {X : Type 0} (xs : List X) (i : ℕ) → i < length xs → (P : Type 0) → ((x : X) → slice_get xs i ≡ Some x → P) → P
@@ -151,20 +119,56 @@ begun_next lead s begun w new from at few place h sets =
     get_some w at h (issued_from lead s (begun + 1) (take (at + 1) new) (drop (at + 1) new) ≡ issued_from lead s begun (take from w) (drop from w))
     (λ e is. begun_one lead s begun w new at e is few (passed_next w from at e place is) (sets e is) ∙ sym (passed_stay lead s begun w from at place))
 
--- what the board notes is the entry that then stands there
-pub board_next : (regs : List ℕ) (lead : Lead) (s : State) (w new : List Entry) (at : ℕ) (x : Entry) (b : Board) → at < length w
-    → ((e : Entry) → slice_get w at ≡ Some e → new ≡ slice_set w at (started lead s (take at w) e))
-    → slice_get new at ≡ Some x → IsBoard regs (take at w ++ x ∷ []) b → IsBoard regs (take (at + 1) new) b
-board_next regs lead s w new at x b h sets there i =
-    get_some w at h (IsBoard regs (take (at + 1) new) b)
-    (λ e is.
-    let y : Entry = started lead s (take at w) e in
-    let n : new ≡ slice_set w at y = sets e is in
-    let got : slice_get new at ≡ Some y = ap (λ (z : List Entry). slice_get z at) n ∙ get_set_at w at e y is in
-    let same : x ≡ y = cc in
-    let front : take (at + 1) new ≡ take at w ++ x ∷ [] = ap (take (at + 1)) n ∙ take_set_at w at e y is ∙ ap (λ (z : Entry). take at w ++ z ∷ []) (sym same) in
-    subst (λ (z : List Entry). IsBoard regs z b) (sym front) i)
-
 -- some entries are passed, and none is left
 pub none_next : (lead : Lead) (s : State) (begun : ℕ) (w : List Entry) (from at : ℕ) → at ≡ from + passed (take from w) (drop from w) → at ≡ length w → w ≡ issued_from lead s begun (take from w) (drop from w)
 none_next lead s begun w from at place end = sym (issued_end lead s begun w at (omega arith)) ∙ sym (passed_stay lead s begun w from at place)
+
+-- ---- the place of the first that can begin
+
+zero_more : (n : ℕ) → n ≡ 0 + n
+zero_more n = omega arith
+
+pass_to : (older w : List Entry) (n : ℕ) → n ≤ length w → ((i : ℕ) → i < n → can_at older w i ≡ false) → passed older w ≡ n + passed (older ++ take n w) (drop n w)
+pass_to older w zero h none = ap (λ (o : List Entry). passed o w) (sym (append-nil older)) ∙ zero_more (passed (older ++ []) w)
+pass_to older [] (suc n) h none = absurd (omega arith)
+pass_to older (e ∷ w) (suc n) h none =
+    let more : passed (older ++ e ∷ []) w ≡ n + passed ((older ++ e ∷ []) ++ take n w) (drop n w) = pass_to (older ++ e ∷ []) w n (omega arith) (λ i lt. none (suc i) (omega arith)) in
+    let same : passed ((older ++ e ∷ []) ++ take n w) (drop n w) ≡ passed (older ++ e ∷ take n w) (drop n w) = ap (λ (o : List Entry). passed o (drop n w)) (append_assoc older (e ∷ []) (take n w)) in
+    let one = passed_one older w e (none 0 (omega arith)) in
+    omega arith
+
+can_behind : (older w : List Entry) (at i : ℕ) → can_at (older ++ take at w) (drop at w) i ≡ can_at older w (at + i)
+can_behind older w zero i = let e : 0 + i ≡ i = omega arith in rw e (ap (λ (o : List Entry). can_at o w i) (append-nil older))
+can_behind older [] (suc at) i = refl
+can_behind older (e ∷ w) (suc at) i =
+    let e' : suc at + i ≡ suc (at + i) = omega arith in
+    rw e' (ap (λ (o : List Entry). can_at o (drop at w) i) (sym (append_assoc older (e ∷ []) (take at w))) ∙ can_behind (older ++ e ∷ []) w at i)
+
+-- none can begin from one place on up to another
+pub pass_between : (w : List Entry) (at n : ℕ) → at ≤ n → n ≤ length w → ((i : ℕ) → at ≤ i → i < n → can_at [] w i ≡ false) → at + passed (take at w) (drop at w) ≡ n + passed (take n w) (drop n w)
+pass_between w at n h within none =
+    let rest : length (drop at w) ≡ length w - at = length-drop at w in
+    let sum : at + (n - at) ≡ n = omega arith in
+    let here : passed (take at w) (drop at w) ≡ (n - at) + passed (take at w ++ take (n - at) (drop at w)) (drop (n - at) (drop at w)) =
+    pass_to (take at w) (drop at w) (n - at) (omega arith) (λ i lt. can_behind [] w at i ∙ none (at + i) (omega arith) (omega arith)) in
+    let there : passed (take at w ++ take (n - at) (drop at w)) (drop (n - at) (drop at w)) ≡ passed (take n w) (drop n w) =
+    rw (sym (take_more w at (n - at)), sym (drop_more w at (n - at)), sum) refl in
+    omega arith
+
+pass_here_by : (older rest : List Entry) → can_at older rest 0 ≡ true → passed older rest ≡ 0
+pass_here_by older [] can = refl
+pass_here_by older (e ∷ rest) can = passed_none older rest e can
+
+-- the one at a place can begin
+pub pass_here : (w : List Entry) (at : ℕ) → can_at [] w at ≡ true → passed (take at w) (drop at w) ≡ 0
+pass_here w at can = let e : at + 0 ≡ at = omega arith in pass_here_by (take at w) (drop at w) (can_behind [] w at 0 ∙ ap (can_at [] w) e ∙ can)
+
+pub pass_end : (w : List Entry) (at : ℕ) → length w ≤ at → passed (take at w) (drop at w) ≡ 0
+pass_end w at h = let none : drop at w ≡ [] = grind (arith, common_steps) in rw none refl
+
+-- one more cannot begin
+pub pass_one : (w : List Entry) (at place : ℕ) → at ≤ place → place < length w → ((i : ℕ) → at ≤ i → i < place → can_at [] w i ≡ false) → can_at [] w place ≡ false
+    → at + passed (take at w) (drop at w) ≡ (place + 1) + passed (take (place + 1) w) (drop (place + 1) w)
+pass_one w at place h within none not_yet =
+    pass_between w at place h (omega arith) none
+    ∙ pass_between w place (place + 1) (omega arith) (omega arith) (λ i a b. let same : i ≡ place = omega arith in ap (can_at [] w) same ∙ not_yet)

@@ -1,15 +1,85 @@
--- What the core keeps on its walk over the window.
-use Rattle.std.specs.Prelude.{◌≡◌, ℕ, suc, ◌<◌, not, length, get_or, List, [], ◌∷◌, ◌++◌, false, if◌then◌else◌}
+-- What the core keeps of the entries of its window.
+use Rattle.std.specs.Prelude.{◌≡◌, ℕ, zero, suc, ◌<◌, ◌≤◌, ◌+◌, ◌==◌, ◌&&◌, ◌||◌, not, length, get_or, List, [], ◌∷◌, ◌++◌, Bool, true, false, if◌then◌else◌}
 use Rattle.diva_ooo.specs.declared.entry.Entry.{Entry}
 use Rattle.diva_ooo.specs.declared.board.Board.{Board}
-use Rattle.diva_ooo.specs.Issue.{are_stored, can_begin, is_available, written}
+use Rattle.diva_ooo.specs.declared.mark_set.MarkSet.{MarkSet}
+use Rattle.diva_ooo.specs.declared.profile.Class.{Class}
+use Rattle.diva_ooo.specs.declared.profile.Class.TheVariants.{Plain, Loads, Stores, Calls}
+use Rattle.diva_ooo.specs.Finish.{is_running}
+use Rattle.diva_ooo.specs.Issue.{can_begin, is_available, is_done, is_storing, is_waiting}
+use Rattle.diva_ooo.specs.MarkSets.{AreThose, has, holds_at}
 
--- the board is what is known behind some entries, where the core's registers are regs
-pub record IsBoard (regs : List ℕ) (older : List Entry) (b : Board) : Type 0 where
-  pub known : b.regs ≡ written regs older
-  pub long : length b.awaited ≡ 32
-  pub available : (n : ℕ) → n < 32 → is_available older n ≡ not (get_or b.awaited n false)
-  pub stored : are_stored older ≡ not b.storing
+-- an entry writes a register, or reads it; none does x0
+abbrev pub writes : ℕ → Entry → Bool
+writes n e = (e.profile.rd == n) && not (n == 0)
+
+abbrev pub reads : ℕ → Entry → Bool
+reads n e = ((e.profile.rs1 == n) || (e.profile.rs2 == n)) && not (n == 0)
+
+abbrev pub has_result : ℕ → Entry → Bool
+has_result n e = writes n e && is_done e.stage
+
+abbrev pub is_open_store : Entry → Bool
+is_open_store e = not (is_done e.stage) && is_storing e.profile.class
+
+abbrev pub is_loading : Class → Bool
+is_loading Plain = false
+is_loading Loads = true
+is_loading Stores = false
+is_loading Calls = false
+
+abbrev pub is_load : Entry → Bool
+is_load e = is_loading e.profile.class
+
+-- whether the entry at a place waits and has its sources, behind the older ones
+abbrev pub could_at : (older : List Entry) → List Entry → ℕ → Bool
+could_at older [] i = false
+could_at older (e ∷ rest) zero = is_waiting e.stage && (is_available older e.profile.rs1 && is_available older e.profile.rs2)
+could_at older (e ∷ rest) (suc i) = could_at (older ++ e ∷ []) rest i
+
+abbrev pub no_mark : MarkSet
+no_mark = record { bits = 0 }
+
+-- the board is that of the entries
+pub record IsBoard (w : List Entry) (b : Board) : Type 0 where
+  pub base : b.base ≤ 32
+  pub waiting : AreThose (λ e. is_waiting e.stage) w b.base b.waiting
+  pub running : AreThose (λ e. is_running e.stage) w b.base b.running
+  pub done : AreThose (λ e. is_done e.stage) w b.base b.done
+  -- those that are gone were done
+  pub gone : (i : ℕ) → i < b.base → has b.done i ≡ true
+  pub storing : AreThose is_open_store w b.base b.storing
+  pub loads : AreThose is_load w b.base b.loads
+  -- no other than a candidate could begin
+  pub candidates : (i : ℕ) → has b.candidates (b.base + i) ≡ false → could_at [] w i ≡ false
+  pub write_sets : length b.writers ≡ 32
+  pub read_sets : length b.readers ≡ 32
+  pub writers : (n : ℕ) → n < 32 → AreThose (writes n) w b.base (get_or b.writers n no_mark)
+  pub readers : (n : ℕ) → n < 32 → AreThose (reads n) w b.base (get_or b.readers n no_mark)
+
+-- whether the entry at a place can begin, behind the older ones
+abbrev pub can_at : (older : List Entry) → List Entry → ℕ → Bool
+can_at older [] i = false
+can_at older (e ∷ rest) zero = can_begin older e
+can_at older (e ∷ rest) (suc i) = can_at (older ++ e ∷ []) rest i
+
+-- n is the first place from one on whose entry has a property
+pub record IsNextOf (p : Entry → Bool) (w : List Entry) (from n : ℕ) : Type 0 where
+  pub behind : from ≤ n
+  pub there : holds_at p w n ≡ true
+  pub first : (i : ℕ) → from ≤ i → i < n → holds_at p w i ≡ false
+
+-- n is the last place before one whose entry has a property
+pub record IsLastOf (p : Entry → Bool) (w : List Entry) (end n : ℕ) : Type 0 where
+  pub before : n < end
+  pub there : holds_at p w n ≡ true
+  pub last : (i : ℕ) → n < i → i < end → holds_at p w i ≡ false
+
+-- the entry at place n waits, and none from a place on before it can begin
+pub record IsCandidate (w : List Entry) (from n : ℕ) : Type 0 where
+  pub behind : from ≤ n
+  pub there : holds_at (λ e. is_waiting e.stage) w n ≡ true
+  pub first : (i : ℕ) → from ≤ i → i < n → can_at [] w i ≡ false
 
 -- how many entries behind the older ones come before the first that can begin
 abbrev pub passed : List Entry → List Entry → ℕ

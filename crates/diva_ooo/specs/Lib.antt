@@ -1,3 +1,4 @@
+pub mod MarkSets
 pub mod Profile
 pub mod Finish
 pub mod Issue

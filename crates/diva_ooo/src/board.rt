@@ -1,81 +1,254 @@
-// What is known behind the entries that were looked at.
-ghost use Rattle.std.specs.Prelude.{◌≡◌, ℕ, ◌<◌, ◌==◌, List, [], ◌∷◌, ◌++◌, length, not};
+// What is known of the entries of a window.
+ghost use Rattle.std.specs.Prelude.{◌≡◌, ◌+◌, ◌&&◌, ◌<◌, ◌≤◌, ℕ, List, [], ◌∷◌, ◌++◌, length, take, IfSome, IsNone, Some, false, slice_get, slice_set, true};
 ghost use Rattle.diva_ooo.specs.declared.entry.Entry.{Entry};
-ghost use Rattle.diva_ooo.specs.Board.{IsBoard};
-ghost use Rattle.diva_ooo.specs.Issue.{are_stored, is_available, is_free, is_ready};
-ghost use Rattle.diva_ooo.specs.Known.{IsKnown};
+ghost use Rattle.diva_ooo.specs.Board.{IsBoard, IsCandidate, IsLastOf, IsNextOf, can_at, could_at, has_result};
+ghost use Rattle.diva_ooo.specs.Finish.{is_running};
+ghost use Rattle.diva_ooo.specs.Issue.{are_stored, is_available, is_done, is_free, is_waiting};
+ghost use Rattle.diva_ooo.specs.Known.{HasSources};
+ghost use Rattle.diva_ooo.specs.MarkSets.{has, holds_at};
 
 use crate::entry::Entry;
-use crate::profile::Class;
-use diva_isa::Regs;
+use crate::mark_set::MarkSet;
+use crate::profile::{Class, Profile};
 
-/// What is known behind the entries that were looked at. So no entry has to look for the ones that it waits for.
+/// Which entries of a window are how far, and which registers they read and write. So no entry has to look for the ones
+/// that it waits for.
+///
+/// An entry has a mark, which stays while older ones go: its place among them all, and the base more.
 #[derive(Clone, Copy, Debug)]
 pub(crate) struct Board {
-    /// The registers, with what the entries wrote that are done.
-    pub regs: Regs,
-    /// The registers that an entry under way is to write.
-    pub awaited: [bool; 32],
-    /// Whether a store is under way.
-    pub storing: bool,
+    /// The mark of the oldest entry: 32 at most.
+    pub base: usize,
+    pub waiting: MarkSet,
+    pub running: MarkSet,
+    pub done: MarkSet,
+    /// Those that store, and are not done.
+    pub storing: MarkSet,
+    pub loads: MarkSet,
+    /// Those among which are all that wait and have their sources.
+    pub candidates: MarkSet,
+    /// By register: those that write it. None writes x0.
+    pub writers: [MarkSet; 32],
+    /// By register: those that read it. None reads x0.
+    pub readers: [MarkSet; 32],
 }
 
 impl Board {
-    /// What is known before all entries.
-    pub(crate) fn new(regs: &Regs) -> Self
-        ensures { IsBoard regs.now [] result }
+    /// The board of no entry.
+    pub(crate) fn new() -> Self
+        ensures board { IsBoard [] result }
+        ensures base { result.base ≡ 0 }
     {
         Board {
-            regs: *regs,
-            awaited: [false; 32],
-            storing: false,
+            base: 0,
+            waiting: MarkSet::NONE,
+            running: MarkSet::NONE,
+            done: MarkSet::NONE,
+            storing: MarkSet::NONE,
+            loads: MarkSet::NONE,
+            candidates: MarkSet::NONE,
+            writers: [MarkSet::NONE; 32],
+            readers: [MarkSet::NONE; 32],
         }
     }
 
-    /// Whether the next entry, which is at a place, has all that it waits for.
-    #[tactic(auto, unfolding(crate::specs::Issue::is_ready))]
-    pub(crate) fn is_ready(&self, at: usize, entry: &Entry) -> bool
-        requires { IsKnown entry.now }
-        ensures { (regs : List ℕ) (older : List Entry) → IsBoard regs older self.now → length older ≡ at
-            → result ≡ is_ready older entry.now }
+    /// Adds the youngest entry, which is at a place.
+    #[inline(always)]
+    pub(crate) fn push(&mut self, at: usize, entry: &Entry)
+        requires base { self.old.base ≤ 32 }
+        requires place { at < 32 }
+        requires sources { HasSources entry.now.profile }
+        ensures board { (w : List Entry) → IsBoard w self.old → length w ≡ at → IsBoard (w ++ entry.now ∷ []) self.new }
+        ensures base { self.new.base ≡ self.old.base }
     {
+        let mark = self.base + at;
         let profile = entry.profile;
-        self.has(profile.rs1) && self.has(profile.rs2) && self.is_free(at, profile.class)
+        self.waiting.put(mark, entry.stage.is_waiting());
+        self.running.put(mark, entry.stage.is_running());
+        self.done.put(mark, entry.stage.is_done());
+        self.storing.put(mark, entry.is_open_store());
+        self.loads.put(mark, profile.class.is_loading());
+        self.candidates.put(mark, true);
+        self.writers[usize::from(profile.rd)].put(mark, profile.rd != 0);
+        self.readers[usize::from(profile.rs1)].put(mark, profile.rs1 != 0);
+        self.readers[usize::from(profile.rs2)].put(mark, profile.rs2 != 0);
     }
 
-    // Whether the word in a register is known.
-    fn has(&self, n: u8) -> bool
-        requires { n < 32 }
-        ensures { (regs : List ℕ) (older : List Entry) → IsBoard regs older self.now → result ≡ is_available older n }
+    /// Removes the youngest entry, which is at a place.
+    pub(crate) fn drop_youngest(&mut self, at: usize, profile: &Profile)
+        requires base { self.old.base ≤ 32 }
+        requires place { at < 32 }
+        requires sources { HasSources profile.now }
+        ensures board { (w : List Entry) (e : Entry) → IsBoard (w ++ e ∷ []) self.old → length w ≡ at
+            → e.profile ≡ profile.now → IsBoard w self.new }
+        ensures base { self.new.base ≡ self.old.base }
     {
-        !self.awaited[usize::from(n)]
+        let mark = self.base + at;
+        self.waiting.remove(mark);
+        self.running.remove(mark);
+        self.done.remove(mark);
+        self.storing.remove(mark);
+        self.loads.remove(mark);
+        self.writers[usize::from(profile.rd)].remove(mark);
+        self.readers[usize::from(profile.rs1)].remove(mark);
+        self.readers[usize::from(profile.rs2)].remove(mark);
     }
 
-    // Whether it has what it waits for besides its sources.
-    fn is_free(&self, at: usize, class: Class) -> bool
-        ensures { (older : List Entry) → are_stored older ≡ not self.now.storing → length older ≡ at
-            → result ≡ is_free class older }
+    /// Removes the oldest entry, which is done.
+    pub(crate) fn pop(&mut self)
+        requires { self.old.base < 32 }
+        ensures board { (w : List Entry) (e : Entry) → IsBoard (e ∷ w) self.old → is_done e.stage ≡ true → IsBoard w self.new }
+        ensures base { self.new.base ≡ self.old.base + 1 }
+    {
+        self.base += 1;
+    }
+
+    /// The entry at a place, which waits, begins to run.
+    pub(crate) fn begin(&mut self, at: usize)
+        requires base { self.old.base ≤ 32 }
+        requires place { at < 32 }
+        ensures board { (w : List Entry) (e new : Entry) → IsBoard w self.old → slice_get w at ≡ Some e
+            → is_waiting e.stage ≡ true → is_running new.stage ≡ true → new.profile ≡ e.profile
+            → IsBoard (slice_set w at new) self.new }
+        ensures base { self.new.base ≡ self.old.base }
+    {
+        let mark = self.base + at;
+        self.waiting.remove(mark);
+        self.running.put(mark, true);
+    }
+
+    /// The entry at a place, which runs and writes a register, is done.
+    pub(crate) fn complete(&mut self, at: usize, rd: u8)
+        requires base { self.old.base ≤ 32 }
+        requires place { at < 32 }
+        requires register { rd < 32 }
+        ensures board { (w : List Entry) (e new : Entry) → IsBoard w self.old → slice_get w at ≡ Some e
+            → is_running e.stage ≡ true → is_done new.stage ≡ true → new.profile ≡ e.profile → rd ≡ e.profile.rd
+            → IsBoard (slice_set w at new) self.new }
+        ensures base { self.new.base ≡ self.old.base }
+    {
+        let mark = self.base + at;
+        self.running.remove(mark);
+        self.done.put(mark, true);
+        self.storing.remove(mark);
+        self.candidates.put_all(self.readers[usize::from(rd)]);
+    }
+
+    /// The entry at a place is no candidate.
+    pub(crate) fn pass(&mut self, at: usize)
+        requires base { self.old.base ≤ 32 }
+        requires place { at < 32 }
+        ensures board { (w : List Entry) → IsBoard w self.old → could_at [] w at ≡ false → IsBoard w self.new }
+        ensures base { self.new.base ≡ self.old.base }
+    {
+        self.candidates.remove(self.base + at);
+    }
+
+    /// The place of the first entry that runs, from a place on.
+    pub(crate) fn next_running(&self, from: usize) -> Option<usize>
+        requires base { self.now.base < 32 }
+        requires place { from ≤ 32 }
+        ensures some { (w : List Entry) → IsBoard w self.now → IfSome result (IsNextOf (λ e. is_running e.stage) w from) }
+        ensures none { (w : List Entry) → IsBoard w self.now → IsNone result
+            → (i : ℕ) → from ≤ i → holds_at (λ e. is_running e.stage) w i ≡ false }
+    {
+        match self.running.next(self.base + from) {
+            Some(mark) => Some(mark - self.base),
+            None => None,
+        }
+    }
+
+    /// The place of the first entry that waits and may begin, from a place on.
+    pub(crate) fn next_candidate(&self, from: usize) -> Option<usize>
+        requires base { self.now.base < 32 }
+        requires place { from ≤ 32 }
+        ensures some { (w : List Entry) → IsBoard w self.now → IfSome result (IsCandidate w from) }
+        ensures none { (w : List Entry) → IsBoard w self.now → IsNone result
+            → (i : ℕ) → from ≤ i → can_at [] w i ≡ false }
+    {
+        match self.eligible().next(self.base + from) {
+            Some(mark) => Some(mark - self.base),
+            None => None,
+        }
+    }
+
+    // The candidates that wait, but for loads behind a store that is not done.
+    fn eligible(&self) -> MarkSet
+        requires { self.now.base ≤ 32 }
+        ensures waiting { (w : List Entry) (i : ℕ) → IsBoard w self.now → has result (self.now.base + i) ≡ true
+            → holds_at (λ e. is_waiting e.stage) w i ≡ true }
+        ensures others { (w : List Entry) (i : ℕ) → IsBoard w self.now → has result (self.now.base + i) ≡ false
+            → can_at [] w i ≡ false }
+    {
+        let waiting = self.candidates.both(self.waiting);
+        match self.storing.next(self.base) {
+            Some(mark) => waiting.except(self.loads, mark),
+            None => waiting,
+        }
+    }
+
+    /// Whether an entry at a place has its sources.
+    pub(crate) fn has_sources(&self, at: usize, profile: &Profile) -> bool
+        requires base { self.now.base ≤ 32 }
+        requires place { at < 32 }
+        requires sources { HasSources profile.now }
+        ensures { (w : List Entry) → IsBoard w self.now → at ≤ length w
+            → result ≡ (is_available (take at w) profile.now.rs1 && is_available (take at w) profile.now.rs2) }
+    {
+        self.is_available(at, profile.rs1) && self.is_available(at, profile.rs2)
+    }
+
+    // Whether a register is available to an entry at a place.
+    fn is_available(&self, at: usize, n: u8) -> bool
+        requires base { self.now.base ≤ 32 }
+        requires place { at < 32 }
+        requires register { n < 32 }
+        ensures { (w : List Entry) → IsBoard w self.now → at ≤ length w → result ≡ is_available (take at w) n }
+    {
+        match self.writers[usize::from(n)].last(self.base + at) {
+            Some(mark) => self.done.has(mark),
+            None => true,
+        }
+    }
+
+    /// Whether an entry at a place has what it waits for besides its sources.
+    pub(crate) fn is_free(&self, at: usize, class: Class) -> bool
+        requires base { self.now.base ≤ 32 }
+        requires place { at < 32 }
+        ensures { (w : List Entry) → IsBoard w self.now → at ≤ length w → result ≡ is_free class (take at w) }
     {
         match class {
             Class::Plain | Class::Stores => true,
-            Class::Loads => !self.storing,
+            Class::Loads => self.are_stored(at),
             Class::Calls => at == 0,
         }
     }
 
-    /// Notes the next entry.
-    pub(crate) fn note(&mut self, entry: &Entry)
-        requires { IsKnown entry.now }
-        ensures { (regs : List ℕ) (older : List Entry) → IsBoard regs older self.old
-            → IsBoard regs (older ++ entry.now ∷ []) self.new }
+    // Whether each store before a place is done.
+    fn are_stored(&self, at: usize) -> bool
+        requires base { self.now.base ≤ 32 }
+        requires place { at < 32 }
+        ensures { (w : List Entry) → IsBoard w self.now → at ≤ length w → result ≡ are_stored (take at w) }
     {
-        let rd = entry.profile.rd;
-        if entry.stage.is_done() {
-            self.regs.set(rd, entry.result.value);
-            self.awaited[usize::from(rd)] = false;
-        } else {
-            self.awaited[usize::from(rd)] = rd != 0;
-            self.storing |= entry.profile.class.is_storing();
+        match self.storing.next(self.base) {
+            Some(mark) => mark >= self.base + at,
+            None => true,
+        }
+    }
+
+    /// The place of the last entry before one that is done and writes a register.
+    pub(crate) fn last_result(&self, at: usize, n: u8) -> Option<usize>
+        requires base { self.now.base ≤ 32 }
+        requires place { at < 32 }
+        requires register { n < 32 }
+        ensures some { (w : List Entry) → IsBoard w self.now → at ≤ length w → IfSome result (IsLastOf (has_result n) w at) }
+        ensures none { (w : List Entry) → IsBoard w self.now → at ≤ length w → IsNone result
+            → (i : ℕ) → i < at → holds_at (has_result n) w i ≡ false }
+    {
+        let results = self.writers[usize::from(n)].both(self.done);
+        match results.last(self.base + at) {
+            Some(mark) if mark >= self.base => Some(mark - self.base),
+            _ => None,
         }
     }
 }

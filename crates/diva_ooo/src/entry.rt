@@ -1,5 +1,6 @@
 // An instruction under way.
 ghost use Rattle.std.specs.Prelude.{◌≡◌};
+ghost use Rattle.diva_ooo.specs.Board.{is_open_store};
 ghost use Rattle.diva_ooo.specs.Finish.{is_running};
 ghost use Rattle.diva_ooo.specs.Issue.{is_done, is_waiting};
 
@@ -60,4 +61,13 @@ pub struct Entry {
     pub result: Record,
     /// What that does besides moving the pc: nothing where it ends, or where it has not begun.
     pub effect: Effect,
+}
+
+impl Entry {
+    /// Whether it is a store that is not done.
+    pub fn is_open_store(&self) -> bool
+        ensures { result ≡ is_open_store self.now }
+    {
+        !self.stage.is_done() && self.profile.class.is_storing()
+    }
 }

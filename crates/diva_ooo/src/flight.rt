@@ -8,19 +8,18 @@ use crate::entry::Entry;
 use crate::window::Window;
 use diva_ahead::Ahead;
 use diva_core::{View, byte_in, is_apart};
-use diva_isa::{Look, Regs, Width};
+use diva_isa::{Look, Width};
 
 /// The state that the entry at a place reads: registers with what the older ones wrote, and the machine's memory with what
 /// the core handed over and then what the older entries store laid over it.
 #[derive(Drop)]
 pub(crate) struct Flight<'a> {
-    pub regs: &'a Regs,
     pub pc: u32,
     pub ahead: &'a Ahead,
     pub window: &'a Window,
     pub at: usize,
     pub view: &'a View<'a>,
-    pub ghost within: { at ≤ length window.now },
+    pub ghost within: { at < length window.now },
 }
 
 impl Flight<'_> {
@@ -82,15 +81,16 @@ fn youngest(entries: &[Entry], addr: u32, byte: u8) -> u8
 impl Look for Flight<'_> {
     ghost use Rattle.std.specs.Prelude.{◌++◌, map, take};
     ghost use Rattle.diva_ahead.specs.Lead.{seen};
+    ghost use Rattle.diva_ooo.specs.Issue.{written};
 
-    ghost shows = { λ x. seen (record x.ahead.now { regs = x.regs.now; pc = x.pc; ring = x.ahead.now.ring ++ map (λ e. e.effect) (take x.at x.window.now) }) x.view.now };
+    ghost shows = { λ x. seen (record x.ahead.now { regs = written x.ahead.now.regs (take x.at x.window.now); pc = x.pc; ring = x.ahead.now.ring ++ map (λ e. e.effect) (take x.at x.window.now) }) x.view.now };
 
     fn pc(&self) -> u32 {
         self.pc
     }
 
     fn reg(&self, n: u8) -> u32 {
-        self.regs.get(n)
+        self.window.reg(self.at, n, self.ahead.regs())
     }
 
     fn byte(&self, addr: u32) -> Option<u8> {

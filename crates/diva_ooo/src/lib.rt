@@ -3,7 +3,7 @@
 //! - `profile`: what the core notes of an instruction that it fetches; `predicting`: where it fetches next;
 //! - `entry`, `window`: the instructions under way, in program order;
 //! - `finishing`: what runs has one cycle less to run;
-//! - `board`: what is known behind the entries that were looked at;
+//! - `board`: which of them are how far, and which registers they read and write; `mark_set`: sets of them;
 //! - `flight`: the state that an instruction reads;
 //! - `issuing`: waiting instructions begin to run;
 //! - `ooo`: the core, `Ooo`;
@@ -19,6 +19,7 @@ mod finishing;
 mod flight;
 mod issuing;
 pub mod laws;
+mod mark_set;
 mod ooo;
 mod predicting;
 mod profile;

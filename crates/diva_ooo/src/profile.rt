@@ -2,6 +2,7 @@
 ghost use Rattle.std.specs.Prelude.{◌≡◌, IfSome};
 ghost use Rattle.diva_decode.specs.Table.{HasRegisters};
 ghost use Rattle.diva_isa.specs.Kind.{kind};
+ghost use Rattle.diva_ooo.specs.Board.{is_loading};
 ghost use Rattle.diva_ooo.specs.Issue.{is_storing};
 ghost use Rattle.diva_ooo.specs.Known.{HasSources};
 ghost use Rattle.diva_ooo.specs.Profile.{cycles_of, profile_by, profile_of, profiled};
@@ -28,6 +29,13 @@ impl Class {
         ensures { result ≡ is_storing self }
     {
         matches!(self, Class::Stores)
+    }
+
+    /// Whether it is a load.
+    pub fn is_loading(self) -> bool
+        ensures { result ≡ is_loading self }
+    {
+        matches!(self, Class::Loads)
     }
 }
 

@@ -1,11 +1,17 @@
 // The instructions under way, in program order.
-ghost use Rattle.std.specs.Prelude.{◌≡◌, ◌≤◌, ◌<◌, ◌+◌, ◌-◌, [], ◌∷◌, ◌++◌, length, drop, take, IfOk, Some, slice_get, slice_set};
-ghost use Rattle.diva_ooo.specs.Issue.{running};
+ghost use Rattle.std.specs.Prelude.{◌≡◌, ◌≤◌, ◌<◌, ◌+◌, ◌-◌, [], ◌∷◌, ◌++◌, length, drop, take, IfOk, Some, slice_get, slice_index, slice_set, true};
+ghost use Rattle.std.specs.List.{All, position_or_len};
+ghost use Rattle.diva_ooo.specs.declared.entry.Stage.TheVariants.{Done, Running};
+ghost use Rattle.diva_ooo.specs.Board.{IsBoard, can_at, passed};
+ghost use Rattle.diva_ooo.specs.Finish.{is_running};
+ghost use Rattle.diva_ooo.specs.Issue.{is_done, is_waiting, running, written};
 ghost use Rattle.diva_ooo.specs.Known.{IsKnown};
+ghost use Rattle.diva_ooo.specs.MarkSets.{holds_at};
 
+use crate::board::Board;
 use crate::entry::{Entry, Stage};
 use circular_buffer::HeapCircularBuffer;
-use diva_isa::{Effect, Record};
+use diva_isa::{Effect, Record, Regs};
 use std::alloc::{AllocError, Global};
 use std::marker::Model;
 
@@ -13,24 +19,25 @@ use std::marker::Model;
 #[derive(Drop)]
 pub(crate) struct Window {
     entries: HeapCircularBuffer<Entry>,
+    board: Board,
 }
 
 impl Model for Window {
-    ghost use Rattle.std.specs.Prelude.{List, ◌≡◌};
+    ghost use Rattle.std.specs.Prelude.{List, ◌≡◌, ◌<◌};
     ghost use Rattle.std.specs.List.{All};
     ghost use Rattle.diva_ooo.specs.declared.entry.Entry.{Entry};
+    ghost use Rattle.diva_ooo.specs.Board.{IsBoard};
     ghost use Rattle.diva_ooo.specs.Known.{IsKnown};
 
     ghost Value = { List Entry };
 
     ghost view = { λ w. w.entries.items };
 
-    ghost invariant = { λ w. (w.entries.capacity ≡ 32) × All IsKnown w.entries.items };
+    ghost invariant = { λ w.
+        (w.entries.capacity ≡ 32) × All IsKnown w.entries.items × IsBoard w.entries.items w.board × (w.board.base < 32) };
 }
 
 impl Window {
-    ghost use Rattle.std.specs.List.{All};
-    ghost use Rattle.diva_ooo.specs.Known.{IsKnown};
     ghost use Rattle.diva_ooo.specs.declared.entry.Entry.{Entry};
     ghost use Rattle.diva_ahead.specs.Effects.{done_by};
     ghost use Rattle.diva_isa.specs.Step.{HasRegister};
@@ -44,6 +51,7 @@ impl Window {
     {
         Ok(Window {
             entries: HeapCircularBuffer::with_capacity(alloc, Self::MOST)?,
+            board: Board::new(),
         })
     }
 
@@ -65,25 +73,6 @@ impl Window {
         self.entries.get(at).unwrap()
     }
 
-    /// The entries from a place on, in two parts that follow one another.
-    #[inline]
-    #[tactic(auto, using(crate::proofs::Places::drop_parts, crate::proofs::Places::drop_rest, crate::proofs::Places::long_parts))]
-    pub(crate) fn from(&self, place: usize) -> (&[Entry], &[Entry])
-        requires { place ≤ length self.now }
-        ensures value { result.0.now ++ result.1.now ≡ drop place self.now }
-        ensures known { All IsKnown (drop place self.now) }
-        ensures all { place + (length result.0.now + length result.1.now) ≡ length self.now }
-        ensures most { length self.now ≤ 32 }
-    {
-        let _ = self.len();
-        let (front, back) = self.entries.as_slices();
-        if place < front.len() {
-            (&front[place..], back)
-        } else {
-            (&back[place - front.len()..], &[])
-        }
-    }
-
     /// The entries before a place, in two parts that follow one another.
     #[inline]
     #[tactic(auto, using(crate::proofs::Places::take_parts))]
@@ -99,20 +88,80 @@ impl Window {
         }
     }
 
-    /// Says how far the entry at a place is now.
+    /// The place of the first entry that runs, from a place on; how many there are where none does.
     #[inline]
-    pub(crate) fn advance(&mut self, at: usize, stage: Stage)
-        requires { at < length self.old }
+    pub(crate) fn next_running(&self, from: usize) -> usize
+        requires { from ≤ length self.now }
+        ensures value { result ≡ from + position_or_len (λ e. is_running e.stage) (drop from self.now) }
+        ensures within { result ≤ length self.now }
+    {
+        let len = self.len();
+        match self.board.next_running(from) {
+            Some(place) => place,
+            None => len,
+        }
+    }
+
+    /// The place of the first entry that can begin, from a place on; how many there are where none can.
+    #[inline]
+    pub(crate) fn next_ready(&mut self, from: usize) -> usize
+        requires { from ≤ length self.old }
+        ensures value { result ≡ from + passed (take from self.old) (drop from self.old) }
+        ensures within { result ≤ length self.old }
+        ensures same { self.new ≡ self.old }
+    {
+        let _ = self.len();
+        next_ready(&self.entries, &mut self.board, from)
+    }
+
+    /// The word in a register behind the entries before a place, of which those that are done have written theirs; before
+    /// all of them the registers are `regs`.
+    #[inline]
+    pub(crate) fn reg(&self, at: usize, n: u8, regs: &Regs) -> u32
+        requires place { at < length self.now }
+        requires register { n < 32 }
+        ensures { result ≡ slice_index (written regs.now (take at self.now)) n }
+    {
+        let _ = self.len();
+        let before = regs.get(n);
+        match self.board.last_result(at, n) {
+            Some(place) => self.entries.get(place).unwrap().result.value,
+            None => before,
+        }
+    }
+
+    /// The entry at a place, which runs, runs for so many cycles more.
+    #[inline]
+    pub(crate) fn advance(&mut self, at: usize, left: u8)
+        requires runs { (e : Entry) → slice_get self.old at ≡ Some e → is_running e.stage ≡ true }
+        requires within { at < length self.old }
         ensures set { (e : Entry) → slice_get self.old at ≡ Some e
-            → self.new ≡ slice_set self.old at (record e { stage = stage }) }
+            → self.new ≡ slice_set self.old at (record e { stage = Running left }) }
         ensures length { length self.new ≡ length self.old }
     {
         let entry = self.entries.get_mut(at).unwrap();
-        entry.stage = stage;
+        entry.stage = Stage::Running(left);
     }
 
-    /// Begins to run the entry at a place, which comes to a record that has this effect.
+    /// The entry at a place, which runs, is done.
+    #[inline]
+    pub(crate) fn complete(&mut self, at: usize)
+        requires runs { (e : Entry) → slice_get self.old at ≡ Some e → is_running e.stage ≡ true }
+        requires within { at < length self.old }
+        ensures set { (e : Entry) → slice_get self.old at ≡ Some e
+            → self.new ≡ slice_set self.old at (record e { stage = Done }) }
+        ensures length { length self.new ≡ length self.old }
+    {
+        let _ = self.len();
+        let entry = self.entries.get_mut(at).unwrap();
+        let rd = entry.profile.rd;
+        entry.stage = Stage::Done;
+        self.board.complete(at, rd);
+    }
+
+    /// Begins to run the entry at a place, which waits, and comes to a record that has this effect.
     pub(crate) fn begin(&mut self, at: usize, r: Record, effect: Effect)
+        requires waits { (e : Entry) → slice_get self.old at ≡ Some e → is_waiting e.stage ≡ true }
         requires place { at < length self.old }
         requires effect { effect ≡ done_by r }
         requires register { HasRegister effect }
@@ -120,10 +169,12 @@ impl Window {
             → self.new ≡ slice_set self.old at (running e r) }
         ensures length { length self.new ≡ length self.old }
     {
+        let _ = self.len();
         let entry = self.entries.get_mut(at).unwrap();
         entry.stage = Stage::Running(entry.profile.cycles);
         entry.result = r;
         entry.effect = effect;
+        self.board.begin(at);
     }
 
     /// Adds the youngest entry. There is room for it.
@@ -132,21 +183,42 @@ impl Window {
         requires known { IsKnown entry }
         ensures { self.new ≡ self.old ++ entry ∷ [] }
     {
+        self.board.push(self.entries.len(), &entry);
         let _ = self.entries.try_push_back(entry);
     }
 
-    /// Removes the oldest entry, if there is one.
+    /// Removes the oldest entry, if there is one. It is done.
     pub(crate) fn pop(&mut self)
+        requires { (e : Entry) → slice_get self.old 0 ≡ Some e → is_done e.stage ≡ true }
         ensures { self.new ≡ drop 1 self.old }
     {
-        self.entries.pop_front();
+        let _ = self.len();
+        if self.entries.pop_front().is_none() {
+            return;
+        }
+        self.board.pop();
+        if self.board.base == 32 {
+            renumber(&self.entries, &mut self.board);
+        }
     }
 
     /// Keeps the oldest `most`.
     pub(crate) fn keep(&mut self, most: usize)
         ensures { self.new ≡ take most self.old }
     {
-        self.entries.truncate_back(most);
+        for _ in most..self.len() {
+            self.drop_youngest();
+        }
+    }
+
+    // Removes the youngest entry, if there is one.
+    fn drop_youngest(&mut self)
+        ensures { self.new ≡ take (length self.old - 1) self.old }
+    {
+        let _ = self.len();
+        if let Some(entry) = self.entries.pop_back() {
+            self.board.drop_youngest(self.entries.len(), &entry.profile);
+        }
     }
 
     /// Removes all.
@@ -154,5 +226,63 @@ impl Window {
         ensures { self.new ≡ [] }
     {
         self.entries.clear();
+        self.board = Board::new();
     }
+}
+
+// Makes the board of some entries anew: so the mark of the oldest is 0 again.
+#[cold]
+#[inline(never)]
+fn renumber(entries: &HeapCircularBuffer<Entry>, board: &mut Board)
+    requires known { All IsKnown entries.now.items }
+    requires few { length entries.now.items ≤ 32 }
+    ensures board { IsBoard entries.now.items board.new }
+    ensures base { board.new.base ≡ 0 }
+{
+    *board = Board::new();
+    for at in 0..entries.len() {
+        board.push(at, entries.get(at).unwrap());
+    }
+}
+
+// The place of the first entry that can begin, from a place on; how many there are where none can.
+fn next_ready(entries: &HeapCircularBuffer<Entry>, board: &mut Board, from: usize) -> usize
+    requires known { All IsKnown entries.now.items }
+    requires few { length entries.now.items ≤ 32 }
+    requires place { from ≤ length entries.now.items }
+    requires board { IsBoard entries.now.items board.old }
+    requires base { board.old.base < 32 }
+    ensures value { result ≡ from + passed (take from entries.now.items) (drop from entries.now.items) }
+    ensures within { result ≤ length entries.now.items }
+    ensures board { IsBoard entries.now.items board.new }
+    ensures base { board.new.base ≡ board.old.base }
+{
+    let mut at = from;
+    while let Some(place) = board.next_candidate(at) {
+        if is_ready_at(entries, board, place) {
+            return place;
+        }
+        at = place + 1;
+    }
+    entries.len()
+}
+
+// Whether the entry at a place, which waits, can begin; where it has not its sources, it is no candidate any more.
+fn is_ready_at(entries: &HeapCircularBuffer<Entry>, board: &mut Board, at: usize) -> bool
+    requires known { All IsKnown entries.now.items }
+    requires few { length entries.now.items ≤ 32 }
+    requires place { at < length entries.now.items }
+    requires waits { holds_at (λ e. is_waiting e.stage) entries.now.items at ≡ true }
+    requires board { IsBoard entries.now.items board.old }
+    requires base { board.old.base < 32 }
+    ensures value { result ≡ can_at [] entries.now.items at }
+    ensures board { IsBoard entries.now.items board.new }
+    ensures base { board.new.base ≡ board.old.base }
+{
+    let profile = &entries.get(at).unwrap().profile;
+    if !board.has_sources(at, profile) {
+        board.pass(at);
+        return false;
+    }
+    board.is_free(at, profile.class)
 }

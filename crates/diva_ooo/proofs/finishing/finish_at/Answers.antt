@@ -9,4 +9,4 @@ returns-in-Running-clause-finishes c =
 pub returns-in-Running-2-clause-finishes : goal.returns-in-Running-2-clause-finishes
 returns-in-Running-2-clause-finishes c =
     let same : c.in-Running-2.field-0 ≡ c.in-Running.left = cc (c.in-Running.is, c.in-Running-2.is) in
-    finish_ends c.args.window.now c.advance-in-Running-2.new.self c.args.at c.entry-entry.result.now c.in-Running-2.field-0 c.turn_by-turn.result c.entry-entry.ensures.value c.in-Running-2.is (omega arith) (c.advance-in-Running-2.ensures.set c.entry-entry.result.now c.entry-entry.ensures.value) c.turn_by-turn.ensures
+    finish_ends c.args.window.now c.complete.new.self c.args.at c.entry-entry.result.now c.in-Running-2.field-0 c.turn_by-turn.result c.entry-entry.ensures.value c.in-Running-2.is (omega arith) (c.complete.ensures.set c.entry-entry.result.now c.entry-entry.ensures.value) c.turn_by-turn.ensures

@@ -1,0 +1,369 @@
+-- Sets of places, and the entries whose places they are.
+use Rattle.std.proofs.Common.{◌≡◌, ◌≢◌, ◌<◌, ◌≤◌, ℕ, zero, suc, ◌+◌, ◌-◌, ◌*◌, ◌/◌, ◌%◌, ◌^◌, ◌==◌, Bool, true, false, ◌&&◌, ◌||◌, not, List, [], ◌∷◌, ◌++◌, length, take, drop, min, max, Some, refl, ap, sym, ◌∙◌, arith, slice_get, if◌then◌else◌, w64}
+use Rattle.std.specs.Prelude.{slice_set, nat_le, nat_lt}
+use Rattle.std.specs.Int.{bit_at, bit_not, trailing_zeros}
+use Rattle.std.specs.Int.Bits.{bit_and, bit_or}
+use Rattle.std.specs.List.{position_or_len}
+use Rattle.std.proofs.lemmas.Bool.Decides.{nat_tests}
+use Rattle.std.proofs.lemmas.List.{length-drop}
+use Rattle.std.proofs.lemmas.Nat.{div_below, le-div, one_shl, pow_pos, shr-shr}
+use Rattle.std.proofs.Math.Nat.{pow-suc}
+use Rattle.std.proofs.lemmas.Nat.Bits.{bit_at-zero, bit_at-lt, bit_at_above, bit_at_and, bit_at_or, bit_at_ones, bit_at_ones_above, bit_at_mask_below, bit_at_mask_inside, bit_at_not, bit_at_set_same, bit_at_set_other, bit_at_clear_same, bit_at_clear_other, bit_at-trailing_zeros, ones_shl, shr_and_one}
+use mir.Val.{bool_byte}
+use Rattle.diva_ooo.specs.declared.entry.Entry.{Entry}
+use Rattle.diva_ooo.specs.declared.mark_set.MarkSet.{MarkSet}
+use Rattle.diva_ooo.specs.MarkSets.{AreThose, IsLast, IsNext, has, holds_at}
+use Rattle.diva_ooo.specs.Board.{IsNextOf}
+
+-- ---- the bits
+
+pub has_bit : (n i : ℕ) → (bit_and (n / 2 ^ i) 1 == 1) ≡ (bit_at n i == 1)
+has_bit n i = rw (shr_and_one n i) refl
+
+put_by : (b : Bool) (n at i : ℕ) → at < 64 → (i == at) ≡ b → (bit_at (bit_or n (1 * 2 ^ at % 2 ^ 64)) i == 1) ≡ (if b then true else (bit_at n i == 1))
+put_by true n at i h is =
+    let same : i ≡ at = grind (arith, nat_tests) in
+    rw (same, bit_at_set_same w64 n at h) refl
+put_by false n at i h is =
+    let other : i ≢ at = grind (arith, nat_tests) in
+    rw (bit_at_set_other w64 n at h i other) refl
+
+pub put_one : (n at : ℕ) → at < 64 → (i : ℕ) → (bit_at (bit_or n (1 * 2 ^ at % 2 ^ 64)) i == 1) ≡ (if i == at then true else (bit_at n i == 1))
+put_one n at h i = put_by (i == at) n at i h refl
+
+put_zero : (b : Bool) (n at i : ℕ) → (i == at) ≡ b → (bit_at n i == 1) ≡ (if b then (bit_at n at == 1) else (bit_at n i == 1))
+put_zero true n at i is = let same : i ≡ at = grind (arith, nat_tests) in rw same refl
+put_zero false n at i is = refl
+
+pub put_none : (n at i : ℕ) → (bit_at n i == 1) ≡ (if i == at then (bit_at n at == 1) else (bit_at n i == 1))
+put_none n at i = put_zero (i == at) n at i refl
+
+times_zero : (k : ℕ) → 0 * k ≡ 0
+times_zero k = omega arith
+
+or_zero : (b : Bool) → (b || false) ≡ b
+or_zero true = refl
+or_zero false = refl
+
+or_one : (a b : ℕ) → a < 2 → b < 2 → (max a b == 1) ≡ ((a == 1) || (b == 1))
+or_one zero zero h k = refl
+or_one zero (suc zero) h k = refl
+or_one (suc zero) zero h k = refl
+or_one (suc zero) (suc zero) h k = refl
+or_one a (suc (suc b)) h k = absurd (omega arith)
+or_one (suc (suc a)) b h k = absurd (omega arith)
+
+and_one : (a b : ℕ) → a < 2 → b < 2 → (min a b == 1) ≡ ((a == 1) && (b == 1))
+and_one zero zero h k = refl
+and_one zero (suc zero) h k = refl
+and_one (suc zero) zero h k = refl
+and_one (suc zero) (suc zero) h k = refl
+and_one a (suc (suc b)) h k = absurd (omega arith)
+and_one (suc (suc a)) b h k = absurd (omega arith)
+
+pub or_has : (m n i : ℕ) → (bit_at (bit_or m n) i == 1) ≡ ((bit_at m i == 1) || (bit_at n i == 1))
+or_has m n i = rw (bit_at_or m n i) (or_one (bit_at m i) (bit_at n i) (bit_at-lt m i) (bit_at-lt n i))
+
+pub and_has : (m n i : ℕ) → (bit_at (bit_and m n) i == 1) ≡ ((bit_at m i == 1) && (bit_at n i == 1))
+and_has m n i = rw (bit_at_and m n i) (and_one (bit_at m i) (bit_at n i) (bit_at-lt m i) (bit_at-lt n i))
+
+min_zero : (n : ℕ) → min 0 n ≡ 0
+min_zero n = omega arith
+
+minus_one : (a b : ℕ) → a < 2 → b < 2 → (min a (1 - b) == 1) ≡ ((a == 1) && not (b == 1))
+minus_one zero zero h k = refl
+minus_one zero (suc zero) h k = refl
+minus_one (suc zero) zero h k = refl
+minus_one (suc zero) (suc zero) h k = refl
+minus_one a (suc (suc b)) h k = absurd (omega arith)
+minus_one (suc (suc a)) b h k = absurd (omega arith)
+
+except_by : (c : Bool) (m n i : ℕ) → m < 2 ^ 64 → n < 2 ^ 64 → nat_lt i 64 ≡ c → (bit_at (bit_and m (bit_not w64 n)) i == 1) ≡ ((bit_at m i == 1) && not (bit_at n i == 1))
+except_by true m n i h k is =
+    let within : i < 64 = grind (arith, nat_tests) in
+    rw (bit_at_and m (bit_not w64 n) i, bit_at_not w64 n i k within) (minus_one (bit_at m i) (bit_at n i) (bit_at-lt m i) (bit_at-lt n i))
+except_by false m n i h k is =
+    let far : 64 ≤ i = grind (arith, nat_tests) in
+    rw (bit_at_and m (bit_not w64 n) i, bit_at_above m 64 i h far, min_zero (bit_at (bit_not w64 n) i)) refl
+
+pub except_has : (m n i : ℕ) → m < 2 ^ 64 → n < 2 ^ 64 → (bit_at (bit_and m (bit_not w64 n)) i == 1) ≡ ((bit_at m i == 1) && not (bit_at n i == 1))
+except_has m n i h k = except_by (nat_lt i 64) m n i h k refl
+
+high_by : (c d : Bool) (n from i : ℕ) → n < 2 ^ 64 → nat_lt i 64 ≡ c → nat_le from i ≡ d → ((bit_at n i == 1) && (bit_at (2 ^ 64 - 2 ^ from) i == 1)) ≡ ((bit_at n i == 1) && d)
+high_by true true n from i h is here =
+    let within : i < 64 = grind (arith, nat_tests) in
+    let behind : from ≤ i = grind (arith, nat_tests) in
+    rw (bit_at_mask_inside from 64 i behind within) refl
+high_by c false n from i h is here =
+    let before : i < from = grind (arith, nat_tests) in
+    rw (bit_at_mask_below from 64 i before) refl
+high_by false true n from i h is here =
+    let far : 64 ≤ i = grind (arith, nat_tests) in
+    rw (bit_at_above n 64 i h far) refl
+
+pub high_has : (n from i : ℕ) → from < 64 → n < 2 ^ 64 → (bit_at (bit_and n ((2 ^ 64 - 1) * 2 ^ from % 2 ^ 64)) i == 1) ≡ ((bit_at n i == 1) && nat_le from i)
+high_has n from i k h = rw (ones_shl 64 from (omega arith)) (and_has n (2 ^ 64 - 2 ^ from) i ∙ high_by (nat_lt i 64) (nat_le from i) n from i h refl refl)
+
+pub put_member : (b : Bool) (m n at : ℕ) → m ≡ bool_byte b → at < 64 → (i : ℕ) → (bit_at (bit_or n (m * 2 ^ at % 2 ^ 64)) i == 1) ≡ (if i == at then b || (bit_at n at == 1) else (bit_at n i == 1))
+put_member true m n at is h i = rw is (put_one n at h i)
+put_member false m n at is h i =
+    rw (is, times_zero (2 ^ at)) (or_has n 0 i ∙ ap (λ (z : ℕ). (bit_at n i == 1) || (z == 1)) (bit_at-zero i) ∙ or_zero (bit_at n i == 1) ∙ put_none n at i)
+
+remove_by : (b : Bool) (n at i : ℕ) → at < 64 → n < 2 ^ 64 → (i == at) ≡ b → (nat_lt i 64) ≡ true → (bit_at (bit_and n (bit_not w64 (1 * 2 ^ at % 2 ^ 64))) i == 1) ≡ (if b then false else (bit_at n i == 1))
+remove_by true n at i h below is within =
+    let same : i ≡ at = grind (arith, nat_tests) in
+    rw (same, bit_at_clear_same w64 n at h) refl
+remove_by false n at i h below is within =
+    let other : i ≢ at = grind (arith, nat_tests) in
+    let in_word : i < 64 = grind (arith, nat_tests) in
+    rw (bit_at_clear_other w64 n at h i in_word other) refl
+
+-- behind the word there is no bit
+remove_far : (b : Bool) (n at i : ℕ) → at < 64 → n < 2 ^ 64 → (i == at) ≡ b → 64 ≤ i → (bit_at (bit_and n (bit_not w64 (1 * 2 ^ at % 2 ^ 64))) i == 1) ≡ (if b then false else (bit_at n i == 1))
+remove_far true n at i h below is far = let same : i ≡ at = grind (arith, nat_tests) in absurd (omega arith)
+remove_far false n at i h below is far =
+    rw (bit_at_and n (bit_not w64 (1 * 2 ^ at % 2 ^ 64)) i, bit_at_above n 64 i below far, min_zero (bit_at (bit_not w64 (1 * 2 ^ at % 2 ^ 64)) i)) refl
+
+remove_at : (b : Bool) (n at i : ℕ) → at < 64 → n < 2 ^ 64 → nat_lt i 64 ≡ b → (bit_at (bit_and n (bit_not w64 (1 * 2 ^ at % 2 ^ 64))) i == 1) ≡ (if i == at then false else (bit_at n i == 1))
+remove_at true n at i h below within = remove_by (i == at) n at i h below refl within
+remove_at false n at i h below far = let high : 64 ≤ i = grind (arith, nat_tests) in remove_far (i == at) n at i h below refl high
+
+pub remove_has : (n at : ℕ) → at < 64 → n < 2 ^ 64 → (i : ℕ) → (bit_at (bit_and n (bit_not w64 (1 * 2 ^ at % 2 ^ 64))) i == 1) ≡ (if i == at then false else (bit_at n i == 1))
+remove_has n at h below i = remove_at (nat_lt i 64) n at i h below refl
+
+keep_by : (b : Bool) (n most i : ℕ) → nat_lt i most ≡ b → (bit_at (bit_and n (2 ^ most - 1)) i == 1) ≡ (if b then (bit_at n i == 1) else false)
+keep_by true n most i is =
+    let within : i < most = grind (arith, nat_tests) in
+    let bit = bit_at-lt n i in
+    let same : min (bit_at n i) 1 ≡ bit_at n i = omega arith in
+    rw (bit_at_and n (2 ^ most - 1) i, bit_at_ones most i within, same) refl
+keep_by false n most i is =
+    let far : most ≤ i = grind (arith, nat_tests) in
+    let same : min (bit_at n i) 0 ≡ 0 = omega arith in
+    rw (bit_at_and n (2 ^ most - 1) i, bit_at_ones_above most i far, same) refl
+
+pub keep_has : (n most : ℕ) → most < 64 → (i : ℕ) → (bit_at (bit_and n (1 * 2 ^ most % 2 ^ 64 - 1)) i == 1) ≡ (if nat_lt i most then (bit_at n i == 1) else false)
+keep_has n most h i = rw (one_shl most 64 h) (keep_by (nat_lt i most) n most i refl)
+
+-- ---- the lowest from a place on
+
+shifted : (n from i : ℕ) → bit_at (n / 2 ^ from) i ≡ bit_at n (from + i)
+shifted n from i = rw (shr-shr n from i) refl
+
+unset : (n : ℕ) → n ≡ 0 → (n == 1) ≡ false
+unset n is = rw is refl
+
+pub next_none : (n from i : ℕ) → n / 2 ^ from ≡ 0 → from ≤ i → (bit_at n i == 1) ≡ false
+next_none n from i is h =
+    let at : from + (i - from) ≡ i = omega arith in
+    let bit : bit_at n (from + (i - from)) ≡ 0 = sym (shifted n from (i - from)) ∙ ap (λ (m : ℕ). bit_at m (i - from)) is ∙ bit_at-zero (i - from) in
+    unset (bit_at n i) (ap (bit_at n) (sym at) ∙ bit)
+
+first_bit : (n from i : ℕ) → ((k : ℕ) → k < trailing_zeros w64 (n / 2 ^ from) → bit_at (n / 2 ^ from) k ≡ 0) → from ≤ i → i < from + trailing_zeros w64 (n / 2 ^ from) → (bit_at n i == 1) ≡ false
+first_bit n from i lower h k =
+    let at : from + (i - from) ≡ i = omega arith in
+    let bit : bit_at n (from + (i - from)) ≡ 0 = sym (shifted n from (i - from)) ∙ lower (i - from) (omega arith) in
+    unset (bit_at n i) (ap (bit_at n) (sym at) ∙ bit)
+
+pub next_some : (s : MarkSet) (from : ℕ) → 0 < s.bits / 2 ^ from → s.bits / 2 ^ from < 2 ^ 64 → IsNext s from (from + trailing_zeros w64 (s.bits / 2 ^ from))
+next_some s from some below =
+    let lowest = bit_at-trailing_zeros w64 (s.bits / 2 ^ from) some below in
+    record {
+      behind = omega arith;
+      there = ap (λ (n : ℕ). n == 1) (sym (shifted s.bits from (trailing_zeros w64 (s.bits / 2 ^ from))) ∙ lowest.1);
+      first = λ i h k. first_bit s.bits from i lowest.2 h k;
+    }
+
+below_by : (c : Bool) (n i : ℕ) → n < 2 ^ 64 → nat_lt i 64 ≡ c → (bit_at n i == 1) ≡ true → i < 64
+below_by true n i h is there = grind (arith, nat_tests)
+below_by false n i h is there =
+    let far : 64 ≤ i = grind (arith, nat_tests) in
+    let none : (bit_at n i == 1) ≡ false = unset (bit_at n i) (bit_at_above n 64 i h far) in
+    absurd (cc)
+
+pub set_below : (n i : ℕ) → n < 2 ^ 64 → (bit_at n i == 1) ≡ true → i < 64
+set_below n i h there = below_by (nat_lt i 64) n i h refl there
+
+-- ---- the highest below an end
+
+top_bit : (n k : ℕ) → 2 ^ k ≤ n → n < 2 * 2 ^ k → bit_at n k ≡ 1
+top_bit n k low high =
+    let some : 0 < 2 ^ k = pow_pos k in
+    let one : 1 * 2 ^ k ≤ n = omega arith in
+    let at_least : 1 ≤ n / 2 ^ k = le-div 1 n (2 ^ k) some one in
+    let below : n / 2 ^ k < 2 = div_below n (2 ^ k) 2 some high in
+    let exact : n / 2 ^ k ≡ 1 = omega arith in
+    rw exact refl
+
+pub last_none : (n end i : ℕ) → end < 64 → bit_and n (1 * 2 ^ end % 2 ^ 64 - 1) ≡ 0 → i < end → (bit_at n i == 1) ≡ false
+last_none n end i h is lt =
+    let yes : nat_lt i end ≡ true = grind (arith, nat_tests) in
+    let here : (bit_at (bit_and n (1 * 2 ^ end % 2 ^ 64 - 1)) i == 1) ≡ (bit_at n i == 1) = keep_has n end h i ∙ rw yes refl in
+    sym here ∙ unset (bit_at (bit_and n (1 * 2 ^ end % 2 ^ 64 - 1)) i) (ap (λ (m : ℕ). bit_at m i) is ∙ bit_at-zero i)
+
+last_within : (b : Bool) (n end k : ℕ) → nat_lt k end ≡ b → (if b then (bit_at n k == 1) else false) ≡ true → (k < end) × ((bit_at n k == 1) ≡ true)
+last_within true n end k is there = (grind (arith, nat_tests), there)
+last_within false n end k is there = absurd (cc)
+
+pub last_some : (s : MarkSet) (end k : ℕ) → end < 64 → 2 ^ k ≤ bit_and s.bits (1 * 2 ^ end % 2 ^ 64 - 1) → bit_and s.bits (1 * 2 ^ end % 2 ^ 64 - 1) < 2 * 2 ^ k → IsLast s end k
+last_some s end k h low high =
+    let m = bit_and s.bits (1 * 2 ^ end % 2 ^ 64 - 1) in
+    let top : (bit_at m k == 1) ≡ true = rw (top_bit m k low high) refl in
+    let both = last_within (nat_lt k end) s.bits end k refl (sym (keep_has s.bits end h k) ∙ top) in
+    record {
+      before = both.0;
+      there = both.1;
+      last = λ i lt below.
+          let yes : nat_lt i end ≡ true = grind (arith, nat_tests) in
+          let here : (bit_at m i == 1) ≡ (bit_at s.bits i == 1) = keep_has s.bits end h i ∙ rw yes refl in
+          let under : m < 2 ^ (suc k) = rw (pow-suc 2 k) (omega arith) in
+          sym here ∙ unset (bit_at m i) (bit_at_above m (suc k) i under (omega arith));
+    }
+
+-- ---- the entries
+
+pub holds_end : (p : Entry → Bool) (w : List Entry) (i : ℕ) → length w ≤ i → holds_at p w i ≡ false
+holds_end p [] i h = refl
+holds_end p (e ∷ w) zero h = absurd (omega arith)
+holds_end p (e ∷ w) (suc i) h = holds_end p w i (omega arith)
+
+holds_new : (p : Entry → Bool) (w : List Entry) (e : Entry) (i : ℕ) → i ≡ length w → holds_at p (w ++ e ∷ []) i ≡ p e
+holds_new p [] e zero is = refl
+holds_new p [] e (suc i) is = absurd (omega arith)
+holds_new p (x ∷ w) e zero is = absurd (omega arith)
+holds_new p (x ∷ w) e (suc i) is = holds_new p w e i (omega arith)
+
+holds_other : (p : Entry → Bool) (w : List Entry) (e : Entry) (i : ℕ) → (i ≡ length w → ⊥) → holds_at p (w ++ e ∷ []) i ≡ holds_at p w i
+holds_other p [] e zero other = absurd (other refl)
+holds_other p [] e (suc i) other = refl
+holds_other p (x ∷ w) e zero other = refl
+holds_other p (x ∷ w) e (suc i) other = holds_other p w e i (λ is. other (omega arith))
+
+holds_push : (p : Entry → Bool) (w : List Entry) (e : Entry) (i : ℕ) → p e ≡ false → holds_at p (w ++ e ∷ []) i ≡ holds_at p w i
+holds_push p [] e zero is = is
+holds_push p [] e (suc i) is = refl
+holds_push p (x ∷ w) e zero is = refl
+holds_push p (x ∷ w) e (suc i) is = holds_push p w e i is
+
+pub holds_take : (p : Entry → Bool) (w : List Entry) (n i : ℕ) → i < n → holds_at p (take n w) i ≡ holds_at p w i
+holds_take p [] zero i h = refl
+holds_take p [] (suc n) i h = refl
+holds_take p (e ∷ w) zero i h = absurd (omega arith)
+holds_take p (e ∷ w) (suc n) zero h = refl
+holds_take p (e ∷ w) (suc n) (suc i) h = holds_take p w n i (omega arith)
+
+holds_set : (p : Entry → Bool) (w : List Entry) (at i : ℕ) (x y : Entry) → slice_get w at ≡ Some x → holds_at p (slice_set w at y) i ≡ (if i == at then p y else holds_at p w i)
+holds_set p [] at i x y is = absurd (cc)
+holds_set p (e ∷ w) zero zero x y is = refl
+holds_set p (e ∷ w) zero (suc i) x y is = let other : (suc i == 0) ≡ false = grind (arith, nat_tests) in rw other refl
+holds_set p (e ∷ w) (suc at) zero x y is = let other : (0 == suc at) ≡ false = grind (arith, nat_tests) in rw other refl
+holds_set p (e ∷ w) (suc at) (suc i) x y is = let same : (suc i == suc at) ≡ (i == at) = grind (arith, nat_tests) in rw same (holds_set p w at i x y is)
+
+holds_same : (p : Entry → Bool) (w : List Entry) (at i : ℕ) (x y : Entry) → slice_get w at ≡ Some x → p y ≡ p x → holds_at p (slice_set w at y) i ≡ holds_at p w i
+holds_same p [] at i x y is same = absurd (cc)
+holds_same p (e ∷ w) zero zero x y is same = let here : e ≡ x = cc in same ∙ ap p (sym here)
+holds_same p (e ∷ w) zero (suc i) x y is same = refl
+holds_same p (e ∷ w) (suc at) zero x y is same = refl
+holds_same p (e ∷ w) (suc at) (suc i) x y is same = holds_same p w at i x y is same
+
+pub holds_here : (p : Entry → Bool) (w : List Entry) (at : ℕ) (x : Entry) → slice_get w at ≡ Some x → holds_at p w at ≡ p x
+holds_here p [] at x is = absurd (cc)
+holds_here p (e ∷ w) zero x is = let here : e ≡ x = cc in ap p here
+holds_here p (e ∷ w) (suc at) x is = holds_here p w at x is
+
+pub holds_within : (p : Entry → Bool) (w : List Entry) (n : ℕ) → holds_at p w n ≡ true → n < length w
+holds_within p [] n there = absurd (cc)
+holds_within p (e ∷ w) zero there = omega arith
+holds_within p (e ∷ w) (suc n) there = let more = holds_within p w n there in omega arith
+
+-- ---- the set of a window that changes
+
+pub those_none : (p : Entry → Bool) (base : ℕ) → AreThose p [] base (record { bits = 0 })
+those_none p base = λ i. rw (bit_at-zero (base + i)) refl
+
+pub those_pop : (p : Entry → Bool) (w : List Entry) (e : Entry) (base : ℕ) (s : MarkSet) → AreThose p (e ∷ w) base s → AreThose p w (base + 1) s
+those_pop p w e base s those = λ i. let at : base + 1 + i ≡ base + suc i = omega arith in ap (has s) at ∙ those (suc i)
+
+push_by : (c : Bool) (p : Entry → Bool) (w : List Entry) (e : Entry) (base : ℕ) (s : MarkSet) (b : Bool) (i : ℕ) → AreThose p w base s → b ≡ p e → (base + i == base + length w) ≡ c
+    → (if c then b || has s (base + length w) else has s (base + i)) ≡ holds_at p (w ++ e ∷ []) i
+push_by true p w e base s b i those is here =
+    let at : i ≡ length w = grind (arith, nat_tests) in
+    ap (λ (k : Bool). b || k) (those (length w) ∙ holds_end p w (length w) (omega arith)) ∙ or_zero b ∙ is ∙ sym (holds_new p w e i at)
+push_by false p w e base s b i those is here =
+    let other : i ≡ length w → ⊥ = λ at. absurd (grind (arith, nat_tests)) in
+    those i ∙ sym (holds_other p w e i other)
+
+pub those_push : (p : Entry → Bool) (w : List Entry) (e : Entry) (base : ℕ) (s t : MarkSet) (b : Bool) → AreThose p w base s → b ≡ p e
+    → ((i : ℕ) → has t i ≡ (if i == base + length w then b || has s (base + length w) else has s i)) → AreThose p (w ++ e ∷ []) base t
+those_push p w e base s t b those is puts = λ i. puts (base + i) ∙ push_by (base + i == base + length w) p w e base s b i those is refl
+
+pub those_pushed : (p : Entry → Bool) (w : List Entry) (e : Entry) (base : ℕ) (s : MarkSet) → AreThose p w base s → p e ≡ false → AreThose p (w ++ e ∷ []) base s
+those_pushed p w e base s those is = λ i. those i ∙ sym (holds_push p w e i is)
+
+drop_by : (c : Bool) (p : Entry → Bool) (w : List Entry) (e : Entry) (base : ℕ) (s : MarkSet) (i : ℕ) → AreThose p (w ++ e ∷ []) base s → (base + i == base + length w) ≡ c
+    → (if c then false else has s (base + i)) ≡ holds_at p w i
+drop_by true p w e base s i those here =
+    let at : length w ≤ i = grind (arith, nat_tests) in
+    sym (holds_end p w i at)
+drop_by false p w e base s i those here =
+    let other : i ≡ length w → ⊥ = λ at. absurd (grind (arith, nat_tests)) in
+    those i ∙ holds_other p w e i other
+
+pub those_drop : (p : Entry → Bool) (w : List Entry) (e : Entry) (base : ℕ) (s t : MarkSet) → AreThose p (w ++ e ∷ []) base s
+    → ((i : ℕ) → has t i ≡ (if i == base + length w then false else has s i)) → AreThose p w base t
+those_drop p w e base s t those removes = λ i. removes (base + i) ∙ drop_by (base + i == base + length w) p w e base s i those refl
+
+pub those_dropped : (p : Entry → Bool) (w : List Entry) (e : Entry) (base : ℕ) (s : MarkSet) → AreThose p (w ++ e ∷ []) base s → p e ≡ false → AreThose p w base s
+those_dropped p w e base s those is = λ i. those i ∙ holds_push p w e i is
+
+same_mark : (base i at : ℕ) → (base + i == base + at) ≡ (i == at)
+same_mark base i at = grind (arith, nat_tests)
+
+pub those_set : (p : Entry → Bool) (w : List Entry) (at : ℕ) (x y : Entry) (base : ℕ) (b : Bool) (s t : MarkSet) → AreThose p w base s → slice_get w at ≡ Some x → p y ≡ b
+    → ((i : ℕ) → has t i ≡ (if i == base + at then b else has s i)) → AreThose p (slice_set w at y) base t
+those_set p w at x y base b s t those is now sets =
+    λ i.
+    sets (base + i)
+    ∙ ap (λ (c : Bool). if c then b else has s (base + i)) (same_mark base i at)
+    ∙ ap (λ (c : Bool). if i == at then b else c) (those i)
+    ∙ ap (λ (c : Bool). if i == at then c else holds_at p w i) (sym now)
+    ∙ sym (holds_set p w at i x y is)
+
+pub those_same : (p : Entry → Bool) (w : List Entry) (at : ℕ) (x y : Entry) (base : ℕ) (s : MarkSet) → AreThose p w base s → slice_get w at ≡ Some x → p y ≡ p x → AreThose p (slice_set w at y) base s
+those_same p w at x y base s those is same = λ i. those i ∙ sym (holds_same p w at i x y is same)
+
+-- ---- the first of them from a place on
+
+holds_drop : (p : Entry → Bool) (w : List Entry) (at i : ℕ) → holds_at p (drop at w) i ≡ holds_at p w (at + i)
+holds_drop p w zero i = let e : 0 + i ≡ i = omega arith in rw e refl
+holds_drop p [] (suc at) i = refl
+holds_drop p (e ∷ w) (suc at) i = let e' : suc at + i ≡ suc (at + i) = omega arith in rw e' (holds_drop p w at i)
+
+position_none : (p : Entry → Bool) (w : List Entry) → ((i : ℕ) → holds_at p w i ≡ false) → position_or_len p w ≡ length w
+position_none p [] none = refl
+position_none p (e ∷ w) none =
+    let here : p e ≡ false = none 0 in
+    rw here (let more = position_none p w (λ i. none (suc i)) in omega arith)
+
+position_first : (p : Entry → Bool) (w : List Entry) (n : ℕ) → holds_at p w n ≡ true → ((i : ℕ) → i < n → holds_at p w i ≡ false) → position_or_len p w ≡ n
+position_first p [] n there first = absurd (cc)
+position_first p (e ∷ w) zero there first = rw there refl
+position_first p (e ∷ w) (suc n) there first =
+    let here : p e ≡ false = first 0 (omega arith) in
+    rw here (let more = position_first p w n there (λ i h. first (suc i) (omega arith)) in omega arith)
+
+pub first_none : (p : Entry → Bool) (w : List Entry) (from : ℕ) → from ≤ length w → ((i : ℕ) → from ≤ i → holds_at p w i ≡ false) → from + position_or_len p (drop from w) ≡ length w
+first_none p w from h none =
+    let all : position_or_len p (drop from w) ≡ length (drop from w) = position_none p (drop from w) (λ i. holds_drop p w from i ∙ none (from + i) (omega arith)) in
+    let rest : length (drop from w) ≡ length w - from = length-drop from w in
+    omega arith
+
+pub first_some : (p : Entry → Bool) (w : List Entry) (from n : ℕ) → IsNextOf p w from n → from + position_or_len p (drop from w) ≡ n
+first_some p w from n next =
+    let behind = next.behind in
+    let at : from + (n - from) ≡ n = omega arith in
+    let first : position_or_len p (drop from w) ≡ n - from =
+    position_first p (drop from w) (n - from)
+    (holds_drop p w from (n - from) ∙ ap (holds_at p w) at ∙ next.there)
+    (λ i h. holds_drop p w from i ∙ next.first (from + i) (omega arith) (omega arith)) in
+    omega arith

@@ -1,0 +1,14 @@
+use Rattle.diva_ooo.proofs.Boarding.{eligible_all, eligible_but, eligible_but_waits, eligible_waits}
+use Rattle.diva_ooo.proofs.board.Board.eligible.Goals as goal
+
+pub returns-in-Some-clause-waiting : goal.returns-in-Some-clause-waiting
+returns-in-Some-clause-waiting c = λ w i board there. eligible_but_waits w c.args.self.now c.both-waiting.result c.except.result c.in-Some.mark i board c.both-waiting.ensures c.except.ensures there
+
+pub returns-in-Some-clause-others : goal.returns-in-Some-clause-others
+returns-in-Some-clause-others c = λ w i board none. eligible_but w c.args.self.now c.both-waiting.result c.except.result c.in-Some.mark i board c.both-waiting.ensures c.in-Some.ensures.some c.except.ensures none
+
+pub returns-in-None-clause-waiting : goal.returns-in-None-clause-waiting
+returns-in-None-clause-waiting c = λ w i board there. eligible_waits w c.args.self.now c.both-waiting.result i board c.both-waiting.ensures there
+
+pub returns-in-None-clause-others : goal.returns-in-None-clause-others
+returns-in-None-clause-others c = λ w i board none. eligible_all w c.args.self.now c.both-waiting.result i board c.both-waiting.ensures none

@@ -1,0 +1,27 @@
+use Rattle.std.proofs.Common.{◌≡◌, Some, arith, rules, slice_get, sym, true, ◌∙◌}
+use Rattle.diva_ooo.specs.Issue.{is_waiting}
+use Rattle.diva_ooo.proofs.Marking.{holds_here}
+use Rattle.diva_ooo.proofs.Windowing.{can_if_free, can_not, could_not}
+use Rattle.diva_ooo.proofs.window.is_ready_at.Goals as goal
+
+pub returns-then-not-has_sources-clause-value : goal.returns-then-not-has_sources-clause-value
+returns-then-not-has_sources-clause-value c =
+    let w = c.args.entries.now.items in
+    let e = c.unwrap.result.now in
+    let here : slice_get w c.args.at ≡ Some e = search rules in
+    sym (can_not w c.args.at e here (sym (c.has_sources.ensures w c.requires.board (omega arith)) ∙ c.if-not-has_sources.true))
+
+pub returns-then-not-has_sources-clause-board : goal.returns-then-not-has_sources-clause-board
+returns-then-not-has_sources-clause-board c =
+    let w = c.args.entries.now.items in
+    let e = c.unwrap.result.now in
+    let here : slice_get w c.args.at ≡ Some e = search rules in
+    c.pass.ensures.board w c.requires.board (could_not w c.args.at e here (sym (c.has_sources.ensures w c.requires.board (omega arith)) ∙ c.if-not-has_sources.true))
+
+pub returns-clause-value : goal.returns-clause-value
+returns-clause-value c =
+    let w = c.args.entries.now.items in
+    let e = c.unwrap.result.now in
+    let here : slice_get w c.args.at ≡ Some e = search rules in
+    let waits : is_waiting e.stage ≡ true = sym (holds_here (λ x. is_waiting x.stage) w c.args.at e here) ∙ c.requires.waits in
+    c.is_free.ensures w c.requires.board (omega arith) ∙ can_if_free w c.args.at e here waits (sym (c.has_sources.ensures w c.requires.board (omega arith)) ∙ c.if-not-has_sources.false)
