@@ -1,7 +1,7 @@
 // The command `dis`: it lists the words of an image.
-ghost use Rattle.std.specs.Prelude.{◌≡◌, ◌≤◌, Some, length, slice_index};
+ghost use Rattle.std.specs.Prelude.{◌≡◌, ◌+◌, ◌≤◌, ◌<◌, Some, length, slice_index};
 ghost use Rattle.diva_args.specs.declared.job.Job.TheVariants.{Dis};
-ghost use Rattle.diva_asm.specs.Listing.{word_at};
+ghost use Rattle.diva_asm.specs.Listing.{list_line, word_at};
 ghost use Rattle.diva_cli.specs.Parts.{Answers};
 
 use crate::loading::load_image;
@@ -56,9 +56,17 @@ impl LineList for ListingLines<'_> {
 
     fn line(&self, at: usize) -> Line {
         let place = 4 * at;
-        let word = word_at(self.image.payload.bytes(), place);
-        list_line(self.image.base + place as u32, word)
+        line_at(self.image, place)
     }
+}
+
+// The line of the word of an image at a place in its payload.
+fn line_at(image: &Image, place: usize) -> Line
+    requires { place < length image.now.payload }
+    ensures { result ≡ list_line (image.now.base + place) (word_at image.now.payload place) }
+{
+    let word = word_at(image.payload.bytes(), place);
+    list_line(image.base + place as u32, word)
 }
 
 // The word of a payload at a place, the lowest byte first; behind the payload are zeros.

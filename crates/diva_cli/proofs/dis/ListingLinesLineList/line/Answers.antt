@@ -10,25 +10,8 @@ overflow_mul-place c =
     let inside = place_inside image c.args.at c.requires in
     omega (arith, inside, image.rules.payload_fits, image.rules.size_most)
 
-pub overflow_cast-place : goal.overflow_cast-place
-overflow_cast-place c =
-    let image = c.args.self.now.image.now in
-    let inside = place_inside image c.args.at c.requires in
-    omega (arith, inside, image.rules.payload_fits, image.rules.size_most)
-
-pub overflow_add-self : goal.overflow_add-self
-overflow_add-self c =
-    let image = c.args.self.now.image.now in
-    let inside = place_inside image c.args.at c.requires in
-    omega (arith, inside, image.rules.payload_fits, image.rules.range)
-
-pub word_at-word-requires : goal.word_at-word-requires
-word_at-word-requires c =
-    let image = c.args.self.now.image.now in
-    let inside = place_inside image c.args.at c.requires in
-    rw c.bytes.ensures (omega (arith, inside))
+pub line_at-requires : goal.line_at-requires
+line_at-requires c = place_inside c.args.self.now.image.now c.args.at c.requires
 
 pub returns : goal.returns
-returns c =
-    let image = c.args.self.now.image.now in
-    rw (line_listed (layout image) c.args.at c.requires, c.list_line.ensures, c.word_at-word.ensures, c.bytes.ensures) refl
+returns c = rw (line_listed (layout c.args.self.now.image.now) c.args.at c.requires, c.line_at.ensures) refl
