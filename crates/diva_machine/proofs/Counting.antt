@@ -1,12 +1,12 @@
 -- A drive to a count.
-use Rattle.std.proofs.Common.{◌≡◌, ◌≢◌, ℕ, zero, suc, ◌≤◌, ◌<◌, ◌+◌, ◌-◌, ◌*◌, ◌==◌, ◌⊎◌, Bool, true, false, List, [], ◌∷◌, refl, ap, sym, ◌∙◌, arith, inl, inr, subst, if◌then◌else◌}
+use Rattle.std.proofs.Common.{◌≡◌, ◌≢◌, ℕ, zero, suc, ◌≤◌, ◌<◌, ◌+◌, ◌-◌, ◌*◌, ◌==◌, ◌⊎◌, Bool, true, false, List, [], ◌∷◌, ◌++◌, length-append, refl, ap, sym, ◌∙◌, arith, inl, inr, subst, if◌then◌else◌}
 use Rattle.std.proofs.lemmas.Bool.{cases_Bool, cases_lt, true≢false, false_from_ne_true, eqb-true, eq-eqb}
 use Rattle.diva_isa.specs.State.{goes_on}
 use Rattle.diva_isa.specs.declared.record.Record.{Record}
 use Rattle.diva_isa.specs.Step.{steps}
 use Rattle.diva_core.specs.Timed.{Timed}
 use Rattle.diva_core.specs.Cycle.{cycle_of, run_of, accepts, begun, commits, counted, drained, flushed, watched}
-use Rattle.diva_core.specs.Log.{Meaning, Turns, lists_of}
+use Rattle.diva_core.specs.Log.{IsLog, Meaning, Turns, lists_of}
 use Rattle.diva_core.specs.Machine.{IsMachine}
 use Rattle.diva_core.specs.Headline.{KeepsPace, Rises}
 use Rattle.diva_core.proofs.Keeping.{stays}
@@ -201,3 +201,26 @@ pub is_enough :
 is_enough m last target budget pace ahead full short enough =
     let p : m.count + (target - m.count) ≤ last.count = pace (target - m.count) (omega arith) in
     omega arith
+
+-- ---- turns, and turns from there on
+
+IsLog-then :
+    {C : Type 0} (gives : Meaning C) (m : Timed) (core : C) (log : List (List Record × C)) (mid : Timed) (between : C) (more : List (List Record × C)) (last : Timed) (final : C)
+    → IsLog gives m core log mid between
+    → IsLog gives mid between more last final
+    → IsLog gives m core (log ++ more) last final
+IsLog-then gives m core [] mid between more last final h k = rw (← h.0, ← h.1) k
+IsLog-then gives m core (turn ∷ rest) mid between more last final h k =
+    (h.0, (h.1.0, IsLog-then gives (cycle_of m turn.0) turn.1 rest mid between more last final h.1.1 k))
+
+pub Turns-then :
+    {C : Type 0} (gives : Meaning C) (m : Timed) (core : C) (mid : Timed) (between : C) (last : Timed) (final : C)
+    → Turns gives m core mid between
+    → Turns gives mid between last final
+    → Turns gives m core last final
+Turns-then gives m core mid between last final t u =
+    record {
+      log = t.log ++ u.log;
+      good = IsLog-then gives m core t.log mid between u.log last final t.good u.good;
+      each = rw length-append (let e = t.each in let f = u.each in omega arith);
+    }
