@@ -204,7 +204,7 @@ is_enough m last target budget pace ahead full short enough =
 
 -- ---- turns, and turns from there on
 
-IsLog-then :
+pub IsLog-then :
     {C : Type 0} (gives : Meaning C) (m : Timed) (core : C) (log : List (List Record × C)) (mid : Timed) (between : C) (more : List (List Record × C)) (last : Timed) (final : C)
     → IsLog gives m core log mid between
     → IsLog gives mid between more last final
