@@ -3,6 +3,7 @@ pub mod CommandLemmas
 pub mod ReadLemmas
 pub mod ValueLemmas
 pub mod PlainSteps
+pub mod PlainFlags
 pub mod PlainOptions
 pub mod PlainEnd
 pub mod PlainLaw

@@ -10,10 +10,12 @@ use Rattle.clap.specs.Faults.{built_fault, check_fault, default_fault, defaults_
 use Rattle.clap.proofs.WalkLemmas.{walk_stopped}
 use Rattle.clap.proofs.FaultLemmas.{stopped_fault}
 use Rattle.diva_args.specs.Plain.{has_text}
+use Rattle.diva_args.specs.Command.{Leaf}
 use Rattle.diva_args.proofs.PlainSteps.{built_option, given_row, or_else_none}
-use Rattle.diva_args.proofs.PlainOptions.{Ends, Given, built_positionals, built_rules, has_first, has_later}
+use Rattle.diva_args.proofs.PlainFlags.{flags_pass_defaults, given_kept, with_flags}
+use Rattle.diva_args.proofs.PlainOptions.{Ends, Given, built_positionals, built_rules, built_uses, has_first, has_later}
 
--- ---- no argument has a default
+-- ---- no positional and no option has a default
 
 abbrev pub NoDefaults : List Rule → Type 0
 NoDefaults [] = Unit {0}
@@ -23,9 +25,9 @@ options_none : (names : List Text) → NoDefaults (map built_option names)
 options_none [] = tt
 options_none (x ∷ xs) = (refl, options_none xs)
 
-rules_none : (p : ℕ) (ids options : List Text) → NoDefaults (built_positionals p ids ++ map built_option options)
-rules_none p [] options = options_none options
-rules_none p (id ∷ ids) options = (refl, rules_none (p + 1) ids options)
+positionals_none : (p : ℕ) (ids : List Text) → NoDefaults (built_positionals p ids)
+positionals_none p [] = tt
+positionals_none p (id ∷ ids) = (refl, positionals_none (p + 1) ids)
 
 no_default : (rows : List Row) (a : Rule) → a.defaults ≡ [] → with_default rows a ≡ rows
 no_default rows a none = rw none (go (has_row a.id rows))
@@ -34,9 +36,14 @@ no_default rows a none = rw none (go (has_row a.id rows))
     go true = refl
     go false = refl
 
-fold_none : (rules : List Rule) (rows : List Row) → NoDefaults rules → fold with_default rows rules ≡ rows
-fold_none [] rows h = refl
-fold_none (a ∷ more) rows h = ap (λ rs. fold with_default rs more) (no_default rows a h.0) ∙ fold_none more rows h.1
+fold_none : (rules rest : List Rule) (rows : List Row) → NoDefaults rules → fold with_default rows (rules ++ rest) ≡ fold with_default rows rest
+fold_none [] rest rows h = refl
+fold_none (a ∷ more) rest rows h = ap (λ rs. fold with_default rs (more ++ rest)) (no_default rows a h.0) ∙ fold_none more rest rows h.1
+
+fold_rules : (l : Leaf) (rows : List Row) → fold with_default rows (built_rules l) ≡ with_flags l.flags rows
+fold_rules l rows =
+    fold_none (built_positionals 1 l.positionals) _ rows (positionals_none 1 l.positionals)
+    ∙ fold_none (map built_option l.options) _ rows (options_none l.options)
 
 or_true : (b : Bool) → (b || true) ≡ true
 or_true true = refl
@@ -45,19 +52,25 @@ or_true false = refl
 no_default_fault : (rows : List Row) (a : Rule) → a.defaults ≡ [] → default_fault rows a ≡ []
 no_default_fault rows a none = rw (none, or_true (has_row a.id rows)) refl
 
-no_defaults_fault : (rules : List Rule) (rows : List Row) → NoDefaults rules → defaults_fault rows rules ≡ []
+past_none : (rules rest : List Rule) (rows : List Row) → NoDefaults rules → ((others : List Row) → defaults_fault others rest ≡ []) → defaults_fault rows (rules ++ rest) ≡ []
 unfolding defaults_fault
-no_defaults_fault [] rows h = refl
-no_defaults_fault (a ∷ rest) rows h = rw (no_default_fault rows a h.0) (no_defaults_fault rest (with_default rows a) h.1)
+past_none [] rest rows h passes = passes rows
+past_none (a ∷ more) rest rows h passes = rw (no_default_fault rows a h.0) (past_none more rest (with_default rows a) h.1 passes)
+
+defaults_pass : (l : Leaf) (rows : List Row) → defaults_fault rows (built_rules l) ≡ []
+defaults_pass l rows =
+    past_none (built_positionals 1 l.positionals) _ rows (positionals_none 1 l.positionals)
+    (λ others. past_none (map built_option l.options) _ others (options_none l.options) (flags_pass_defaults l.flags))
 
 -- ---- every positional is given
 
 abbrev lacks : List Row → Rule → Bool
 lacks rows a = a.required && not (is_given a.id rows)
 
-options_lack_none : (rows : List Row) (options : List Text) → list_any (lacks rows) (map built_option options) ≡ false
-options_lack_none rows [] = refl
-options_lack_none rows (x ∷ xs) = options_lack_none rows xs
+uses_lack_none : (rows : List Row) (options flags : List Text) → list_any (lacks rows) (built_uses options flags) ≡ false
+uses_lack_none rows [] [] = refl
+uses_lack_none rows [] (x ∷ xs) = uses_lack_none rows [] xs
+uses_lack_none rows (x ∷ xs) flags = uses_lack_none rows xs flags
 
 given_row_is_given : (gs : Given) (id : Text) → has_text id (map (λ g. g.0) gs) ≡ true → is_given id (map given_row gs) ≡ true
 given_row_is_given [] id has = cc
@@ -82,46 +95,47 @@ zipped (x ∷ xs) (w ∷ ws) options id same has =
     go true has rest = refl
     go false has rest = rest has
 
-lack_none : (rows : List Row) (p : ℕ) (ids options : List Text) → ((id : Text) → has_text id ids ≡ true → is_given id rows ≡ true)
-    → list_any (lacks rows) (built_positionals p ids ++ map built_option options) ≡ false
-lack_none rows p [] options given = options_lack_none rows options
-lack_none rows p (id ∷ ids) options given =
-    rw (given id (has_first id ids)) (lack_none rows (p + 1) ids options (λ other has. given other (has_later other id ids has)))
+lack_none : (rows : List Row) (p : ℕ) (ids options flags : List Text) → ((id : Text) → has_text id ids ≡ true → is_given id rows ≡ true)
+    → list_any (lacks rows) (built_positionals p ids ++ built_uses options flags) ≡ false
+lack_none rows p [] options flags given = uses_lack_none rows options flags
+lack_none rows p (id ∷ ids) options flags given =
+    rw (given id (has_first id ids)) (lack_none rows (p + 1) ids options flags (λ other has. given other (has_later other id ids has)))
 
 -- ---- the command's own words
 
 -- a built command
-abbrev pub built_shape : Text → List Text → List Text → Shape
-built_shape name ids options = record (new_shape name) {
-  rules = built_rules ids options;
+abbrev pub built_shape : Leaf → Shape
+built_shape l = record (new_shape l.name) {
+  rules = built_rules l;
   no_binary_name = true;
   disable_help_flag = true;
   disable_help_subcommand = true;
   is_built = true;
 }
 
--- the command passes the words, and finds these rows
-pub record PlainLevel (s : Shape) (words : List Text) (rows : List Row) : Type 0 where
-  pub passes : level_fault s [] nothing_held words false [] ≡ []
-  pub rows_are : rows_after s.rules [] words ≡ rows
+-- the command passes the words, and finds these rows and those of the flags that were not used
+pub record PlainLevel (l : Leaf) (words : List Text) (rows : List Row) : Type 0 where
+  pub passes : level_fault (built_shape l) [] nothing_held words false [] ≡ []
+  pub rows_are : rows_after (built_rules l) [] words ≡ with_flags l.flags rows
 
-level_of : (s : Shape) (words : List Text) (rows : List Row) → NoDefaults s.rules → check_fault s rows false ≡ []
-    → Ends s (walk_from nothing_held) words rows → PlainLevel s words rows
-level_of s words rows none check e =
-    let same = fold_none s.rules rows none in
-    let checked : check_fault s (fold with_default rows s.rules) false ≡ [] = subst (λ (rs : List Row). check_fault s rs false ≡ []) (sym same) check in
+level_of : (l : Leaf) (words : List Text) (rows : List Row) → check_fault (built_shape l) (with_flags l.flags rows) false ≡ []
+    → Ends (built_shape l) (walk_from nothing_held) words rows → PlainLevel l words rows
+level_of l words rows check e =
+    let same = fold_rules l rows in
+    let checked : check_fault (built_shape l) (fold with_default rows (built_rules l)) false ≡ [] = subst (λ (rs : List Row). check_fault (built_shape l) rs false ≡ []) (sym same) check in
     record {
-      passes = rw (e.passes, e.walk_is, e.stands.passes, e.stands.rows_are, no_defaults_fault s.rules rows none, checked) refl;
+      passes = rw (e.passes, e.walk_is, e.stands.passes, e.stands.rows_are, defaults_pass l rows, checked) refl;
       rows_are = rw (e.walk_is, e.stands.rows_are) same;
     }
 
-pub plain_level : (name : Text) (ids options words positionals : List Text) (given : Given) → length positionals ≡ length ids
-    → Ends (built_shape name ids options) (walk_from nothing_held) words (map given_row (zip ids positionals ++ given))
-    → PlainLevel (built_shape name ids options) words (map given_row (zip ids positionals ++ given))
-plain_level name ids options words positionals given same e =
-    let gs = zip ids positionals ++ given in
-    let none = lack_none (map given_row gs) 1 ids options (λ id has. given_row_is_given gs id (zipped ids positionals given id same has)) in
-    level_of (built_shape name ids options) words (map given_row gs) (rules_none 1 ids options) (rw none refl) e
+pub plain_level : (l : Leaf) (words positionals : List Text) (given : Given) → length positionals ≡ length l.positionals
+    → Ends (built_shape l) (walk_from nothing_held) words (map given_row (zip l.positionals positionals ++ given))
+    → PlainLevel l words (map given_row (zip l.positionals positionals ++ given))
+plain_level l words positionals given same e =
+    let gs = zip l.positionals positionals ++ given in
+    let none = lack_none (with_flags l.flags (map given_row gs)) 1 l.positionals l.options l.flags
+    (λ id has. given_kept l.flags (map given_row gs) id (given_row_is_given gs id (zipped l.positionals positionals given id same has))) in
+    level_of l words (map given_row gs) (rw none refl) e
 
 -- ---- the top
 

@@ -1,27 +1,71 @@
 -- On a plain line the job is read off the words.
-use Rattle.std.proofs.Common.{◌≡◌, ◌∙◌, ◌&&◌, ◌||◌, Bool, true, false, not, List, [], ◌∷◌, ◌++◌, map, refl, ap, subst, Some}
+use Rattle.std.proofs.Common.{◌≡◌, ◌∙◌, ◌&&◌, ◌||◌, Bool, true, false, not, List, [], ◌∷◌, ◌++◌, map, refl, ap, subst, Option, Some, codes}
+use Rattle.std.specs.Prelude.{option_and_then, option_map}
 use Rattle.std.specs.List.{Contains, flat_map, list_all}
 use Rattle.std.specs.Str.{bytes_eq}
 use Rattle.std.proofs.lemmas.List.Elements.{All-contains, All-from_recursion}
 use Rattle.std.proofs.lemmas.Slice.Eq.{bytes_eq-Decides}
-use Rattle.clap.specs.Walk.{Text, nothing_held, walked}
+use Rattle.clap.specs.Walk.{Row, Text, nothing_held, walked}
 use Rattle.clap.specs.Simple.{Shape, argument_words, built}
 use Rattle.clap.proofs.WalkLemmas.{both}
-use Rattle.diva_args.specs.Command.{Leaf, diva, leaves, run, tape, asm, dis}
-use Rattle.diva_args.specs.Line.{command_of, job_from, taken, values_of}
-use Rattle.diva_args.specs.Plain.{IsPlainLine, PlainLine, are_distinct, given_in, has_text, is_plain_word, job_on, names_in, option_words, value_in}
+use Rattle.diva_args.specs.Command.{Leaf, asm, debug, dis, diva, leaves, run, tape}
+use Rattle.diva_args.specs.Line.{command_of, cycles_from, job_from, run_from, run_with, setup_from, setup_with, taken, values_of, width_from}
+use Rattle.diva_args.specs.Plain.{IsPlainLine, PlainLine, Use, are_distinct, flagged, given_by, given_in, has_text, is_plain_word, is_use_of, job_on, name_of, names_in, use_words, value_in, valued, values_in}
+use Rattle.diva_args.specs.Values.{core_of, dump_of, is_set_by, number_of}
+use Rattle.diva_args.specs.declared.job.Job.TheVariants.{Run}
 use Rattle.diva_args.proofs.PlainSteps.{Stands, first_given, given_row}
-use Rattle.diva_args.proofs.PlainOptions.{Given, Places, apart_at, are_apart, built_rules, has_first, has_later, is_name, line_end, option_names, serves}
+use Rattle.diva_args.proofs.PlainFlags.{flag_kept, value_kept, with_flags}
+use Rattle.diva_args.proofs.PlainOptions.{Given, Places, apart_at, are_apart, built_rules, has_first, has_later, is_name, line_end, serves}
 use Rattle.diva_args.proofs.PlainEnd.{Enters, PlainLevel, built_shape, entered_fault_is, entered_rows, plain_level}
+
+-- ---- the values of a line
+
+-- two sources that give the same value of each id that is no flag, and the same flags
+pub record SameValues (flags : List Text) (f g : Text → Option Text) : Type 0 where
+  pub value : (id : Text) → has_text id flags ≡ false → f id ≡ g id
+  pub flag : (id : Text) → is_set_by (f id) ≡ is_set_by (g id)
+
+same_values : (flags : List Text) (gs : Given) → SameValues flags (values_of (with_flags flags (map given_row gs))) (value_in gs)
+same_values flags gs = record {
+  value = λ id none. value_kept flags (map given_row gs) id none ∙ first_given gs id;
+  flag = λ id. flag_kept flags (map given_row gs) id ∙ ap is_set_by (first_given gs id);
+}
+
+-- where there is no flag they are one
+one_source : (f g : Text → Option Text) → SameValues [] f g → f ≡ g
+one_source f g s = λ i id. s.value id refl i
 
 -- ---- what each row of the table meets
 
 pub record IsSound (l : Leaf) : Type 0 where
-  pub enters : Enters (built diva) l.name (built_shape l.name l.positionals l.options)
-  pub places : Places (built_rules l.positionals l.options) 1 l.positionals
+  pub enters : Enters (built diva) l.name (built_shape l)
+  pub places : Places (built_rules l) 1 l.positionals
   pub names : list_all is_name l.options ≡ true
+  pub flag_names : list_all is_name l.flags ≡ true
   pub apart : are_apart l.options l.positionals ≡ true
+  pub flags_apart : are_apart l.flags l.options ≡ true
+  pub flags_no_positionals : are_apart l.flags l.positionals ≡ true
   pub distinct : are_distinct l.positionals ≡ true
+  pub same : (f g : Text → Option Text) → SameValues l.flags f g → job_from l.name f ≡ job_from l.name g
+
+run_same : (f g : Text → Option Text) → SameValues run.flags f g → run_from f ≡ run_from g
+unfolding run_from setup_from width_from cycles_from
+run_same f g s =
+    let image = s.value (codes "IMAGE") refl in
+    let core = s.value (codes "core") refl in
+    let script = s.value (codes "script") refl in
+    let tape = s.value (codes "tape") refl in
+    let width = s.value (codes "width") refl in
+    let window = s.value (codes "window") refl in
+    let stores = s.value (codes "stores") refl in
+    let watchdog = s.value (codes "watchdog") refl in
+    let cycles = s.value (codes "cycles") refl in
+    let dump = s.value (codes "dump") refl in
+    let trace = s.flag (codes "trace") in
+    λ i. run_with
+    (option_and_then (λ n. setup_with (image i) (core_of (core i) (tape i)) (script i) n (number_of 8 64 16 (window i)) (number_of 1 6 4 (stores i)) (number_of 16 1024 64 (watchdog i)))
+    (number_of 1 4 2 (width i)))
+    (number_of 1 1000000000 1000000 (cycles i)) (trace i) (dump_of (dump i))
 
 run_sound : IsSound run
 unfolding diva walked
@@ -29,8 +73,12 @@ run_sound = record {
   enters = record { walk_is = refl; turn = refl; sub = refl; label = refl; bare = refl; negates = refl };
   places = (refl, refl, refl, tt);
   names = refl;
+  flag_names = refl;
   apart = refl;
+  flags_apart = refl;
+  flags_no_positionals = refl;
   distinct = refl;
+  same = λ f g s. ap (option_map Run) (run_same f g s);
 }
 
 tape_sound : IsSound tape
@@ -39,8 +87,26 @@ tape_sound = record {
   enters = record { walk_is = refl; turn = refl; sub = refl; label = refl; bare = refl; negates = refl };
   places = (refl, refl, refl, tt);
   names = refl;
+  flag_names = refl;
   apart = refl;
+  flags_apart = refl;
+  flags_no_positionals = refl;
   distinct = refl;
+  same = λ f g s. ap (job_from tape.name) (one_source f g s);
+}
+
+debug_sound : IsSound debug
+unfolding diva walked
+debug_sound = record {
+  enters = record { walk_is = refl; turn = refl; sub = refl; label = refl; bare = refl; negates = refl };
+  places = (refl, refl, refl, (refl, refl, refl, tt));
+  names = refl;
+  flag_names = refl;
+  apart = refl;
+  flags_apart = refl;
+  flags_no_positionals = refl;
+  distinct = refl;
+  same = λ f g s. ap (job_from debug.name) (one_source f g s);
 }
 
 asm_sound : IsSound asm
@@ -49,8 +115,12 @@ asm_sound = record {
   enters = record { walk_is = refl; turn = refl; sub = refl; label = refl; bare = refl; negates = refl };
   places = (refl, refl, refl, tt);
   names = refl;
+  flag_names = refl;
   apart = refl;
+  flags_apart = refl;
+  flags_no_positionals = refl;
   distinct = refl;
+  same = λ f g s. ap (job_from asm.name) (one_source f g s);
 }
 
 dis_sound : IsSound dis
@@ -59,27 +129,35 @@ dis_sound = record {
   enters = record { walk_is = refl; turn = refl; sub = refl; label = refl; bare = refl; negates = refl };
   places = (refl, refl, refl, tt);
   names = refl;
+  flag_names = refl;
   apart = refl;
+  flags_apart = refl;
+  flags_no_positionals = refl;
   distinct = refl;
+  same = λ f g s. ap (job_from dis.name) (one_source f g s);
 }
 
 each_sound : (l : Leaf) → Contains leaves l → IsSound l
-each_sound l listed = All-contains IsSound leaves l (All-from_recursion IsSound leaves (run_sound, (tape_sound, (asm_sound, (dis_sound, tt))))) listed
+each_sound l listed = All-contains IsSound leaves l (All-from_recursion IsSound leaves (run_sound, (tape_sound, (debug_sound, (asm_sound, (dis_sound, tt)))))) listed
 
 -- ---- names and words
 
--- options that the command knows are no positionals
-no_positional : (ids options : List Text) (given : Given) (id : Text) → are_apart options ids ≡ true
-    → list_all (λ name. has_text name options) (option_names given) ≡ true → has_text id ids ≡ true → has_text id (option_names given) ≡ false
-no_positional ids options [] id apart known has = refl
-no_positional ids options (g ∷ gs) id apart known has = go (bytes_eq g.0 id) refl (no_positional ids options gs id apart (both _ _ known).1 has)
+-- options and flags that the command knows are no positionals
+no_positional : (l : Leaf) (uses : List Use) (id : Text) → are_apart l.options l.positionals ≡ true → are_apart l.flags l.positionals ≡ true
+    → list_all (is_use_of l) uses ≡ true → has_text id l.positionals ≡ true → has_text id (names_in uses) ≡ false
+no_positional l [] id apart flags_apart known has = refl
+no_positional l (u ∷ uses) id apart flags_apart known has =
+    go (bytes_eq (name_of u) id) refl (no_positional l uses id apart flags_apart (both _ _ known).1 has)
   where
-    go : (b : Bool) → bytes_eq g.0 id ≡ b → has_text id (option_names gs) ≡ false → (bytes_eq g.0 id || has_text id (option_names gs)) ≡ false
+    among : (v : Use) → is_use_of l v ≡ true → name_of v ≡ id → has_text id l.positionals ≡ false
+    among (valued name value) h same = apart_at l.options l.positionals id apart (subst (λ (x : Text). has_text x l.options ≡ true) same h)
+    among (flagged name) h same = apart_at l.flags l.positionals id flags_apart (subst (λ (x : Text). has_text x l.flags ≡ true) same h)
+
+    go : (b : Bool) → bytes_eq (name_of u) id ≡ b → has_text id (names_in uses) ≡ false → (bytes_eq (name_of u) id || has_text id (names_in uses)) ≡ false
     go false e rest = rw e rest
     go true e rest =
-        let same : g.0 ≡ id = (bytes_eq-Decides g.0 id).0 e in
-        let among : has_text id options ≡ true = subst (λ (x : Text). has_text x options ≡ true) same (both _ _ known).0 in
-        let bad : has_text id ids ≡ false = apart_at options ids id apart among in
+        let same : name_of u ≡ id = (bytes_eq-Decides (name_of u) id).0 e in
+        let bad = among u (both _ _ known).0 same in
         cc
 
 not_among : (x : Text) (xs ys : List Text) → not (has_text x xs) ≡ true → has_text x ys ≡ false → has_text x (xs ++ ys) ≡ false
@@ -115,35 +193,31 @@ all_words : (words : List Text) → argument_words diva words ≡ words
 unfolding diva
 all_words words = refl
 
-taken_at : (l : Leaf) (rest : List Text) (gs : Given) → IsSound l → PlainLevel (built_shape l.name l.positionals l.options) rest (map given_row gs)
-    → taken (l.name ∷ rest) ≡ Some (l.name, map given_row gs)
+taken_at : (l : Leaf) (rest : List Text) (gs : Given) → IsSound l → PlainLevel l rest (map given_row gs)
+    → taken (l.name ∷ rest) ≡ Some (l.name, with_flags l.flags (map given_row gs))
 unfolding taken
 taken_at l rest gs sound level =
-    let s = built_shape l.name l.positionals l.options in
-    rw (all_words (l.name ∷ rest), entered_fault_is (built diva) l.name s rest sound.enters ∙ level.passes)
-    (entered_rows (built diva) l.name s rest sound.enters ∙ ap (λ rs. Some (l.name, rs)) level.rows_are)
+    rw (all_words (l.name ∷ rest), entered_fault_is (built diva) l.name (built_shape l) rest sound.enters ∙ level.passes)
+    (entered_rows (built diva) l.name (built_shape l) rest sound.enters ∙ ap (λ (rs : List Row). Some (l.name, rs)) level.rows_are)
 
-line_at : (l : Leaf) (rest : List Text) (gs : Given) → IsSound l → PlainLevel (built_shape l.name l.positionals l.options) rest (map given_row gs)
+line_at : (l : Leaf) (rest : List Text) (gs : Given) → IsSound l → PlainLevel l rest (map given_row gs)
     → command_of (l.name ∷ rest) ≡ job_from l.name (value_in gs)
 unfolding command_of
-line_at l rest gs sound level =
-    let values : values_of (map given_row gs) ≡ value_in gs = λ i id. first_given gs id i in
-    rw (taken_at l rest gs sound level) (ap (job_from l.name) values)
+line_at l rest gs sound level = rw (taken_at l rest gs sound level) (sound.same _ _ (same_values l.flags gs))
 
 start : (s : Shape) → Stands s nothing_held []
 start s = record { rows_are = refl; passes = refl }
 
 level_at : (line : PlainLine) (words : List Text) → IsPlainLine words line → IsSound line.command
-    → PlainLevel (built_shape line.command.name line.command.positionals line.command.options)
-    (line.positionals ++ flat_map option_words line.options) (map given_row (given_in line))
+    → PlainLevel line.command (line.positionals ++ flat_map use_words line.uses) (map given_row (given_in line))
 level_at line words plain sound =
     let l = line.command in
-    let s = built_shape l.name l.positionals l.options in
-    let parts = all_parts line.positionals (map (λ option. option.1) line.options) plain.plain in
-    let distinct = distinct_append l.positionals (names_in line) sound.distinct
-    (λ id has. no_positional l.positionals l.options line.options id sound.apart plain.known has) plain.once in
-    plain_level l.name l.positionals l.options _ line.positionals line.options plain.complete
-    (line_end s l.options (serves l.positionals l.options sound.names sound.apart) line.options l.positionals line.positionals nothing_held 1 []
+    let s = built_shape l in
+    let parts = all_parts line.positionals (values_in line.uses) plain.plain in
+    let distinct = distinct_append l.positionals (names_in line.uses) sound.distinct
+    (λ id has. no_positional l line.uses id sound.apart sound.flags_no_positionals plain.known has) plain.once in
+    plain_level l _ line.positionals (map given_by line.uses) plain.complete
+    (line_end s l (serves l sound.names sound.flag_names sound.apart sound.flags_apart) line.uses l.positionals line.positionals nothing_held 1 []
     sound.places plain.complete parts.0 plain.known distinct parts.1 (λ name has. tt) (start s))
 
 pub plain_line : (words : List Text) (line : PlainLine) → IsPlainLine words line → command_of words ≡ job_on line

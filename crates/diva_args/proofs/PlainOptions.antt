@@ -1,26 +1,23 @@
--- What a simple command makes of a plain line's positionals and options, one after the other.
-use Rattle.std.proofs.Common.{◌≡◌, ◌∙◌, ◌&&◌, ◌||◌, ◌+◌, ℕ, Bool, true, false, not, List, [], ◌∷◌, ◌++◌, length, map, refl, ap, ap₂, sym, subst, Option, Some, None, is_some, arith}
+-- What a simple command makes of a plain line's positionals, options and flags, one after the other.
+use Rattle.std.proofs.Common.{◌≡◌, ◌∙◌, ◌&&◌, ◌||◌, ◌+◌, ℕ, Bool, true, false, not, List, [], ◌∷◌, ◌++◌, length, map, refl, ap, ap₂, sym, subst, Option, Some, None, is_some, codes, arith}
 use Rattle.std.specs.Prelude.{find, fold, min, suc}
 use Rattle.std.specs.List.{flat_map, list_any, list_all, zip}
 use Rattle.std.specs.Str.{bytes_eq}
 use Rattle.std.proofs.lemmas.Slice.Eq.{bytes_eq-Decides}
 use Rattle.std.proofs.lemmas.List.{append-nil, append_assoc}
 use Rattle.clap.specs.Lexer.{long_of}
-use Rattle.clap.specs.Walk.{Held, Row, Rule, Text, Walk, arg_by_id, arg_by_index, arg_by_long, has_long, walked}
+use Rattle.clap.specs.Walk.{Held, Row, Rule, Text, Walk, arg_by_id, arg_by_index, arg_by_long, has_long, reacted, walked}
 use Rattle.clap.specs.Simple.{Shape}
 use Rattle.clap.specs.Faults.{turn_fault, walk_fault}
 use Rattle.clap.specs.Kinds.{or_else}
 use Rattle.clap.proofs.WalkLemmas.{both}
-use Rattle.diva_args.specs.Plain.{are_distinct, dashed, has_text, is_plain_word, option_words}
-use Rattle.diva_args.proofs.PlainSteps.{Absent, IsName, Stands, between, built_option, built_positional, given_row, option_first, option_first_fault, option_second, option_second_fault, plain_word_is, positional_fault, positional_step, stands_option, stands_positional, with_value, within_option}
+use Rattle.diva_args.specs.Command.{Leaf}
+use Rattle.diva_args.specs.Plain.{Use, are_distinct, dashed, flagged, given_by, has_text, is_plain_word, is_use_of, names_in, use_words, valued, values_in}
+use Rattle.diva_args.proofs.PlainSteps.{Absent, IsName, Stands, between, built_flag, built_option, built_positional, flag_passes, flag_step, given_row, option_first, option_first_fault, option_second, option_second_fault, plain_word_is, positional_fault, positional_step, stands_flag, stands_option, stands_positional, with_value, within_option}
 
 -- names, each with its text
 abbrev pub Given : Type 0
 Given = List (Text × Text)
-
--- the names of what is given
-abbrev pub option_names : Given → List Text
-option_names = map (λ g. g.0)
 
 -- ---- the rules of a built command
 
@@ -28,14 +25,19 @@ abbrev pub built_positionals : ℕ → List Text → List Rule
 built_positionals p [] = []
 built_positionals p (id ∷ ids) = built_positional p id ∷ built_positionals (p + 1) ids
 
-abbrev pub built_rules : List Text → List Text → List Rule
-built_rules positionals options = built_positionals 1 positionals ++ map built_option options
+abbrev pub built_uses : List Text → List Text → List Rule
+built_uses options flags = map built_option options ++ map built_flag flags
 
--- the rules answer to these options
-pub record Serves (c : List Rule) (options : List Text) : Type 0 where
-  pub name : (name : Text) → has_text name options ≡ true → IsName name
-  pub long : (name : Text) → has_text name options ≡ true → arg_by_long c name ≡ Some (built_option name)
-  pub id : (name : Text) → has_text name options ≡ true → arg_by_id c name ≡ Some (built_option name)
+abbrev pub built_rules : Leaf → List Rule
+built_rules l = built_positionals 1 l.positionals ++ built_uses l.options l.flags
+
+-- the rules answer to the options and flags of a command
+pub record Serves (c : List Rule) (l : Leaf) : Type 0 where
+  pub name : (name : Text) → has_text name l.options ≡ true → IsName name
+  pub long : (name : Text) → has_text name l.options ≡ true → arg_by_long c name ≡ Some (built_option name)
+  pub id : (name : Text) → has_text name l.options ≡ true → arg_by_id c name ≡ Some (built_option name)
+  pub flag_name : (name : Text) → has_text name l.flags ≡ true → IsName name
+  pub flag_long : (name : Text) → has_text name l.flags ≡ true → arg_by_long c name ≡ Some (built_flag name)
 
 -- the rules have these positionals from place p on
 abbrev pub Places : List Rule → ℕ → List Text → Type 0
@@ -99,17 +101,29 @@ apart_at (x ∷ xs) others name h has = go (bytes_eq x name) refl has (apart_at 
 
 -- ---- finding an option
 
--- the first option of this name, by any test that only the option of that name passes
-found_option : (test : Rule → Bool) (names : List Text) (name : Text) → ((x : Text) → test (built_option x) ≡ bytes_eq x name)
-    → has_text name names ≡ true → find test (map built_option names) ≡ Some (built_option name)
-found_option test [] name is has = cc
-found_option test (x ∷ xs) name is has = go (bytes_eq x name) refl has (found_option test xs name is)
+-- the first rule of this name, by any test that only the rule of that name passes
+found_named : (make : Text → Rule) (test : Rule → Bool) (names : List Text) (rest : List Rule) (name : Text)
+    → ((x : Text) → test (make x) ≡ bytes_eq x name) → has_text name names ≡ true
+    → find test (map make names ++ rest) ≡ Some (make name)
+found_named make test [] rest name is has = cc
+found_named make test (x ∷ xs) rest name is has = go (bytes_eq x name) refl has (found_named make test xs rest name is)
   where
     go : (b : Bool) → bytes_eq x name ≡ b → (b || has_text name xs) ≡ true
-        → (has_text name xs ≡ true → find test (map built_option xs) ≡ Some (built_option name))
-        → find test (map built_option (x ∷ xs)) ≡ Some (built_option name)
-    go true e has later = rw (is x, e) (ap (λ (y : Text). Some (built_option y)) ((bytes_eq-Decides x name).0 e))
+        → (has_text name xs ≡ true → find test (map make xs ++ rest) ≡ Some (make name))
+        → find test (map make (x ∷ xs) ++ rest) ≡ Some (make name)
+    go true e has later = rw (is x, e) (ap (λ (y : Text). Some (make y)) ((bytes_eq-Decides x name).0 e))
     go false e has later = rw (is x, e) (later has)
+
+-- no rule of other names passes such a test
+none_named : (make : Text → Rule) (test : Rule → Bool) (names : List Text) (name : Text) → ((x : Text) → test (make x) ≡ bytes_eq x name)
+    → has_text name names ≡ false → list_any test (map make names) ≡ false
+none_named make test [] name is none = refl
+none_named make test (x ∷ xs) name is none = go (bytes_eq x name) refl none (none_named make test xs name is)
+  where
+    go : (b : Bool) → bytes_eq x name ≡ b → (b || has_text name xs) ≡ false → (has_text name xs ≡ false → list_any test (map make xs) ≡ false)
+        → list_any test (map make (x ∷ xs)) ≡ false
+    go true e none later = cc
+    go false e none later = rw (is x, e) (later none)
 
 -- past those that fail the test
 found_past : (test : Rule → Bool) (before rest : List Rule) (a : Rule) → list_any test before ≡ false → find test rest ≡ Some a
@@ -146,15 +160,21 @@ no_positional_id p (id ∷ ids) name none = go (bytes_eq id name) refl none (no_
     go true e none later = cc
     go false e none later = rw e (later none)
 
-pub serves : (positionals options : List Text) → list_all is_name options ≡ true → are_apart options positionals ≡ true
-    → Serves (built_rules positionals options) options
-serves positionals options names apart = record {
-  name = λ name has. all_names options name names has;
-  long = λ name has. found_past (by_long name) (built_positionals 1 positionals) _ _ (no_positional_long 1 positionals name)
-      (found_option (by_long name) options name (λ x. or_false (bytes_eq x name)) has);
-  id = λ name has. found_past (by_id name) (built_positionals 1 positionals) _ _
-      (no_positional_id 1 positionals name (apart_at options positionals name apart has))
-      (found_option (by_id name) options name (λ x. refl) has);
+pub serves : (l : Leaf) → list_all is_name l.options ≡ true → list_all is_name l.flags ≡ true → are_apart l.options l.positionals ≡ true
+    → are_apart l.flags l.options ≡ true → Serves (built_rules l) l
+serves l names flag_names apart flags_apart = record {
+  name = λ name has. all_names l.options name names has;
+  long = λ name has. found_past (by_long name) (built_positionals 1 l.positionals) _ _ (no_positional_long 1 l.positionals name)
+      (found_named built_option (by_long name) l.options (map built_flag l.flags) name (λ x. or_false (bytes_eq x name)) has);
+  id = λ name has. found_past (by_id name) (built_positionals 1 l.positionals) _ _
+      (no_positional_id 1 l.positionals name (apart_at l.options l.positionals name apart has))
+      (found_named built_option (by_id name) l.options (map built_flag l.flags) name (λ x. refl) has);
+  flag_name = λ name has. all_names l.flags name flag_names has;
+  flag_long = λ name has. found_past (by_long name) (built_positionals 1 l.positionals) _ _ (no_positional_long 1 l.positionals name)
+      (found_past (by_long name) (map built_option l.options) _ _
+      (none_named built_option (by_long name) l.options name (λ x. or_false (bytes_eq x name)) (apart_at l.flags l.options name flags_apart has))
+      (subst (λ (rules : List Rule). find (by_long name) rules ≡ Some (built_flag name)) (append-nil (map built_flag l.flags))
+      (found_named built_flag (by_long name) l.flags [] name (λ x. or_false (bytes_eq x name)) has)));
 }
 
 -- ---- the walk over some words
@@ -217,49 +237,60 @@ rest_absent name value names rows once absent = λ other has.
         let none : has_text other names ≡ false = subst (λ (x : Text). has_text x names ≡ false) ((bytes_eq-Decides name other).0 e) once in
         cc
 
--- ---- the options, and before them the positionals
+-- ---- the options and flags, and before them the positionals
 
-pub options_end : (s : Shape) (options : List Text) → Serves s.rules options → (given : Given) (h : Held) (p : ℕ) (rows : List Row)
-    → list_all (λ name. has_text name options) (option_names given) ≡ true → are_distinct (option_names given) ≡ true
-    → list_all is_plain_word (map (λ g. g.1) given) ≡ true → AreAbsent (option_names given) rows → Stands s h rows
-    → Ends s (between h p) (flat_map option_words given) (rows ++ map given_row given)
-options_end s options serves [] h p rows known once plain absent stands =
+pub uses_end : (s : Shape) (l : Leaf) → Serves s.rules l → (uses : List Use) (h : Held) (p : ℕ) (rows : List Row)
+    → list_all (is_use_of l) uses ≡ true → are_distinct (names_in uses) ≡ true
+    → list_all is_plain_word (values_in uses) ≡ true → AreAbsent (names_in uses) rows → Stands s h rows
+    → Ends s (between h p) (flat_map use_words uses) (rows ++ map given_row (map given_by uses))
+uses_end s l serves [] h p rows known once plain absent stands =
     subst (Ends s (between h p) []) (sym (append-nil rows)) (no_words s h p rows stands)
-options_end s options serves (g ∷ given) h p rows known once plain absent stands =
+uses_end s l serves (valued name value ∷ uses) h p rows known once plain absent stands =
     let has = (both _ _ known).0 in
-    let word = plain_word_is g.1 (both _ _ plain).0 in
+    let word = plain_word_is value (both _ _ plain).0 in
     let fresh = is_not _ (both _ _ once).0 in
-    let rest = options_end s options serves given (with_value s.rules g.0 g.1 h) p (rows ++ given_row g ∷ [])
-    (both _ _ known).1 (both _ _ once).1 (both _ _ plain).1 (rest_absent g.0 g.1 (option_names given) rows fresh absent)
-    (stands_option s g.0 g.1 h rows (serves.id g.0 has) (first_absent g.0 (option_names given) rows absent) stands) in
-    subst (Ends s (between h p) (flat_map option_words (g ∷ given))) (append_assoc rows (given_row g ∷ []) (map given_row given))
-    (one_word s (between h p) (within_option s.rules g.0 h p) (dashed g.0) (g.1 ∷ flat_map option_words given) _
-    (option_first s.rules g.0 h p (serves.name g.0 has) (serves.long g.0 has))
-    (option_first_fault s g.0 h p (serves.name g.0 has) (serves.long g.0 has) ∙ stands.passes)
-    (one_word s (within_option s.rules g.0 h p) (between (with_value s.rules g.0 g.1 h) p) g.1 (flat_map option_words given) _
-    (option_second s.rules g.0 g.1 h p word (serves.id g.0 has))
-    (option_second_fault s g.0 g.1 h p word) rest))
+    let rest = uses_end s l serves uses (with_value s.rules name value h) p (rows ++ given_row (name, value) ∷ [])
+    (both _ _ known).1 (both _ _ once).1 (both _ _ plain).1 (rest_absent name value (names_in uses) rows fresh absent)
+    (stands_option s name value h rows (serves.id name has) (first_absent name (names_in uses) rows absent) stands) in
+    subst (Ends s (between h p) (flat_map use_words (valued name value ∷ uses))) (append_assoc rows (given_row (name, value) ∷ []) (map given_row (map given_by uses)))
+    (one_word s (between h p) (within_option s.rules name h p) (dashed name) (value ∷ flat_map use_words uses) _
+    (option_first s.rules name h p (serves.name name has) (serves.long name has))
+    (option_first_fault s name h p (serves.name name has) (serves.long name has) ∙ stands.passes)
+    (one_word s (within_option s.rules name h p) (between (with_value s.rules name value h) p) value (flat_map use_words uses) _
+    (option_second s.rules name value h p word (serves.id name has))
+    (option_second_fault s name value h p word) rest))
+uses_end s l serves (flagged name ∷ uses) h p rows known once plain absent stands =
+    let has = (both _ _ known).0 in
+    let fresh = is_not _ (both _ _ once).0 in
+    let new = first_absent name (names_in uses) rows absent in
+    let rest = uses_end s l serves uses (reacted s.rules (built_flag name) [] h) p (rows ++ given_row (name, codes "true") ∷ [])
+    (both _ _ known).1 (both _ _ once).1 plain (rest_absent name (codes "true") (names_in uses) rows fresh absent)
+    (stands_flag s name h rows new stands) in
+    subst (Ends s (between h p) (flat_map use_words (flagged name ∷ uses))) (append_assoc rows (given_row (name, codes "true") ∷ []) (map given_row (map given_by uses)))
+    (one_word s (between h p) (between (reacted s.rules (built_flag name) [] h) p) (dashed name) (flat_map use_words uses) _
+    (flag_step s.rules name h p (serves.flag_name name has) (serves.flag_long name has))
+    (flag_passes s name h p rows (serves.flag_name name has) (serves.flag_long name has) new stands) rest)
 
 one_less : (xs ys : List Text) → suc (length xs) ≡ suc (length ys) → length xs ≡ length ys
 one_less xs ys same = omega (arith, same)
 
-pub line_end : (s : Shape) (options : List Text) → Serves s.rules options → (given : Given) (ids words : List Text) (h : Held) (p : ℕ) (rows : List Row)
+pub line_end : (s : Shape) (l : Leaf) → Serves s.rules l → (uses : List Use) (ids words : List Text) (h : Held) (p : ℕ) (rows : List Row)
     → Places s.rules p ids → length words ≡ length ids → list_all is_plain_word words ≡ true
-    → list_all (λ name. has_text name options) (option_names given) ≡ true → are_distinct (ids ++ option_names given) ≡ true
-    → list_all is_plain_word (map (λ g. g.1) given) ≡ true → AreAbsent (ids ++ option_names given) rows → Stands s h rows
-    → Ends s (between h p) (words ++ flat_map option_words given) (rows ++ map given_row (zip ids words ++ given))
-line_end s options serves given [] [] h p rows places same plain_words known once plain absent stands =
-    options_end s options serves given h p rows known once plain absent stands
-line_end s options serves given [] (w ∷ ws) h p rows places same plain_words known once plain absent stands = absurd (omega (arith, same))
-line_end s options serves given (id ∷ ids) [] h p rows places same plain_words known once plain absent stands = absurd (omega (arith, same))
-line_end s options serves given (id ∷ ids) (w ∷ ws) h p rows places same plain_words known once plain absent stands =
+    → list_all (is_use_of l) uses ≡ true → are_distinct (ids ++ names_in uses) ≡ true
+    → list_all is_plain_word (values_in uses) ≡ true → AreAbsent (ids ++ names_in uses) rows → Stands s h rows
+    → Ends s (between h p) (words ++ flat_map use_words uses) (rows ++ map given_row (zip ids words ++ map given_by uses))
+line_end s l serves uses [] [] h p rows places same plain_words known once plain absent stands =
+    uses_end s l serves uses h p rows known once plain absent stands
+line_end s l serves uses [] (w ∷ ws) h p rows places same plain_words known once plain absent stands = absurd (omega (arith, same))
+line_end s l serves uses (id ∷ ids) [] h p rows places same plain_words known once plain absent stands = absurd (omega (arith, same))
+line_end s l serves uses (id ∷ ids) (w ∷ ws) h p rows places same plain_words known once plain absent stands =
     let word = plain_word_is w (both _ _ plain_words).0 in
     let fresh = is_not _ (both _ _ once).0 in
     let later : length ws ≡ length ids = one_less ws ids same in
-    let rest = line_end s options serves given ids ws (with_value s.rules id w h) (p + 1) (rows ++ given_row (id, w) ∷ [])
-    places.3 later (both _ _ plain_words).1 known (both _ _ once).1 plain (rest_absent id w (ids ++ option_names given) rows fresh absent)
-    (stands_positional s id w p h rows places.1 (first_absent id (ids ++ option_names given) rows absent) stands) in
-    subst (Ends s (between h p) (w ∷ (ws ++ flat_map option_words given))) (append_assoc rows (given_row (id, w) ∷ []) (map given_row (zip ids ws ++ given)))
-    (one_word s (between h p) (between (with_value s.rules id w h) (p + 1)) w (ws ++ flat_map option_words given) _
+    let rest = line_end s l serves uses ids ws (with_value s.rules id w h) (p + 1) (rows ++ given_row (id, w) ∷ [])
+    places.3 later (both _ _ plain_words).1 known (both _ _ once).1 plain (rest_absent id w (ids ++ names_in uses) rows fresh absent)
+    (stands_positional s id w p h rows places.1 (first_absent id (ids ++ names_in uses) rows absent) stands) in
+    subst (Ends s (between h p) (w ∷ (ws ++ flat_map use_words uses))) (append_assoc rows (given_row (id, w) ∷ []) (map given_row (zip ids ws ++ map given_by uses)))
+    (one_word s (between h p) (between (with_value s.rules id w h) (p + 1)) w (ws ++ flat_map use_words uses) _
     (positional_step s.rules id w h p (p + 1) word places.0 places.2)
     (positional_fault s id w h p word places.0 ∙ stands.passes) rest)

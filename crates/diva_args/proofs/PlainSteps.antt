@@ -1,23 +1,26 @@
 -- What a simple command makes of plain words, one option at a time.
-use Rattle.std.proofs.Common.{◌≡◌, ◌∙◌, ◌&&◌, ◌==◌, ◌+◌, ℕ, Bool, true, false, not, List, [], ◌∷◌, ◌++◌, map, refl, ap, Some, None}
+use Rattle.std.proofs.Common.{◌≡◌, ◌∙◌, ◌&&◌, ◌==◌, ◌+◌, ℕ, Bool, true, false, not, List, [], ◌∷◌, ◌++◌, map, refl, ap, Some, None, codes}
 use Rattle.std.specs.Prelude.{min}
 use Rattle.std.specs.Str.{bytes_eq}
 use Rattle.std.proofs.lemmas.Slice.Eq.{bytes_eq-Decides}
 use Rattle.std.proofs.lemmas.List.{append-nil}
 use Rattle.clap.specs.Lexer.{long_of, short_of}
-use Rattle.clap.specs.Walk.{Held, Row, Rule, Text, Walk, idle, option, arg_by_id, arg_by_index, arg_by_long, at_row, first_of, has_row, more_values, settled_rows, walked, with_values, without}
+use Rattle.clap.specs.Walk.{Held, Row, Rule, Text, Walk, idle, option, arg_by_id, arg_by_index, arg_by_long, at_row, first_of, has_row, more_values, reacted, settled, settled_rows, walked, with_values, without}
 use Rattle.clap.specs.Simple.{Shape, filled, with_index}
-use Rattle.clap.specs.Faults.{settle_fault, turn_fault}
+use Rattle.clap.specs.Faults.{settle_fault, turn_fault, use_fault}
 use Rattle.clap.specs.Kinds.{Kinds, or_else}
 use Rattle.clap.specs.declared.parser.ValueSource.TheVariants.{CommandLine}
 use Rattle.clap.specs.declared.builder.value_parser.Reading.TheVariants as reading
-use Rattle.diva_args.specs.Command.{option_rule, positional_rule}
+use Rattle.diva_args.specs.Command.{flag_rule, option_rule, positional_rule}
 use Rattle.diva_args.specs.Plain.{dashed, is_plain_word, value_in}
 
 -- ---- arguments of a built command
 
 abbrev pub built_option : Text → Rule
 built_option name = with_index 0 (filled (option_rule name))
+
+abbrev pub built_flag : Text → Rule
+built_flag name = with_index 0 (filled (flag_rule name))
 
 abbrev pub built_positional : ℕ → Text → Rule
 built_positional i id = with_index i (filled (positional_rule id))
@@ -74,6 +77,11 @@ pub option_second : (c : List Rule) (name value : Text) (h : Held) (p : ℕ) →
 unfolding walked
 option_second c name value h p is by_id = rw (is.other, is.long, is.short, by_id, same_text name) refl
 
+pub flag_step : (c : List Rule) (name : Text) (h : Held) (p : ℕ) → IsName name → arg_by_long c name ≡ Some (built_flag name)
+    → walked c [] (between h p) (dashed name) ≡ between (reacted c (built_flag name) [] h) p
+unfolding walked
+flag_step c name h p is by_long = rw (is.other, is.long, by_long) refl
+
 and_false : (b : Bool) → (b && false) ≡ false
 and_false true = refl
 and_false false = refl
@@ -98,6 +106,11 @@ pub option_second_fault : (s : Shape) (name value : Text) (h : Held) (p : ℕ) �
     → turn_fault s [] (within_option s.rules name h p) value ≡ []
 option_second_fault s name value h p is = rw (is.other, is.long, is.short) refl
 
+flag_fault : (s : Shape) (name : Text) (h : Held) (p : ℕ) → IsName name → arg_by_long s.rules name ≡ Some (built_flag name)
+    → turn_fault s [] (between h p) (dashed name)
+    ≡ or_else (settle_fault s.rules s.args_override_self h) (use_fault s.args_override_self (built_flag name) [] (settled s.rules h).rows)
+flag_fault s name h p is by_long = rw (is.other, is.long, by_long, or_else_none) refl
+
 pub positional_fault : (s : Shape) (id word : Text) (h : Held) (p : ℕ) → IsPlainWord word → arg_by_index s.rules p ≡ Some (built_positional p id)
     → turn_fault s [] (between h p) word ≡ settle_fault s.rules s.args_override_self h
 positional_fault s id word h p is by_index = rw (is.other, is.long, is.short, by_index, and_false) refl
@@ -112,7 +125,7 @@ abbrev pub Absent : Text → List Row → Type 0
 Absent id [] = Unit {0}
 Absent id (r ∷ rs) = (bytes_eq r.id id ≡ false) × Absent id rs
 
-at_absent : (id : Text) (change : Row → List Row) (missing rows : List Row) → Absent id rows → at_row id change missing rows ≡ rows ++ missing
+pub at_absent : (id : Text) (change : Row → List Row) (missing rows : List Row) → Absent id rows → at_row id change missing rows ≡ rows ++ missing
 at_absent id change missing [] h = refl
 at_absent id change missing (r ∷ rs) h = rw h.0 (ap (λ x. r ∷ x) (at_absent id change missing rs h.1))
 
@@ -145,6 +158,18 @@ stands_positional s id value i h rows by_id new before = record {
   rows_are = rw (by_id, before.rows_are) (new_values id value rows new);
   passes = rw (by_id, before.rows_are, no_row id rows new) refl;
 }
+
+pub stands_flag : (s : Shape) (name : Text) (h : Held) (rows : List Row) → Absent name rows → Stands s h rows
+    → Stands s (reacted s.rules (built_flag name) [] h) (rows ++ given_row (name, codes "true") ∷ [])
+stands_flag s name h rows new before = record {
+  rows_are = rw before.rows_are (new_values name (codes "true") rows new);
+  passes = refl;
+}
+
+pub flag_passes : (s : Shape) (name : Text) (h : Held) (p : ℕ) (rows : List Row) → IsName name → arg_by_long s.rules name ≡ Some (built_flag name)
+    → Absent name rows → Stands s h rows → turn_fault s [] (between h p) (dashed name) ≡ []
+flag_passes s name h p rows is by_long new stands =
+    flag_fault s name h p is by_long ∙ rw (stands.passes, stands.rows_are, no_row name rows new) refl
 
 -- the rows of what was given give it back
 pub first_given : (gs : List (Text × Text)) (id : Text) → first_of id (map given_row gs) ≡ value_in gs id

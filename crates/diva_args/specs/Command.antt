@@ -2,25 +2,33 @@
 use Rattle.std.specs.Prelude.{true, List, [], ◌∷◌, ◌++◌, map, Some, codes}
 use Rattle.clap.specs.Walk.{Rule, Text}
 use Rattle.clap.specs.Simple.{App, Shape, new_rule, new_shape, with_subcommand}
+use Rattle.clap.specs.declared.builder.action.ArgAction.TheVariants.{SetTrue}
 
--- a command: its name, the ids of its positionals in order, and the names of its options
+-- a command: its name, the ids of its positionals in order, the names of its options, and those of its flags
 pub record Leaf : Type 0 where
   pub name : Text
   pub positionals : List Text
   pub options : List Text
+  pub flags : List Text
 
 -- ---- the table
 
--- the options of what runs an image
+-- the options of what runs an image: those of its core, and those of its machine but for the width
+abbrev pub core_options : List Text
+core_options = codes "core" ∷ codes "script" ∷ codes "tape" ∷ []
+
+abbrev pub machine_options : List Text
+machine_options = codes "window" ∷ codes "stores" ∷ codes "watchdog" ∷ []
+
 abbrev pub setup_options : List Text
-setup_options = codes "core" ∷ codes "script" ∷ codes "tape" ∷ codes "width" ∷ codes "window"
-    ∷ codes "stores" ∷ codes "watchdog" ∷ []
+setup_options = core_options ++ codes "width" ∷ machine_options
 
 abbrev pub run : Leaf
 run = record {
   name = codes "run";
   positionals = codes "IMAGE" ∷ [];
   options = setup_options ++ codes "cycles" ∷ codes "dump" ∷ [];
+  flags = codes "trace" ∷ [];
 }
 
 abbrev pub tape : Leaf
@@ -28,16 +36,25 @@ tape = record {
   name = codes "tape";
   positionals = codes "IMAGE" ∷ [];
   options = setup_options ++ codes "cycles" ∷ [];
+  flags = [];
+}
+
+abbrev pub debug : Leaf
+debug = record {
+  name = codes "debug";
+  positionals = codes "IMAGE" ∷ codes "COMMANDS" ∷ [];
+  options = core_options ++ machine_options;
+  flags = [];
 }
 
 abbrev pub asm : Leaf
-asm = record { name = codes "asm"; positionals = codes "SRC" ∷ []; options = [] }
+asm = record { name = codes "asm"; positionals = codes "SRC" ∷ []; options = []; flags = [] }
 
 abbrev pub dis : Leaf
-dis = record { name = codes "dis"; positionals = codes "IMAGE" ∷ []; options = [] }
+dis = record { name = codes "dis"; positionals = codes "IMAGE" ∷ []; options = []; flags = [] }
 
 abbrev pub leaves : List Leaf
-leaves = run ∷ tape ∷ asm ∷ dis ∷ []
+leaves = run ∷ tape ∷ debug ∷ asm ∷ dis ∷ []
 
 -- ---- the same for `clap`
 
@@ -49,9 +66,13 @@ positional_rule id = record (new_rule id) { required = true }
 abbrev pub option_rule : Text → Rule
 option_rule name = record (new_rule name) { long = Some name }
 
+-- `--name`
+abbrev pub flag_rule : Text → Rule
+flag_rule name = record (new_rule name) { long = Some name; action = Some SetTrue }
+
 abbrev pub leaf_shape : Leaf → Shape
 leaf_shape l = record (new_shape l.name) {
-  rules = map positional_rule l.positionals ++ map option_rule l.options;
+  rules = map positional_rule l.positionals ++ map option_rule l.options ++ map flag_rule l.flags;
 }
 
 -- the command over words without the program's name, in which help words have no meaning, with no

@@ -1,5 +1,5 @@
 -- What a command line asks for: the words as `clap` matches them, then the rules on the options' values.
-use Rattle.std.specs.Prelude.{ℕ, List, [], ◌∷◌, Option, None, codes, if◌then◌else◌}
+use Rattle.std.specs.Prelude.{ℕ, Bool, List, [], ◌∷◌, Option, None, codes, if◌then◌else◌}
 use Rattle.std.specs.Prelude.{option_and_then, option_map}
 use Rattle.std.specs.Str.{bytes_eq}
 use Rattle.clap.specs.Walk.{Row, Text, first_of}
@@ -7,8 +7,8 @@ use Rattle.clap.specs.Simple.{subcommand_of}
 use Rattle.clap.specs.Faults.{fault_of}
 use Rattle.clap.specs.Kinds.{Kinds}
 use Rattle.diva_args.specs.Command.{diva}
-use Rattle.diva_args.specs.Options.{DumpRange, RunOptions, Setup, TapeOptions}
-use Rattle.diva_args.specs.Values.{core_of, dump_of, number_of}
+use Rattle.diva_args.specs.Options.{DebugOptions, DumpRange, RunOptions, Setup, TapeOptions}
+use Rattle.diva_args.specs.Values.{core_of, dump_of, is_set_by, number_of}
 use Rattle.diva_args.specs.declared.job.CoreChoice.{CoreChoice}
 use Rattle.diva_args.specs.declared.job.Job.{Job}
 use Rattle.diva_args.specs.declared.job.Job.TheVariants as job
@@ -22,44 +22,52 @@ unless (fault ∷ faults) found = None
 unfoldable pub taken : List Text → Option (Text × List Row)
 taken words = unless (fault_of diva words) (subcommand_of diva words)
 
--- ---- jobs, by the value of each positional and option
+-- ---- jobs, by the value of each positional, option and flag
 
-abbrev pub setup_with : Option Text → Option CoreChoice → (script : Option Text) → Option ℕ → Option ℕ → Option ℕ
+abbrev pub setup_with : Option Text → Option CoreChoice → (script : Option Text) → (width : ℕ) → Option ℕ → Option ℕ
     → Option ℕ → Option Setup
 setup_with image core script width window stores watchdog =
-    option_and_then (λ i. option_and_then (λ c. option_and_then (λ n. option_and_then (λ q.
+    option_and_then (λ i. option_and_then (λ c. option_and_then (λ q.
     option_and_then (λ s. option_map (λ w. record {
       image = i;
       core = c;
       script = script;
-      width = n;
+      width = width;
       window = q;
       stores = s;
       watchdog = w;
-    }) watchdog) stores) window) width) core) image
+    }) watchdog) stores) window) core) image
 
--- what commands have in common that run an image; files are named by the words as they are
-unfoldable pub setup_from : (Text → Option Text) → Option Setup
-setup_from value = setup_with
+-- what commands have in common that run an image, on a machine of this width; files are named by the words as they are
+unfoldable pub setup_from : (width : ℕ) → (Text → Option Text) → Option Setup
+setup_from width value = setup_with
     (value (codes "IMAGE"))
     (core_of (value (codes "core")) (value (codes "tape")))
     (value (codes "script"))
-    (number_of 1 4 2 (value (codes "width")))
+    width
     (number_of 8 64 16 (value (codes "window")))
     (number_of 1 6 4 (value (codes "stores")))
     (number_of 16 1024 64 (value (codes "watchdog")))
+
+-- the width of a machine, and what goes with it
+unfoldable pub width_from : (Text → Option Text) → Option ℕ
+width_from value = number_of 1 4 2 (value (codes "width"))
+
+abbrev pub wide_from : (Text → Option Text) → Option Setup
+wide_from value = option_and_then (λ width. setup_from width value) (width_from value)
 
 -- the cycles to run at most
 unfoldable pub cycles_from : (Text → Option Text) → Option ℕ
 cycles_from value = number_of 1 1000000000 1000000 (value (codes "cycles"))
 
-abbrev pub run_with : Option Setup → Option ℕ → Option (Option DumpRange) → Option RunOptions
-run_with setup cycles dump = option_and_then (λ s. option_and_then (λ c. option_map (λ d.
-    record { setup = s; cycles = c; dump = d }) dump) cycles) setup
+abbrev pub run_with : Option Setup → Option ℕ → Bool → Option (Option DumpRange) → Option RunOptions
+run_with setup cycles trace dump = option_and_then (λ s. option_and_then (λ c. option_map (λ d.
+    record { setup = s; cycles = c; trace = trace; dump = d }) dump) cycles) setup
 
 -- `run`
 unfoldable pub run_from : (Text → Option Text) → Option RunOptions
-run_from value = run_with (setup_from value) (cycles_from value) (dump_of (value (codes "dump")))
+run_from value = run_with (wide_from value) (cycles_from value)
+    (is_set_by (value (codes "trace"))) (dump_of (value (codes "dump")))
 
 abbrev pub tape_with : Option Setup → Option ℕ → Option TapeOptions
 tape_with setup cycles = option_and_then (λ s. option_map (λ c.
@@ -67,18 +75,27 @@ tape_with setup cycles = option_and_then (λ s. option_map (λ c.
 
 -- `tape`
 unfoldable pub tape_from : (Text → Option Text) → Option TapeOptions
-tape_from value = tape_with (setup_from value) (cycles_from value)
+tape_from value = tape_with (wide_from value) (cycles_from value)
+
+abbrev pub debug_with : Option Setup → (commands : Option Text) → Option DebugOptions
+debug_with setup commands = option_and_then (λ s. option_map (λ c.
+    record { setup = s; commands = c }) commands) setup
+
+-- `debug`, whose machine stops at any count
+unfoldable pub debug_from : (Text → Option Text) → Option DebugOptions
+debug_from value = debug_with (setup_from 1 value) (value (codes "COMMANDS"))
 
 -- the job of the command of this name
 abbrev pub job_from : Text → (Text → Option Text) → Option Job
 job_from name value =
     if bytes_eq name (codes "run") then option_map job.Run (run_from value)
     else if bytes_eq name (codes "tape") then option_map job.Tape (tape_from value)
+    else if bytes_eq name (codes "debug") then option_map job.Debug (debug_from value)
     else if bytes_eq name (codes "asm") then option_map job.Asm (value (codes "SRC"))
     else if bytes_eq name (codes "dis") then option_map job.Dis (value (codes "IMAGE"))
     else None
 
--- the first value of each positional and option in the matches
+-- the first value of each positional, option and flag in the matches
 abbrev pub values_of : List Row → Text → Option Text
 values_of rows = λ id. first_of id rows
 

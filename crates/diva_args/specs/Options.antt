@@ -1,5 +1,5 @@
 -- What contracts see of a job, and the ranges that its numbers keep.
-use Rattle.std.specs.Prelude.{ℕ, ◌+◌, ◌^◌, ◌≤◌, List, Option}
+use Rattle.std.specs.Prelude.{ℕ, ◌+◌, ◌^◌, ◌≤◌, Bool, List, Option}
 use Rattle.diva_args.specs.declared.job.CoreChoice.{CoreChoice}
 
 -- a part of memory: the address of its first byte, and the number of its bytes
@@ -43,9 +43,15 @@ pub record IsBudget (cycles : ℕ) : Type 0 where
 pub record RunOptions : Type 0 where
   pub setup : Setup
   pub cycles : ℕ
+  pub trace : Bool
   pub dump : Option DumpRange
 
 -- `tape IMAGE` with its options
 pub record TapeOptions : Type 0 where
   pub setup : Setup
   pub cycles : ℕ
+
+-- `debug IMAGE COMMANDS` with its options
+pub record DebugOptions : Type 0 where
+  pub setup : Setup
+  pub commands : List ℕ

@@ -1,7 +1,7 @@
--- A plain line: a command, its positionals in order, then options in any order, each at most once
+-- A plain line: a command, its positionals in order, then options and flags in any order, each at most once and an option
 -- with its value as the next word, where no positional and no value is empty or begins with `-`.
 use Rattle.std.specs.Prelude.{◌≡◌, ◌==◌, Bool, true, false, not, ◌&&◌, List, [], ◌∷◌, ◌++◌, length, map}
-use Rattle.std.specs.Prelude.{Option, Some, None, if◌then◌else◌}
+use Rattle.std.specs.Prelude.{Option, Some, None, codes, if◌then◌else◌}
 use Rattle.std.specs.List.{Contains, flat_map, list_all, list_any, zip}
 use Rattle.std.specs.Str.{bytes_eq}
 use Rattle.clap.specs.Walk.{Text}
@@ -9,31 +9,45 @@ use Rattle.diva_args.specs.Command.{Leaf, leaves}
 use Rattle.diva_args.specs.Line.{job_from}
 use Rattle.diva_args.specs.declared.job.Job.{Job}
 
--- a command, the words of its positionals, and the names and values of its options
+-- an option with its value, or a flag
+pub data Use : Type 0 where
+  valued : (name value : Text) → Use
+  flagged : (name : Text) → Use
+
+-- a command, the words of its positionals, and its options and flags as they stand in the line
 pub record PlainLine : Type 0 where
   pub command : Leaf
   pub positionals : List Text
-  pub options : List (Text × Text)
+  pub uses : List Use
 
 -- `--name`
 abbrev pub dashed : Text → Text
 dashed name = 45 ∷ 45 ∷ name
 
--- `--name VALUE`
-abbrev pub option_words : Text × Text → List Text
-option_words option = dashed option.0 ∷ option.1 ∷ []
+-- `--name VALUE`, or `--name`
+abbrev pub use_words : Use → List Text
+use_words (valued name value) = dashed name ∷ value ∷ []
+use_words (flagged name) = dashed name ∷ []
 
 abbrev pub words_of : PlainLine → List Text
 words_of line =
-    line.command.name ∷ (line.positionals ++ flat_map option_words line.options)
+    line.command.name ∷ (line.positionals ++ flat_map use_words line.uses)
 
--- the names of the options
-abbrev pub names_in : PlainLine → List Text
-names_in line = map (λ option. option.0) line.options
+-- the names of the options and flags
+abbrev pub name_of : Use → Text
+name_of (valued name value) = name
+name_of (flagged name) = name
 
--- the words of the positionals, and the values of the options
-abbrev pub texts_in : PlainLine → List Text
-texts_in line = line.positionals ++ map (λ option. option.1) line.options
+abbrev pub names_in : List Use → List Text
+names_in = map name_of
+
+-- the values of the options
+abbrev pub value_of : Use → List Text
+value_of (valued name value) = value ∷ []
+value_of (flagged name) = []
+
+abbrev pub values_in : List Use → List Text
+values_in = flat_map value_of
 
 abbrev pub has_text : Text → List Text → Bool
 has_text text = list_any (λ x. bytes_eq x text)
@@ -48,14 +62,19 @@ abbrev pub are_distinct : List Text → Bool
 are_distinct [] = true
 are_distinct (x ∷ xs) = not (has_text x xs) && are_distinct xs
 
+-- it is an option or a flag of the command
+abbrev pub is_use_of : Leaf → Use → Bool
+is_use_of command (valued name value) = has_text name command.options
+is_use_of command (flagged name) = has_text name command.flags
+
 -- the words are this plain line
 pub record IsPlainLine (words : List Text) (line : PlainLine) : Type 0 where
   pub spelled : words ≡ words_of line
   pub listed : Contains leaves line.command
   pub complete : length line.positionals ≡ length line.command.positionals
-  pub known : list_all (λ name. has_text name line.command.options) (names_in line) ≡ true
-  pub once : are_distinct (names_in line) ≡ true
-  pub plain : list_all is_plain_word (texts_in line) ≡ true
+  pub known : list_all (is_use_of line.command) line.uses ≡ true
+  pub once : are_distinct (names_in line.uses) ≡ true
+  pub plain : list_all is_plain_word (line.positionals ++ values_in line.uses) ≡ true
 
 -- ---- what is read off it
 
@@ -64,9 +83,14 @@ abbrev pub value_in : List (Text × Text) → Text → Option Text
 value_in [] name = None
 value_in (given ∷ rest) name = if bytes_eq given.0 name then Some given.1 else value_in rest name
 
--- each positional and each option with its text
+-- a flag stands for the text `true`
+abbrev pub given_by : Use → Text × Text
+given_by (valued name value) = (name, value)
+given_by (flagged name) = (name, codes "true")
+
+-- each positional, option and flag with its text
 abbrev pub given_in : PlainLine → List (Text × Text)
-given_in line = zip line.command.positionals line.positionals ++ line.options
+given_in line = zip line.command.positionals line.positionals ++ map given_by line.uses
 
 abbrev pub job_on : PlainLine → Option Job
 job_on line = job_from line.command.name (value_in (given_in line))

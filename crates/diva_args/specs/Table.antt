@@ -8,4 +8,5 @@ leaf_of r = record {
   name = r.name.now;
   positionals = texts r.positionals.now;
   options = texts r.options.now;
+  flags = texts r.flags.now;
 }

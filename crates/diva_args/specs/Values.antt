@@ -1,5 +1,5 @@
 -- What the texts of a command line stand for: the rules on the values of options.
-use Rattle.std.specs.Prelude.{ℕ, ◌+◌, ◌==◌, ◌&&◌, Bool, nat_le, codes}
+use Rattle.std.specs.Prelude.{ℕ, ◌+◌, ◌==◌, ◌&&◌, Bool, false, nat_le, codes}
 use Rattle.std.specs.Prelude.{Option, Some, None, option_and_then, option_map, if◌then◌else◌}
 use Rattle.std.specs.List.{before_first, after_first}
 use Rattle.std.specs.Str.{bytes_eq}
@@ -25,6 +25,11 @@ core_of None (Some tape) = None
 core_of (Some word) None = core_named word
 core_of (Some word) (Some tape) =
     if bytes_eq word (codes "tape") then Some (Tape tape) else None
+
+-- whether a flag was given
+abbrev pub is_set_by : Option Text → Bool
+is_set_by None = false
+is_set_by (Some word) = bytes_eq word (codes "true")
 
 -- the number that the word spells, where it is within these bounds
 abbrev pub within : ℕ → ℕ → ℕ → Option ℕ

@@ -3,28 +3,30 @@ ghost use Rattle.std.specs.Prelude.{◌≡◌, codes, false, IfOk, map};
 ghost use Rattle.clap.specs.Walk.{rule_of};
 ghost use Rattle.clap.specs.Simple.{app_of, shape_of};
 ghost use Rattle.clap.specs.declared.builder.Command.TheViews.{out-Command as fields_of};
-ghost use Rattle.diva_args.specs.Command.{diva, leaf_shape, option_rule, positional_rule, top_app};
+ghost use Rattle.diva_args.specs.Command.{diva, flag_rule, leaf_shape, option_rule, positional_rule, top_app};
 ghost use Rattle.diva_args.specs.Command.{with_subcommands};
 ghost use Rattle.diva_args.specs.Table.{leaf_of};
 
-use clap::{Arg, Command};
+use clap::{Arg, ArgAction, Command};
 use std::alloc::{AllocError, Global};
 
-/// A command: its name, the ids of its positionals in order, and the names of its options.
+/// A command: its name, the ids of its positionals in order, the names of its options, and those of its flags.
 pub(crate) struct Leaf {
     name: &'static str,
     positionals: &'static [&'static str],
     options: &'static [&'static str],
+    flags: &'static [&'static str],
 }
 
 // The commands of the program.
-static LEAVES: [Leaf; 4] = [
+static LEAVES: [Leaf; 5] = [
     Leaf {
         name: "run",
         positionals: &["IMAGE"],
         options: &[
             "core", "script", "tape", "width", "window", "stores", "watchdog", "cycles", "dump",
         ],
+        flags: &["trace"],
     },
     Leaf {
         name: "tape",
@@ -32,16 +34,25 @@ static LEAVES: [Leaf; 4] = [
         options: &[
             "core", "script", "tape", "width", "window", "stores", "watchdog", "cycles",
         ],
+        flags: &[],
+    },
+    Leaf {
+        name: "debug",
+        positionals: &["IMAGE", "COMMANDS"],
+        options: &["core", "script", "tape", "window", "stores", "watchdog"],
+        flags: &[],
     },
     Leaf {
         name: "asm",
         positionals: &["SRC"],
         options: &[],
+        flags: &[],
     },
     Leaf {
         name: "dis",
         positionals: &["IMAGE"],
         options: &[],
+        flags: &[],
     },
 ];
 
@@ -90,6 +101,9 @@ fn subcommand<'a>(alloc: Global, leaf: &Leaf) -> Result<Command<'a>, AllocError>
     for name in leaf.options {
         command = command.arg(option(alloc, name))?;
     }
+    for switch in leaf.flags {
+        command = command.arg(flag(alloc, switch))?;
+    }
     Ok(command)
 }
 
@@ -107,4 +121,12 @@ fn option<'a>(alloc: Global, name: &'a str) -> Arg<'a>
     ensures local { result.global ≡ false }
 {
     Arg::new(alloc, name).long(name)
+}
+
+// `--name`
+fn flag<'a>(alloc: Global, name: &'a str) -> Arg<'a>
+    ensures rule { rule_of result ≡ flag_rule name.entry.now }
+    ensures local { result.global ≡ false }
+{
+    Arg::new(alloc, name).long(name).action(ArgAction::SetTrue)
 }

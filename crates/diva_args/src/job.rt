@@ -9,6 +9,8 @@ pub enum Job {
     Run(RunOptions),
     /// `tape IMAGE`: runs an image, and writes down the lists that were handed over.
     Tape(TapeOptions),
+    /// `debug IMAGE COMMANDS`: replies to commands that step through an image and show it.
+    Debug(DebugOptions),
     /// `asm SRC`: assembles the source of this name. The name is the word as it is, as `IMAGE` of `run` is.
     Asm(FileName),
     /// `dis IMAGE`: lists the image of this name. The name is the word as it is.
@@ -53,6 +55,8 @@ pub struct RunOptions {
     pub setup: Setup,
     /// `--cycles`: the cycles to run at most, 1 to 1,000,000,000; 1,000,000 by default.
     pub cycles: u64,
+    /// `--trace`: a line for each committed instruction.
+    pub trace: bool,
     /// `--dump ADDR:LEN`, with 1 to 8 hex digits for the address: the part of memory to show at the end; `None` where
     /// the option is not given.
     pub dump: Option<DumpRange>,
@@ -63,7 +67,7 @@ impl Model for RunOptions {
 
     ghost Value = { RunOptions };
 
-    ghost view = { λ r. record { setup = r.setup; cycles = r.cycles; dump = r.dump } };
+    ghost view = { λ r. record { setup = r.setup; cycles = r.cycles; trace = r.trace; dump = r.dump } };
 
     ghost invariant = { λ r. IsBudget r.cycles };
 }
@@ -85,6 +89,26 @@ impl Model for TapeOptions {
     ghost view = { λ t. record { setup = t.setup; cycles = t.cycles } };
 
     ghost invariant = { λ t. IsBudget t.cycles };
+}
+
+/// `debug IMAGE COMMANDS` with its options.
+#[derive(Debug, Drop)]
+pub struct DebugOptions {
+    /// The image, its core and its machine, which has width 1, so that it stops at any count.
+    pub setup: Setup,
+    /// `COMMANDS`: the name of the file of commands, with what is said of `IMAGE`.
+    pub commands: FileName,
+}
+
+impl Model for DebugOptions {
+    ghost use Rattle.std.specs.Prelude.{◌≡◌};
+    ghost use Rattle.diva_args.specs.Options.{DebugOptions};
+
+    ghost Value = { DebugOptions };
+
+    ghost view = { λ d. record { setup = d.setup; commands = d.commands } };
+
+    ghost invariant = { λ d. d.setup.width ≡ 1 };
 }
 
 /// The core that the checker watches.

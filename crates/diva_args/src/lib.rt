@@ -23,5 +23,5 @@ mod values;
 
 pub use fault::ArgsFault;
 pub use file_name::FileName;
-pub use job::{CoreChoice, DumpRange, Job, RunOptions, Setup, TapeOptions};
+pub use job::{CoreChoice, DebugOptions, DumpRange, Job, RunOptions, Setup, TapeOptions};
 pub use read::read_words;

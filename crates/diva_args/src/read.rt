@@ -1,16 +1,17 @@
 // From words to a job.
-ghost use Rattle.std.specs.Prelude.{◌≡◌, IfOk, IfSome, None, Some, map, option_and_then, option_map};
+ghost use Rattle.std.specs.Prelude.{◌≡◌, ◌≤◌, IfOk, IfSome, None, Some, map, option_and_then, option_map};
 ghost use Rattle.clap.specs.Walk.{rows_of};
 ghost use Rattle.clap.specs.Words.{found_of, subcommand_rows_of};
-ghost use Rattle.diva_args.specs.Line.{command_of, cycles_from, job_of, run_from, setup_from};
-ghost use Rattle.diva_args.specs.Line.{taken, tape_from, values_of};
+ghost use Rattle.diva_args.specs.Line.{command_of, cycles_from, debug_from, job_of, run_from, setup_from};
+ghost use Rattle.diva_args.specs.Line.{taken, tape_from, values_of, width_from};
 ghost use Rattle.diva_args.specs.Options.{IsBudget};
 ghost use Rattle.diva_args.specs.Plain.{IsPlainLine, PlainLine, job_on};
+ghost use Rattle.diva_args.specs.Values.{is_set_by};
 
 use crate::command::command;
 use crate::fault::ArgsFault;
 use crate::file_name::FileName;
-use crate::job::{Job, RunOptions, Setup, TapeOptions};
+use crate::job::{DebugOptions, Job, RunOptions, Setup, TapeOptions};
 use crate::values::{core, dump, number};
 use clap::ArgMatches;
 use std::alloc::{AllocError, Global};
@@ -57,6 +58,7 @@ fn job(alloc: Global, matches: &ArgMatches<'_>) -> Result<Job, ArgsFault>
     match name {
         "run" => Ok(Job::Run(run(alloc, found)?)),
         "tape" => Ok(Job::Tape(tape(alloc, found)?)),
+        "debug" => Ok(Job::Debug(debug(alloc, found)?)),
         "asm" => Ok(Job::Asm(file_of(alloc, found, "SRC")?)),
         "dis" => Ok(Job::Dis(file_of(alloc, found, "IMAGE")?)),
         _ => Err(ArgsFault::Usage),
@@ -71,7 +73,10 @@ fn run(alloc: Global, found: &ArgMatches<'_>) -> Result<RunOptions, ArgsFault>
     ensures usage { result ≡ Err ArgsFault.Usage
         → run_from (values_of (rows_of (found_of found.now))) ≡ None }
 {
-    let setup = setup(alloc, found)?;
+    let Some(width) = width(found) else {
+        return Err(ArgsFault::Usage);
+    };
+    let setup = setup(alloc, found, width)?;
     let Some(cycles) = cycles(found) else {
         return Err(ArgsFault::Usage);
     };
@@ -81,6 +86,7 @@ fn run(alloc: Global, found: &ArgMatches<'_>) -> Result<RunOptions, ArgsFault>
     Ok(RunOptions {
         setup,
         cycles,
+        trace: is_set(found, "trace"),
         dump,
     })
 }
@@ -93,7 +99,10 @@ fn tape(alloc: Global, found: &ArgMatches<'_>) -> Result<TapeOptions, ArgsFault>
     ensures usage { result ≡ Err ArgsFault.Usage
         → tape_from (values_of (rows_of (found_of found.now))) ≡ None }
 {
-    let setup = setup(alloc, found)?;
+    let Some(width) = width(found) else {
+        return Err(ArgsFault::Usage);
+    };
+    let setup = setup(alloc, found, width)?;
     let Some(cycles) = cycles(found) else {
         return Err(ArgsFault::Usage);
     };
@@ -112,18 +121,36 @@ fn file_of(alloc: Global, found: &ArgMatches<'_>, id: &str) -> Result<FileName, 
     Ok(FileName::new(alloc, name)?)
 }
 
-// What commands have in common that run an image.
-#[tactic(auto, unfolding(crate::specs::Line::setup_from))]
-fn setup(alloc: Global, found: &ArgMatches<'_>) -> Result<Setup, ArgsFault>
-    ensures setup { IfOk result (λ setup.
-        setup_from (values_of (rows_of (found_of found.now))) ≡ Some setup) }
+// `debug IMAGE COMMANDS` with its options.
+#[tactic(auto, unfolding(crate::specs::Line::debug_from))]
+fn debug(alloc: Global, found: &ArgMatches<'_>) -> Result<DebugOptions, ArgsFault>
+    ensures debug { IfOk result (λ debug.
+        debug_from (values_of (rows_of (found_of found.now))) ≡ Some debug) }
     ensures usage { result ≡ Err ArgsFault.Usage
-        → setup_from (values_of (rows_of (found_of found.now))) ≡ None }
+        → debug_from (values_of (rows_of (found_of found.now))) ≡ None }
 {
-    let Some(image) = text_of(found, "IMAGE") else {
+    let setup = setup(alloc, found, 1)?;
+    let Some(commands) = text_of(found, "COMMANDS") else {
         return Err(ArgsFault::Usage);
     };
-    let Some(width) = number(text_of(found, "width"), 1, 4, 2) else {
+    Ok(DebugOptions {
+        setup,
+        commands: FileName::new(alloc, commands)?,
+    })
+}
+
+// What commands have in common that run an image, on a machine of this width.
+#[tactic(auto, unfolding(crate::specs::Line::setup_from))]
+fn setup(alloc: Global, found: &ArgMatches<'_>, width: u32) -> Result<Setup, ArgsFault>
+    requires low { 1 ≤ width }
+    requires high { width ≤ 4 }
+    ensures setup { IfOk result (λ setup.
+        setup_from width (values_of (rows_of (found_of found.now))) ≡ Some setup) }
+    ensures width { IfOk result (λ setup. setup.width ≡ width) }
+    ensures usage { result ≡ Err ArgsFault.Usage
+        → setup_from width (values_of (rows_of (found_of found.now))) ≡ None }
+{
+    let Some(image) = text_of(found, "IMAGE") else {
         return Err(ArgsFault::Usage);
     };
     let Some(window) = number(text_of(found, "window"), 8, 64, 16) else {
@@ -146,6 +173,16 @@ fn setup(alloc: Global, found: &ArgMatches<'_>) -> Result<Setup, ArgsFault>
     })
 }
 
+// The width of a machine.
+#[tactic(auto, unfolding(crate::specs::Line::width_from))]
+fn width(found: &ArgMatches<'_>) -> Option<u32>
+    ensures value { result ≡ width_from (values_of (rows_of (found_of found.now))) }
+    ensures low { IfSome result (λ n. 1 ≤ n) }
+    ensures high { IfSome result (λ n. n ≤ 4) }
+{
+    number(text_of(found, "width"), 1, 4, 2)
+}
+
 // The cycles to run at most.
 #[tactic(auto, unfolding(crate::specs::Line::cycles_from))]
 fn cycles(found: &ArgMatches<'_>) -> Option<u64>
@@ -166,7 +203,17 @@ fn name_of(alloc: Global, text: Option<&str>) -> Result<Option<FileName>, AllocE
     }
 }
 
-// The text that the words give for a positional or an option.
+// Whether the words have a flag.
+fn is_set(found: &ArgMatches<'_>, name: &str) -> bool
+    ensures { result ≡ is_set_by (values_of (rows_of (found_of found.now)) name.now) }
+{
+    match text_of(found, name) {
+        Some(text) => text == "true",
+        None => false,
+    }
+}
+
+// The text that the words give for a positional, an option or a flag.
 fn text_of<'a>(found: &ArgMatches<'a>, id: &str) -> Option<&'a str>
     ensures { option_map (λ text. text.now) result
         ≡ values_of (rows_of (found_of found.now)) id.now }

@@ -1,5 +1,8 @@
 // Lines that are taken, and lines that are refused.
-use crate::{ArgsFault, CoreChoice, DumpRange, FileName, Job, RunOptions, TapeOptions, read_words};
+use crate::{
+    ArgsFault, CoreChoice, DebugOptions, DumpRange, FileName, Job, RunOptions, TapeOptions,
+    read_words,
+};
 use std::alloc::Global;
 use std::test::Fail;
 
@@ -16,6 +19,14 @@ fn tape(alloc: Global, words: &[&str]) -> Result<TapeOptions, Fail> {
     match read_words(alloc, words)? {
         Job::Tape(options) => Ok(options),
         _ => Err(Fail::new("this is no line of tape")),
+    }
+}
+
+// The options of a line of `debug` that is taken.
+fn debug(alloc: Global, words: &[&str]) -> Result<DebugOptions, Fail> {
+    match read_words(alloc, words)? {
+        Job::Debug(options) => Ok(options),
+        _ => Err(Fail::new("this is no line of debug")),
     }
 }
 
@@ -42,6 +53,7 @@ fn lines_that_are_taken(rt: HostRuntime) -> Result<(), Fail> {
     let RunOptions {
         setup,
         cycles,
+        trace,
         dump,
     } = run(rt.alloc(), &["run", "p1.diva"])?;
     assert_eq!(rt; setup.image.as_str(), "p1.diva");
@@ -49,7 +61,7 @@ fn lines_that_are_taken(rt: HostRuntime) -> Result<(), Fail> {
     assert_eq!(rt; text_in(&setup.script), None);
     assert_eq!(rt; (setup.width, setup.window, setup.stores), (2, 16, 4));
     assert_eq!(rt; (setup.watchdog, cycles), (64, 1_000_000));
-    assert_eq!(rt; dump, None);
+    assert_eq!(rt; (trace, dump), (false, None));
 
     let words = [
         "run",
@@ -60,6 +72,7 @@ fn lines_that_are_taken(rt: HostRuntime) -> Result<(), Fail> {
         "1000000000",
         "--stores",
         "6",
+        "--trace",
         "--core",
         "silent",
         "--script",
@@ -74,13 +87,22 @@ fn lines_that_are_taken(rt: HostRuntime) -> Result<(), Fail> {
     let RunOptions {
         setup,
         cycles,
+        trace,
         dump,
     } = run(rt.alloc(), &words)?;
     assert_eq!(rt; core_words(&setup.core), ("silent", None));
     assert_eq!(rt; text_in(&setup.script), Some("faults.txt"));
     assert_eq!(rt; (setup.width, setup.window, setup.stores), (1, 8, 6));
     assert_eq!(rt; (setup.watchdog, cycles), (1024, 1_000_000_000));
-    assert_eq!(rt; dump, Some(DumpRange { addr: 0x3c, len: 8 }));
+    assert_eq!(rt;
+        (trace, dump),
+        (true, Some(DumpRange { addr: 0x3c, len: 8 }))
+    );
+
+    // What stands for a flag that is not given is no value of an option.
+    let words = ["run", "--trace", "p", "--script", "false"];
+    let RunOptions { setup, trace, .. } = run(rt.alloc(), &words)?;
+    assert_eq!(rt; (text_in(&setup.script), trace), (Some("false"), true));
     Ok(())
 }
 
@@ -110,6 +132,19 @@ fn lines_of_asm_and_dis(rt: HostRuntime) -> Result<(), Fail> {
         Job::Dis(image) => assert_eq!(rt; image.as_str(), "-x"),
         _ => assert!(rt; false),
     }
+    Ok(())
+}
+
+#[test]
+fn lines_of_debug(rt: HostRuntime) -> Result<(), Fail> {
+    let DebugOptions { setup, commands } = debug(rt.alloc(), &["debug", "p", "c"])?;
+    assert_eq!(rt; (setup.image.as_str(), commands.as_str()), ("p", "c"));
+    assert_eq!(rt; (setup.width, setup.window, setup.stores), (1, 16, 4));
+
+    let words = ["debug", "p", "c", "--watchdog", "16", "--core", "silent"];
+    let DebugOptions { setup, .. } = debug(rt.alloc(), &words)?;
+    assert_eq!(rt; core_words(&setup.core), ("silent", None));
+    assert_eq!(rt; setup.watchdog, 16);
     Ok(())
 }
 
@@ -158,7 +193,7 @@ fn any_word_is_a_name(rt: HostRuntime) -> Result<(), Fail> {
 
 #[test]
 fn lines_that_are_refused(rt: HostRuntime) {
-    let lines: [&[&str]; 32] = [
+    let lines: [&[&str]; 38] = [
         &[],
         &["run"],
         &["run", "a", "b"],
@@ -170,7 +205,13 @@ fn lines_that_are_refused(rt: HostRuntime) {
         &["run", "--"],
         &["run", "-x"],
         &["run", "a", "--", "-x"],
-        &["run", "a", "--trace"],
+        &["run", "a", "--trace", "--trace"],
+        &["run", "a", "--trace", "true"],
+        &["run", "a", "--trace=true"],
+        &["tape", "a", "--trace"],
+        &["debug", "a"],
+        &["debug", "a", "b", "c"],
+        &["debug", "a", "b", "--width", "1"],
         &["run", "a", "--core", "vector"],
         &["run", "a", "--core", "own", "--core", "own"],
         &["run", "a", "--core", "tape"],

@@ -1,5 +1,5 @@
 -- What was put of a text whose command asks no core.
-use Rattle.std.proofs.Common.{ℕ, List, Option, Some, None, Result, Ok, Err}
+use Rattle.std.proofs.Common.{ℕ, List, Option, Some, None, Ok, Err}
 use Rattle.diva_outside.specs.Sink.{Puts}
 use Rattle.diva_outside.specs.declared.sink.SinkFailed.{SinkFailed}
 use Rattle.diva_core.specs.Log.{Meaning}

@@ -8,7 +8,7 @@ use Rattle.diva_outside.specs.declared.files.What.TheVariants.{Image, Script, Ta
 use Rattle.diva_core.specs.Log.{Meaning}
 use Rattle.diva_core.specs.Timed.{Timed}
 use Rattle.diva_args.specs.declared.job.Job.{Job}
-use Rattle.diva_args.specs.declared.job.Job.TheVariants.{Run, Tape, Asm, Dis}
+use Rattle.diva_args.specs.declared.job.Job.TheVariants.{Run, Tape, Debug, Asm, Dis}
 use Rattle.diva_cli.specs.declared.stop.Failure.{Failure}
 use Rattle.diva_cli.specs.declared.stop.Failure.TheVariants.{Cut, Memory}
 use Rattle.diva_cli.specs.Wanted.{Wanted, FileBytes, wanted, IsFaultless, HasFault}
@@ -30,6 +30,7 @@ can_end : {C : Type 0} (gives : Meaning C) (job : Job) (bytes : FileBytes) (core
     → HasText gives job bytes core after (Some status) text → CanEnd job status
 can_end gives (Run options) bytes core after status text h = end_status h.last options.cycles status h.ended
 can_end gives (Tape options) bytes core after status text h = end_status h.last options.cycles status h.ended.ended
+can_end gives (Debug options) bytes core after status text h = h.whole.0
 can_end gives (Asm name) bytes core after status text h = h.alone.ended
 can_end gives (Dis name) bytes core after status text h = h.alone.ended
 
@@ -40,7 +41,7 @@ faultless-fault Image bytes kind place n f = let e = sym n ∙ f in cc
 faultless-fault Script bytes kind place n f = true≢false (sym (subst IsOk f n))
 faultless-fault TapeFile bytes kind place n f = true≢false (sym (subst IsOk f n))
 faultless-fault Source bytes kind place n f = true≢false (sym (subst IsOk f n))
-faultless-fault Commands bytes kind place n f = n
+faultless-fault Commands bytes kind place n f = true≢false (sym (subst IsOk f n))
 
 some_same : {A : Type 0} (r : Option A) (x y : A) → r ≡ Some x → r ≡ Some y → x ≡ y
 some_same r x y a b = cc

@@ -1,5 +1,5 @@
 -- Two runs of one core from one machine are one.
-use Rattle.std.proofs.Common.{◌≡◌, ◌≤◌, ℕ, ◌-◌, true, List, [], ◌∷◌, length, Option, Some, None, refl, ap, sym, ◌∙◌, arith, subst}
+use Rattle.std.proofs.Common.{◌≡◌, ◌≤◌, ℕ, ◌-◌, true, List, [], ◌∷◌, ◌++◌, length, Option, Some, None, IsSome, refl, ap, sym, ◌∙◌, arith, subst}
 use Rattle.std.proofs.lemmas.List.{length-map}
 use Rattle.diva_outside.specs.Text.{Text}
 use Rattle.diva_outside.specs.declared.files.What.TheVariants.{Script}
@@ -19,7 +19,7 @@ use Rattle.diva_args.specs.declared.job.CoreChoice.TheVariants.{Own}
 use Rattle.diva_cli.specs.Wanted.{FileBytes}
 use Rattle.diva_cli.specs.Determined.{IsDetermined}
 use Rattle.diva_cli.specs.Driven.{AreHanded, ByTurns}
-use Rattle.diva_cli.specs.Runs.{AreRows, HasRun, shown_dump, sizes_of, start_in}
+use Rattle.diva_cli.specs.Runs.{AreRows, HasRun, asked_trace, shown_dump, sizes_of, start_in}
 
 module _ {C : Type 0} (gives : Meaning C) (determined : IsDetermined gives) where
   -- the turns of two logs that were not broken off
@@ -64,22 +64,23 @@ record Ran {C : Type 0} (gives : Meaning C) (n : ℕ) (m : Timed) (core : C) (la
   all : goes_on last.arch ≡ true → length log ≡ n
 
 ran : {C : Type 0} (gives : Meaning C) (options : RunOptions) (bytes : FileBytes) (core after : C) (status : Option ℕ) (text : Text) (rows : List Row)
-    → options.setup.core ≡ Own → (h : HasRun gives options bytes core after status text) → h.over.script ≡ rows
+    → options.setup.core ≡ Own → (h : HasRun gives options bytes core after status text) → (options.trace ≡ true → IsSome status) → h.over.script ≡ rows
     → Ran (spoiled rows gives) options.cycles (new_timed (sizes_of options.setup) (start_in bytes)) core h.last after
-ran gives options bytes core after status text rows own h is =
+ran gives options bytes core after status text rows own h asked is =
     let driven = h.over.run.driven in
     let turns = own_turns gives options.setup.core h.over.tape h.over.script (new_timed (sizes_of options.setup) (start_in bytes)) core driven.lists h.last after own driven.handed in
     let long : length driven.lists ≡ length turns.log = ap length turns.in_order ∙ length-map turns.log (λ turn. turn.0) in
     let most = driven.most in
     let each = driven.each in
     subst (λ (r : List Row). Ran (spoiled r gives) options.cycles (new_timed (sizes_of options.setup) (start_in bytes)) core h.last after) is
-    (record { log = turns.log; good = turns.good; most = omega arith; all = λ on. (let e = h.whole.all on in omega arith) })
+    (record { log = turns.log; good = turns.good; most = omega arith; all = λ on. (let e = (h.whole asked).all on in omega arith) })
 
 pub text_same : {C : Type 0} (gives : Meaning C) → IsDetermined gives → (options : RunOptions) (bytes : FileBytes) (core after last : C) (status other : Option ℕ) (text same : Text)
-    → options.setup.core ≡ Own → HasRun gives options bytes core after status text → HasRun gives options bytes core last other same → text ≡ same
-text_same gives determined options bytes core after last status other text same own h k =
+    → options.setup.core ≡ Own → HasRun gives options bytes core after status text → HasRun gives options bytes core last other same
+    → (options.trace ≡ true → IsSome status × IsSome other) → text ≡ same
+text_same gives determined options bytes core after last status other text same own h k asked =
     let rows = k.over.script in
-    let i = ran gives options bytes core after status text rows own h (rows_same options.setup.script (bytes Script) h.over.script rows h.over.rows k.over.rows) in
-    let j = ran gives options bytes core last other same rows own k refl in
+    let i = ran gives options bytes core after status text rows own h (λ on. (asked on).0) (rows_same options.setup.script (bytes Script) h.over.script rows h.over.rows k.over.rows) in
+    let j = ran gives options bytes core last other same rows own k (λ on. (asked on).1) refl in
     let ends : h.last ≡ k.last = last_same (spoiled rows gives) (spoiled_determined gives rows determined) options.cycles (new_timed (sizes_of options.setup) (start_in bytes)) h.last k.last core after last i.log j.log i.good j.good i.most j.most i.all j.all in
-    h.lines ∙ ap (λ (m : Timed). text_of m (shown_dump options.dump)) ends ∙ sym k.lines
+    h.lines ∙ ap (λ (m : Timed). asked_trace options.trace (start_in bytes) m.count ++ text_of m (shown_dump options.dump)) ends ∙ sym k.lines

@@ -11,3 +11,4 @@ pub mod Alone
 pub mod Listing
 pub mod Completing
 pub mod Determining
+pub mod Commanding

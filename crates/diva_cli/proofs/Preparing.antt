@@ -1,16 +1,18 @@
 -- What was loaded, as the machine, the core and the script that a command needs.
-use Rattle.std.proofs.Common.{◌≡◌, ℕ, List, [], sym, ap, ◌∙◌}
+use Rattle.std.proofs.Common.{◌≡◌, ℕ, List, [], ◌∷◌, ◌++◌, Option, Some, None, Ok, sym, ap, ◌∙◌}
 use Rattle.diva_outside.specs.Files.{ToldFiles}
-use Rattle.diva_outside.specs.declared.files.What.TheVariants.{Image, Script, Tape as TapeFile}
+use Rattle.diva_outside.specs.declared.files.What.TheVariants.{Image, Script, Tape as TapeFile, Commands}
 use Rattle.diva_image.specs.Layout.{Layout}
 use Rattle.diva_image.specs.Images.{image_of}
 use Rattle.diva_core.specs.Timed.{new_timed}
 use Rattle.diva_machine.specs.Start.{start_of}
-use Rattle.diva_args.specs.Options.{Setup}
+use Rattle.diva_args.specs.Options.{DebugOptions, Setup}
+use Rattle.diva_debug.specs.Reading.{commands_of}
 use Rattle.diva_cli.specs.declared.loading.Ready.{Ready}
-use Rattle.diva_cli.specs.Wanted.{FileBytes, file, file_if, tape_name}
+use Rattle.diva_cli.specs.declared.loading.SessionReady.{SessionReady}
+use Rattle.diva_cli.specs.Wanted.{AreSound, FileBytes, file, file_if, machine_files, tape_name}
 use Rattle.diva_cli.specs.Runs.{sizes_of}
-use Rattle.diva_cli.specs.Parts.{Holds, HoldsRows, HoldsCore, HoldsReady}
+use Rattle.diva_cli.specs.Parts.{Holds, HoldsRows, HoldsCore, HoldsReady, HoldsSession}
 use Rattle.diva_cli.proofs.Stopping.{sound_both, sound_if}
 
 -- the bytes of an image, a script and a tape
@@ -40,4 +42,33 @@ ready_held contents setup i ready image script core begun =
         rows = script.holds;
         core = core.holds;
       };
+    }
+
+-- ---- a session
+
+-- the same, and the bytes of commands
+abbrev with_commands : FileBytes → List ℕ → FileBytes
+with_commands bytes commands Commands = commands
+with_commands bytes commands what = bytes what
+
+machine_sound : (contents : ToldFiles) (setup : Setup) (bytes : FileBytes) (commands : List ℕ) → AreSound contents (machine_files setup) bytes
+    → AreSound contents (machine_files setup) (with_commands bytes commands)
+machine_sound contents setup bytes commands s = (s.0, go setup.script (tape_name setup.core) s.1)
+  where
+    go : (script tape : Option (List ℕ)) → AreSound contents (file_if Script script ++ file_if TapeFile tape) bytes
+        → AreSound contents (file_if Script script ++ file_if TapeFile tape) (with_commands bytes commands)
+    go None None s = tt
+    go None (Some t) s = (s.0, tt)
+    go (Some x) None s = (s.0, tt)
+    go (Some x) (Some t) s = (s.0, (s.1.0, tt))
+
+pub session_held : (contents : ToldFiles) (options : DebugOptions) (session : SessionReady)
+    → HoldsReady contents options.setup session.ready
+    → Holds contents (file Commands options.commands) (λ bytes. commands_of bytes ≡ Ok session.commands.items)
+    → HoldsSession contents options session
+session_held contents options session h k =
+    record {
+      bytes = with_commands h.bytes k.bytes;
+      sound = sound_both contents (machine_files options.setup) (file Commands options.commands ∷ []) (with_commands h.bytes k.bytes) (machine_sound contents options.setup h.bytes k.bytes h.sound) (k.sound, tt);
+      is = record { ready = record { begun = h.is.begun; rows = h.is.rows; core = h.is.core }; read = k.holds };
     }

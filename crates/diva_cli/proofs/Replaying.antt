@@ -1,7 +1,7 @@
 -- A tape of all that was handed over drives the machine to the same end.
-use Rattle.std.proofs.Common.{◌≡◌, ℕ, zero, suc, ◌+◌, ◌≤◌, Bool, true, false, List, [], ◌∷◌, ◌++◌, length, Option, Some, Result, Ok, Err, OnOk, refl, sym, ◌∙◌, ap, subst, arith}
+use Rattle.std.proofs.Common.{◌≡◌, ℕ, zero, suc, ◌+◌, ◌≤◌, Bool, true, false, List, [], ◌∷◌, ◌++◌, length, Option, Some, IsSome, Result, Ok, Err, OnOk, refl, sym, ◌∙◌, ap, subst, arith}
 use Rattle.std.specs.List.{All}
-use Rattle.diva_isa.specs.State.{goes_on}
+use Rattle.diva_isa.specs.State.{State, goes_on}
 use Rattle.diva_isa.specs.declared.record.Record.{Record}
 use Rattle.diva_core.specs.Timed.{Timed, Sizes, new_timed}
 use Rattle.diva_core.specs.Cycle.{cycle_of, run_of}
@@ -28,7 +28,7 @@ use Rattle.diva_trace.specs.Text.{text_of}
 use Rattle.diva_cli.specs.declared.loading.Ready.{Ready}
 use Rattle.diva_cli.specs.Wanted.{FileBytes, tape_name}
 use Rattle.diva_cli.specs.Driven.{IsDriven, scripted_lists}
-use Rattle.diva_cli.specs.Runs.{IsRunOver, IsWhole, HasRun, AreRows, AreLists, shown_dump, sizes_of, start_in}
+use Rattle.diva_cli.specs.Runs.{IsRunOver, IsWhole, HasRun, AreRows, AreLists, asked_trace, shown_dump, sizes_of, start_in}
 use Rattle.diva_cli.specs.TapeTexts.{IsHandedFor, IsReplay, IsTapeOf}
 use Rattle.diva_cli.specs.Tasks.{IsWritten, PerformsBy, cycles_text, tape_line}
 use Rattle.diva_cli.specs.Parts.{IsReady, WritesWhole, WritesPart}
@@ -94,7 +94,8 @@ module _ (options : TapeOptions) (bytes : FileBytes) (lists : List (List Record)
 
   module _ {C : Type 0} (gives : Meaning C) (text : List ℕ) (reads : tape_of text ≡ Ok lists)
       (replay : RunOptions) (its_bytes : FileBytes) (is : IsReplay options bytes text replay its_bytes)
-      (core after : C) (status : Option ℕ) (shown : List ℕ) (run : HasRun gives replay its_bytes core after status shown) where
+      (core after : C) (status : Option ℕ) (shown : List ℕ) (run : HasRun gives replay its_bytes core after status shown)
+      (asked : replay.trace ≡ true → IsSome status) where
     none : run.over.script ≡ []
     none = subst (λ (name : Option (List ℕ)). AreRows name (its_bytes Script) run.over.script) is.script run.over.rows
 
@@ -119,13 +120,17 @@ module _ (options : TapeOptions) (bytes : FileBytes) (lists : List (List Record)
     handed =
         record {
           most = driven.most;
-          whole = λ on. (let e = run.whole.all (ap (λ (m : Timed). goes_on m.arch) driven.ran ∙ on) in let f = driven.each in let g = is.cycles in omega arith);
+          whole = λ on. (let e = (run.whole asked).all (ap (λ (m : Timed). goes_on m.arch) driven.ran ∙ on) in let f = driven.each in let g = is.cycles in omega arith);
         }
 
-    pub same_text : shown ≡ text_of last (shown_dump replay.dump)
+    same_start : start_in its_bytes ≡ start_in bytes
+    same_start = ap (λ (b : List ℕ). start_of (image_of b)) is.image
+
+    pub same_text : shown ≡ asked_trace replay.trace (start_in bytes) last.count ++ text_of last (shown_dump replay.dump)
     same_text =
         run.lines
-        ∙ ap (λ (m : Timed). text_of m (shown_dump replay.dump))
+        ∙ ap (λ (s : State). asked_trace replay.trace s run.last.count ++ text_of run.last (shown_dump replay.dump)) same_start
+        ∙ ap (λ (m : Timed). asked_trace replay.trace (start_in bytes) m.count ++ text_of m (shown_dump replay.dump))
         (driven.ran ∙ same_machine driven.lists (driven.handed.in_order ∙ lists-unscripted (first.cycles + 1) (played (length driven.lists) lists)) handed)
 
 -- ---- what is written of a run by `tape`
@@ -170,8 +175,8 @@ module _ {C : Type 0} (gives : Meaning C) (options : TapeOptions) (bytes : FileB
             ended = ends_with options.setup options.cycles (start_in bytes) last status whole says;
             reads = reads;
             again = same_machine options bytes p.lists last ran_new each few whole;
-            replays = λ replay its_bytes r core' after' status' shown run.
-                same_text options bytes p.lists last ran_new each few whole gives (tape_text p.lists) reads replay its_bytes r core' after' status' shown run;
+            replays = λ replay its_bytes r core' after' status' shown run asked.
+                same_text options bytes p.lists last ran_new each few whole gives (tape_text p.lists) reads replay its_bytes r core' after' status' shown run asked;
           });
         };
         written = (subst (λ (r : Result (Unit {0}) SinkFailed). Puts (tape_text p.lists) old new before now r) ok puts).ok;

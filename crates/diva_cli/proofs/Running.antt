@@ -1,18 +1,23 @@
 -- What holds of a run, whatever the core hands over, and what is written of it.
-use Rattle.std.proofs.Common.{◌≡◌, ◌⊎◌, ℕ, ◌+◌, ◌/◌, ◌≤◌, ◌<◌, true, List, [], ◌∷◌, length, Option, Result, Ok, Err, refl, inl, inr, sym, ◌∙◌, ap, subst, arith, eq-eqb}
+use Rattle.std.proofs.Common.{◌≡◌, ◌⊎◌, ℕ, ◌+◌, ◌-◌, ◌/◌, ◌≤◌, ◌<◌, Bool, true, false, List, [], ◌∷◌, ◌++◌, length, Option, Result, Ok, Err, OnOk, refl, inl, inr, sym, ◌∙◌, ap, subst, arith, eq-eqb}
 use Rattle.diva_isa.specs.State.{State, goes_on}
 use Rattle.diva_isa.specs.Step.{steps}
 use Rattle.diva_isa.specs.declared.record.Record.{Record}
 use Rattle.diva_core.specs.Timed.{Timed, Sizes, new_timed}
 use Rattle.diva_core.specs.Cycle.{cycle_of, run_of}
 use Rattle.diva_core.specs.Log.{Meaning, IsLog, FollowRule}
-use Rattle.diva_core.specs.Machine.{IsSizes}
+use Rattle.std.proofs.lemmas.Bool.{cases_Bool, true≢false}
+use Rattle.diva_core.specs.Machine.{IsMachine, IsSizes}
 use Rattle.diva_core.specs.Right.{AreRight}
-use Rattle.diva_core.specs.Headline.{AddsRows}
+use Rattle.diva_core.specs.Headline.{AddsRows, dues}
 use Rattle.diva_core.proofs.Listing.{run_calm, new_calm}
 use Rattle.diva_core.proofs.Pacing.{are_committed}
 use Rattle.diva_core.proofs.Starting.{headline, pace_of_run, new-machine}
 use Rattle.diva_core.proofs.Adding.{run-adds}
+use Rattle.diva_core.proofs.Keeping.{stays}
+use Rattle.diva_core.proofs.Outcomes.{rises}
+use Rattle.diva_core.proofs.Progressing.{run-rises}
+use Rattle.diva_machine.proofs.Fronts.{dues-add, length-dues}
 use Rattle.diva_core.proofs.Ending.{same_end}
 use Rattle.diva_faults.specs.declared.rows.Row.{Row}
 use Rattle.diva_faults.proofs.Spoiling.{scripted-none, log-none}
@@ -23,18 +28,21 @@ use Rattle.diva_tape.proofs.Following.{scalar_history, scalar_history_right, new
 use Rattle.diva_tape.proofs.Righting.{rule_right}
 use Rattle.diva_outside.specs.Sink.{Puts}
 use Rattle.diva_outside.specs.declared.sink.SinkFailed.{SinkFailed}
+use Rattle.diva_outside.proofs.Sinks.{puts_cut, puts_nothing, puts_then}
 use Rattle.diva_args.specs.Options.{Setup, RunOptions, DumpRange}
 use Rattle.diva_args.specs.declared.job.CoreChoice.{CoreChoice}
 use Rattle.diva_args.specs.declared.job.CoreChoice.TheVariants.{Own, Lockstep, Scalar, Silent, Tape}
 use Rattle.diva_args.specs.declared.job.Job.TheVariants.{Run}
-use Rattle.diva_trace.specs.Text.{text_of}
+use Rattle.diva_trace.specs.Text.{commits_text, text_of}
+use Rattle.diva_trace.proofs.Numbered.{commits_text-append, commits_text-none}
 use Rattle.diva_cli.specs.declared.driving.CoreInUse.{CoreInUse}
 use Rattle.diva_cli.specs.declared.loading.Ready.{Ready}
 use Rattle.diva_cli.specs.Wanted.{FileBytes}
 use Rattle.diva_cli.specs.Driven.{IsDriven, AreHanded, ByOther, scripted_lists, scripted_rule}
 use Rattle.diva_cli.proofs.Handing.{tape_played}
-use Rattle.diva_cli.specs.Runs.{IsRunFrom, IsRunOver, IsUnflushed, IsWhole, EndsWith, halted, trapped, unfinished, shown_dump, sizes_of, start_in}
-use Rattle.diva_cli.specs.Tasks.{AreHandedBy, IsQuiet, PerformsBy}
+use Rattle.diva_cli.specs.Runs.{IsRunFrom, IsRunOver, IsUnflushed, IsWhole, EndsWith, halted, trapped, unfinished, asked_trace, shown_dump, sizes_of, start_in}
+use Rattle.diva_cli.specs.declared.tasks.Task.{Task}
+use Rattle.diva_cli.specs.Tasks.{AreHandedBy, Does, PerformsBy, cycles_text, run_task, trace_lines}
 use Rattle.diva_cli.specs.Parts.{IsReady, WritesWhole, WritesPart, core_for}
 
 -- ---- right lists
@@ -173,49 +181,130 @@ ends_with setup cycles start last status whole says = by says.one
     by (inr (inl e)) = let t = says.trapped_ e in trapped e t.0 t.1
     by (inr (inr e)) = let on = says.goes_on_ e in unfinished e on (whole.all (eq-eqb last.arch.end 0 on))
 
--- ---- what is written of it
+-- ---- what is written of it, with commit lines or without
+
+abbrev commits_if : (trace : Bool) → Timed → List (List Record) → List ℕ
+commits_if false m lists = []
+commits_if true m lists = cycles_text trace_lines m lists
+
+-- the commit lines of cycles one behind the other
+trace-cycles : (lists : List (List Record)) (m : Timed) → IsMachine m → cycles_text trace_lines m lists ≡ commits_text m.count (dues ((run_of m lists).count - m.count) m.arch)
+trace-cycles [] m inv =
+    let none : m.count - m.count ≡ 0 = omega arith in
+    sym (ap (λ k. commits_text m.count (dues k m.arch)) none ∙ commits_text-none m.count)
+trace-cycles (list ∷ rest) m inv =
+    let n : Timed = cycle_of m list in
+    let k : ℕ = n.count - m.count in
+    let j : ℕ = (run_of n rest).count - n.count in
+    let r = rises m list inv in
+    let up = r.counted in
+    let later = (run-rises n rest (stays m list inv)).counted in
+    let sum : k + j ≡ (run_of n rest).count - m.count = omega arith in
+    let at : m.count + length (dues k m.arch) ≡ n.count = (let l = length-dues k m.arch in omega arith) in
+    ap (λ (t : List ℕ). commits_text m.count (dues k m.arch) ++ t) (trace-cycles rest n (stays m list inv))
+    ∙ sym (ap (λ i. commits_text m.count (dues i m.arch)) (sym sum)
+    ∙ ap (commits_text m.count) (dues-add k j m.arch)
+    ∙ commits_text-append m.count (dues k m.arch) (dues j (steps k m.arch))
+    ∙ ap (λ i. commits_text m.count (dues k m.arch) ++ commits_text i (dues j (steps k m.arch))) at
+    ∙ ap (λ (s : State). commits_text m.count (dues k m.arch) ++ commits_text n.count (dues j s)) (sym r.stepped))
+
+-- those of a run from a state
+trace-run : (z : Sizes) (s : State) (lists : List (List Record)) (last : Timed) (trace : Bool) → IsSizes z → last ≡ run_of (new_timed z s) lists → commits_if trace (new_timed z s) lists ≡ asked_trace trace s last.count
+trace-run z s lists last false ok ran = refl
+trace-run z s lists last true ok ran =
+    trace-cycles lists (new_timed z s) (new-machine z s ok)
+    ∙ ap (λ k. commits_text 0 (dues k s)) (let e = ap (λ (m : Timed). m.count) ran in omega arith)
+
+-- a machine was driven, and its commit lines were put if they are asked for
+record Went (trace : Bool) (cycles : ℕ) (m : Timed) (lists : List (List Record)) (last : Timed) (old new : Option (List ℕ)) (before now : ℕ)
+    (result : Result (Unit {0}) SinkFailed) : Type 0 where
+  most : length lists ≤ cycles
+  whole : OnOk result (goes_on last.arch ≡ true → length lists ≡ cycles)
+  quiet : trace ≡ false → goes_on last.arch ≡ true → length lists ≡ cycles
+  put : Puts (commits_if trace m lists) old new before now result
+
+went : (trace : Bool) (cycles : ℕ) (m : Timed) (lists : List (List Record)) (last : Timed) (old new : Option (List ℕ)) (before now : ℕ) (result : Result (Unit {0}) SinkFailed)
+    → Does (run_task trace cycles) m lists last old new before now result → Went trace cycles m lists last old new before now result
+went false cycles m lists last old new before now result q =
+    record {
+      most = q.most;
+      whole = subst (λ (r : Result (Unit {0}) SinkFailed). OnOk r (goes_on last.arch ≡ true → length lists ≡ cycles)) (sym q.never_fails) q.whole;
+      quiet = λ off. q.whole;
+      put = subst (λ (r : Result (Unit {0}) SinkFailed). Puts [] old new before now r) (sym q.never_fails)
+          (subst (λ (c : Option (List ℕ)). Puts {E = SinkFailed} [] old c before now (Ok tt)) (sym q.contents)
+          (subst (λ f. Puts {E = SinkFailed} [] old old before f (Ok tt)) (sym q.faults) (puts_nothing old before)));
+    }
+went true cycles m lists last old new before now result w =
+    record { most = w.most; whole = w.whole; quiet = λ off. absurd (true≢false off); put = w.put }
 
 module _ {C : Type 0} (gives : Meaning C) (options : RunOptions) (bytes : FileBytes) (ready : Ready) (core : C) (last : Timed) (after : C)
-    (cycles : ℕ) (dump : Option DumpRange) (old mid new : Option (List ℕ)) (before between now : ℕ)
-    (y : cycles ≡ options.cycles) (d : dump ≡ options.dump) (fits : IsSizes (sizes_of options.setup))
-    (is : IsReady options.setup bytes ready)
-    (p : PerformsBy gives ready.core ready.script ready.machine.timed core last after (λ lists. IsQuiet cycles lists last old mid before between (Ok tt))) where
-  abbrev text : List ℕ
-  text = text_of last (shown_dump options.dump)
+    (trace : Bool) (cycles : ℕ) (dump : Option DumpRange) (old mid new : Option (List ℕ)) (before between now : ℕ) (result : Result (Unit {0}) SinkFailed)
+    (t : trace ≡ options.trace) (y : cycles ≡ options.cycles) (d : dump ≡ options.dump) (fits : IsSizes (sizes_of options.setup))
+    (is : IsReady options.setup bytes ready) (task : Task) (task_is : task ≡ run_task trace cycles)
+    (p : PerformsBy gives ready.core ready.script ready.machine.timed core last after (λ lists. Does task ready.machine.timed lists last old mid before between result)) where
+  abbrev run_text : List ℕ
+  run_text = asked_trace options.trace (start_in bytes) last.count ++ text_of last (shown_dump options.dump)
 
-  puts_text : (result : Result (Unit {0}) SinkFailed) → Puts (text_of last (shown_dump dump)) mid new between now result → Puts text old new before now result
-  puts_text result puts =
-      subst (λ (c : Option (List ℕ)). Puts text c new before now result) p.done.contents
-      (subst (λ f. Puts text mid new f now result) p.done.faults
-      (subst (λ (r : Option DumpRange). Puts (text_of last (shown_dump r)) mid new between now result) d puts))
+  w : Went trace cycles ready.machine.timed p.lists last old mid before between result
+  w = went trace cycles ready.machine.timed p.lists last old mid before between result (subst (λ (k : Task). Does k ready.machine.timed p.lists last old mid before between result) task_is p.done)
+
+  run_from_new : last ≡ run_of (new_timed (sizes_of options.setup) (start_in bytes)) p.lists
+  run_from_new = p.ran ∙ ap (λ (m : Timed). run_of m p.lists) is.begun
+
+  puts_trace : Puts (asked_trace options.trace (start_in bytes) last.count) old mid before between result
+  puts_trace =
+      subst (λ (b : Bool). Puts (asked_trace b (start_in bytes) last.count) old mid before between result) t
+      (subst (λ (x : List ℕ). Puts x old mid before between result)
+      (ap (λ (m : Timed). commits_if trace m p.lists) is.begun ∙ trace-run (sizes_of options.setup) (start_in bytes) p.lists last trace fits run_from_new) w.put)
 
   over : IsRunOver gives options.setup options.cycles bytes core last after
-  over = run_over gives options.setup options.cycles bytes ready core last after fits is p.lists p.ran p.each p.handed (let m = p.done.most in omega arith)
+  over = run_over gives options.setup options.cycles bytes ready core last after fits is p.lists p.ran p.each p.handed (let m = w.most in omega arith)
 
-  whole : IsWhole options.setup options.cycles (start_in bytes) last
-  whole = run_whole gives options.setup options.cycles bytes ready core last after fits is p.lists p.ran p.each p.handed (λ on. p.done.whole on ∙ y)
+  whole_if : (goes_on last.arch ≡ true → length p.lists ≡ cycles) → IsWhole options.setup options.cycles (start_in bytes) last
+  whole_if all = run_whole gives options.setup options.cycles bytes ready core last after fits is p.lists p.ran p.each p.handed (λ on. all on ∙ y)
 
-  pub wrote_run : (status : ℕ) → SaysEnd status last.arch.end → Puts {E = SinkFailed} (text_of last (shown_dump dump)) mid new between now (Ok tt)
+  whole_ok : result ≡ Ok tt → IsWhole options.setup options.cycles (start_in bytes) last
+  whole_ok ok = whole_if (subst (λ (r : Result (Unit {0}) SinkFailed). OnOk r (goes_on last.arch ≡ true → length p.lists ≡ cycles)) ok w.whole)
+
+  -- without commit lines the machine has run as far as it should
+  whole_quiet : (options.trace ≡ true → ⊥) → IsWhole options.setup options.cycles (start_in bytes) last
+  whole_quiet off =
+      elim (cases_Bool options.trace) [
+        | inl on ↦ absurd (off on)
+        | inr quiet ↦ whole_if (w.quiet (t ∙ quiet))
+      ]
+
+  both : result ≡ Ok tt → (r : Result (Unit {0}) SinkFailed) → Puts (text_of last (shown_dump dump)) mid new between now r → Puts run_text old new before now r
+  both ok r puts =
+      puts_then _ _ old mid new before between now r (subst (λ (x : Result (Unit {0}) SinkFailed). Puts (asked_trace options.trace (start_in bytes) last.count) old mid before between x) ok puts_trace)
+      (subst (λ (x : Option DumpRange). Puts (text_of last (shown_dump x)) mid new between now r) d puts)
+
+  pub wrote_run : result ≡ Ok tt → (status : ℕ) → SaysEnd status last.arch.end → Puts {E = SinkFailed} (text_of last (shown_dump dump)) mid new between now (Ok tt)
       → WritesWhole gives (Run options) bytes core after old new status
-  wrote_run status says puts =
+  wrote_run ok status says puts =
       record {
-        text = text;
-        means = record { last = last; over = over; whole = whole; ended = ends_with options.setup options.cycles (start_in bytes) last status whole says; lines = refl };
-        written = (puts_text (Ok tt) puts).ok;
+        text = run_text;
+        means = record { last = last; over = over; whole = λ asked. whole_ok ok; ended = ends_with options.setup options.cycles (start_in bytes) last status (whole_ok ok) says; lines = refl };
+        written = (both ok (Ok tt) puts).ok;
       }
 
-  pub cut_run : (e : SinkFailed) → Puts (text_of last (shown_dump dump)) mid new between now (Err e)
+  pub cut_run : result ≡ Ok tt → (e : SinkFailed) → Puts (text_of last (shown_dump dump)) mid new between now (Err e)
       → WritesPart gives (Run options) bytes core after old new before now
-  cut_run e puts =
-      let q = puts_text (Err e) puts in
+  cut_run ok e puts =
+      let q = both ok (Err e) puts in
       record {
         rose = q.failed;
-        text = text;
-        means = record { last = last; over = over; whole = whole; ended = tt; lines = refl };
+        text = run_text;
+        means = record { last = last; over = over; whole = λ asked. whole_ok ok; ended = tt; lines = refl };
         written = q.part;
       }
 
--- what is quiet never fails
-pub never_cut : (cycles : ℕ) (lists : List (List Record)) (last : Timed) (old new : Option (List ℕ)) (before now : ℕ) (e : SinkFailed)
-    → IsQuiet cycles lists last old new before now (Err e) → ⊥
-never_cut cycles lists last old new before now e q = let x = q.never_fails in cc
+  pub cut_trace : (e : SinkFailed) → result ≡ Err e → WritesPart gives (Run options) bytes core after old mid before between
+  cut_trace e err =
+      let q = puts_cut _ (text_of last (shown_dump options.dump)) old mid before between e (subst (λ (x : Result (Unit {0}) SinkFailed). Puts (asked_trace options.trace (start_in bytes) last.count) old mid before between x) err puts_trace) in
+      record {
+        rose = q.failed;
+        text = run_text;
+        means = record { last = last; over = over; whole = λ asked. whole_quiet (λ on. true≢false (sym (asked on))); ended = tt; lines = refl };
+        written = q.part;
+      }

@@ -3,15 +3,15 @@ use Rattle.std.proofs.Common.{◌≡◌, ◌≤◌, ◌⊎◌, ℕ, List, [], �
 use Rattle.diva_outside.specs.Causes.{Rose}
 use Rattle.diva_outside.specs.Files.{ToldFiles, IsMissing}
 use Rattle.diva_outside.specs.declared.files.What.{What}
-use Rattle.diva_outside.specs.declared.files.What.TheVariants.{Image, Script, Tape as TapeFile}
+use Rattle.diva_outside.specs.declared.files.What.TheVariants.{Image, Script, Tape as TapeFile, Commands}
 use Rattle.diva_image.specs.Layout.{Layout}
 use Rattle.diva_image.specs.Images.{image_of}
-use Rattle.diva_args.specs.Options.{Setup}
+use Rattle.diva_args.specs.Options.{DebugOptions, Setup}
 use Rattle.diva_faults.specs.declared.rows.Row.{Row}
 use Rattle.diva_cli.specs.declared.stop.Stop.{Stop}
 use Rattle.diva_cli.specs.declared.stop.Stop.TheVariants.{Memory, Unread, Refused}
 use Rattle.diva_cli.specs.Lines.{unreadable_line, refused_line}
-use Rattle.diva_cli.specs.Wanted.{Wanted, FileBytes, AreSound, file, file_if, machine_files, tape_name}
+use Rattle.diva_cli.specs.Wanted.{Wanted, FileBytes, AreSound, file, file_if, machine_files, session_files, tape_name}
 use Rattle.diva_cli.specs.Stops.{StopsAt, IsUnread, IsRefused}
 use Rattle.diva_cli.specs.Parts.{Stops, Holds, HoldsRows}
 
@@ -88,3 +88,13 @@ module _ (contents : ToldFiles) (setup : Setup) (image : Layout) (h : Holds cont
       (stops_later contents f0 f2 (file_if Script setup.script) (file_if TapeFile (tape_name setup.core)) stop (λ _. k.bytes) k.sound
       (stops_since contents f0 f1 f2 (file_if TapeFile (tape_name setup.core)) stop le
       (subst (λ (t : ToldFiles). Stops t f1 f2 (file_if TapeFile (tape_name setup.core)) stop) same2 s)))
+
+-- the files of a machine can be used, and it stops at the commands
+pub at_commands : (contents contents1 : ToldFiles) (options : DebugOptions) (bytes : FileBytes) (f0 f1 f2 : What → ℕ) (stop : Stop) → AreSound contents (machine_files options.setup) bytes
+    → contents1 ≡ contents → ((w : What) → f0 w ≤ f1 w)
+    → Stops contents1 f1 f2 (file Commands options.commands ∷ []) stop
+    → Stops contents f0 f2 (session_files options) stop
+at_commands contents contents1 options bytes f0 f1 f2 stop sound same le s =
+    stops_later contents f0 f2 (machine_files options.setup) (file Commands options.commands ∷ []) stop bytes sound
+    (stops_since contents f0 f1 f2 (file Commands options.commands ∷ []) stop le
+    (subst (λ (t : ToldFiles). Stops t f1 f2 (file Commands options.commands ∷ []) stop) same s))

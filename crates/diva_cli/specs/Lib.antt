@@ -5,6 +5,8 @@ pub mod Stops
 pub mod Driven
 pub mod Runs
 pub mod TapeTexts
+pub mod Replies
+pub mod DebugTexts
 pub mod ImageTexts
 pub mod Texts
 pub mod Answers

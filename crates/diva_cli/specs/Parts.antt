@@ -6,25 +6,27 @@ use Rattle.diva_outside.specs.Files.{ToldFiles}
 use Rattle.diva_outside.specs.Sink.{AppendsPart}
 use Rattle.diva_outside.specs.Text.{Text}
 use Rattle.diva_outside.specs.declared.files.What.{What}
-use Rattle.diva_outside.specs.declared.files.What.TheVariants.{Script, Tape as TapeFile}
+use Rattle.diva_outside.specs.declared.files.What.TheVariants.{Script, Tape as TapeFile, Commands}
 use Rattle.diva_isa.specs.declared.record.Record.{Record}
 use Rattle.diva_core.specs.Timed.{new_timed}
 use Rattle.diva_core.specs.Log.{Meaning}
 use Rattle.diva_faults.specs.declared.rows.Row.{Row}
 use Rattle.diva_tape.specs.Scalar.{new_scalar}
-use Rattle.diva_args.specs.Options.{Setup}
+use Rattle.diva_args.specs.Options.{DebugOptions, Setup}
+use Rattle.diva_debug.specs.Reading.{commands_of}
 use Rattle.diva_args.specs.declared.job.CoreChoice.{CoreChoice}
 use Rattle.diva_args.specs.declared.job.CoreChoice.TheVariants as choice
 use Rattle.diva_args.specs.declared.job.Job.{Job}
 use Rattle.diva_cli.specs.declared.driving.CoreInUse.{CoreInUse}
 use Rattle.diva_cli.specs.declared.driving.CoreInUse.TheVariants.{Own, Lockstep, Scalar, Silent, Tape}
 use Rattle.diva_cli.specs.declared.loading.Ready.{Ready}
+use Rattle.diva_cli.specs.declared.loading.SessionReady.{SessionReady}
 use Rattle.diva_cli.specs.declared.stop.Stop.{Stop}
 use Rattle.diva_cli.specs.declared.stop.Stop.TheVariants.{Memory, Unread, Refused}
 use Rattle.diva_cli.specs.declared.stop.Failure.{Failure}
 use Rattle.diva_cli.specs.declared.stop.Failure.TheVariants.{Cut, Memory as NoMemory}
 use Rattle.diva_cli.specs.Lines.{unreadable_line, refused_line}
-use Rattle.diva_cli.specs.Wanted.{Wanted, FileBytes, IsSound, AreSound, file_if, machine_files, tape_name}
+use Rattle.diva_cli.specs.Wanted.{Wanted, FileBytes, IsSound, AreSound, file_if, machine_files, session_files, tape_name}
 use Rattle.diva_cli.specs.Runs.{AreRows, AreLists, start_in, sizes_of}
 use Rattle.diva_cli.specs.Stops.{StopsAt, IsUnread, IsRefused}
 use Rattle.diva_cli.specs.Texts.{HasText}
@@ -84,6 +86,17 @@ pub record HoldsReady (contents : ToldFiles) (setup : Setup) (ready : Ready) : T
   pub bytes : FileBytes
   pub sound : AreSound contents (machine_files setup) bytes
   pub is : IsReady setup bytes ready
+
+-- the machine, the script and the core are those of a session's setup, and the commands those of these bytes
+pub record IsSession (options : DebugOptions) (bytes : FileBytes) (session : SessionReady) : Type 0 where
+  pub ready : IsReady options.setup bytes session.ready
+  pub read : commands_of (bytes Commands) ≡ Ok session.commands.items
+
+-- the same, of the bytes of sound files with these names
+pub record HoldsSession (contents : ToldFiles) (options : DebugOptions) (session : SessionReady) : Type 0 where
+  pub bytes : FileBytes
+  pub sound : AreSound contents (session_files options) bytes
+  pub is : IsSession options bytes session
 
 -- ---- writing
 

@@ -1,5 +1,5 @@
 -- What is promised of a run, and the text that the command `run` leaves of it.
-use Rattle.std.specs.Prelude.{◌≡◌, ◌⊎◌, ◌≤◌, ◌<◌, ◌/◌, ◌*◌, ◌+◌, ℕ, true, List, [], Option, Some, None, IfSome, Ok}
+use Rattle.std.specs.Prelude.{◌≡◌, ◌⊎◌, ◌≤◌, ◌<◌, ◌/◌, ◌*◌, ◌+◌, ◌++◌, ℕ, Bool, true, false, List, [], Option, Some, None, IfSome, IsSome, Ok}
 use Rattle.diva_outside.specs.Text.{Text}
 use Rattle.diva_outside.specs.declared.files.What.TheVariants.{Image, Script, Tape as TapeFile}
 use Rattle.diva_image.specs.Images.{image_of}
@@ -17,7 +17,7 @@ use Rattle.diva_tape.specs.Tapes.{tape_of}
 use Rattle.diva_args.specs.Options.{Setup, RunOptions, DumpRange}
 use Rattle.diva_args.specs.declared.job.CoreChoice.TheVariants.{Lockstep, Scalar}
 use Rattle.diva_trace.specs.declared.report.Dump.{Dump}
-use Rattle.diva_trace.specs.Text.{text_of}
+use Rattle.diva_trace.specs.Text.{text_of, trace_of}
 use Rattle.diva_cli.specs.Wanted.{FileBytes, tape_name}
 use Rattle.diva_cli.specs.Driven.{IsDriven}
 
@@ -94,11 +94,17 @@ abbrev pub shown_dump : Option DumpRange → Option Dump
 shown_dump None = None
 shown_dump (Some range) = Some (record { addr = range.addr; len = range.len })
 
--- the text of `run` over files with these bytes, and the status that goes with it where it was written whole
+-- the commit lines of a run from a state, if they are asked for
+abbrev pub asked_trace : Bool → (start : State) → (count : ℕ) → Text
+asked_trace false start count = []
+asked_trace true start count = trace_of start count
+
+-- the text of `run` over files with these bytes, and the status that goes with it where it was written whole. Where the sink
+-- fails among the commit lines, which are written as the machine runs, it is of the machine as it then stood
 pub record HasRun {C : Type 0} (gives : Meaning C) (options : RunOptions) (bytes : FileBytes) (core after : C)
     (status : Option ℕ) (text : Text) : Type 0 where
   pub last : Timed
   pub over : IsRunOver gives options.setup options.cycles bytes core last after
-  pub whole : IsWhole options.setup options.cycles (start_in bytes) last
+  pub whole : (options.trace ≡ true → IsSome status) → IsWhole options.setup options.cycles (start_in bytes) last
   pub ended : IfSome status (EndsWith last options.cycles)
-  pub lines : text ≡ text_of last (shown_dump options.dump)
+  pub lines : text ≡ asked_trace options.trace (start_in bytes) last.count ++ text_of last (shown_dump options.dump)

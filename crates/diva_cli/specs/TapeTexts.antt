@@ -1,5 +1,5 @@
 -- The text that the command `tape` leaves of a run: all that was handed over, which is itself a tape.
-use Rattle.std.specs.Prelude.{◌≡◌, ◌≤◌, ℕ, true, List, length, Option, None, IfSome, Ok}
+use Rattle.std.specs.Prelude.{◌≡◌, ◌≤◌, ◌++◌, ℕ, true, List, length, Option, None, IfSome, IsSome, Ok}
 use Rattle.diva_outside.specs.Text.{Text}
 use Rattle.diva_outside.specs.declared.files.What.TheVariants.{Image, Tape as TapeFile}
 use Rattle.diva_isa.specs.declared.record.Record.{Record}
@@ -14,7 +14,7 @@ use Rattle.diva_trace.specs.Text.{text_of}
 use Rattle.diva_args.specs.Options.{RunOptions, TapeOptions}
 use Rattle.diva_args.specs.declared.job.CoreChoice.TheVariants.{Tape as OfTape}
 use Rattle.diva_cli.specs.Wanted.{FileBytes}
-use Rattle.diva_cli.specs.Runs.{IsRunOver, IsWhole, EndsWith, HasRun, sizes_of, start_in, shown_dump}
+use Rattle.diva_cli.specs.Runs.{IsRunOver, IsWhole, EndsWith, HasRun, asked_trace, sizes_of, start_in, shown_dump}
 
 -- a `run` of the same image with the same numbers, by the tape of this text and without a script
 pub record IsReplay (options : TapeOptions) (bytes : FileBytes) (text : Text) (replay : RunOptions) (its_bytes : FileBytes) : Type 0 where
@@ -43,10 +43,11 @@ pub record IsTapeOf {C : Type 0} (gives : Meaning C) (options : TapeOptions) (by
   pub again : (others : List (List Record)) → others ≡ played (length others) lists
       → IsHandedFor options.cycles (new_timed (sizes_of options.setup) (start_in bytes)) others
       → run_of (new_timed (sizes_of options.setup) (start_in bytes)) others ≡ last
-  -- so running the image with that tape leaves the text of this machine
+  -- so running the image with that tape leaves the text of this machine; with commit lines, where they are all written
   pub replays : (replay : RunOptions) → (its_bytes : FileBytes) → IsReplay options bytes text replay its_bytes
       → (core after : C) → (shown_status : Option ℕ) → (shown : Text) → HasRun gives replay its_bytes core after shown_status shown
-      → shown ≡ text_of last (shown_dump replay.dump)
+      → (replay.trace ≡ true → IsSome shown_status)
+      → shown ≡ asked_trace replay.trace (start_in bytes) last.count ++ text_of last (shown_dump replay.dump)
 
 -- the text of `tape` over files with these bytes, and the status that goes with it where it was written whole; where the sink
 -- failed, the text is of the cycles up to that in which it did

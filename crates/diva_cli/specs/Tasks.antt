@@ -1,5 +1,5 @@
 -- What is done with a machine and a core, and what is written of it as it goes.
-use Rattle.std.specs.Prelude.{ℕ, ◌≡◌, ◌≤◌, ◌+◌, ◌-◌, List, [], ◌∷◌, ◌++◌, length, true, Option, Result, Ok, OnOk}
+use Rattle.std.specs.Prelude.{ℕ, ◌≡◌, ◌≤◌, ◌+◌, ◌-◌, ◌^◌, List, [], ◌∷◌, ◌++◌, length, Bool, true, false, Option, Result, Ok, OnOk, ⊤}
 use Rattle.std.specs.List.{All}
 use Rattle.diva_outside.specs.Sink.{Puts}
 use Rattle.diva_outside.specs.Text.{Text}
@@ -20,7 +20,9 @@ use Rattle.diva_cli.specs.Driven.{ByTurns, ByRule, ByOther, scripted_rule}
 use Rattle.diva_cli.specs.declared.driving.CoreInUse.{CoreInUse}
 use Rattle.diva_cli.specs.declared.driving.CoreInUse.TheVariants.{Own, Lockstep, Scalar, Silent, Tape as OfTape}
 use Rattle.diva_cli.specs.declared.tasks.Task.{Task}
-use Rattle.diva_cli.specs.declared.tasks.Task.TheVariants.{Quiet, Tape}
+use Rattle.diva_cli.specs.declared.tasks.Task.TheVariants.{Quiet, Trace, Tape, Debug}
+use Rattle.diva_trace.specs.Text.{commits_text}
+use Rattle.diva_cli.specs.Replies.{CanReply, IsReplied}
 
 -- ---- texts that are written cycle by cycle
 
@@ -34,6 +36,10 @@ abbrev pub cycles_text : CycleText → Timed → List (List Record) → Text
 cycles_text text m [] = []
 cycles_text text m (list ∷ lists) =
     text m.count (dues ((cycle_of m list).count - m.count) m.arch) list ++ cycles_text text (cycle_of m list) lists
+
+-- the commit lines of what was committed
+abbrev pub trace_lines : CycleText
+trace_lines first committed handed = commits_text first committed
 
 -- the line of a tape
 abbrev pub tape_line : CycleText
@@ -59,17 +65,26 @@ pub record IsWritten (text : CycleText) (says : List Record → Type 0) (cycles 
   pub said : OnOk result (All says lists)
   pub put : Puts (cycles_text text m lists) old new before now result
 
--- ---- a line for each task
+-- ---- a line for each task, which asks something of a machine, and does something with it
+abbrev pub Allows : Task → Timed → Type 0
+Allows (Quiet cycles) m = m.cycles + cycles ≤ 2 ^ 60
+Allows (Trace cycles) m = m.cycles + cycles ≤ 2 ^ 60
+Allows (Tape cycles) m = m.cycles + cycles ≤ 2 ^ 60
+Allows (Debug commands) m = CanReply commands.now m
+
 abbrev pub Does : Task → Timed → List (List Record) → Timed → (old new : Option Text) → (before now : ℕ)
     → Result (Unit {0}) SinkFailed → Type 0
 Does (Quiet cycles) m lists last old new before now result = IsQuiet cycles lists last old new before now result
+Does (Trace cycles) m lists last old new before now result =
+    IsWritten trace_lines (λ list. ⊤) cycles m lists last old new before now result
 Does (Tape cycles) m lists last old new before now result =
     IsWritten tape_line IsList cycles m lists last old new before now result
+Does (Debug commands) m lists last old new before now result = IsReplied commands.now m lists old new before now result
 
--- the cycles that a task takes at most
-abbrev pub cycles_in : Task → ℕ
-cycles_in (Quiet cycles) = cycles
-cycles_in (Tape cycles) = cycles
+-- what is done for a run, with commit lines or without
+abbrev pub run_task : (trace : Bool) → (cycles : ℕ) → Task
+run_task false cycles = Quiet cycles
+run_task true cycles = Trace cycles
 
 -- ---- by a core
 

@@ -4,10 +4,11 @@ use Rattle.std.specs.Prelude.{◌≡◌, ◌⊎◌, ℕ, Option}
 use Rattle.diva_outside.specs.Text.{Text}
 use Rattle.diva_core.specs.Log.{Meaning}
 use Rattle.diva_args.specs.declared.job.Job.{Job}
-use Rattle.diva_args.specs.declared.job.Job.TheVariants.{Run, Tape, Asm, Dis}
+use Rattle.diva_args.specs.declared.job.Job.TheVariants.{Run, Tape, Debug, Asm, Dis}
 use Rattle.diva_cli.specs.Wanted.{FileBytes}
 use Rattle.diva_cli.specs.Runs.{HasRun}
 use Rattle.diva_cli.specs.TapeTexts.{HasTape}
+use Rattle.diva_cli.specs.DebugTexts.{HasReplies}
 use Rattle.diva_cli.specs.ImageTexts.{HasAssembled, HasListing}
 
 -- ---- a line for each command
@@ -15,6 +16,7 @@ use Rattle.diva_cli.specs.ImageTexts.{HasAssembled, HasListing}
 abbrev pub HasText : {C : Type 0} → Meaning C → Job → FileBytes → (core after : C) → (status : Option ℕ) → Text → Type 0
 HasText gives (Run options) bytes core after status text = HasRun gives options bytes core after status text
 HasText gives (Tape options) bytes core after status text = HasTape gives options bytes core after status text
+HasText gives (Debug options) bytes core after status text = HasReplies gives options bytes core after status text
 HasText gives (Asm name) bytes core after status text = HasAssembled bytes core after status text
 HasText gives (Dis name) bytes core after status text = HasListing bytes core after status text
 
@@ -26,5 +28,6 @@ IsDone status = (status ≡ 0) ⊎ ((status ≡ 3) ⊎ (status ≡ 4))
 abbrev pub CanEnd : Job → ℕ → Type 0
 CanEnd (Run options) status = IsDone status
 CanEnd (Tape options) status = IsDone status
+CanEnd (Debug options) status = status ≡ 0
 CanEnd (Asm name) status = status ≡ 0
 CanEnd (Dis name) status = status ≡ 0

@@ -2,16 +2,17 @@
 use Rattle.std.specs.Prelude.{◌≡◌, ◌≤◌, ℕ, List, [], ◌∷◌, ◌++◌, length, Option, Some, None, Err, IsOk}
 use Rattle.diva_outside.specs.Files.{ToldFiles, Has}
 use Rattle.diva_outside.specs.declared.files.What.{What}
-use Rattle.diva_outside.specs.declared.files.What.TheVariants.{Image, Script, Tape as TapeFile, Source}
+use Rattle.diva_outside.specs.declared.files.What.TheVariants.{Image, Script, Tape as TapeFile, Source, Commands}
 use Rattle.diva_image.specs.Images.{fault, fault_of}
 use Rattle.diva_faults.specs.Reading.{script_of}
 use Rattle.diva_tape.specs.Tapes.{tape_of}
-use Rattle.diva_args.specs.Options.{Setup}
+use Rattle.diva_args.specs.Options.{DebugOptions, Setup}
 use Rattle.diva_args.specs.declared.job.CoreChoice.{CoreChoice}
 use Rattle.diva_args.specs.declared.job.CoreChoice.TheVariants.{Own, Lockstep, Scalar, Silent, Tape as OfTape}
 use Rattle.diva_args.specs.declared.job.Job.{Job}
-use Rattle.diva_args.specs.declared.job.Job.TheVariants.{Run, Tape, Asm, Dis}
+use Rattle.diva_args.specs.declared.job.Job.TheVariants.{Run, Tape, Debug, Asm, Dis}
 use Rattle.diva_asm.specs.Sources.{source_of}
+use Rattle.diva_debug.specs.Reading.{commands_of}
 
 -- the most bytes that a file may have
 abbrev pub file_limit : ℕ
@@ -42,28 +43,33 @@ tape_name (OfTape name) = Some name
 abbrev pub machine_files : Setup → List Wanted
 machine_files setup = file Image setup.image ∷ (file_if Script setup.script ++ file_if TapeFile (tape_name setup.core))
 
+-- the same, and then the commands of a session
+abbrev pub session_files : DebugOptions → List Wanted
+session_files options = machine_files options.setup ++ file Commands options.commands ∷ []
+
 -- ---- the files of each command, in the order in which they are loaded
 abbrev pub wanted : Job → List Wanted
 wanted (Run options) = machine_files options.setup
 wanted (Tape options) = machine_files options.setup
+wanted (Debug options) = session_files options
 wanted (Asm name) = file Source name ∷ []
 wanted (Dis name) = file Image name ∷ []
 
--- ---- the first fault of a file's bytes, by what the file is for; no command wants the others yet
+-- ---- the first fault of a file's bytes, by what the file is for
 
 abbrev pub IsFaultless : What → List ℕ → Type 0
 IsFaultless Image bytes = fault_of bytes ≡ None
 IsFaultless Script bytes = IsOk (script_of bytes)
 IsFaultless TapeFile bytes = IsOk (tape_of bytes)
 IsFaultless Source bytes = IsOk (source_of bytes)
-IsFaultless _ bytes = ⊥
+IsFaultless Commands bytes = IsOk (commands_of bytes)
 
 abbrev pub HasFault : What → List ℕ → (kind place : ℕ) → Type 0
 HasFault Image bytes kind place = fault_of bytes ≡ fault kind place
 HasFault Script bytes kind line = script_of bytes ≡ Err (record { line = line; kind = kind })
 HasFault TapeFile bytes kind line = tape_of bytes ≡ Err (record { line = line; kind = kind })
 HasFault Source bytes kind line = source_of bytes ≡ Err (record { line = line; kind = kind })
-HasFault _ bytes kind place = ⊥
+HasFault Commands bytes kind line = commands_of bytes ≡ Err (record { line = line; kind = kind })
 
 -- ---- files that can be used
 

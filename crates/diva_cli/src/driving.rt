@@ -1,6 +1,5 @@
 // The core that drives a machine, and what is done with them.
-ghost use Rattle.std.specs.Prelude.{◌+◌, ◌≤◌, ◌^◌};
-ghost use Rattle.diva_cli.specs.Tasks.{Does, PerformsBy, cycles_in};
+ghost use Rattle.diva_cli.specs.Tasks.{Allows, Does, PerformsBy};
 
 use crate::tasks::{Task, perform_under};
 use diva_core::Core;
@@ -26,12 +25,12 @@ pub(crate) fn perform_by<C: Core, S: Sink>(
     core: CoreInUse,
     script: &Script,
     own: &mut C,
-    task: Task,
+    task: Task<'_>,
     sink: &mut S,
 ) -> Result<(), SinkFailed>
-    requires { m.old.timed.cycles + cycles_in task ≤ 2 ^ 60 }
+    requires { Allows task m.old.timed }
     ensures { PerformsBy C.gives core script.now m.old.timed own.old m.new.timed own.new
-        (λ lists. Does task m.old.timed lists m.new.timed
+        (λ lists. Does task.entry m.old.timed lists m.new.timed
         (S.contents sink.old) (S.contents sink.new) (S.faults sink.old) (S.faults sink.new) result) }
 {
     match core {

@@ -1,5 +1,6 @@
 // Files, loaded and read: a function for each kind of file, and one for what they come to.
 ghost use Rattle.std.specs.Prelude.{◌≡◌, ◌≤◌, ◌∷◌, [], length, IfOk, IfErr, Ok};
+ghost use Rattle.std.specs.List.{All};
 ghost use Rattle.diva_outside.specs.Files.{Has};
 ghost use Rattle.diva_image.specs.Images.{image_of};
 ghost use Rattle.diva_image.specs.View.{layout};
@@ -7,14 +8,17 @@ ghost use Rattle.diva_asm.specs.Sources.{source_of};
 ghost use Rattle.diva_core.specs.Machine.{IsSizes};
 ghost use Rattle.diva_faults.specs.Reading.{script_of};
 ghost use Rattle.diva_tape.specs.Tapes.{tape_of};
-ghost use Rattle.diva_cli.specs.Wanted.{file, file_if, file_limit, machine_files, tape_name};
+ghost use Rattle.diva_debug.specs.Moves.{IsShort};
+ghost use Rattle.diva_debug.specs.Reading.{commands_of};
+ghost use Rattle.diva_cli.specs.Wanted.{file, file_if, file_limit, machine_files, session_files, tape_name};
 ghost use Rattle.diva_cli.specs.Runs.{sizes_of};
-ghost use Rattle.diva_cli.specs.Parts.{Stops, Holds, HoldsCore, HoldsReady, HoldsRows};
+ghost use Rattle.diva_cli.specs.Parts.{Stops, Holds, HoldsCore, HoldsReady, HoldsRows, HoldsSession};
 
 use crate::driving::CoreInUse;
 use crate::stop::Stop;
-use diva_args::{CoreChoice, FileName, Setup};
+use diva_args::{CoreChoice, DebugOptions, FileName, Setup};
 use diva_asm::{AsmFault, assemble};
+use diva_debug::{Command, CommandFault, commands};
 use diva_faults::{Script, ScriptFault};
 use diva_image::{Image, ImageFault, read};
 use diva_machine::{Config, Machine};
@@ -66,6 +70,41 @@ pub(crate) fn make_ready<F: Files>(
             script,
         }),
         Err(_) => Err(Stop::Memory),
+    }
+}
+
+/// What the command `debug` needs.
+#[derive(Drop)]
+pub(crate) struct SessionReady {
+    /// The machine, the core and the script.
+    pub ready: Ready,
+    /// The commands, in order.
+    pub commands: Vec<Command>,
+}
+
+/// What a session needs: the machine, the core and the script of its setup, and then its commands.
+pub(crate) fn make_session<F: Files>(
+    alloc: Global,
+    files: &mut F,
+    options: &DebugOptions,
+) -> Result<SessionReady, Stop>
+    ensures stays { F.told files.new ≡ F.told files.old }
+    ensures later { (w : What) → F.faults files.old w ≤ F.faults files.new w }
+    ensures session { IfOk result (HoldsSession (F.told files.old) options.now) }
+    ensures sizes { IsSizes (sizes_of options.now.setup) }
+    ensures narrow { IfOk result (λ session. session.ready.machine.timed.sizes.width ≡ 1) }
+    ensures few { IfOk result (λ session. length session.commands.items ≤ file_limit) }
+    ensures short { IfOk result (λ session. All IsShort session.commands.items) }
+    ensures stopped { IfErr result (λ stop. Stops (F.told files.old) (F.faults files.old)
+        (F.faults files.new) (session_files options.now) stop) }
+{
+    let ready = match make_ready(alloc, files, &options.setup) {
+        Ok(ready) => ready,
+        Err(stop) => return Err(stop),
+    };
+    match load_commands(alloc, files, &options.commands) {
+        Ok(commands) => Ok(SessionReady { ready, commands }),
+        Err(stop) => Err(stop),
     }
 }
 
@@ -257,6 +296,36 @@ fn load_tape<F: Files>(alloc: Global, files: &mut F, name: &FileName) -> Result<
             place: line,
         }),
         Err(TapeFault::Memory) => Err(Stop::Memory),
+    }
+}
+
+/// The commands of this name.
+fn load_commands<F: Files>(
+    alloc: Global,
+    files: &mut F,
+    name: &FileName,
+) -> Result<Vec<Command>, Stop>
+    ensures stays { F.told files.new ≡ F.told files.old }
+    ensures later { (w : What) → F.faults files.old w ≤ F.faults files.new w }
+    ensures holds { IfOk result (λ commands. Holds (F.told files.old)
+        (file What.Commands name.now) (λ bytes. commands_of bytes ≡ Ok commands.items)) }
+    ensures few { IfOk result (λ commands. length commands.items ≤ file_limit) }
+    ensures short { IfOk result (λ commands. All IsShort commands.items) }
+    ensures stopped { IfErr result (λ stop. Stops (F.told files.old) (F.faults files.old)
+        (F.faults files.new) (file What.Commands name.now ∷ []) stop) }
+{
+    let bytes = match load(alloc, files, What::Commands, name) {
+        Ok(bytes) => bytes,
+        Err(stop) => return Err(stop),
+    };
+    match commands(alloc, &bytes) {
+        Ok(commands) => Ok(commands),
+        Err(CommandFault::Bad { line, kind }) => Err(Stop::Refused {
+            what: What::Commands,
+            kind,
+            place: line,
+        }),
+        Err(CommandFault::Memory) => Err(Stop::Memory),
     }
 }
 

@@ -9,6 +9,7 @@ ghost use Rattle.diva_cli.specs.Statuses.{HasWorked, HasLine, IsCut, HasNoMemory
 ghost use Rattle.diva_cli.specs.Parts.{Answers, status_of};
 
 use crate::asm::asm;
+use crate::debug::debug;
 use crate::dis::dis;
 use crate::lines::usage_line;
 use crate::run::run;
@@ -25,7 +26,7 @@ use std::alloc::Global;
 ///
 /// | status | comes |
 /// |---|---|
-/// | 0 | the run halted; of `asm` and `dis`, the whole text was written |
+/// | 0 | the run halted; of the commands that run nothing to its end, the whole text was written |
 /// | 2 | the words are not a valid command line; the usage line is written |
 /// | 3 | the run trapped |
 /// | 4 | exactly the cycles asked for were run, and the machine goes on |
@@ -46,6 +47,7 @@ pub fn top<F: Files, S: Sink, C: Core>(
     // hands over and a script makes of it, the text of a run is that of a machine whose committed
     // state is the table's after the counted instructions, from the state of the image's bytes; and
     // the text of a tape is all that was handed to such a machine, and leads another one to its state.
+    // The replies of a session show the table's states, and the flushes of such a machine.
     ensures worked { IsDone result
         → HasWorked C.gives (command_of (map (λ w. w.now) words.now)) (F.told files.old)
         core.old core.new (S.contents sink.old) (S.contents sink.new) result }
@@ -127,6 +129,7 @@ fn work<F: Files, S: Sink, C: Core>(
     match job {
         Job::Run(options) => run(alloc, options, files, sink, core),
         Job::Tape(options) => tape(alloc, options, files, sink, core),
+        Job::Debug(options) => debug(alloc, options, files, sink, core),
         Job::Asm(source) => asm(alloc, source, files, sink, core),
         Job::Dis(image) => dis(alloc, image, files, sink, core),
     }

@@ -4,6 +4,7 @@ ghost use Rattle.diva_args.specs.declared.job.Job.TheVariants.{Run};
 ghost use Rattle.diva_core.specs.Machine.{IsSizes};
 ghost use Rattle.diva_cli.specs.Wanted.{FileBytes};
 ghost use Rattle.diva_cli.specs.Runs.{sizes_of};
+ghost use Rattle.diva_cli.specs.Tasks.{run_task};
 ghost use Rattle.diva_cli.specs.Parts.{Answers, IsReady, WritesText};
 
 use crate::driving::perform_by;
@@ -53,7 +54,7 @@ fn run_ready<S: Sink, C: Core>(
         core: in_use,
         script,
     } = ready;
-    let task = Task::Quiet(options.cycles);
+    let task = run_task(options.trace, options.cycles);
     match perform_by(&mut machine, in_use, &script, core, task, sink) {
         Ok(()) => {}
         Err(_) => return Err(Failure::Cut),
@@ -61,5 +62,16 @@ fn run_ready<S: Sink, C: Core>(
     match write_finished(&machine, options.dump, sink) {
         Ok(()) => Ok(end_status(&machine)),
         Err(_) => Err(Failure::Cut),
+    }
+}
+
+/// What is done for a run. Nothing watches the turns of one without commit lines.
+fn run_task<'a>(trace: bool, cycles: u64) -> Task<'a>
+    ensures { result ≡ run_task trace cycles }
+{
+    if trace {
+        Task::Trace(cycles)
+    } else {
+        Task::Quiet(cycles)
     }
 }

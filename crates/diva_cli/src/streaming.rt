@@ -9,6 +9,7 @@ use diva_isa::Record;
 use diva_machine::{Machine, turn};
 use diva_outside::{Sink, SinkFailed};
 use diva_tape::tape_piece;
+use diva_trace::write_commits;
 
 /// What writes a text for each cycle.
 pub(crate) trait CycleWriter {
@@ -34,6 +35,28 @@ pub(crate) trait CycleWriter {
         ensures put { Puts (text first committed.now handed.now)
             (S.contents sink.old) (S.contents sink.new) (S.faults sink.old) (S.faults sink.new) result }
         ensures says { OnOk result (says handed.now) };
+}
+
+/// Writes what is committed, as commit lines.
+pub(crate) struct TraceWriter;
+
+impl CycleWriter for TraceWriter {
+    ghost use Rattle.std.specs.Prelude.{⊤};
+    ghost use Rattle.diva_cli.specs.Tasks.{trace_lines};
+
+    ghost text = { trace_lines };
+
+    ghost says = { λ list. ⊤ };
+
+    fn write<S: Sink>(
+        &self,
+        first: u64,
+        committed: &[Record],
+        _handed: &Claims,
+        sink: &mut S,
+    ) -> Result<(), SinkFailed> {
+        write_commits(first, committed, sink)
+    }
 }
 
 /// Writes what is handed over, as lines of a tape.

@@ -1,21 +1,26 @@
 // What is done with a machine and a core, under a script.
-ghost use Rattle.std.specs.Prelude.{◌+◌, ◌≤◌, ◌^◌};
 ghost use Rattle.diva_faults.specs.Spoiled.{spoiled};
-ghost use Rattle.diva_cli.specs.Tasks.{Does, Performs, cycles_in};
+ghost use Rattle.diva_cli.specs.Tasks.{Allows, Does, Performs};
 
-use crate::streaming::{TapeWriter, drive_writing};
+use crate::replying::reply_each;
+use crate::streaming::{TapeWriter, TraceWriter, drive_writing};
 use diva_core::Core;
+use diva_debug::Command;
 use diva_faults::{Faulty, Script};
 use diva_machine::{Machine, drive};
 use diva_outside::{Sink, SinkFailed};
 
 /// What is done with a machine and a core.
 #[derive(Clone, Copy, Debug)]
-pub(crate) enum Task {
+pub(crate) enum Task<'a> {
     /// It is driven for so many cycles at most, and nothing is written.
     Quiet(u64),
+    /// The same, and each instruction that commits is written as a commit line.
+    Trace(u64),
     /// The same, and each list that is handed over is written as a line of a tape.
     Tape(u64),
+    /// It is moved by these commands, and a reply to each is written.
+    Debug(&'a [Command]),
 }
 
 /// Does a task with a machine and a core under a script. A script that has no rows costs nothing: it
@@ -25,12 +30,12 @@ pub(crate) fn perform_under<D: Core, S: Sink>(
     script: &Script,
     m: &mut Machine,
     core: &mut D,
-    task: Task,
+    task: Task<'_>,
     sink: &mut S,
 ) -> Result<(), SinkFailed>
-    requires { m.old.timed.cycles + cycles_in task ≤ 2 ^ 60 }
+    requires { Allows task m.old.timed }
     ensures { Performs (spoiled script.now D.gives) m.old.timed core.old m.new.timed core.new
-        (λ lists. Does task m.old.timed lists m.new.timed
+        (λ lists. Does task.entry m.old.timed lists m.new.timed
         (S.contents sink.old) (S.contents sink.new) (S.faults sink.old) (S.faults sink.new) result) }
 {
     if script.rows().is_empty() {
@@ -44,12 +49,12 @@ fn perform_faulty<D: Core, S: Sink>(
     script: &Script,
     m: &mut Machine,
     core: &mut D,
-    task: Task,
+    task: Task<'_>,
     sink: &mut S,
 ) -> Result<(), SinkFailed>
-    requires { m.old.timed.cycles + cycles_in task ≤ 2 ^ 60 }
+    requires { Allows task m.old.timed }
     ensures { Performs (spoiled script.now D.gives) m.old.timed core.old m.new.timed core.new
-        (λ lists. Does task m.old.timed lists m.new.timed
+        (λ lists. Does task.entry m.old.timed lists m.new.timed
         (S.contents sink.old) (S.contents sink.new) (S.faults sink.old) (S.faults sink.new) result) }
 {
     let mut faulty = Faulty::new(core, script);
@@ -61,12 +66,12 @@ fn perform_faulty<D: Core, S: Sink>(
 fn perform<D: Core, S: Sink>(
     m: &mut Machine,
     core: &mut D,
-    task: Task,
+    task: Task<'_>,
     sink: &mut S,
 ) -> Result<(), SinkFailed>
-    requires { m.old.timed.cycles + cycles_in task ≤ 2 ^ 60 }
+    requires { Allows task m.old.timed }
     ensures { Performs D.gives m.old.timed core.old m.new.timed core.new
-        (λ lists. Does task m.old.timed lists m.new.timed
+        (λ lists. Does task.entry m.old.timed lists m.new.timed
         (S.contents sink.old) (S.contents sink.new) (S.faults sink.old) (S.faults sink.new) result) }
 {
     match task {
@@ -74,6 +79,8 @@ fn perform<D: Core, S: Sink>(
             drive(m, core, cycles);
             Ok(())
         }
+        Task::Trace(cycles) => drive_writing(m, core, cycles, &TraceWriter, sink),
         Task::Tape(cycles) => drive_writing(m, core, cycles, &TapeWriter, sink),
+        Task::Debug(commands) => reply_each(m, core, commands, sink),
     }
 }

@@ -1,21 +1,30 @@
 -- What holds after a cycle of a sound machine.
-use Rattle.std.proofs.Common.{◌≡◌, ℕ, ◌+◌, ◌-◌, ◌<◌, ◌≤◌, ◌^◌, true, List, [], ◌∷◌, Some, None, sym, ◌∙◌, subst, arith, refl, ◌⊎◌, inl, ap}
+use Rattle.std.proofs.Common.{◌≡◌, ℕ, ◌+◌, ◌-◌, ◌<◌, ◌≤◌, ◌^◌, ◌==◌, true, false, List, [], ◌∷◌, Option, Some, None, is_none, sym, ◌∙◌, subst, arith, refl, ◌⊎◌, inl, inr, ap}
+use Rattle.std.proofs.lemmas.Bool.{eqb-true, false_from_ne_true}
 use Rattle.diva_isa.specs.State.{goes_on}
 use Rattle.diva_isa.specs.declared.record.Record.{Record}
 use Rattle.diva_core.specs.Timed.{Timed, Waiting}
 use Rattle.diva_core.specs.Cycle.{cycle_of, begun, drained}
-use Rattle.diva_core.specs.Headline.{IsJudged, dues, ByClaims, ByItself}
+use Rattle.diva_core.specs.Headline.{AddsRow, IsJudged, SameLog, dues, ByClaims, ByItself}
+use Rattle.diva_core.specs.declared.flushes.FlushRow.{FlushRow}
 use Rattle.diva_core.proofs.Keeping.{stays}
-use Rattle.diva_core.proofs.Outcomes.{cycle-cycles}
+use Rattle.diva_core.proofs.Outcomes.{cycle-cycles, logs}
 use Rattle.diva_core.proofs.Cycling.{owed-drained, cycled}
 use Rattle.diva_core.proofs.Holding.{front_judged, sixth-cases}
 use Rattle.diva_machine.specs.Shown.{IsSound}
+
+-- a newest row is there exactly where a flush came
+newest-again : (m n : Timed) → is_none m.newest ≡ (m.flushes == 0) → SameLog m n ⊎ AddsRow m n → is_none n.newest ≡ (n.flushes == 0)
+newest-again m n was (inl s) = ap (λ (row : Option FlushRow). is_none row) s.newest ∙ was ∙ ap (λ k. k == 0) (sym s.flushes)
+newest-again m n was (inr a) =
+    let more : (n.flushes == 0) ≡ false = false_from_ne_true _ (λ t. let e = eqb-true n.flushes 0 t in let f = a.is.has.flushes in omega arith) in
+    ap (λ (row : Option FlushRow). is_none row) a.is.has.newest ∙ sym more
 
 module _ (m n : Timed) (list : List Record) (sound : IsSound m) (is : n ≡ cycle_of m list) where
   pub sound_again : goes_on m.arch ≡ true → m.cycles < 2 ^ 60 → IsSound n
   sound_again on few =
       let c = cycle-cycles m list sound.machine on in
-      subst IsSound (sym is) (record { machine = stays m list sound.machine; cycles = omega arith })
+      subst IsSound (sym is) (record { machine = stays m list sound.machine; cycles = omega arith; newest = newest-again m (cycle_of m list) sound.newest (logs m list sound.machine) })
 
   pub none_held : (drained (begun m)).owed < m.sizes.stores
   none_held = owed-drained m sound.machine

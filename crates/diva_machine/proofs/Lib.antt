@@ -5,3 +5,4 @@ pub mod Answering
 pub mod Verdicts
 pub mod Staging
 pub mod Judged
+pub mod Counting

@@ -1,5 +1,5 @@
 -- What contracts see of a machine and of its parts.
-use Rattle.std.specs.Prelude.{ℕ, ◌≡◌, ◌≤◌, ◌+◌, ◌-◌, ◌^◌, ◌==◌, nat_lt, List, length, Option, Some, None, if◌then◌else◌}
+use Rattle.std.specs.Prelude.{ℕ, ◌≡◌, ◌≤◌, ◌+◌, ◌-◌, ◌^◌, ◌==◌, nat_lt, List, length, Option, Some, None, is_none, if◌then◌else◌}
 use Rattle.diva_isa.specs.State.{State}
 use Rattle.diva_isa.specs.Step.{IsEnd}
 use Rattle.diva_isa.specs.declared.record.Record.{Record}
@@ -26,6 +26,8 @@ pub record Shown : Type 0 where
 pub record IsSound (m : Timed) : Type 0 where
   pub machine : IsMachine m
   pub cycles : m.cycles ≤ 2 ^ 60
+  -- there is a newest row exactly where a flush came
+  pub newest : is_none m.newest ≡ (m.flushes == 0)
 
 -- the committed state, the stores owed to memory, and how many may be owed
 pub record Stored : Type 0 where

@@ -37,3 +37,14 @@ pub enum Drive {
     /// The budget's cycles were all run, and the machine goes on.
     Budget,
 }
+
+/// How a drive to a count stopped.
+#[derive(Clone, Copy, Debug, PartialEq, Eq)]
+pub enum Reach {
+    /// So many instructions have committed.
+    Reached,
+    /// The machine has ended before.
+    Ended,
+    /// The budget's cycles were all run, and the machine goes on before the count.
+    Budget,
+}

@@ -6,8 +6,9 @@
 //! - `stages`: what a pending claim passes through at each age;
 //! - `works`: the parts of the machine, and the phases of a cycle over them;
 //! - `machine`: the machine between cycles, `Machine`;
-//! - `ends`: how a machine ended, `End`, and how a drive stopped, `Drive`;
-//! - `turns`: a machine and a core, turn by turn, `turn` and `drive`.
+//! - `ends`: how a machine ended, `End`, and how a drive stopped, `Drive` and `Reach`;
+//! - `turns`: a machine and a core, turn by turn, `turn` and `drive`;
+//! - `reaching`: turns until so many instructions have committed, `drive_to`.
 //!
 //! What a cycle does is `cycle_of` of `diva_core`'s definitions; `specs/Start.antt` says in which
 //! state an image starts, `specs/Shown.antt` what contracts see of a machine, and
@@ -19,13 +20,15 @@ mod config;
 mod ends;
 mod log;
 mod machine;
+mod reaching;
 mod stages;
 mod turns;
 mod works;
 
 pub use config::Config;
-pub use ends::{Drive, End};
+pub use ends::{Drive, End, Reach};
 pub use machine::Machine;
+pub use reaching::drive_to;
 pub use turns::{drive, turn};
 
 /// The checker's depth, in cycles: a claim that is accepted in one cycle is judged six cycles later at

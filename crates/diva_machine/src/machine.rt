@@ -1,5 +1,5 @@
 // The machine between cycles.
-ghost use Rattle.std.specs.Prelude.{◌≡◌, ◌⊎◌, ◌+◌, ◌-◌, ◌*◌, ◌<◌, ◌≤◌, ◌^◌, ◌∷◌, ℕ, [], List, length, slice_get, None, Some, IfOk, true, false};
+ghost use Rattle.std.specs.Prelude.{◌≡◌, ◌⊎◌, ◌↔◌, ◌+◌, ◌-◌, ◌*◌, ◌<◌, ◌≤◌, ◌^◌, ◌∷◌, ℕ, [], List, length, slice_get, None, Some, IsNone, IfOk, true, false};
 ghost use Rattle.diva_isa.specs.State.{goes_on, GoesOn};
 ghost use Rattle.diva_isa.specs.Step.{steps};
 ghost use Rattle.diva_image.specs.View.{layout};
@@ -146,7 +146,8 @@ impl Machine {
 
     /// The row of the newest flush, `None` exactly where none came.
     pub fn newest(&self) -> Option<FlushRow>
-        ensures { result ≡ self.now.timed.newest }
+        ensures row { result ≡ self.now.timed.newest }
+        ensures none { IsNone result ↔ (self.now.timed.flushes ≡ 0) }
     {
         self.works.log.newest()
     }

@@ -95,18 +95,32 @@ impl Line {
         ensures bytes { self.new ≡ self.old ++ hex_word n }
         ensures len { length self.new ≡ length self.old + 8 }
     {
-        self.hex_bytes(&n.to_be_bytes());
+        // All digits are made before any is appended, since a trace has eight such words a line.
+        let [first, second, third, fourth] = n.to_be_bytes();
+        self.text(&[
+            hex_digit(first / 16),
+            hex_digit(first % 16),
+            hex_digit(second / 16),
+            hex_digit(second % 16),
+            hex_digit(third / 16),
+            hex_digit(third % 16),
+            hex_digit(fourth / 16),
+            hex_digit(fourth % 16),
+        ]);
     }
 }
 
-// The hex digit of a number below 16, in lower case.
+// The hex digits, in lower case.
+const HEX_DIGITS: [u8; 16] = [
+    b'0', b'1', b'2', b'3', b'4', b'5', b'6', b'7', b'8', b'9', b'a', b'b', b'c', b'd', b'e', b'f',
+];
+
+// The hex digit of a number below 16.
+#[inline(always)]
+#[tactic(auto, using(crate::proofs::Digits::digit_listed))]
 fn hex_digit(digit: u8) -> u8
     requires { digit < 16 }
     ensures { result ≡ digit_glyph false digit }
 {
-    if digit < 10 {
-        b'0' + digit
-    } else {
-        b'a' + (digit - 10)
-    }
+    HEX_DIGITS[usize::from(digit)]
 }

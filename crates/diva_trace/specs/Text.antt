@@ -1,14 +1,30 @@
 -- The text of a run: its parts, and the whole.
-use Rattle.std.specs.Prelude.{◌≡◌, ℕ, ◌+◌, ◌-◌, ◌*◌, List, [], ◌++◌, length, map, min, take, drop, Option, Some, None}
+use Rattle.std.specs.Prelude.{◌≡◌, ℕ, ◌+◌, ◌-◌, ◌*◌, List, [], ◌∷◌, ◌++◌, length, map, min, take, drop, Option, Some, None}
 use Rattle.std.specs.Int.{div_ceil}
 use Rattle.std.specs.List.{concat, range_with_len}
 use Rattle.diva_memory.specs.Bytes.{Bytes}
-use Rattle.diva_isa.specs.State.{memory_of}
+use Rattle.diva_isa.specs.State.{State, memory_of}
+use Rattle.diva_isa.specs.declared.record.Record.{Record}
+use Rattle.diva_core.specs.Headline.{dues}
 use Rattle.diva_core.specs.Timed.{Timed}
 use Rattle.diva_core.specs.declared.flushes.FlushRow.{FlushRow}
-use Rattle.diva_trace.specs.Lines.{flush_line, end_line, count_line, cycles_line, flushes_line, output_line, out_line, registers_line, pc_line, mem_line}
+use Rattle.diva_trace.specs.Lines.{commit_line, flush_line, end_line, count_line, cycles_line, flushes_line, output_line, out_line, registers_line, pc_line, mem_line}
 use Rattle.diva_trace.specs.declared.report.Dump.{Dump}
 use Rattle.diva_trace.specs.declared.report.Report.{Report}
+
+-- ---- what was committed
+
+-- a line for each record; the first has this number
+abbrev pub commit_lines : (first : ℕ) → List Record → List (List ℕ)
+commit_lines first [] = []
+commit_lines first (r ∷ records) = commit_line first r ∷ commit_lines (first + 1) records
+
+unfoldable pub commits_text : (first : ℕ) → List Record → List ℕ
+commits_text first records = concat (commit_lines first records)
+
+-- the commit lines of the first n instructions from a state on
+abbrev pub trace_of : State → (n : ℕ) → List ℕ
+trace_of s n = commits_text 0 (dues n s)
 
 -- n lines, by their numbers from 0 on
 abbrev pub numbered : ℕ → (ℕ → List ℕ) → List (List ℕ)
@@ -57,7 +73,7 @@ asked_text m (Some dump) = dump_text m dump
 
 -- ---- the whole
 
--- the text of a run that ended at this machine
+-- the text of a run that ended at this machine, behind its commit lines
 abbrev pub text_of : Timed → Option Dump → List ℕ
 text_of m dump =
     rows_text m.rows

@@ -23,5 +23,5 @@ pub use lines::{
 };
 pub use report::{Dump, Report};
 pub use writers::{
-    write_dump, write_output, write_registers, write_rows, write_run, write_summary,
+    write_commits, write_dump, write_output, write_registers, write_rows, write_run, write_summary,
 };

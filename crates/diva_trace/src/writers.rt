@@ -1,19 +1,44 @@
 // The parts of a run's text, and the whole of it, put to a sink line by line.
-ghost use Rattle.std.specs.Prelude.{◌≡◌, ◌+◌, ◌^◌, ◌≤◌};
+ghost use Rattle.std.specs.Prelude.{◌≡◌, ◌+◌, ◌^◌, ◌≤◌, ◌<◌, length};
 ghost use Rattle.std.specs.Option.{ForSome};
 ghost use Rattle.diva_isa.specs.State.{memory_of};
 ghost use Rattle.diva_core.specs.Timed.{Timed};
 ghost use Rattle.diva_outside.specs.Sink.{Puts};
-ghost use Rattle.diva_trace.specs.Text.{rows_text, summary_text, output_text, registers_text, dump_text, text_in, text_of, IsReportOf};
+ghost use Rattle.diva_trace.specs.Text.{commits_text, rows_text, summary_text, output_text, registers_text, dump_text, text_in, text_of, IsReportOf};
 
 use crate::line_list::{LineList, write_lines};
 use crate::lines::{
-    count_line, cycles_line, end_line, flush_line, flushes_line, mem_line, out_line,
+    commit_line, count_line, cycles_line, end_line, flush_line, flushes_line, mem_line, out_line,
     output_len_line, pc_line, registers_line,
 };
 use crate::report::{Dump, Report};
 use diva_core::{FlushRow, View};
+use diva_isa::Record;
 use diva_outside::{Line, Sink, SinkFailed, put_lines};
+
+// The lines of some committed instructions, the first of which has this number.
+#[derive(Drop)]
+struct CommitLines<'a> {
+    first: u64,
+    records: &'a [Record],
+    ghost numbered: { first + length records.now < 2 ^ 64 },
+}
+
+impl LineList for CommitLines<'_> {
+    ghost use Rattle.diva_trace.specs.Text.{commit_lines};
+
+    ghost lines = { λ s. commit_lines s.first s.records.now };
+
+    #[tactic(auto, using(crate::proofs::Numbered::length_commit_lines))]
+    fn count(&self) -> usize {
+        self.records.len()
+    }
+
+    #[tactic(auto, using(crate::proofs::Numbered::length_commit_lines, crate::proofs::Numbered::line_commit_lines))]
+    fn line(&self, at: usize) -> Line {
+        commit_line(self.first + at as u64, &self.records[at])
+    }
+}
 
 // The lines of some flushes.
 #[derive(Drop)]
@@ -85,6 +110,21 @@ impl LineList for DumpLines<'_> {
             (self.dump.len - done).min(16),
         )
     }
+}
+
+/// Puts what was committed, in order; the first record is that of the instruction of this number. Where a put fails, a
+/// prefix of their text was appended.
+#[tactic(auto, unfolding(crate::specs::Text::commits_text))]
+pub fn write_commits<S: Sink>(
+    first: u64,
+    records: &[Record],
+    sink: &mut S,
+) -> Result<(), SinkFailed>
+    requires { first + length records.now < 2 ^ 64 }
+    ensures { Puts (commits_text first records.now)
+        (S.contents sink.old) (S.contents sink.new) (S.faults sink.old) (S.faults sink.new) result }
+{
+    write_lines(&CommitLines { first, records }, sink)
 }
 
 /// Puts the flushes, in order. Where a put fails, a prefix of their text was appended.

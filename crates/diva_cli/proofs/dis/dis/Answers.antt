@@ -1,5 +1,5 @@
 -- The lines of the image were put.
-use Rattle.std.proofs.Common.{◌≡◌, List, ℕ, Ok, Err, refl, ap, sym}
+use Rattle.std.proofs.Common.{Ok, Err, refl, ap, sym}
 use Rattle.std.specs.List.{concat}
 use Rattle.diva_image.specs.Layout.{Layout}
 use Rattle.diva_image.specs.View.{layout}

@@ -5,5 +5,11 @@ use Rattle.diva_cli.proofs.tasks.perform.Goals as goal
 pub returns-in-Quiet : goal.returns-in-Quiet
 returns-in-Quiet g c = rw c.in-Quiet.is (performs_quiet g.D.Core.gives _ _ _ _ _ _ _ c.drive.result c.drive.ensures.drives.turns c.drive.ensures.within c.drive.ensures.ended c.drive.ensures.budget)
 
+pub returns-in-Trace : goal.returns-in-Trace
+returns-in-Trace g c = rw c.in-Trace.is c.drive_writing.ensures
+
 pub returns-in-Tape : goal.returns-in-Tape
-returns-in-Tape g c = rw c.in-Tape.is c.drive_writing.ensures
+returns-in-Tape g c = rw c.in-Tape.is c.drive_writing-in-Tape.ensures
+
+pub returns-in-Debug : goal.returns-in-Debug
+returns-in-Debug g c = rw c.in-Debug.is c.reply_each.ensures

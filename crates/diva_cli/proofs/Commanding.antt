@@ -1,0 +1,286 @@
+-- Replies, one command after the other.
+use Rattle.std.proofs.Common.{◌≡◌, ◌≤◌, ◌<◌, ℕ, ◌+◌, ◌*◌, ◌^◌, List, [], ◌∷◌, ◌++◌, length, Option, Some, None, Result, Ok, Err, OnOk, IfSome, refl, ap, sym, ◌∙◌, append_assoc, append-nil, arith, subst, length-append, slice_get}
+use Rattle.std.proofs.Math.Nat.{mul-le-mul_right}
+use Rattle.std.proofs.lemmas.Option.{same_Some, none-some}
+use Rattle.diva_isa.specs.Step.{steps}
+use Rattle.diva_isa.specs.declared.record.Record.{Record}
+use Rattle.diva_core.specs.Cycle.{cycle_of, run_of}
+use Rattle.diva_core.specs.Log.{Meaning, Turns, lists_of}
+use Rattle.diva_core.specs.declared.flushes.FlushRow.{FlushRow}
+use Rattle.diva_core.proofs.Turning.{IsLog-run, length-lists_of}
+use Rattle.diva_machine.specs.Counts.{StopsAtOnce}
+use Rattle.diva_machine.proofs.Counting.{IsLog-then}
+use Rattle.diva_outside.specs.Sink.{Puts}
+use Rattle.diva_outside.specs.declared.sink.SinkFailed.{SinkFailed}
+use Rattle.diva_outside.proofs.Sinks.{puts_nothing, puts_then}
+use Rattle.diva_debug.specs.Moves.{Moves, steps_by}
+use Rattle.diva_debug.specs.Replies.{reply_of}
+use Rattle.diva_debug.specs.declared.command.Command.{Command}
+use Rattle.diva_cli.specs.Replies.{AreLed, IsReplied, cycles_of, joined, newest_after, replies_of}
+use Rattle.diva_core.specs.Timed.{Timed, new_timed}
+use Rattle.diva_core.specs.Machine.{IsSizes}
+use Rattle.diva_args.specs.Options.{DebugOptions}
+use Rattle.diva_args.specs.declared.job.Job.TheVariants.{Debug}
+use Rattle.diva_cli.specs.declared.loading.SessionReady.{SessionReady}
+use Rattle.diva_cli.specs.Wanted.{FileBytes}
+use Rattle.diva_cli.specs.Runs.{IsRunOver, sizes_of, start_in}
+use Rattle.diva_cli.specs.DebugTexts.{HasReplies}
+use Rattle.diva_cli.specs.Parts.{IsSession, WritesPart, WritesWhole}
+use Rattle.diva_cli.specs.Tasks.{Performs, PerformsBy}
+use Rattle.diva_cli.proofs.Running.{over_lists, run_over}
+
+-- ---- lists, one behind the other
+
+run-both : (m : Timed) (here later : List (List Record)) → run_of m (here ++ later) ≡ run_of (run_of m here) later
+run-both m [] later = refl
+run-both m (list ∷ rest) later = run-both (cycle_of m list) rest later
+
+lists-both : {C : Type 0} (log more : List (List Record × C)) → lists_of (log ++ more) ≡ lists_of log ++ lists_of more
+lists-both [] more = refl
+lists-both (turn ∷ log) more = ap (λ (l : List (List Record)). turn.0 ∷ l) (lists-both log more)
+
+joined-more : (parts : List (List (List Record))) (part : List (List Record)) → joined (parts ++ part ∷ []) ≡ joined parts ++ part
+joined-more [] part = append-nil part
+joined-more (first ∷ parts) part =
+    ap (λ (l : List (List Record)). first ++ l) (joined-more parts part) ∙ sym (append_assoc first (joined parts) part)
+
+-- ---- one command more
+
+led-more : (done : List Command) (c : Command) (m : Timed) (parts : List (List (List Record))) (part : List (List Record)) (mid : Timed)
+    → mid ≡ run_of m (joined parts)
+    → AreLed done m parts
+    → Moves (steps_by c mid.arch) mid (run_of mid part)
+    → StopsAtOnce mid (run_of mid part)
+    → AreLed (done ++ c ∷ []) m (parts ++ part ∷ [])
+led-more [] c m parts part mid is r moved once =
+    let none : parts ≡ [] = r in
+    let same : mid ≡ m = is ∙ ap (λ (ps : List (List (List Record))). run_of m (joined ps)) none in
+    subst (λ (ps : List (List (List Record))). AreLed (c ∷ []) m (ps ++ part ∷ [])) (sym none)
+    (subst (λ (n : Timed). Moves (steps_by c n.arch) n (run_of n part) → StopsAtOnce n (run_of n part) → AreLed (c ∷ []) m (part ∷ [])) (sym same) (λ v a. (v, (a, refl))) moved once)
+led-more (d ∷ done) c m [] part mid is r moved once = absurd r
+led-more (d ∷ done) c m (first ∷ parts) part mid is r moved once =
+    (r.0, (r.1.0, led-more done c (run_of m first) parts part mid (is ∙ run-both m first (joined parts)) r.1.1 moved once))
+
+newest-more : (m : Timed) (parts : List (List (List Record))) (part : List (List Record)) (mid : Timed)
+    → mid ≡ run_of m (joined parts)
+    → newest_after m (parts ++ part ∷ []) ≡ newest_after m parts ++ (run_of mid part).newest ∷ []
+newest-more m [] part mid is = ap (λ (n : Timed). (run_of n part).newest ∷ []) (sym is)
+newest-more m (first ∷ parts) part mid is =
+    ap (λ (rows : List (Option FlushRow)). (run_of m first).newest ∷ rows) (newest-more (run_of m first) parts part mid (is ∙ run-both m first (joined parts)))
+
+-- its reply stands behind the others
+replies-more : (done : List Command) (c : Command) (m : Timed) (parts : List (List (List Record))) (row : Option FlushRow) (mid : Timed)
+    → mid ≡ run_of m (joined parts)
+    → AreLed done m parts
+    → replies_of (done ++ c ∷ []) m.count m.arch (newest_after m parts ++ row ∷ []) ≡ replies_of done m.count m.arch (newest_after m parts) ++ reply_of c mid.count mid.arch row
+replies-more [] c m parts row mid is r =
+    let none : parts ≡ [] = r in
+    let same : mid ≡ m = is ∙ ap (λ (ps : List (List (List Record))). run_of m (joined ps)) none in
+    rw (none, same) (append-nil (reply_of c m.count m.arch row))
+replies-more (d ∷ done) c m [] row mid is r = absurd r
+replies-more (d ∷ done) c m (first ∷ parts) row mid is r =
+    let n : Timed = run_of m first in
+    let here : List ℕ = reply_of d m.count m.arch n.newest in
+    let later : List (Option FlushRow) = newest_after n parts in
+    let place : m.count + steps_by d m.arch ≡ n.count = sym r.0.count in
+    let state : steps (steps_by d m.arch) m.arch ≡ n.arch = sym r.0.arch in
+    let more = replies-more done c n parts row mid (is ∙ run-both m first (joined parts)) r.1.1 in
+    ap (λ (t : List ℕ). here ++ t) (
+    ap (λ p. replies_of (done ++ c ∷ []) p (steps (steps_by d m.arch) m.arch) (later ++ row ∷ [])) place
+    ∙ ap (λ s. replies_of (done ++ c ∷ []) n.count s (later ++ row ∷ [])) state
+    ∙ more
+    ∙ ap (λ (t : List ℕ). t ++ reply_of c mid.count mid.arch row) (ap (λ s. replies_of done n.count s later) (sym state) ∙ ap (λ p. replies_of done p (steps (steps_by d m.arch) m.arch) later) (sym place)))
+    ∙ sym (append_assoc here (replies_of done (m.count + steps_by d m.arch) (steps (steps_by d m.arch) m.arch) later) (reply_of c mid.count mid.arch row))
+
+-- ---- the commands that are left
+
+record NextIs (c : Command) (left : List Command) : Type 0 where
+  rest : List Command
+  is : left ≡ c ∷ rest
+
+next-left : (done left : List Command) (c : Command) → slice_get (done ++ left) (length done) ≡ Some c → NextIs c left
+next-left [] [] c e = absurd (none-some _ e)
+next-left [] (x ∷ rest) c e = record { rest = rest; is = ap (λ (y : Command). y ∷ rest) (same_Some _ _ e) }
+next-left (d ∷ done) left c e = next-left done left c e
+
+nil-left : (commands done left : List Command) → commands ≡ done ++ left → length done ≡ length commands → left ≡ []
+nil-left commands done [] e n = refl
+nil-left commands done (x ∷ rest) e n = absurd (let l : length commands ≡ length done + length (x ∷ rest) = ap (λ (t : List Command). length t) e ∙ length-append done (x ∷ rest) in omega arith)
+
+-- ---- what was replied so far: to n commands
+
+pub record RepliesSoFar {C : Type 0} (gives : Meaning C) (commands : List Command) (n : ℕ) (m : Timed) (core : C) (last : Timed) (after : C)
+    (old new : Option (List ℕ)) (before now : ℕ) (result : Result (Unit {0}) SinkFailed) : Type 0 where
+  pub turns : Turns gives m core last after
+  pub done : List Command
+  pub left : List Command
+  pub in_order : commands ≡ done ++ left
+  pub many : length done ≡ n
+  pub parts : List (List (List Record))
+  pub together : lists_of turns.log ≡ joined parts
+  pub led : AreLed done m parts
+  pub put : Puts (replies_of done m.count m.arch (newest_after m parts)) old new before now result
+
+pub replies_none : {C : Type 0} (gives : Meaning C) (commands : List Command) (m : Timed) (core : C) (old : Option (List ℕ)) (before : ℕ)
+    → RepliesSoFar gives commands 0 m core m core old old before before (Ok tt)
+replies_none gives commands m core old before =
+    record {
+      turns = record { log = []; good = (refl, refl); each = omega arith };
+      done = [];
+      left = commands;
+      in_order = refl;
+      many = refl;
+      parts = [];
+      together = refl;
+      led = refl;
+      put = puts_nothing old before;
+    }
+
+pub replies_more :
+    {C : Type 0} (gives : Meaning C) (commands : List Command) (n : ℕ) (m : Timed) (core : C) (mid : Timed) (between : C) (old now new : Option (List ℕ)) (f g h : ℕ)
+    (c : Command) (last : Timed) (after : C) (line piece : List ℕ) (result : Result (Unit {0}) SinkFailed)
+    → RepliesSoFar gives commands n m core mid between old now f g (Ok tt)
+    → slice_get commands n ≡ Some c
+    → Turns gives mid between last after
+    → Moves (steps_by c mid.arch) mid last
+    → StopsAtOnce mid last
+    → line ≡ reply_of c mid.count mid.arch last.newest
+    → piece ≡ line
+    → Puts piece now new g h result
+    → RepliesSoFar gives commands (n + 1) m core last after old new f h result
+replies_more gives commands n m core mid between old now new f g h c last after line piece result s at t moved once is piece_is puts =
+    record {
+      turns = record {
+        log = s.turns.log ++ t.log;
+        good = IsLog-then gives m core s.turns.log mid between t.log last after s.turns.good t.good;
+        each = rw length-append (let e = s.turns.each in let k = t.each in omega arith);
+      };
+      done = s.done ++ c ∷ [];
+      left = next.rest;
+      in_order = s.in_order ∙ ap (λ (l : List Command). s.done ++ l) next.is ∙ sym (append_assoc s.done (c ∷ []) next.rest);
+      many = rw length-append (let e = s.many in omega arith);
+      parts = s.parts ++ lists_of t.log ∷ [];
+      together = lists-both s.turns.log t.log ∙ ap (λ (l : List (List Record)). l ++ lists_of t.log) s.together ∙ sym (joined-more s.parts (lists_of t.log));
+      led = led-more s.done c m s.parts (lists_of t.log) mid here s.led (subst (Moves (steps_by c mid.arch) mid) there moved) (subst (StopsAtOnce mid) there once);
+      put = subst (λ (x : List ℕ). Puts x old new f h result) (sym text)
+          (puts_then (replies_of s.done m.count m.arch (newest_after m s.parts)) _ old now new f g h result s.put (subst (λ (x : List ℕ). Puts x now new g h result) (piece_is ∙ is) puts));
+    }
+  where
+    next : NextIs c s.left
+    next = next-left s.done s.left c (ap (λ (l : List Command). slice_get l (length s.done)) (sym s.in_order) ∙ ap (slice_get commands) s.many ∙ at)
+
+    here : mid ≡ run_of m (joined s.parts)
+    here = IsLog-run gives m core s.turns.log mid between s.turns.good ∙ ap (run_of m) s.together
+
+    there : last ≡ run_of mid (lists_of t.log)
+    there = IsLog-run gives mid between t.log last after t.good
+
+    text : replies_of (s.done ++ c ∷ []) m.count m.arch (newest_after m (s.parts ++ lists_of t.log ∷ [])) ≡ replies_of s.done m.count m.arch (newest_after m s.parts) ++ reply_of c mid.count mid.arch last.newest
+    text =
+        ap (replies_of (s.done ++ c ∷ []) m.count m.arch) (newest-more m s.parts (lists_of t.log) mid here)
+        ∙ ap (λ (k : Timed). replies_of (s.done ++ c ∷ []) m.count m.arch (newest_after m s.parts ++ k.newest ∷ [])) (sym there)
+        ∙ replies-more s.done c m s.parts last.newest mid here s.led
+
+pub replied :
+    {C : Type 0} (gives : Meaning C) (commands : List Command) (n : ℕ) (m : Timed) (core : C) (last : Timed) (after : C) (old new : Option (List ℕ)) (f g : ℕ) (result : Result (Unit {0}) SinkFailed)
+    → RepliesSoFar gives commands n m core last after old new f g result
+    → last.cycles ≤ m.cycles + cycles_of n m.sizes.limit
+    → OnOk result (n ≡ length commands)
+    → Performs gives m core last after (λ lists. IsReplied commands m lists old new f g result)
+replied gives commands n m core last after old new f g result s within all =
+    record {
+      turns = s.turns;
+      done = record {
+        done = s.done;
+        left = s.left;
+        in_order = s.in_order;
+        whole = whole result all;
+        parts = s.parts;
+        together = s.together;
+        led = s.led;
+        most = rw s.many (let e = s.turns.each in let l = length-lists_of s.turns.log in omega arith);
+        put = s.put;
+      };
+    }
+  where
+    whole : (r : Result (Unit {0}) SinkFailed) → OnOk r (n ≡ length commands) → OnOk r (s.left ≡ [])
+    whole (Ok u) e = nil-left commands s.done s.left s.in_order (s.many ∙ e)
+    whole (Err e) h = tt
+
+-- ---- cycles
+
+-- one command more takes a million steps at most
+pub cycles-more : (cycles before n limit limit' : ℕ) (after : ℕ) → cycles ≤ before + cycles_of n limit → limit' ≡ limit → after ≤ cycles + 1000000 * (limit' + 6) → after ≤ before + cycles_of (n + 1) limit
+cycles-more cycles before n limit limit' after so_far same one =
+    let l : 1000000 * (limit' + 6) ≡ 1000000 * (limit + 6) = ap (λ k. 1000000 * (k + 6)) same in
+    let p : cycles_of (n + 1) limit ≡ cycles_of n limit + 1000000 * (limit + 6) = grind arith in
+    omega arith
+
+-- a command's cycles fit where those of all do
+pub cycles-fit : (cycles before n len most limit limit' bound : ℕ) → cycles ≤ before + cycles_of n limit → n < len → limit' ≡ limit → before + cycles_of len limit ≤ bound → most ≤ 1000000
+    → cycles + most * (limit' + 6) ≤ bound
+cycles-fit cycles before n len most limit limit' bound so_far short same all few =
+    let p : (n + 1) * (1000000 * (limit + 6)) ≤ len * (1000000 * (limit + 6)) = mul-le-mul_right (1000000 * (limit + 6)) (omega arith) in
+    let q : most * (limit + 6) ≤ 1000000 * (limit + 6) = mul-le-mul_right (limit + 6) few in
+    let r : (n + 1) * (1000000 * (limit + 6)) ≡ n * (1000000 * (limit + 6)) + 1000000 * (limit + 6) = grind arith in
+    let s : most * (limit' + 6) ≡ most * (limit + 6) = ap (λ k. most * (k + 6)) same in
+    omega arith
+
+-- a new machine has cycles for all commands of a file
+pub file-fits : (cycles n limit : ℕ) → cycles ≡ 0 → n ≤ 16777240 → limit ≤ 1024 → cycles + cycles_of n limit ≤ 2 ^ 60
+file-fits cycles n limit none few small =
+    let p : n * (1000000 * (limit + 6)) ≤ 16777240 * (1000000 * (limit + 6)) = mul-le-mul_right (1000000 * (limit + 6)) few in
+    omega arith
+
+-- ---- the replies of a session
+
+module _ {C : Type 0} (gives : Meaning C) (options : DebugOptions) (bytes : FileBytes) (session : SessionReady) (core : C) (last : Timed) (after : C)
+    (old new : Option (List ℕ)) (before now : ℕ) (result : Result (Unit {0}) SinkFailed)
+    (fits : IsSizes (sizes_of options.setup)) (is : IsSession options bytes session) (commands : List Command) (same : commands ≡ session.commands.items)
+    (p : PerformsBy gives session.ready.core session.ready.script session.ready.machine.timed core last after
+    (λ lists. IsReplied commands session.ready.machine.timed lists old new before now result)) where
+  abbrev first : Timed
+  first = new_timed (sizes_of options.setup) (start_in bytes)
+
+  few : length p.lists ≤ cycles_of (length p.done.done) options.setup.watchdog
+  few = subst (λ (m : Timed). length p.lists ≤ cycles_of (length p.done.done) m.sizes.limit) is.ready.begun p.done.most
+
+  abbrev over : IsRunOver gives options.setup (cycles_of (length p.done.done) options.setup.watchdog) bytes core last after
+  over = run_over gives options.setup (cycles_of (length p.done.done) options.setup.watchdog) bytes session.ready core last after fits is.ready p.lists p.ran p.each p.handed few
+
+  all_lists : over.run.driven.lists ≡ p.lists
+  all_lists = over_lists gives options.setup (cycles_of (length p.done.done) options.setup.watchdog) bytes session.ready core last after fits is.ready p.lists p.ran p.each p.handed few
+
+  abbrev text : List ℕ
+  text = replies_of p.done.done 0 (start_in bytes) (newest_after first p.done.parts)
+
+  has_replies : (status : Option ℕ) → IfSome status (λ s. (s ≡ 0) × (p.done.left ≡ [])) → HasReplies gives options bytes core after status text
+  has_replies status whole =
+      record {
+        done = p.done.done;
+        left = p.done.left;
+        read = is.read ∙ ap Ok (sym same ∙ p.done.in_order);
+        whole = whole;
+        last = last;
+        over = over;
+        parts = p.done.parts;
+        together = all_lists ∙ p.done.together;
+        led = subst (λ (m : Timed). AreLed p.done.done m p.done.parts) is.ready.begun p.done.led;
+        lines = refl;
+      }
+
+  puts : Puts text old new before now result
+  puts = subst (λ (m : Timed). Puts (replies_of p.done.done m.count m.arch (newest_after m p.done.parts)) old new before now result) is.ready.begun p.done.put
+
+  pub wrote_replies : result ≡ Ok tt → WritesWhole gives (Debug options) bytes core after old new 0
+  wrote_replies ok =
+      record {
+        text = text;
+        means = has_replies (Some 0) (refl, subst (λ (r : Result (Unit {0}) SinkFailed). OnOk r (p.done.left ≡ [])) ok p.done.whole);
+        written = (subst (λ (r : Result (Unit {0}) SinkFailed). Puts text old new before now r) ok puts).ok;
+      }
+
+  pub cut_replies : (e : SinkFailed) → result ≡ Err e → WritesPart gives (Debug options) bytes core after old new before now
+  cut_replies e err =
+      let q = subst (λ (r : Result (Unit {0}) SinkFailed). Puts text old new before now r) err puts in
+      record { rose = q.failed; text = text; means = has_replies None tt; written = q.part }

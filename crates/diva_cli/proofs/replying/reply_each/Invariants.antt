@@ -1,0 +1,12 @@
+-- The replies so far, and the cycles that they took.
+use Rattle.std.proofs.Common.{◌≡◌, ◌≤◌, ◌+◌, Ok}
+use Rattle.diva_cli.specs.Replies.{cycles_of}
+use Rattle.diva_cli.proofs.Commanding.{RepliesSoFar}
+use Rattle.diva_cli.proofs.replying.reply_each.Given as goal
+
+abbrev pub invariant-loop-command : goal.invariant-loop-command
+invariant-loop-command g l = record {
+  replies : RepliesSoFar g.D.Core.gives l.commands l.command-index l.fn.m.timed l.fn.core l.m.timed l.core (g.S.Sink.contents l.fn.sink) (g.S.Sink.contents l.sink) (g.S.Sink.faults l.fn.sink) (g.S.Sink.faults l.sink) (Ok tt);
+  within : l.m.timed.cycles ≤ l.fn.m.timed.cycles + cycles_of l.command-index l.fn.m.timed.sizes.limit;
+  sizes : l.m.timed.sizes ≡ l.fn.m.timed.sizes;
+}

@@ -1,0 +1,67 @@
+// The command `debug`: it reads its files with neither core nor sink in its hands, and then replies to the commands.
+ghost use Rattle.std.specs.Prelude.{◌≡◌, ◌≤◌, length, Some};
+ghost use Rattle.std.specs.List.{All};
+ghost use Rattle.diva_args.specs.declared.job.Job.TheVariants.{Debug};
+ghost use Rattle.diva_core.specs.Machine.{IsSizes};
+ghost use Rattle.diva_debug.specs.Moves.{IsShort};
+ghost use Rattle.diva_cli.specs.Wanted.{FileBytes, file_limit};
+ghost use Rattle.diva_cli.specs.Runs.{sizes_of};
+ghost use Rattle.diva_cli.specs.Parts.{Answers, IsSession, WritesText};
+
+use crate::driving::perform_by;
+use crate::loading::{Ready, SessionReady, make_session};
+use crate::stop::Failure;
+use crate::tasks::Task;
+use crate::writing::write_stop;
+use diva_args::DebugOptions;
+use diva_core::Core;
+use diva_outside::{Files, Sink};
+use std::alloc::Global;
+
+/// Replies to commands that step through an image. All memory is taken before the core is asked and
+/// before anything is written.
+pub(crate) fn debug<F: Files, S: Sink, C: Core>(
+    alloc: Global,
+    options: DebugOptions,
+    files: &mut F,
+    sink: &mut S,
+    core: &mut C,
+) -> Result<u8, Failure>
+    ensures { Answers C.gives (Some (Debug options)) (F.told files.old) (F.faults files.old)
+        (F.faults files.new) core.old core.new (S.contents sink.old) (S.contents sink.new)
+        (S.faults sink.old) (S.faults sink.new) result }
+{
+    match make_session(alloc, files, &options) {
+        Ok(session) => debug_ready(session, options, sink, core),
+        Err(stop) => write_stop(stop, sink),
+    }
+}
+
+/// Moves a new machine by the commands, and writes the replies.
+fn debug_ready<S: Sink, C: Core>(
+    session: SessionReady,
+    options: DebugOptions,
+    sink: &mut S,
+    core: &mut C,
+) -> Result<u8, Failure>
+    requires fits { IsSizes (sizes_of options.setup) }
+    requires new { session.ready.machine.timed.cycles ≡ 0 }
+    requires narrow { session.ready.machine.timed.sizes.width ≡ 1 }
+    requires few { length session.commands.items ≤ file_limit }
+    requires short { All IsShort session.commands.items }
+    ensures { (bytes : FileBytes) → IsSession options bytes session
+        → WritesText C.gives (Debug options) bytes core.old core.new
+        (S.contents sink.old) (S.contents sink.new) (S.faults sink.old) (S.faults sink.new) result }
+{
+    let SessionReady { ready, commands } = session;
+    let Ready {
+        mut machine,
+        core: in_use,
+        script,
+    } = ready;
+    let task = Task::Debug(&commands);
+    match perform_by(&mut machine, in_use, &script, core, task, sink) {
+        Ok(()) => Ok(0),
+        Err(_) => Err(Failure::Cut),
+    }
+}

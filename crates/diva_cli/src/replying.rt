@@ -1,0 +1,30 @@
+// Commands that move a machine, and the replies to them.
+ghost use Rattle.diva_cli.specs.Replies.{CanReply, IsReplied};
+ghost use Rattle.diva_cli.specs.Tasks.{Performs};
+
+use diva_core::Core;
+use diva_debug::{Command, reply_to};
+use diva_machine::Machine;
+use diva_outside::{Sink, SinkFailed};
+
+/// Does each of the commands and writes the reply to it, until the sink fails.
+pub(crate) fn reply_each<D: Core, S: Sink>(
+    m: &mut Machine,
+    core: &mut D,
+    commands: &[Command],
+    sink: &mut S,
+) -> Result<(), SinkFailed>
+    requires { CanReply commands.now m.old.timed }
+    ensures { Performs D.gives m.old.timed core.old m.new.timed core.new
+        (λ lists. IsReplied commands.now m.old.timed lists
+        (S.contents sink.old) (S.contents sink.new) (S.faults sink.old) (S.faults sink.new) result) }
+{
+    for command in commands {
+        let line = reply_to(m, core, command);
+        match sink.put(line.bytes()) {
+            Ok(()) => {}
+            Err(fault) => return Err(fault),
+        }
+    }
+    Ok(())
+}

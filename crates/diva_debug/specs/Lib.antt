@@ -1,0 +1,8 @@
+-- What the contracts of this crate and of those above it cite.
+pub mod Ranges
+pub mod Kinds
+pub mod Reading
+pub mod Gives
+pub mod Moves
+pub mod Replies
+pub mod Sessions

@@ -1,0 +1,118 @@
+-- The commands of a text, or its first fault. A line's words are read from the left, each by a rule that gives what the word
+-- says, or the kind of its fault.
+use Rattle.std.specs.Prelude.{ℕ, ◌-◌, ◌^◌, ◌&&◌, min, nat_le, List, [], ◌∷◌, ◌++◌, codes, Option, Some, None, option_and_then, Result, Ok, Err, if◌then◌else◌}
+use Rattle.std.specs.Str.{bytes_eq}
+use Rattle.diva_outside.specs.Lines.{LineFault, lines_of, over_lines}
+use Rattle.diva_outside.specs.Numbers.{decimal_of, hex_of}
+use Rattle.diva_outside.specs.Text.{Text}
+use Rattle.diva_outside.specs.Words.{words_of}
+use Rattle.diva_debug.specs.declared.command.Command.{Command}
+use Rattle.diva_debug.specs.declared.command.Command.TheVariants.{Step, Until, Reg, Mem, Why}
+use Rattle.diva_debug.specs.declared.fault.Kind.{Kind}
+use Rattle.diva_debug.specs.declared.fault.Kind.TheVariants.{Unknown, Number, WordCount}
+use Rattle.diva_debug.specs.Kinds.{number_of_kind}
+
+-- ---- one word
+
+abbrev pub or_unreadable : Option ℕ → Result ℕ Kind
+or_unreadable (Some n) = Ok n
+or_unreadable None = Err Number
+
+abbrev pub ranged : ℕ → ℕ → ℕ → Option ℕ
+ranged low high n = if nat_le low n && nat_le n high then Some n else None
+
+-- a decimal number from low to high
+unfoldable pub number_in : ℕ → ℕ → Text → Result ℕ Kind
+number_in low high word = or_unreadable (option_and_then (ranged low high) (decimal_of word))
+
+-- one to eight hex digits
+unfoldable pub hex_in : Text → Result ℕ Kind
+hex_in word = or_unreadable (hex_of word)
+
+-- ---- words from the left
+
+-- the first word as a rule reads it; there has to be one
+abbrev pub first_by : (Text → Result ℕ Kind) → List Text → Result ℕ Kind
+first_by rule [] = Err WordCount
+first_by rule (word ∷ words) = rule word
+
+abbrev pub others_of : List Text → List Text
+others_of [] = []
+others_of (word ∷ words) = words
+
+abbrev pub and_then : {A B : Type 0} → Result A Kind → (A → Result B Kind) → Result B Kind
+and_then (Ok value) next = next value
+and_then (Err kind) next = Err kind
+
+-- the first word as a rule reads it, and then the others by what it says
+abbrev pub with_first : (Text → Result ℕ Kind) → List Text → (ℕ → List Text → Result Command Kind) → Result Command Kind
+with_first rule words next = and_then (first_by rule words) (λ n. next n (others_of words))
+
+-- no word is left over
+abbrev pub and_no_more : {A : Type 0} → A → List Text → Result A Kind
+and_no_more value [] = Ok value
+and_no_more value (word ∷ words) = Err WordCount
+
+-- ---- one command
+
+-- after step: K
+unfoldable pub step_in : List Text → Result Command Kind
+step_in words =
+    with_first (number_in 1 1000000) words (λ k words.
+    and_no_more (Step k) words)
+
+-- after until: PC
+unfoldable pub until_in : List Text → Result Command Kind
+until_in words =
+    with_first hex_in words (λ pc words.
+    and_no_more (Until pc) words)
+
+-- after reg: N
+unfoldable pub reg_in : List Text → Result Command Kind
+reg_in words =
+    with_first (number_in 0 31) words (λ n words.
+    and_no_more (Reg n) words)
+
+-- 32 bytes at most, and none past 2^32
+abbrev pub most_bytes : ℕ → ℕ
+most_bytes addr = min 32 (2 ^ 32 - addr)
+
+-- after mem: ADDR LEN
+unfoldable pub mem_in : List Text → Result Command Kind
+mem_in words =
+    with_first hex_in words (λ addr words.
+    with_first (number_in 1 (most_bytes addr)) words (λ len words.
+    and_no_more (Mem (record { addr = addr; len = len })) words))
+
+-- a command by its first word, and the others
+unfoldable pub command_in : Text → List Text → Result Command Kind
+command_in word words =
+    if bytes_eq word (codes "step") then step_in words
+    else (if bytes_eq word (codes "until") then until_in words
+    else (if bytes_eq word (codes "reg") then reg_in words
+    else (if bytes_eq word (codes "mem") then mem_in words
+    else (if bytes_eq word (codes "why") then and_no_more Why words
+    else Err Unknown))))
+
+-- ---- all commands
+
+-- the command of a line's words, if it has words
+unfoldable pub line_in : List Text → Result (Option Command) Kind
+line_in [] = Ok None
+line_in (word ∷ words) = and_then (command_in word words) (λ command. Ok (Some command))
+
+-- the commands so far with that of one more line, if it has one
+abbrev pub and_command : List Command → Option Command → Result (List Command) Kind
+and_command commands None = Ok commands
+and_command commands (Some command) = Ok (commands ++ command ∷ [])
+
+abbrev pub numbered : {A : Type 0} → Result A Kind → Result A ℕ
+numbered (Ok value) = Ok value
+numbered (Err kind) = Err (number_of_kind kind)
+
+abbrev pub with_line : List Command → Text → Result (List Command) ℕ
+with_line commands line = numbered (and_then (line_in (words_of line)) (and_command commands))
+
+-- the commands of a text in their order, or its first fault
+unfoldable pub commands_of : Text → Result (List Command) LineFault
+commands_of text = over_lines with_line 1 [] (lines_of text)

@@ -1,0 +1,15 @@
+-- What a session holds.
+use Rattle.std.specs.Prelude.{ℕ}
+use Rattle.diva_core.specs.Timed.{Timed}
+use Rattle.diva_debug.specs.declared.session.Session.{Session}
+
+abbrev pub machine_of : {C : Type 0} → Session C → Timed
+machine_of s = s.machine.timed
+
+-- the core, as it is now
+abbrev pub core_of : {C : Type 0} → Session C → C
+core_of s = s.core.now
+
+-- which core it is that was lent
+abbrev pub lent_name : {C : Type 0} → Session C → ℕ
+lent_name s = s.core.ghost_name

@@ -1,0 +1,40 @@
+// Why a text has no commands.
+ghost use Rattle.std.specs.Prelude.{◌≡◌};
+ghost use Rattle.diva_debug.specs.Kinds.{number_of_kind};
+
+/// Why commands were not read.
+#[derive(Clone, Copy, Debug, PartialEq, Eq)]
+pub enum CommandFault {
+    /// A line has a fault: the first such line, and the first fault of its words, from the left.
+    Bad {
+        /// The line, from 1.
+        line: u64,
+        /// The kind of the fault:
+        ///
+        /// 1. the command is unknown;
+        /// 2. a number is unreadable or out of range;
+        /// 3. a word is missing or left over.
+        kind: u8,
+    },
+    /// Memory ran out.
+    Memory,
+}
+
+/// The kinds of faults of a line.
+#[derive(Clone, Copy, Debug, PartialEq, Eq)]
+pub(crate) enum Kind {
+    /// The command is unknown.
+    Unknown = 1,
+    /// A number is unreadable or out of range.
+    Number = 2,
+    /// A word is missing or left over.
+    WordCount = 3,
+}
+
+impl Kind {
+    pub(crate) fn number(self) -> u8
+        ensures { result ≡ number_of_kind self }
+    {
+        self as u8
+    }
+}

@@ -1,0 +1,109 @@
+// The lines that show a machine.
+ghost use Rattle.std.specs.Prelude.{◌≡◌, ◌↔◌, ◌≤◌, ◌<◌, ◌++◌, length, codes};
+ghost use Rattle.std.specs.Fmt.{decimal};
+ghost use Rattle.diva_debug.specs.declared.command.Command.TheVariants.{Why};
+ghost use Rattle.diva_debug.specs.Replies.{no_flush, place_line, register_line, reply_at, stop_line, until_line, why_line};
+
+use crate::command::Command;
+use diva_core::FlushRow;
+use diva_machine::{End, Machine};
+use diva_outside::Line;
+use diva_trace::{flush_line, mem_line};
+
+/// What a machine that was moved by a command replies to it.
+#[tactic(auto, unfolding(crate::specs::Replies::reply_at))]
+pub(crate) fn reply_at(command: &Command, m: &Machine) -> Line
+    ensures reply { result
+        ≡ reply_at command.now m.now.timed.count m.now.timed.arch m.now.timed.newest }
+    ensures no_flush { command.now ≡ Why → (result ≡ no_flush) ↔ (m.now.timed.flushes ≡ 0) }
+{
+    match command {
+        Command::Step(_) => stop_line(m),
+        Command::Until(pc) => until_line(*pc, m),
+        Command::Reg(number) => register_line(number.get(), m),
+        Command::Mem(range) => mem_line(&m.view(), range.addr(), range.len()),
+        Command::Why => why_line(m.newest()),
+    }
+}
+
+/// Where the machine stands, or how it ended.
+#[tactic(auto, unfolding(crate::specs::Replies::stop_line, crate::specs::Replies::at_line, crate::specs::Replies::ended_line))]
+fn stop_line(m: &Machine) -> Line
+    ensures { result ≡ stop_line m.now.timed.count m.now.timed.arch }
+{
+    match m.ended() {
+        End::GoesOn => place_line(b"at ", m.count(), m.view().pc()),
+        End::Halt(status) => ended_line(m.count(), b" halt ", status),
+        End::Trap(trap) => ended_line(m.count(), b" trap ", trap),
+    }
+}
+
+/// The same, where it was to stand at a pc.
+#[tactic(auto, unfolding(crate::specs::Replies::until_line, crate::specs::Replies::far_line))]
+fn until_line(pc: u32, m: &Machine) -> Line
+    ensures { result ≡ until_line pc m.now.timed.count m.now.timed.arch }
+{
+    if m.goes_on() && m.view().pc() != pc {
+        place_line(b"far ", m.count(), m.view().pc())
+    } else {
+        stop_line(m)
+    }
+}
+
+/// A word of at most 8 letters, the place and the pc there.
+#[tactic(auto, unfolding(crate::specs::Replies::place_line))]
+fn place_line(word: &[u8], place: u64, pc: u32) -> Line
+    requires { length word.now ≤ 8 }
+    ensures { result ≡ place_line word.now place pc }
+{
+    let mut line = Line::new();
+    line.text(word);
+    line.decimal(place);
+    line.text(b" pc ");
+    line.hex_word(pc);
+    line.text(b"\n");
+    line
+}
+
+/// How the machine ended, in a word of at most 8 letters and a number.
+fn ended_line(place: u64, how: &[u8], number: u8) -> Line
+    requires { length how.now ≤ 8 }
+    ensures { result ≡ codes "ended " ++ decimal place ++ (how.now ++ decimal number) ++ codes "\n" }
+{
+    let mut line = Line::new();
+    line.text(b"ended ");
+    line.decimal(place);
+    line.text(how);
+    line.decimal(u64::from(number));
+    line.text(b"\n");
+    line
+}
+
+/// One register.
+#[tactic(auto, unfolding(crate::specs::Replies::register_line))]
+fn register_line(n: u8, m: &Machine) -> Line
+    requires { n < 32 }
+    ensures { result ≡ register_line m.now.timed.arch.regs n }
+{
+    let mut line = Line::new();
+    line.text(b"x");
+    line.decimal(u64::from(n));
+    line.text(b" ");
+    line.hex_word(m.view().reg(n));
+    line.text(b"\n");
+    line
+}
+
+/// The newest flush, if one came.
+fn why_line(newest: Option<FlushRow>) -> Line
+    ensures { result ≡ why_line newest }
+{
+    match newest {
+        Some(row) => flush_line(&row),
+        None => {
+            let mut line = Line::new();
+            line.text(b"no flush\n");
+            line
+        }
+    }
+}
