@@ -297,9 +297,6 @@ pub those_push : (p : Entry → Bool) (w : List Entry) (e : Entry) (base : ℕ) 
     → ((i : ℕ) → has t i ≡ (if i == base + length w then b || has s (base + length w) else has s i)) → AreThose p (w ++ e ∷ []) base t
 those_push p w e base s t b those is puts = λ i. puts (base + i) ∙ push_by (base + i == base + length w) p w e base s b i those is refl
 
-pub those_pushed : (p : Entry → Bool) (w : List Entry) (e : Entry) (base : ℕ) (s : MarkSet) → AreThose p w base s → p e ≡ false → AreThose p (w ++ e ∷ []) base s
-those_pushed p w e base s those is = λ i. those i ∙ sym (holds_push p w e i is)
-
 drop_by : (c : Bool) (p : Entry → Bool) (w : List Entry) (e : Entry) (base : ℕ) (s : MarkSet) (i : ℕ) → AreThose p (w ++ e ∷ []) base s → (base + i == base + length w) ≡ c
     → (if c then false else has s (base + i)) ≡ holds_at p w i
 drop_by true p w e base s i those here =
