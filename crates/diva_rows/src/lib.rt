@@ -7,9 +7,9 @@
 //! - `runs`: command lines over files and a sink in memory, with the status and the text that are
 //!   due: `runs/tables` has the programs that are run, `runs/pipelined` those that are run ahead of the
 //!   checker, `runs/tapes` tapes that are played, written and refused, `runs/staged` tapes whose claims are
-//!   checked while older ones are pending, `runs/scripts` scripts that are refused, `runs/sources` sources that are
-//!   assembled and images that are listed, `runs/refusals` what is not run, or is written in part, and `runs/texts` writes the
-//!   text that is due;
+//!   checked while older ones are pending, `runs/scripts` scripts that are refused, `runs/traces` commit lines,
+//!   `runs/sessions` the commands of the debugger, `runs/sources` sources that are assembled and images that are listed,
+//!   `runs/refusals` what is not run, or is written in part, and `runs/texts` writes the text that is due;
 //! - `calls`: calls of a machine's parts, and of a machine that is driven;
 //! - `lists`: several claims in a cycle, right and wrong ones, and what each cycle commits:
 //!   `lists/tables` has the lists;

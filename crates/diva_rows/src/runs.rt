@@ -2,11 +2,13 @@
 mod pipelined;
 mod refusals;
 mod scripts;
+mod sessions;
 mod sources;
 mod staged;
 mod tables;
 mod tapes;
 mod texts;
+mod traces;
 
 use crate::cores::{Flipped, Lists};
 use crate::programs::{ASKS, FIVE_FILE, HALTS, Program, image_file};
@@ -23,8 +25,8 @@ use texts::{registers_text, text_due};
 /// The bytes that a sink takes, more than any of these runs writes.
 const ROOM: usize = 1 << 18;
 
-/// The files that are there, an image `a.diva`, a script `a.script`, a tape `a.tape` and a source `a.s`, and how
-/// loads of them and the sink fail.
+/// The files that are there, an image `a.diva`, a script `a.script`, a tape `a.tape`, a source `a.s` and commands
+/// `a.commands`, and how loads of them and the sink fail.
 #[derive(Drop)]
 struct Outside {
     alloc: Global,
@@ -32,6 +34,7 @@ struct Outside {
     script: Vec<u8>,
     tape: Vec<u8>,
     source: Vec<u8>,
+    commands: Vec<u8>,
     load_fails: Vec<u64>,
     room: usize,
     put_fails: Vec<SinkFail>,
@@ -46,6 +49,7 @@ impl Outside {
             script: Vec::new(alloc),
             tape: Vec::new(alloc),
             source: Vec::new(alloc),
+            commands: Vec::new(alloc),
             load_fails: Vec::new(alloc),
             room: ROOM,
             put_fails: Vec::new(alloc),
@@ -100,6 +104,7 @@ fn run_program<C: Core>(core: &mut C, line: &str, outside: Outside) -> Result<An
         ("a.script", outside.script),
         ("a.tape", outside.tape),
         ("a.s", outside.source),
+        ("a.commands", outside.commands),
     ] {
         there.push(MemFile::new(String::from_str(alloc, name)?, bytes))?;
     }

@@ -14,7 +14,7 @@ usage: diva run|tape IMAGE, debug IMAGE COMMANDS, asm SRC, dis IMAGE, soak SEED 
 #[test]
 fn lines_that_are_not_run(rt: HostRuntime) -> Result<(), Fail> {
     let alloc = rt.alloc();
-    let rows: [(&str, &[u64], u8, &str); 24] = [
+    let rows: [(&str, &[u64], u8, &str); 27] = [
         ("", &[], 2, USAGE),
         ("run", &[], 2, USAGE),
         ("run a.diva --width 5", &[], 2, USAGE),
@@ -23,6 +23,9 @@ fn lines_that_are_not_run(rt: HostRuntime) -> Result<(), Fail> {
         ("run a.diva --core tape", &[], 2, USAGE),
         ("run a.diva --tape a.tape", &[], 2, USAGE),
         ("tape a.diva --dump 0:4", &[], 2, USAGE),
+        ("tape a.diva --trace", &[], 2, USAGE),
+        ("debug a.diva", &[], 2, USAGE),
+        ("debug a.diva a.commands --width 2", &[], 2, USAGE),
         ("asm", &[], 2, USAGE),
         ("asm a.s --core own", &[], 2, USAGE),
         ("dis a.diva b.diva", &[], 2, USAGE),
