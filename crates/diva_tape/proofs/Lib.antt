@@ -7,4 +7,5 @@ pub mod Parting
 pub mod Playing
 pub mod ReadingBack
 pub mod Righting
+pub mod Sounding
 pub mod Writing

@@ -11,6 +11,7 @@ ghost use Rattle.diva_core.specs.Right.{AreRight, IsCalm};
 ghost use Rattle.diva_core.specs.Told.{notice_of};
 ghost use Rattle.diva_isa.specs.State.{State, goes_on};
 ghost use Rattle.diva_tape.specs.Lists.{IsLockstepCall};
+ghost use Rattle.diva_tape.specs.Noise.{noise_call, noise_lists};
 ghost use Rattle.diva_tape.specs.Scalar.{IsPast, IsScalarCall, MayLead, new_scalar, scalar_list};
 ghost use Rattle.diva_tape.specs.TapeCalls.{played, tape_call};
 ghost use Rattle.diva_tape.specs.declared.lockstep.Lockstep.{Lockstep};
@@ -59,4 +60,12 @@ pub fn scalar_may_lead_again()
 pub fn tape_core_plays()
     ensures { (m last : Timed) (before after : List (List Record)) (log : List (List Record × List (List Record)))
         → IsLog tape_call m before log last after → lists_of log ≡ played (length log) before }
+{}
+
+/// `Noise` hands over, in each of its histories, from any machine, the claims of its numbers in their order, one in each
+/// call, whatever becomes of them: how often it was asked is all that it goes by.
+#[tactic(auto, using(crate::proofs::Sounding::log_noise))]
+pub fn noise_goes_by_its_calls()
+    ensures { (m last : Timed) (before after : ℕ) (log : List (List Record × ℕ))
+        → IsLog noise_call m before log last after → lists_of log ≡ noise_lists (length log) before }
 {}

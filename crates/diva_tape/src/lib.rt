@@ -3,22 +3,28 @@
 //! - `lockstep`: `Lockstep`, which hands over one instruction at a time.
 //! - `scalar`: `Scalar`, which hands over one instruction in each cycle, ahead of the machine.
 //! - `silent`: `Silent`, which hands over nothing.
+//! - `flood`: `Flood`, which hands over eight claims of zeros in each call.
+//! - `echo`: `Echo`, which hands over the same instruction again while it waits.
+//! - `noise`: `Noise`, which hands over numbers of a generator.
 //! - `tape_core`: `TapeCore`, which hands over the lists of a tape.
 //! - `tape`: the lists of a text, `Tape`. `reading`: how a line is read, part by part and word by word; `line_parts`: its parts.
 //!   `fault`: why a text is no tape, `TapeFault`.
 //! - `piece`: the text of a claim in a tape.
 //! - `laws`: what the histories of a core have in common.
-//! - `worked`, `worked_scalar`: runs that were worked out by hand, which the definitions give.
+//! - `worked`, `worked_scalar`, `worked_hostile`: runs that were worked out by hand, which the definitions give.
 //!
-//! `specs/Lists.antt` says what Lockstep and Silent hand over, `specs/Scalar.antt` what Scalar does, `specs/TapeCalls.antt` what
-//! a core does that plays a tape. `specs/Tapes.antt` has the lists of a text, and `specs/TapeText.antt` the text of some lists.
-//! `specs/Programs.antt` says which programs run.
+//! `specs/Lists.antt` says what Lockstep, Silent, Flood and Echo hand over, `specs/Scalar.antt` what Scalar does,
+//! `specs/Noise.antt` what Noise does, `specs/TapeCalls.antt` what a core does that plays a tape. `specs/Tapes.antt` has the
+//! lists of a text, and `specs/TapeText.antt` the text of some lists. `specs/Programs.antt` says which programs run.
 #![tactic(auto)]
 
+mod echo;
 mod fault;
+mod flood;
 pub mod laws;
 mod line_parts;
 mod lockstep;
+mod noise;
 mod piece;
 mod reading;
 mod scalar;
@@ -28,10 +34,14 @@ mod tape_core;
 #[cfg(test)]
 mod tests;
 pub mod worked;
+pub mod worked_hostile;
 pub mod worked_scalar;
 
+pub use echo::Echo;
 pub use fault::TapeFault;
+pub use flood::Flood;
 pub use lockstep::Lockstep;
+pub use noise::Noise;
 pub use piece::tape_piece;
 pub use scalar::Scalar;
 pub use silent::Silent;

@@ -60,8 +60,8 @@ impl Core for TapeCore {
     }
 }
 
-// Hands over some claims.
-fn hand_over(list: &[Claim], out: &mut Claims)
+/// Hands over some claims.
+pub(crate) fn hand_over(list: &[Claim], out: &mut Claims)
     requires empty { out.old ≡ [] }
     requires most { length list.now ≤ 8 }
     ensures { out.new ≡ list.now }

@@ -1,0 +1,75 @@
+// A core that hands over numbers without a meaning.
+ghost use Rattle.std.specs.Prelude.{◌≡◌};
+ghost use Rattle.diva_tape.specs.Noise.{next_number, noise_claim, number_after};
+
+use diva_core::{Claim, Claims, Core, Told, View};
+use std::marker::Model;
+
+/// A core that hands over one claim in every call, whatever it is told: its eight fields are the next eight numbers of a
+/// linear congruential generator, which a seed begins. What it hands over depends on the seed and on how many calls came
+/// before alone.
+///
+/// No call takes memory.
+#[derive(Debug, Drop)]
+pub struct Noise {
+    /// The number that came last; the seed before the first.
+    last: u32,
+}
+
+impl Model for Noise {
+    ghost use Rattle.std.specs.Prelude.{ℕ};
+
+    ghost Value = { ℕ };
+
+    ghost view = { λ n. n.last };
+}
+
+impl Noise {
+    /// A core whose numbers are those after `seed`.
+    pub fn new(seed: u32) -> Self
+        ensures { result ≡ seed }
+    {
+        Noise { last: seed }
+    }
+
+    // The next number.
+    #[tactic(auto, unfolding(crate::specs::Noise::next_number))]
+    fn next_number(&mut self) -> u32
+        ensures number { result ≡ next_number self.old }
+        ensures last { self.new ≡ next_number self.old }
+    {
+        self.last = self
+            .last
+            .wrapping_mul(1_664_525)
+            .wrapping_add(1_013_904_223);
+        self.last
+    }
+
+    // The claim of the next eight numbers.
+    #[tactic(auto, unfolding(crate::specs::Noise::noise_claim))]
+    fn claim(&mut self) -> Claim
+        ensures claim { result ≡ noise_claim self.old }
+        ensures last { self.new ≡ number_after 8 self.old }
+    {
+        Claim {
+            pc: self.next_number(),
+            word: self.next_number(),
+            src1: self.next_number(),
+            src2: self.next_number(),
+            addr: self.next_number(),
+            value: self.next_number(),
+            next: self.next_number(),
+            end: self.next_number(),
+        }
+    }
+}
+
+impl Core for Noise {
+    ghost use Rattle.diva_tape.specs.Noise.{noise_call};
+
+    ghost gives = { noise_call };
+
+    fn cycle(&mut self, _told: &Told, _view: &View<'_>, out: &mut Claims) {
+        out.push(self.claim());
+    }
+}
