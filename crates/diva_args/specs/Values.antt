@@ -7,7 +7,7 @@ use Rattle.clap.specs.Walk.{Text}
 use Rattle.diva_outside.specs.Numbers.{decimal_of, hex_of}
 use Rattle.diva_args.specs.Options.{DumpRange}
 use Rattle.diva_args.specs.declared.job.CoreChoice.{CoreChoice}
-use Rattle.diva_args.specs.declared.job.CoreChoice.TheVariants.{Own, Lockstep, Scalar, Silent, Tape}
+use Rattle.diva_args.specs.declared.job.CoreChoice.TheVariants.{Own, Lockstep, Scalar, Silent, Flood, Echo, Noise, Tape}
 
 -- the core of this name, for one that takes no tape
 unfoldable pub core_named : Text → Option CoreChoice
@@ -16,6 +16,9 @@ core_named word =
     else if bytes_eq word (codes "lockstep") then Some Lockstep
     else if bytes_eq word (codes "scalar") then Some Scalar
     else if bytes_eq word (codes "silent") then Some Silent
+    else if bytes_eq word (codes "flood") then Some Flood
+    else if bytes_eq word (codes "echo") then Some Echo
+    else if bytes_eq word (codes "noise") then Some Noise
     else None
 
 -- the core of `--core` and `--tape`: a tape is given exactly where the core is `tape`

@@ -122,6 +122,12 @@ pub enum CoreChoice {
     Scalar,
     /// `silent`: no claim, ever.
     Silent,
+    /// `flood`: eight claims of zeros in every call.
+    Flood,
+    /// `echo`: the due record again in each call with room for it, while it is pending too.
+    Echo,
+    /// `noise`: a claim of numbers that mean nothing in every call.
+    Noise,
     /// `tape`: the lists in the file that `--tape` names, which is given for this core and for no other. The name is the
     /// word as it is, which may be empty.
     Tape(FileName),

@@ -37,6 +37,9 @@ fn core_words(core: &CoreChoice) -> (&str, Option<&str>) {
         CoreChoice::Lockstep => ("lockstep", None),
         CoreChoice::Scalar => ("scalar", None),
         CoreChoice::Silent => ("silent", None),
+        CoreChoice::Flood => ("flood", None),
+        CoreChoice::Echo => ("echo", None),
+        CoreChoice::Noise => ("noise", None),
         CoreChoice::Tape(name) => ("tape", Some(name.as_str())),
     }
 }
@@ -150,9 +153,12 @@ fn lines_of_debug(rt: HostRuntime) -> Result<(), Fail> {
 
 #[test]
 fn cores_and_their_tapes(rt: HostRuntime) -> Result<(), Fail> {
-    let lines: [(&[&str], (&str, Option<&str>)); 5] = [
+    let lines: [(&[&str], (&str, Option<&str>)); 8] = [
         (&["run", "p", "--core", "lockstep"], ("lockstep", None)),
         (&["run", "p", "--core", "scalar"], ("scalar", None)),
+        (&["run", "p", "--core", "flood"], ("flood", None)),
+        (&["run", "p", "--core", "echo"], ("echo", None)),
+        (&["run", "p", "--core", "noise"], ("noise", None)),
         (
             &["run", "p", "--core", "tape", "--tape", "t"],
             ("tape", Some("t")),
@@ -193,7 +199,7 @@ fn any_word_is_a_name(rt: HostRuntime) -> Result<(), Fail> {
 
 #[test]
 fn lines_that_are_refused(rt: HostRuntime) {
-    let lines: [&[&str]; 38] = [
+    let lines: [&[&str]; 39] = [
         &[],
         &["run"],
         &["run", "a", "b"],
@@ -217,6 +223,7 @@ fn lines_that_are_refused(rt: HostRuntime) {
         &["run", "a", "--core", "tape"],
         &["run", "a", "--tape", "t"],
         &["run", "a", "--core", "lockstep", "--tape", "t"],
+        &["run", "a", "--core", "noise", "--tape", "t"],
         &["run", "a", "--script"],
         &["run", "a", "--script", "b", "--script", "b"],
         &["run", "a", "--width", "5"],

@@ -40,6 +40,9 @@ fn named_core(name: &str) -> Option<CoreChoice>
         "lockstep" => Some(CoreChoice::Lockstep),
         "scalar" => Some(CoreChoice::Scalar),
         "silent" => Some(CoreChoice::Silent),
+        "flood" => Some(CoreChoice::Flood),
+        "echo" => Some(CoreChoice::Echo),
+        "noise" => Some(CoreChoice::Noise),
         _ => None,
     }
 }
