@@ -1,5 +1,5 @@
 -- Turns of a core under a script, and turns as lists that are handed to a machine.
-use Rattle.std.proofs.Common.{◌≡◌, ◌↔◌, ℕ, ◌+◌, ◌≤◌, ◌==◌, true, false, List, [], ◌∷◌, Option, Ok, refl, sym, ◌∙◌, ap, subst, arith, length}
+use Rattle.std.proofs.Common.{◌≡◌, ◌↔◌, ℕ, ◌+◌, ◌≤◌, ◌==◌, true, false, List, [], ◌∷◌, Option, Ok, refl, sym, ◌∙◌, ap, subst, arith, length, replicate, suc}
 use Rattle.std.proofs.lemmas.Bool.{true≢false}
 use Rattle.std.proofs.lemmas.Bool.Decides.{nat_tests}
 use Rattle.diva_isa.specs.State.{State, goes_on}
@@ -19,13 +19,13 @@ use Rattle.diva_faults.specs.Spoiled.{spoiled, spoiled_call, inside, lent_name, 
 use Rattle.diva_faults.proofs.Spoiling.{Turns-none, Turns-spoiled}
 use Rattle.diva_machine.specs.declared.ends.Drive.{Drive}
 use Rattle.diva_machine.specs.declared.ends.Drive.TheVariants.{Ended, Budget}
-use Rattle.diva_tape.specs.Lists.{lockstep_call, lockstep_list, silent_list}
+use Rattle.diva_tape.specs.Lists.{lockstep_call, lockstep_list, silent_list, zeros, flood_list, echo_call, echo_list}
+use Rattle.diva_tape.specs.Noise.{noise_call}
 use Rattle.diva_ahead.specs.Lead.{Lead}
 use Rattle.diva_tape.specs.Scalar.{IsScalarCall}
-use Rattle.diva_tape.specs.TapeCalls.{next_list, tape_call, played}
-use Rattle.diva_tape.proofs.Playing.{played-next}
+use Rattle.diva_tape.specs.TapeCalls.{tape_call}
 use Rattle.diva_cli.specs.declared.driving.CoreInUse.{CoreInUse}
-use Rattle.diva_cli.specs.declared.driving.CoreInUse.TheVariants.{Own, Lockstep, Scalar, Silent, Tape}
+use Rattle.diva_cli.specs.declared.driving.CoreInUse.TheVariants.{Own, Lockstep, Scalar, Silent, Flood, Echo, Noise, Tape}
 use Rattle.diva_cli.specs.Driven.{scripted_lists, scripted_rule}
 use Rattle.diva_cli.specs.Tasks.{AreHandedBy, IsQuiet, Performs, PerformsBy}
 
@@ -131,6 +131,18 @@ module _ {C D : Type 0} (gives : Meaning C) (its : Meaning D) (script : List Row
   by_silent is_rule =
       by Silent core (record { follows = by_rule silent_list (λ n before list after h. is_rule before (notice_of n) n.arch list after h); same = refl })
 
+  pub by_flood :
+      ((before : D) (told : Notice) (s : State) (list : List Record) (after : D) → its before told s list after → list ≡ replicate 8 zeros)
+      → PerformsBy gives Flood script m core last core this
+  by_flood is_rule =
+      by Flood core (record { follows = by_rule flood_list (λ n before list after h. is_rule before (notice_of n) n.arch list after h); same = refl })
+
+  pub by_echo :
+      ((before : D) (told : Notice) (s : State) (list : List Record) (after : D) → its before told s list after → list ≡ echo_call told s)
+      → PerformsBy gives Echo script m core last core this
+  by_echo is_rule =
+      by Echo core (record { follows = by_rule echo_list (λ n before list after h. is_rule before (notice_of n) n.arch list after h); same = refl })
+
 pub by_own :
     {C : Type 0} (gives : Meaning C) (script : List Row) (m last : Timed) (core after : C) (this : List (List Record) → Type 0)
     → Performs (spoiled script gives) m core last after this
@@ -144,23 +156,31 @@ module _ {C : Type 0} (gives : Meaning C) (script : List Row) (m last : Timed) (
       by gives IsScalarCall script m last core first final this p (Scalar first) core
       (record { final = final; turns = record { log = p.turns.log; good = p.turns.good; in_order = refl }; same = refl })
 
+  pub by_noise : (first final : ℕ) → Performs (spoiled script noise_call) m first last final this → PerformsBy gives (Noise first) script m core last core this
+  by_noise first final p =
+      by gives noise_call script m last core first final this p (Noise first) core
+      (record { final = final; turns = record { log = p.turns.log; good = p.turns.good; in_order = refl }; same = refl })
+
   pub by_tape : (first final : List (List Record)) → Performs (spoiled script tape_call) m first last final this → PerformsBy gives (Tape first) script m core last core this
   by_tape first final p =
       by gives tape_call script m last core first final this p (Tape first) core
       (record { final = final; turns = record { log = p.turns.log; good = p.turns.good; in_order = refl }; same = refl })
 
--- the lists of a tape, as a script changes them
-pub tape_played :
-    (script : List Row) (m : Timed) (before : List (List Record)) (log : List (List Record × List (List Record))) (last : Timed) (after : List (List Record))
+-- the lists of a core that goes by its calls alone, as a script changes them
+pub calls_made :
+    {D : Type 0} (its : Meaning D) (calls : ℕ → D → List (List Record))
+    → ((before : D) → calls 0 before ≡ [])
+    → ((before after : D) (told : Notice) (s : State) (list : List Record) (n : ℕ) → its before told s list after → list ∷ calls n after ≡ calls (suc n) before)
+    → (script : List Row) (m : Timed) (before : D) (log : List (List Record × D)) (last : Timed) (after : D)
     → IsMachine m
-    → IsLog (spoiled script tape_call) m before log last after
-    → lists_of log ≡ scripted_lists script (m.cycles + 1) (played (length (lists_of log)) before)
-tape_played script m before [] last after inv h = refl
-tape_played script m before (turn ∷ log) last after inv h =
+    → IsLog (spoiled script its) m before log last after
+    → lists_of log ≡ scripted_lists script (m.cycles + 1) (calls (length (lists_of log)) before)
+calls_made its calls none more script m before [] last after inv h = ap (scripted_lists script (m.cycles + 1)) (sym (none before))
+calls_made its calls none more script m before (turn ∷ log) last after inv h =
     let one = h.1.0 in
-    let more = tape_played script (cycle_of m turn.0) turn.1 log last after (stays m turn.0 inv) h.1.1 in
+    let rest = calls_made its calls none more script (cycle_of m turn.0) turn.1 log last after (stays m turn.0 inv) h.1.1 in
     let next : (cycle_of m turn.0).cycles ≡ m.cycles + 1 = cycle-cycles m turn.0 inv h.0 in
-    ap (λ (list : List Record). list ∷ lists_of log) (one.laid ∙ ap (scripted script (m.cycles + 1)) one.given.next)
-    ∙ ap (λ (lists : List (List Record)). scripted script (m.cycles + 1) (next_list before) ∷ lists)
-    (more ∙ ap (λ n. scripted_lists script (n + 1) (played (length (lists_of log)) turn.1)) next ∙ ap (λ (t : List (List Record)). scripted_lists script (m.cycles + 1 + 1) (played (length (lists_of log)) t)) one.given.later)
-    ∙ ap (scripted_lists script (m.cycles + 1)) (played-next (length (lists_of log)) before)
+    ap (λ (list : List Record). list ∷ lists_of log) one.laid
+    ∙ ap (λ (lists : List (List Record)). scripted script (m.cycles + 1) one.inner ∷ lists)
+    (rest ∙ ap (λ n. scripted_lists script (n + 1) (calls (length (lists_of log)) turn.1)) next)
+    ∙ ap (scripted_lists script (m.cycles + 1)) (more before turn.1 (notice_of m) m.arch one.inner (length (lists_of log)) one.given)

@@ -1,5 +1,5 @@
 -- What holds of a run, whatever the core hands over, and what is written of it.
-use Rattle.std.proofs.Common.{◌≡◌, ◌⊎◌, ℕ, ◌+◌, ◌-◌, ◌/◌, ◌≤◌, ◌<◌, Bool, true, false, List, [], ◌∷◌, ◌++◌, length, Option, Result, Ok, Err, OnOk, refl, inl, inr, sym, ◌∙◌, ap, subst, arith, eq-eqb}
+use Rattle.std.proofs.Common.{◌≡◌, ◌⊎◌, ℕ, suc, ◌+◌, ◌-◌, ◌/◌, ◌≤◌, ◌<◌, Bool, true, false, List, [], ◌∷◌, ◌++◌, length, Option, Result, Ok, Err, OnOk, refl, inl, inr, sym, ◌∙◌, ap, subst, arith, eq-eqb}
 use Rattle.diva_isa.specs.State.{State, goes_on}
 use Rattle.diva_isa.specs.Step.{steps}
 use Rattle.diva_isa.specs.declared.record.Record.{Record}
@@ -8,6 +8,7 @@ use Rattle.diva_core.specs.Cycle.{cycle_of, run_of}
 use Rattle.diva_core.specs.Log.{Meaning, IsLog, FollowRule}
 use Rattle.std.proofs.lemmas.Bool.{cases_Bool, true≢false}
 use Rattle.diva_core.specs.Machine.{IsMachine, IsSizes}
+use Rattle.diva_core.specs.Told.{Notice}
 use Rattle.diva_core.specs.Right.{AreRight}
 use Rattle.diva_core.specs.Headline.{AddsRows, dues}
 use Rattle.diva_core.proofs.Listing.{run_calm, new_calm}
@@ -23,7 +24,9 @@ use Rattle.diva_faults.specs.declared.rows.Row.{Row}
 use Rattle.diva_faults.proofs.Spoiling.{scripted-none, log-none}
 use Rattle.diva_tape.specs.Lists.{lockstep_list}
 use Rattle.diva_tape.specs.Scalar.{IsScalarCall, MayLead, new_scalar, scalar_list}
-use Rattle.diva_tape.specs.TapeCalls.{played}
+use Rattle.diva_tape.specs.Noise.{noise_call, noise_claim, noise_lists}
+use Rattle.diva_tape.specs.TapeCalls.{next_list, played, tape_call}
+use Rattle.diva_tape.proofs.Playing.{played-next}
 use Rattle.diva_tape.proofs.Following.{scalar_history, scalar_history_right, new_leads}
 use Rattle.diva_tape.proofs.Righting.{rule_right}
 use Rattle.diva_outside.specs.Sink.{Puts}
@@ -31,15 +34,15 @@ use Rattle.diva_outside.specs.declared.sink.SinkFailed.{SinkFailed}
 use Rattle.diva_outside.proofs.Sinks.{puts_cut, puts_nothing, puts_then}
 use Rattle.diva_args.specs.Options.{Setup, RunOptions, DumpRange}
 use Rattle.diva_args.specs.declared.job.CoreChoice.{CoreChoice}
-use Rattle.diva_args.specs.declared.job.CoreChoice.TheVariants.{Own, Lockstep, Scalar, Silent, Tape}
+use Rattle.diva_args.specs.declared.job.CoreChoice.TheVariants.{Own, Lockstep, Scalar, Silent, Flood, Echo, Noise, Tape}
 use Rattle.diva_args.specs.declared.job.Job.TheVariants.{Run}
 use Rattle.diva_trace.specs.Text.{commits_text, text_of}
 use Rattle.diva_trace.proofs.Numbered.{commits_text-append, commits_text-none}
 use Rattle.diva_cli.specs.declared.driving.CoreInUse.{CoreInUse}
 use Rattle.diva_cli.specs.declared.loading.Ready.{Ready}
 use Rattle.diva_cli.specs.Wanted.{FileBytes}
-use Rattle.diva_cli.specs.Driven.{IsDriven, AreHanded, ByOther, scripted_lists, scripted_rule}
-use Rattle.diva_cli.proofs.Handing.{tape_played}
+use Rattle.diva_cli.specs.Driven.{IsDriven, AreHanded, ByCalls, ByOther, scripted_lists, scripted_rule}
+use Rattle.diva_cli.proofs.Handing.{calls_made}
 use Rattle.diva_cli.specs.Runs.{IsRunFrom, IsRunOver, IsUnflushed, IsWhole, EndsWith, halted, trapped, unfinished, asked_trace, shown_dump, sizes_of, start_in}
 use Rattle.diva_cli.specs.declared.tasks.Task.{Task}
 use Rattle.diva_cli.specs.Tasks.{AreHandedBy, Does, PerformsBy, cycles_text, run_task, trace_lines}
@@ -88,6 +91,30 @@ right_handed gives choice tape script m core lists last after leads (inr is) non
 
 -- ---- a run from a state
 
+-- the lists of turns of another core, where they go by its calls alone
+by_calls :
+    {C D : Type 0} (its : Meaning D) (calls : ℕ → D → List (List Record))
+    → ((before : D) → calls 0 before ≡ [])
+    → ((before after : D) (told : Notice) (s : State) (list : List Record) (n : ℕ) → its before told s list after → list ∷ calls n after ≡ calls (suc n) before)
+    → (first : D) (script : List Row) (m : Timed) (core : C) (lists : List (List Record)) (last : Timed) (after : C)
+    → IsMachine m
+    → ByOther its first script m core lists last after
+    → ByCalls calls first script m core lists after
+by_calls its calls none more first script m core lists last after inv by =
+    record {
+      in_order = subst (λ (l : List (List Record)). l ≡ scripted_lists script (m.cycles + 1) (calls (length l) first)) (sym by.turns.in_order)
+          (calls_made its calls none more script m first by.turns.log last by.final inv by.turns.good);
+      same = by.same;
+    }
+
+noise_goes_on : (before after : ℕ) (told : Notice) (s : State) (list : List Record) (n : ℕ) → noise_call before told s list after → list ∷ noise_lists n after ≡ noise_lists (suc n) before
+noise_goes_on before after told s list n h =
+    ap (λ (l : List Record). l ∷ noise_lists n after) h.lists ∙ ap (λ x. (noise_claim before ∷ []) ∷ noise_lists n x) h.keeps
+
+tape_goes_on : (before after : List (List Record)) (told : Notice) (s : State) (list : List Record) (n : ℕ) → tape_call before told s list after → list ∷ played n after ≡ played (suc n) before
+tape_goes_on before after told s list n h =
+    ap (λ (l : List Record). l ∷ played n after) h.next ∙ ap (λ (t : List (List Record)). next_list before ∷ played n t) h.later ∙ played-next n before
+
 -- where the lists come from, told by the choice of the core
 handed_for :
     {C : Type 0} (gives : Meaning C) (asked : CoreChoice) (tape : List (List Record)) (script : List Row) (m : Timed) (core : C) (lists : List (List Record)) (last : Timed) (after : C)
@@ -97,11 +124,12 @@ handed_for gives Own tape script m core lists last after leads h = h
 handed_for gives Lockstep tape script m core lists last after leads h = h
 handed_for gives Scalar tape script m core lists last after leads h = record { by = h; alone = λ none. scalar_follows script m core lists last after leads none h }
 handed_for gives Silent tape script m core lists last after leads h = h
+handed_for gives Flood tape script m core lists last after leads h = h
+handed_for gives Echo tape script m core lists last after leads h = h
+handed_for gives Noise tape script m core lists last after leads h =
+    by_calls noise_call noise_lists (λ before. refl) noise_goes_on 0 script m core lists last after leads.machine h
 handed_for gives (Tape name) tape script m core lists last after leads h =
-    record {
-      in_order = subst (λ (l : List (List Record)). l ≡ scripted_lists script (m.cycles + 1) (played (length l) tape)) (sym h.turns.in_order) (tape_played script m tape h.turns.log last h.final leads.machine h.turns.good);
-      same = h.same;
-    }
+    by_calls tape_call played (λ before. refl) tape_goes_on tape script m core lists last after leads.machine h
 
 run_from_start :
     {C : Type 0} (gives : Meaning C) (setup : Setup) (cycles : ℕ) (tape : List (List Record)) (script : List Row) (start : State) (core : C) (last : Timed) (after : C)

@@ -7,11 +7,12 @@ use Rattle.diva_core.specs.Log.{Meaning, IsLog, lists_of, FollowRule}
 use Rattle.diva_faults.specs.declared.rows.Row.{Row}
 use Rattle.diva_faults.specs.Lists.{scripted}
 use Rattle.diva_faults.specs.Spoiled.{spoiled}
-use Rattle.diva_tape.specs.Lists.{lockstep_list, silent_list}
+use Rattle.diva_tape.specs.Lists.{lockstep_list, silent_list, flood_list, echo_list}
+use Rattle.diva_tape.specs.Noise.{noise_lists}
 use Rattle.diva_tape.specs.Scalar.{IsScalarCall, new_scalar, scalar_list}
 use Rattle.diva_tape.specs.TapeCalls.{played}
 use Rattle.diva_args.specs.declared.job.CoreChoice.{CoreChoice}
-use Rattle.diva_args.specs.declared.job.CoreChoice.TheVariants.{Own, Lockstep, Scalar, Silent, Tape as OfTape}
+use Rattle.diva_args.specs.declared.job.CoreChoice.TheVariants.{Own, Lockstep, Scalar, Silent, Flood, Echo, Noise, Tape as OfTape}
 
 -- the lists are those of turns that lead from a machine and a core to others
 pub record ByTurns {C : Type 0} (gives : Meaning C) (m : Timed) (core : C) (lists : List (List Record))
@@ -48,20 +49,25 @@ abbrev pub scripted_lists : List Row → (cycle : ℕ) → List (List Record) �
 scripted_lists script cycle [] = []
 scripted_lists script cycle (list ∷ lists) = scripted script cycle list ∷ scripted_lists script (cycle + 1) lists
 
--- the lists are those of a tape and then empty ones, under a script, and the core handed in stays as it was
-pub record ByTape {C : Type 0} (tape : List (List Record)) (script : List Row) (m : Timed) (core : C) (lists : List (List Record))
-    (after : C) : Type 0 where
-  pub in_order : lists ≡ scripted_lists script (m.cycles + 1) (played (length lists) tape)
+-- the lists are those that so many calls of another core hand over, whatever it is told, under a script, and the core handed in
+-- stays as it was
+pub record ByCalls {C D : Type 0} (calls : ℕ → D → List (List Record)) (first : D) (script : List Row) (m : Timed) (core : C)
+    (lists : List (List Record)) (after : C) : Type 0 where
+  pub in_order : lists ≡ scripted_lists script (m.cycles + 1) (calls (length lists) first)
   pub same : after ≡ core
 
--- ---- where the lists come from, a line for each core: `own` is the core handed in
+-- ---- where the lists come from, a line for each core: `own` is the core handed in, a tape's lists are followed by empty ones, and
+-- the seed of the noise is 0
 abbrev pub AreHanded : {C : Type 0} → Meaning C → CoreChoice → (tape : List (List Record)) → (script : List Row) → Timed → C
     → List (List Record) → Timed → C → Type 0
 AreHanded gives Own tape script m core lists last after = ByTurns (spoiled script gives) m core lists last after
 AreHanded gives Lockstep tape script m core lists last after = ByRule (scripted_rule script lockstep_list) m core lists after
 AreHanded gives Scalar tape script m core lists last after = ByNew IsScalarCall new_scalar scalar_list script m core lists last after
 AreHanded gives Silent tape script m core lists last after = ByRule (scripted_rule script silent_list) m core lists after
-AreHanded gives (OfTape name) tape script m core lists last after = ByTape tape script m core lists after
+AreHanded gives Flood tape script m core lists last after = ByRule (scripted_rule script flood_list) m core lists after
+AreHanded gives Echo tape script m core lists last after = ByRule (scripted_rule script echo_list) m core lists after
+AreHanded gives Noise tape script m core lists last after = ByCalls noise_lists 0 script m core lists after
+AreHanded gives (OfTape name) tape script m core lists last after = ByCalls played tape script m core lists after
 
 -- a machine was driven by the core of a choice under a script, with one list for each cycle, for the budget's cycles at most
 pub record IsDriven {C : Type 0} (gives : Meaning C) (choice : CoreChoice) (tape : List (List Record)) (script : List Row) (budget : ℕ)

@@ -18,7 +18,7 @@ use Rattle.diva_args.specs.declared.job.CoreChoice.{CoreChoice}
 use Rattle.diva_args.specs.declared.job.CoreChoice.TheVariants as choice
 use Rattle.diva_args.specs.declared.job.Job.{Job}
 use Rattle.diva_cli.specs.declared.driving.CoreInUse.{CoreInUse}
-use Rattle.diva_cli.specs.declared.driving.CoreInUse.TheVariants.{Own, Lockstep, Scalar, Silent, Tape}
+use Rattle.diva_cli.specs.declared.driving.CoreInUse.TheVariants.{Own, Lockstep, Scalar, Silent, Flood, Echo, Noise, Tape}
 use Rattle.diva_cli.specs.declared.loading.Ready.{Ready}
 use Rattle.diva_cli.specs.declared.loading.SessionReady.{SessionReady}
 use Rattle.diva_cli.specs.declared.stop.Stop.{Stop}
@@ -63,6 +63,9 @@ core_for choice.Own tape = Own
 core_for choice.Lockstep tape = Lockstep
 core_for choice.Scalar tape = Scalar new_scalar
 core_for choice.Silent tape = Silent
+core_for choice.Flood tape = Flood
+core_for choice.Echo tape = Echo
+core_for choice.Noise tape = Noise 0
 core_for (choice.Tape name) tape = Tape tape
 
 -- the core is the one that a choice asks for, and plays the tape with these bytes if there is one

@@ -12,13 +12,14 @@ use Rattle.diva_core.specs.Log.{Meaning, Turns, lists_of}
 use Rattle.diva_core.specs.Headline.{dues}
 use Rattle.diva_faults.specs.declared.rows.Row.{Row}
 use Rattle.diva_faults.specs.Spoiled.{spoiled}
-use Rattle.diva_tape.specs.Lists.{lockstep_list, silent_list}
+use Rattle.diva_tape.specs.Lists.{lockstep_list, silent_list, flood_list, echo_list}
+use Rattle.diva_tape.specs.Noise.{noise_call}
 use Rattle.diva_tape.specs.Scalar.{IsScalarCall}
 use Rattle.diva_tape.specs.TapeCalls.{tape_call}
 use Rattle.diva_tape.specs.TapeText.{IsList, list_text}
 use Rattle.diva_cli.specs.Driven.{ByTurns, ByRule, ByOther, scripted_rule}
 use Rattle.diva_cli.specs.declared.driving.CoreInUse.{CoreInUse}
-use Rattle.diva_cli.specs.declared.driving.CoreInUse.TheVariants.{Own, Lockstep, Scalar, Silent, Tape as OfTape}
+use Rattle.diva_cli.specs.declared.driving.CoreInUse.TheVariants.{Own, Lockstep, Scalar, Silent, Flood, Echo, Noise, Tape as OfTape}
 use Rattle.diva_cli.specs.declared.tasks.Task.{Task}
 use Rattle.diva_cli.specs.declared.tasks.Task.TheVariants.{Quiet, Trace, Tape, Debug}
 use Rattle.diva_trace.specs.Text.{commits_text}
@@ -100,6 +101,9 @@ AreHandedBy gives Own script m core lists last after = ByTurns (spoiled script g
 AreHandedBy gives Lockstep script m core lists last after = ByRule (scripted_rule script lockstep_list) m core lists after
 AreHandedBy gives (Scalar first) script m core lists last after = ByOther IsScalarCall first script m core lists last after
 AreHandedBy gives Silent script m core lists last after = ByRule (scripted_rule script silent_list) m core lists after
+AreHandedBy gives Flood script m core lists last after = ByRule (scripted_rule script flood_list) m core lists after
+AreHandedBy gives Echo script m core lists last after = ByRule (scripted_rule script echo_list) m core lists after
+AreHandedBy gives (Noise first) script m core lists last after = ByOther noise_call first script m core lists last after
 AreHandedBy gives (OfTape tape) script m core lists last after = ByOther tape_call tape script m core lists last after
 
 -- the core in use took turns with a machine under a script, and this holds of their lists

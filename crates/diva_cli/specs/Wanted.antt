@@ -8,7 +8,7 @@ use Rattle.diva_faults.specs.Reading.{script_of}
 use Rattle.diva_tape.specs.Tapes.{tape_of}
 use Rattle.diva_args.specs.Options.{DebugOptions, Setup}
 use Rattle.diva_args.specs.declared.job.CoreChoice.{CoreChoice}
-use Rattle.diva_args.specs.declared.job.CoreChoice.TheVariants.{Own, Lockstep, Scalar, Silent, Tape as OfTape}
+use Rattle.diva_args.specs.declared.job.CoreChoice.TheVariants.{Own, Lockstep, Scalar, Silent, Flood, Echo, Noise, Tape as OfTape}
 use Rattle.diva_args.specs.declared.job.Job.{Job}
 use Rattle.diva_args.specs.declared.job.Job.TheVariants.{Run, Tape, Debug, Asm, Dis}
 use Rattle.diva_asm.specs.Sources.{source_of}
@@ -37,6 +37,9 @@ tape_name Own = None
 tape_name Lockstep = None
 tape_name Scalar = None
 tape_name Silent = None
+tape_name Flood = None
+tape_name Echo = None
+tape_name Noise = None
 tape_name (OfTape name) = Some name
 
 -- what a machine begins with, then what is laid over its core, and then the tape that is its core

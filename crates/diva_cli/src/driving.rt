@@ -6,7 +6,7 @@ use diva_core::Core;
 use diva_faults::Script;
 use diva_machine::Machine;
 use diva_outside::{Sink, SinkFailed};
-use diva_tape::{Lockstep, Scalar, Silent, TapeCore};
+use diva_tape::{Echo, Flood, Lockstep, Noise, Scalar, Silent, TapeCore};
 
 /// The core that drives a machine, with all memory that it ever needs.
 #[derive(Drop)]
@@ -16,6 +16,9 @@ pub(crate) enum CoreInUse {
     Lockstep,
     Scalar(Scalar),
     Silent,
+    Flood,
+    Echo,
+    Noise(Noise),
     Tape(TapeCore),
 }
 
@@ -38,6 +41,9 @@ pub(crate) fn perform_by<C: Core, S: Sink>(
         CoreInUse::Lockstep => perform_under(script, m, &mut Lockstep, task, sink),
         CoreInUse::Scalar(mut scalar) => perform_under(script, m, &mut scalar, task, sink),
         CoreInUse::Silent => perform_under(script, m, &mut Silent, task, sink),
+        CoreInUse::Flood => perform_under(script, m, &mut Flood, task, sink),
+        CoreInUse::Echo => perform_under(script, m, &mut Echo, task, sink),
+        CoreInUse::Noise(mut noise) => perform_under(script, m, &mut noise, task, sink),
         CoreInUse::Tape(mut tape) => perform_under(script, m, &mut tape, task, sink),
     }
 }

@@ -23,7 +23,7 @@ use diva_faults::{Script, ScriptFault};
 use diva_image::{Image, ImageFault, read};
 use diva_machine::{Config, Machine};
 use diva_outside::{Files, LoadFault, What};
-use diva_tape::{Scalar, Tape, TapeCore, TapeFault};
+use diva_tape::{Noise, Scalar, Tape, TapeCore, TapeFault};
 use std::alloc::Global;
 
 /// The most bytes that a file may have: the largest payload and an image's header.
@@ -268,6 +268,9 @@ fn load_core<F: Files>(alloc: Global, files: &mut F, choice: &CoreChoice) -> Res
             Err(_) => Err(Stop::Memory),
         },
         CoreChoice::Silent => Ok(CoreInUse::Silent),
+        CoreChoice::Flood => Ok(CoreInUse::Flood),
+        CoreChoice::Echo => Ok(CoreInUse::Echo),
+        CoreChoice::Noise => Ok(CoreInUse::Noise(Noise::new(0))),
         CoreChoice::Tape(name) => match load_tape(alloc, files, name) {
             Ok(tape) => Ok(CoreInUse::Tape(TapeCore::new(tape))),
             Err(stop) => Err(stop),
