@@ -25,20 +25,6 @@ impl Core for Flipped {
     }
 }
 
-/// Hands over the due record of the committed state in each cycle, also while it waits to be judged.
-#[derive(Clone, Copy, Debug)]
-pub(crate) struct Echo;
-
-impl Core for Echo {
-    ghost use Rattle.std.specs.Prelude.{⊤};
-
-    ghost gives = { λ before told state list after. ⊤ };
-
-    fn cycle(&mut self, _told: &Told, view: &View<'_>, out: &mut Claims) {
-        out.push(record_of(view));
-    }
-}
-
 /// Hands over nothing before this cycle, and then what `Lockstep` does.
 #[derive(Clone, Copy, Debug)]
 pub(crate) struct Late {

@@ -1,4 +1,5 @@
 // Command lines over files and a sink in memory, with the status and the text that are due.
+mod hostile;
 mod pipelined;
 mod refusals;
 mod scripts;

@@ -2,7 +2,6 @@
 // out-of-order core, which the program is handed, as many as are done.
 use super::tables::{ONE_BY_ONE, Row};
 use super::{compare_row, compare_rows};
-use crate::cores::Echo;
 use crate::programs::{LOOP, Program};
 use diva_ooo::Ooo;
 use std::test::Fail;
@@ -128,26 +127,6 @@ output 0
         ..OVERWRITES
     },
 ];
-
-/// `FIVE` by a core that claims an instruction again and again: the first claim commits in cycle 7, and the second, of the same
-/// instruction, is judged in cycle 8. The checker's own instruction commits in cycle 14, and the claim of cycle 15 in 21.
-static ECHOED: Row = Row {
-    line: "run a.diva --core own",
-    counts: "\
-flush 8 at 1 pc claimed 00000000 due 00000004
-end halt 0
-count 3
-cycles 21
-flushes 1 silent 0
-output 0
-",
-    ..ONE_BY_ONE
-};
-
-#[test]
-fn a_core_that_repeats_itself(rt: HostRuntime) -> Result<(), Fail> {
-    compare_row(&rt, rt.alloc(), &mut Echo, &ECHOED)
-}
 
 #[test]
 fn programs_out_of_order(rt: HostRuntime) -> Result<(), Fail> {

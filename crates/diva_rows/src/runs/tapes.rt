@@ -100,14 +100,56 @@ const IN_LOCKSTEP: &str = "\
 
 ";
 
+/// One call of the flood: eight claims of zeros, of which a tape has the last too.
+const FLOODED: &str = "\
+00000000 00000000 00000000 00000000 00000000 00000000 00000000 00000000 ; \
+00000000 00000000 00000000 00000000 00000000 00000000 00000000 00000000 ; \
+00000000 00000000 00000000 00000000 00000000 00000000 00000000 00000000 ; \
+00000000 00000000 00000000 00000000 00000000 00000000 00000000 00000000 ; \
+00000000 00000000 00000000 00000000 00000000 00000000 00000000 00000000 ; \
+00000000 00000000 00000000 00000000 00000000 00000000 00000000 00000000 ; \
+00000000 00000000 00000000 00000000 00000000 00000000 00000000 00000000 ; \
+00000000 00000000 00000000 00000000 00000000 00000000 00000000 00000000
+";
+
+/// Three calls of the echo: the first claim again while it is pending.
+const ECHOED: &str = "\
+00000000 00500093 00000000 00000000 00000000 00000005 00000004 00000000
+00000000 00500093 00000000 00000000 00000000 00000005 00000004 00000000
+00000000 00500093 00000000 00000000 00000000 00000005 00000004 00000000
+";
+
+/// Two calls of the noise: the first sixteen numbers of the generator from 0 on, as Python computes them.
+const NOISY: &str = "\
+3c6ef35f 47502932 d1ccf6e9 aaf95334 6252e503 9f2ec686 57fe6c2d a3d95fa8
+81fdbee7 94f0af1a cbf633b1 bcd1195c 9d23e50b e296f6ee 01ba5175 83c6b450
+";
+
+/// The same where a script flips bit 0 of the first claim's pc.
+const NOISY_AND_FLIPPED: &str = "\
+3c6ef35e 47502932 d1ccf6e9 aaf95334 6252e503 9f2ec686 57fe6c2d a3d95fa8
+81fdbee7 94f0af1a cbf633b1 bcd1195c 9d23e50b e296f6ee 01ba5175 83c6b450
+";
+
 #[test]
 fn tapes_that_are_written(rt: HostRuntime) -> Result<(), Fail> {
     let alloc = rt.alloc();
     for (line, status, text) in [
         ("tape a.diva --core lockstep", 0, IN_LOCKSTEP),
         ("tape a.diva --core silent --cycles 3", 4, "\n\n\n"),
+        ("tape a.diva --core flood --cycles 1", 4, FLOODED),
+        ("tape a.diva --core echo --cycles 3", 4, ECHOED),
+        ("tape a.diva --core noise --cycles 2", 4, NOISY),
+        (
+            "tape a.diva --core noise --cycles 2 --script a.script",
+            4,
+            NOISY_AND_FLIPPED,
+        ),
     ] {
-        let outside = Outside::sound(alloc, Vec::from_slice(alloc, &FIVE_FILE)?);
+        let outside = Outside {
+            script: Vec::from_slice(alloc, b"at 1 lane 0 flip pc 0")?,
+            ..Outside::sound(alloc, Vec::from_slice(alloc, &FIVE_FILE)?)
+        };
         compare(&rt, line, outside, status, text)?;
     }
     Ok(())

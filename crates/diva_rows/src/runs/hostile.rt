@@ -1,0 +1,215 @@
+// Runs of the cores that are wrong by their rule, and what is the same of a run under every core.
+use super::tables::{ONE_BY_ONE, Row};
+use super::texts::registers_text;
+use super::{Outside, compare_rows, run_program};
+use crate::programs::{FIVE, Program, image_file};
+use diva_ooo::Ooo;
+use std::alloc::Global;
+use std::fmt::Write;
+use std::process::Abort;
+use std::test::Fail;
+
+/// `FIVE` under each of them. A claim that is accepted in cycle C is judged in C + 6, and behind a flush in cycle F the
+/// checker's own instruction commits in F + 6; the next claim is of cycle F + 7.
+static ROWS: [Row; 3] = [
+    // Zeros have the pc of the first instruction alone.
+    Row {
+        line: "run a.diva --core flood",
+        counts: "\
+flush 7 at 0 word claimed 00000000 due 00500093
+flush 20 at 1 pc claimed 00000000 due 00000004
+flush 33 at 2 pc claimed 00000000 due 00000008
+end halt 0
+count 3
+cycles 39
+flushes 3 silent 0
+output 0
+",
+        ..ONE_BY_ONE
+    },
+    // The claims of the cycles 1 to 7 are all of the first instruction. Cycle 7 commits the first of them, and cycle 8
+    // judges the second; the claim of cycle 15 commits in 21.
+    Row {
+        line: "run a.diva --core echo",
+        counts: "\
+flush 8 at 1 pc claimed 00000000 due 00000004
+end halt 0
+count 3
+cycles 21
+flushes 1 silent 0
+output 0
+",
+        ..ONE_BY_ONE
+    },
+    // The claims of the calls 1, 14 and 27 are judged: their pcs are the numbers 1, 105 and 209 of the generator.
+    Row {
+        line: "run a.diva --core noise",
+        counts: "\
+flush 7 at 0 pc claimed 3c6ef35f due 00000000
+flush 20 at 1 pc claimed cb537747 due 00000004
+flush 33 at 2 pc claimed 4571142f due 00000008
+end halt 0
+count 3
+cycles 39
+flushes 3 silent 0
+output 0
+",
+        ..ONE_BY_ONE
+    },
+];
+
+#[test]
+fn programs_under_hostile_cores(rt: HostRuntime) -> Result<(), Fail> {
+    compare_rows(&rt, rt.alloc(), &ROWS)
+}
+
+/// The cores that need no tape, the last of which has each of its first 4,096 claims spoiled.
+const CORES: [&str; 8] = [
+    "own",
+    "lockstep",
+    "scalar",
+    "silent",
+    "flood",
+    "echo",
+    "noise",
+    "lockstep --script a.script",
+];
+
+/// What a program comes to that halts with status 0, and puts nothing.
+struct Outcome {
+    program: Program,
+    count: u32,
+    /// The registers that are not 0 in the end.
+    registers: &'static [(u8, u32)],
+    pc: u32,
+}
+
+static OUTCOMES: [Outcome; 4] = [
+    Outcome {
+        program: FIVE,
+        count: 3,
+        registers: &[(1, 5), (17, 0x5d)],
+        pc: 8,
+    },
+    // addi x1, x0, 85; sb x1, 33(x0); lw x2, 32(x0), where 44332211 stands at 32; the halt
+    Outcome {
+        program: Program {
+            size: 64,
+            words: &[
+                0x0550_0093,
+                0x0210_00a3,
+                0x0200_2103,
+                0x05d0_0893,
+                0x0000_0073,
+                0,
+                0,
+                0,
+                0x4433_2211,
+            ],
+        },
+        count: 5,
+        registers: &[(1, 0x55), (2, 0x4433_5511), (17, 0x5d)],
+        pc: 0x10,
+    },
+    // addi x1, x0, 7; div x3, x1, x2, where x2 is 0; the halt
+    Outcome {
+        program: Program {
+            size: 64,
+            words: &[0x0070_0093, 0x0220_c1b3, 0x05d0_0893, 0x0000_0073],
+        },
+        count: 4,
+        registers: &[(1, 7), (3, 0xffff_ffff), (17, 0x5d)],
+        pc: 0xc,
+    },
+    // lui x1, 0x80000; addi x2, x0, -1; div x3, x1, x2; rem x4, x1, x2; the halt
+    Outcome {
+        program: Program {
+            size: 64,
+            words: &[
+                0x8000_00b7,
+                0xfff0_0113,
+                0x0220_c1b3,
+                0x0220_e233,
+                0x05d0_0893,
+                0x0000_0073,
+            ],
+        },
+        count: 6,
+        registers: &[
+            (1, 0x8000_0000),
+            (2, 0xffff_ffff),
+            (3, 0x8000_0000),
+            (17, 0x5d),
+        ],
+        pc: 0x14,
+    },
+];
+
+/// An image that is entered at 2,048, behind its data: sub x8, x2, x1, an instruction that was drawn; addi x0, x0, 0; the halt.
+fn drawn_file(alloc: Global) -> Result<Vec<u8>, Fail> {
+    let mut bytes = Vec::from_slice(alloc, b"DIVA")?;
+    for number in [1_u32, 0, 2064, 2048, 2064] {
+        bytes.extend_from_slice(&number.to_le_bytes())?;
+    }
+    bytes.extend_from_slice(&[0; 2048])?;
+    for word in [0x4011_0433_u32, 0x0000_0013, 0x05d0_0893, 0x0000_0073] {
+        bytes.extend_from_slice(&word.to_le_bytes())?;
+    }
+    Ok(bytes)
+}
+
+/// The script that flips a bit of the claim of each of the first 4,096 cycles.
+fn spoiling_script(alloc: Global) -> Result<String, Fail> {
+    let mut script = String::new(alloc);
+    for cycle in 1..=4096 {
+        writeln!(script, "at {cycle} lane 0 flip next 2")?;
+    }
+    Ok(script)
+}
+
+/// The lines of end, count, output, registers and pc.
+fn lasting_lines(alloc: Global, text: &str) -> Result<String, Fail> {
+    let mut lines = String::new(alloc);
+    for line in text.lines() {
+        if !line.starts_with("flush") && !line.starts_with("cycles") {
+            writeln!(lines, "{line}")?;
+        }
+    }
+    Ok(lines)
+}
+
+/// Runs an image under each core, and compares status and lasting lines.
+fn compare_cores(
+    rt: &impl Abort,
+    alloc: Global,
+    file: &[u8],
+    count: u32,
+    registers: &[(u8, u32)],
+    pc: u32,
+) -> Result<(), Fail> {
+    let registers = registers_text(alloc, registers)?;
+    let due = format!(in alloc; "end halt 0\ncount {count}\noutput 0\n{registers}pc {pc:08x}\n")?;
+    let script = spoiling_script(alloc)?;
+    for core in CORES {
+        let outside = Outside {
+            script: Vec::from_slice(alloc, script.as_bytes())?,
+            ..Outside::sound(alloc, Vec::from_slice(alloc, file)?)
+        };
+        let line = format!(in alloc; "run a.diva --core {core}")?;
+        let answer = run_program(&mut Ooo::new(alloc)?, line.as_str(), outside)?;
+        assert_eq!(rt; answer.status, 0, "{line}");
+        let lines = lasting_lines(alloc, str::from_utf8(&answer.text)?)?;
+        assert_eq!(rt; lines.as_str(), due.as_str(), "{line}");
+    }
+    Ok(())
+}
+
+#[test]
+fn the_same_under_every_core(rt: HostRuntime) -> Result<(), Fail> {
+    let alloc = rt.alloc();
+    for row in &OUTCOMES {
+        let file = image_file(alloc, row.program)?;
+        compare_cores(&rt, alloc, &file, row.count, row.registers, row.pc)?;
+    }
+    compare_cores(&rt, alloc, &drawn_file(alloc)?, 4, &[(17, 0x5d)], 0x80c)
+}
