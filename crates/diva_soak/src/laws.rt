@@ -1,0 +1,12 @@
+//! Laws of the images of seeds. Each function has no body: its clause is about the definitions.
+ghost use Rattle.std.specs.Prelude.{ℕ, ◌≤◌, ◌+◌};
+ghost use Rattle.diva_machine.specs.Start.{start_of};
+ghost use Rattle.diva_soak.specs.Halts.{HaltsWithin};
+ghost use Rattle.diva_soak.specs.Soak.{soak_of};
+
+/// The state that the image of a seed starts, with `n` drawn instructions, halts with status 0 after `n + 3` instructions at
+/// most: data lies below the code, so no store changes it, and each instruction leads to the next one or over it.
+#[tactic(auto, using(crate::proofs::Halting::soak_halts))]
+pub fn soak_halts()
+    ensures { (seed n : ℕ) → n ≤ 65536 → HaltsWithin (n + 3) (start_of (soak_of seed n)) }
+{}
