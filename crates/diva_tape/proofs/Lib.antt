@@ -3,6 +3,7 @@ pub mod Following
 pub mod Keeping
 pub mod Listing
 pub mod Numbering
+pub mod Pacing
 pub mod Parting
 pub mod Playing
 pub mod ReadingBack

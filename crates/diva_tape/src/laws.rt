@@ -1,6 +1,6 @@
 //! Laws of the simple cores over whole histories of turns. Each function has no body: its clause is
 //! about the definitions.
-ghost use Rattle.std.specs.Prelude.{ℕ, ◌≡◌, ◌≢◌, ◌+◌, List, [], Some, length, true, false};
+ghost use Rattle.std.specs.Prelude.{ℕ, ◌≡◌, ◌≢◌, ◌+◌, ◌-◌, List, [], Some, length, true, false};
 ghost use Rattle.diva_isa.specs.declared.record.Record.{Record};
 ghost use Rattle.diva_core.specs.Timed.{Timed, Sizes, depth, new_timed};
 ghost use Rattle.diva_ahead.specs.Lead.{Lead, is_epoch};
@@ -52,6 +52,21 @@ pub fn scalar_may_lead_again()
         → is_epoch before.epoch m.flushes ≡ false → IsScalarCall before (notice_of m) m.arch list after
         → let last = cycle_of m list in
         IsCalm last × (last.pending ≡ []) × (is_epoch after.epoch last.flushes ≡ false) }
+{}
+
+/// `Scalar` keeps a new machine as fast as it can be, whatever the program and the machine's numbers: it counts an
+/// instruction in each cycle but the first six, until it ends, six cycles after the claim of its last instruction was
+/// handed over; and it is never flushed.
+#[tactic(auto, using(crate::proofs::Pacing::scalar_runs, crate::proofs::Pacing::scalar_ends, crate::proofs::Pacing::scalar_unflushed))]
+pub fn scalar_keeps_pace()
+    ensures running { (sizes : Sizes) (s : State) (last : Timed) (after : Lead) (log : List (List Record × Lead))
+        → IsSizes sizes → IsLog IsScalarCall (new_timed sizes s) new_scalar log last after
+        → goes_on last.arch ≡ true → last.count ≡ last.cycles - depth }
+    ensures ended { (sizes : Sizes) (s : State) (last : Timed) (after : Lead) (log : List (List Record × Lead))
+        → IsSizes sizes → goes_on s ≡ true → IsLog IsScalarCall (new_timed sizes s) new_scalar log last after
+        → goes_on last.arch ≡ false → last.cycles ≡ last.count + depth }
+    ensures flushes { (sizes : Sizes) (s : State) (last : Timed) (after : Lead) (log : List (List Record × Lead))
+        → IsSizes sizes → IsLog IsScalarCall (new_timed sizes s) new_scalar log last after → last.flushes ≡ 0 }
 {}
 
 /// A core that plays a tape hands over, in each of its histories, from any machine, the lists of the tape in their order,
