@@ -1,6 +1,6 @@
 // Loads and puts that fail, each in turn.
 use super::refusals::USAGE;
-use super::sessions::STEPS;
+use super::sessions::{STEPS_COMMANDS, STEPS_TEXT};
 use super::sources::{FIVE_LISTING, FIVE_SOURCE};
 use super::tapes::IN_LOCKSTEP;
 use super::traces::FIVE_TRACE;
@@ -47,22 +47,26 @@ fn loads_that_fail(rt: HostRuntime) -> Result<(), Fail> {
     Ok(())
 }
 
+/// Command lines, with the status and the text that are due where no put fails.
+const TEXTS: [(&str, u8, &str); 6] = [
+    ("run a.diva --core lockstep", 0, FIVE_TEXT),
+    ("debug a.diva a.commands --core scalar", 0, STEPS_TEXT),
+    ("dis a.diva", 0, FIVE_LISTING),
+    ("run", 2, USAGE),
+    ("run a.script", 5, "refused image 1 at 0\n"),
+    ("run b.diva", 8, "unreadable image\n"),
+];
+
 #[test]
 fn puts_that_fail(rt: HostRuntime) -> Result<(), Fail> {
     let alloc = rt.alloc();
-    let trace = format!(in alloc; "{FIVE_TRACE}{FIVE_TEXT}")?;
-    for (line, status, text) in [
-        ("run a.diva --core lockstep", 0, FIVE_TEXT),
-        ("run a.diva --core lockstep --trace", 0, trace.as_str()),
-        ("debug a.diva a.commands --core scalar", 0, STEPS.text),
-        ("dis a.diva", 0, FIVE_LISTING),
-        ("run", 2, USAGE),
-        ("run a.script", 5, "refused image 1 at 0\n"),
-        ("run b.diva", 8, "unreadable image\n"),
-    ] {
+    for (line, status, text) in TEXTS {
         let lines = lines_of(alloc, text)?;
         compare_puts(&rt, alloc, line, status, &lines)?;
     }
+    let trace = format!(in alloc; "{FIVE_TRACE}{FIVE_TEXT}")?;
+    let lines = lines_of(alloc, trace.as_str())?;
+    compare_puts(&rt, alloc, "run a.diva --core lockstep --trace", 0, &lines)?;
     let claims = claims_of(alloc, IN_LOCKSTEP)?;
     compare_puts(&rt, alloc, "tape a.diva --core lockstep", 0, &claims)?;
     let mut image = Vec::new(alloc);
@@ -103,8 +107,8 @@ fn compare_puts(
     pieces: &[Vec<u8>],
 ) -> Result<(), Fail> {
     let mut written = Vec::new(alloc);
-    let mut call = 1;
-    for piece in pieces {
+    for (place, piece) in pieces.iter().enumerate() {
+        let call = place as u64 + 1;
         for takes in [0, 1, piece.len().saturating_sub(1)] {
             let answer = run_cut(alloc, line, SinkFail { call, takes })?;
             let mut due = written.clone()?;
@@ -117,8 +121,8 @@ fn compare_puts(
             );
         }
         written.extend_from_slice(piece)?;
-        call += 1;
     }
+    let call = pieces.len() as u64 + 1;
     let answer = run_cut(alloc, line, SinkFail { call, takes: 0 })?;
     assert_eq!(rt; answer.status, status, "{line}");
     assert_eq!(rt; answer.text.as_slice(), written.as_slice(), "{line}");
@@ -129,7 +133,7 @@ fn compare_puts(
 fn run_cut(alloc: Global, line: &str, fail: SinkFail) -> Result<Answer, Fail> {
     let outside = Outside {
         source: Vec::from_slice(alloc, FIVE_SOURCE)?,
-        commands: Vec::from_slice(alloc, STEPS.commands.as_bytes())?,
+        commands: Vec::from_slice(alloc, STEPS_COMMANDS.as_bytes())?,
         put_fails: Vec::from_slice(alloc, &[fail])?,
         ..Outside::sound(alloc, Vec::from_slice(alloc, &FIVE_FILE)?)
     };

@@ -6,21 +6,26 @@ use std::test::Fail;
 
 /// A session over one program.
 #[derive(Clone, Copy)]
-pub(super) struct Session {
+struct Session {
     /// The options of `debug`.
     options: &'static str,
     program: Program,
-    pub commands: &'static str,
+    commands: &'static str,
     /// The replies.
-    pub text: &'static str,
+    text: &'static str,
 }
 
-/// `FIVE` in the pipeline, step by step.
-pub(super) const STEPS: Session = Session {
+/// Commands that go through `FIVE`, step by step.
+pub(super) const STEPS_COMMANDS: &str = "step 2\nreg 1\nwhy\nstep 5\n";
+
+/// The replies to them in the pipeline.
+pub(super) const STEPS_TEXT: &str = "at 2 pc 00000008\nx1 00000005\nno flush\nended 3 halt 0\n";
+
+const STEPS: Session = Session {
     options: "--core scalar",
     program: FIVE,
-    commands: "step 2\nreg 1\nwhy\nstep 5\n",
-    text: "at 2 pc 00000008\nx1 00000005\nno flush\nended 3 halt 0\n",
+    commands: STEPS_COMMANDS,
+    text: STEPS_TEXT,
 };
 
 static SESSIONS: [Session; 8] = [
