@@ -1,6 +1,7 @@
 -- A job all of whose files are known and sound is done.
 use Rattle.std.proofs.Common.{◌≡◌, ◌⊎◌, ℕ, List, [], ◌∷◌, length, Option, Some, None, Result, Ok, Err, IsOk, inl, inr, sym, ◌∙◌, refl, ap, arith, subst}
 use Rattle.std.proofs.lemmas.Bool.{true≢false}
+use Rattle.std.specs.Io.KnownBytes.{Appends}
 use Rattle.diva_outside.specs.Causes.{Rose}
 use Rattle.diva_outside.specs.Files.{ToldFiles}
 use Rattle.diva_outside.specs.declared.files.What.{What}
@@ -43,10 +44,10 @@ faultless-fault TapeFile bytes kind place n f = true≢false (sym (subst IsOk f 
 faultless-fault Source bytes kind place n f = true≢false (sym (subst IsOk f n))
 faultless-fault Commands bytes kind place n f = true≢false (sym (subst IsOk f n))
 
-some_same : {A : Type 0} (r : Option A) (x y : A) → r ≡ Some x → r ≡ Some y → x ≡ y
+pub some_same : {A : Type 0} (r : Option A) (x y : A) → r ≡ Some x → r ≡ Some y → x ≡ y
 some_same r x y a b = cc
 
-held-refused : (contents : ToldFiles) (text : List ℕ) (w : Wanted) → IsHeld contents w → IsRefused contents text w → ⊥
+pub held-refused : (contents : ToldFiles) (text : List ℕ) (w : Wanted) → IsHeld contents w → IsRefused contents text w → ⊥
 held-refused None text w h r = h.held
 held-refused (Some bytes_of) text w h r = go r.cause
   where
@@ -78,16 +79,24 @@ module _ {C : Type 0} (gives : Meaning C) (command : Option Job) (contents : Tol
   held_of : (job : Job) → command ≡ Some job → AreHeld contents (wanted job)
   held_of job named = subst (λ (j : Job). AreHeld contents (wanted j)) (some_same command can.job job can.named named) can.held
 
-  answered : (status : ℕ) (text : List ℕ) → IsAnswer gives command contents before now core after (Some status) text → HasEnded command status
-  answered status text (misused m same s) = absurd (let e = sym can.named ∙ m.none in cc)
-  answered status text (unread u same s) =
+  abbrev pub Ended : ℕ → Type 0
+  Ended status = HasEnded gives command contents core after old new status
+
+  answered : (status : ℕ) (text : List ℕ) → IsAnswer gives command contents before now core after (Some status) text → Appends old new text → Ended status
+  answered status text (misused m same s) w = absurd (let e = sym can.named ∙ m.none in cc)
+  answered status text (unread u same s) w =
       absurd (held-stops contents (IsUnread contents before now text) (λ w. held-unread contents before now text w files_well) (wanted u.job) (held_of u.job u.named) u.first)
-  answered status text (refused r same s) =
+  answered status text (refused r same s) w =
       absurd (held-stops contents (IsRefused contents text) (held-refused contents text) (wanted r.job) (held_of r.job r.named) r.first)
-  answered status text (done d) = record { job = d.job; named = d.named; ends = can_end gives d.job d.bytes core after status text d.means }
+  answered status text (done d) w = record {
+    job = d.job;
+    named = d.named;
+    ends = can_end gives d.job d.bytes core after status text d.means;
+    worked = record { text = text; done = d; written = w };
+  }
 
   pub complete : (result : Result ℕ Failure) → Answers gives command contents before now core after old new faults faults' result
-      → HasEnded command (status_of result) ⊎ (status_of result ≡ 10)
-  complete (Ok status) w = inl (answered status w.text w.answer)
+      → Ended (status_of result) ⊎ (status_of result ≡ 10)
+  complete (Ok status) w = inl (answered status w.text w.answer w.written)
   complete (Err Cut) w = absurd (sink_well w.rose)
   complete (Err Memory) w = inr refl

@@ -10,5 +10,6 @@ pub mod Working
 pub mod Alone
 pub mod Listing
 pub mod Completing
+pub mod Refusing
 pub mod Determining
 pub mod Commanding

@@ -29,9 +29,9 @@ module _ {C : Type 0} (gives : Meaning C) (contents : ToldFiles) (before now : W
       → Stops contents before now (wanted job) stop
       → WritesStop stop old new faults faults' result
       → Answers gives (Some job) contents before now core core old new faults faults' result
-  stop_answers job Memory (Ok status) s w = let e = w.0 in cc
-  stop_answers job Memory (Err Cut) s w = let e = w.0 in cc
-  stop_answers job Memory (Err NoMemory) s w = record { unasked = refl; written = w.1 }
+  stop_answers job Memory (Ok status) s w = cc
+  stop_answers job Memory (Err Cut) s w = cc
+  stop_answers job Memory (Err NoMemory) s w = refl
   stop_answers job (Unread what) (Ok status) s w =
       record { text = _; answer = unread (record { job = job; named = refl; first = s }) refl w.0; written = w.1 }
   stop_answers job (Unread what) (Err Cut) s w =

@@ -31,7 +31,7 @@ use Rattle.diva_cli.specs.Runs.{AreRows, AreLists, start_in, sizes_of}
 use Rattle.diva_cli.specs.Stops.{StopsAt, IsUnread, IsRefused}
 use Rattle.diva_cli.specs.Texts.{HasText}
 use Rattle.diva_cli.specs.Answers.{IsAnswer}
-use Rattle.diva_cli.specs.Statuses.{IsCut, HasNoMemory}
+use Rattle.diva_cli.specs.Statuses.{IsCut}
 
 -- ---- loading
 
@@ -109,9 +109,9 @@ WritesLine line due old new faults faults' (Ok status) = (status ≡ due) × App
 WritesLine line due old new faults faults' (Err Cut) = Rose faults faults' × AppendsPart old new line
 WritesLine line due old new faults faults' (Err NoMemory) = ⊥
 
--- the line of a stop was written, and nothing where memory ran out
+-- the line of a stop was written, and none where memory ran out
 abbrev pub WritesStop : Stop → (old new : Option Text) → (faults faults' : ℕ) → Result ℕ Failure → Type 0
-WritesStop Memory old new faults faults' result = (result ≡ Err NoMemory) × (new ≡ old)
+WritesStop Memory old new faults faults' result = result ≡ Err NoMemory
 WritesStop (Unread what) old new faults faults' result = WritesLine (unreadable_line what) 8 old new faults faults' result
 WritesStop (Refused what kind place) old new faults faults' result =
     WritesLine (refused_line what kind place) 5 old new faults faults' result
@@ -144,14 +144,14 @@ pub record WritesAnswer {C : Type 0} (gives : Meaning C) (command : Option Job) 
   pub answer : IsAnswer gives command contents before now core after (Some status) text
   pub written : Appends old new text
 
--- the answer was written, with its status; or a prefix of it; or memory ran out
+-- the answer was written, with its status; or a prefix of it; or memory ran out, and no core was asked
 abbrev pub Answers : {C : Type 0} → Meaning C → Option Job → ToldFiles → (before now : What → ℕ) → (core after : C)
     → (old new : Option Text) → (faults faults' : ℕ) → Result ℕ Failure → Type 0
 Answers gives command contents before now core after old new faults faults' (Ok status) =
     WritesAnswer gives command contents before now core after old new status
 Answers gives command contents before now core after old new faults faults' (Err Cut) =
     IsCut gives command contents before now core after old new faults faults'
-Answers gives command contents before now core after old new faults faults' (Err NoMemory) = HasNoMemory core after old new
+Answers gives command contents before now core after old new faults faults' (Err NoMemory) = after ≡ core
 
 -- the status that the program ends with
 abbrev pub status_of : Result ℕ Failure → ℕ

@@ -1,8 +1,8 @@
 -- What each status of the program says.
-use Rattle.std.specs.Prelude.{◌≡◌, ◌⊎◌, ◌≤◌, ℕ, List, [], ◌∷◌, length, Option, Some, None}
+use Rattle.std.specs.Prelude.{◌≡◌, ◌⊎◌, ◌≤◌, ℕ, List, [], ◌∷◌, length, Option, Some, None, IsSome}
 use Rattle.std.specs.Io.KnownBytes.{Appends}
 use Rattle.diva_outside.specs.Causes.{Rose}
-use Rattle.diva_outside.specs.Files.{ToldFiles, IsTold}
+use Rattle.diva_outside.specs.Files.{ToldFiles, IsMissing, IsTold}
 use Rattle.diva_outside.specs.Sink.{AppendsPart}
 use Rattle.diva_outside.specs.Text.{Text}
 use Rattle.diva_outside.specs.declared.files.What.{What}
@@ -10,7 +10,7 @@ use Rattle.diva_core.specs.Log.{Meaning}
 use Rattle.diva_args.specs.declared.job.Job.{Job}
 use Rattle.diva_cli.specs.Wanted.{Wanted, wanted, IsFaultless, file_limit}
 use Rattle.diva_cli.specs.Texts.{CanEnd}
-use Rattle.diva_cli.specs.Answers.{HasDone, IsAnswer}
+use Rattle.diva_cli.specs.Answers.{HasDone, HasRefused, HasStopped, IsAnswer}
 
 -- the statuses that there are
 abbrev pub IsStatus : ℕ → Type 0
@@ -39,10 +39,25 @@ pub record IsCut {C : Type 0} (gives : Meaning C) (command : Option Job) (conten
   pub answer : IsAnswer gives command contents before now core after None text
   pub written : AppendsPart old new text
 
--- status 10: memory ran out, no core was asked, and nothing was written
-pub record HasNoMemory {C : Type 0} (core after : C) (old new : Option Text) : Type 0 where
+-- status 10: memory ran out, no core was asked, and the sink is as it was, so nothing was put to it
+pub record HasNoMemory {C S : Type 0} (core after : C) (sink sink' : S) : Type 0 where
   pub unasked : after ≡ core
-  pub written : new ≡ old
+  pub unput : sink' ≡ sink
+
+-- ---- files that are known, the first of which that can't be used is refused or is not there
+
+-- the statuses that may stand in for one that is due: each of them has a cause of its own
+abbrev pub IsHindered : ℕ → Type 0
+IsHindered status = (status ≡ 8) ⊎ ((status ≡ 9) ⊎ (status ≡ 10))
+
+-- the contents are known, and the first file that can't be used is refused by this line
+pub record MustRefuse (command : Option Job) (contents : ToldFiles) (text : Text) : Type 0 where
+  pub known : IsSome contents
+  pub refused : HasRefused command contents text
+
+-- it is known that there is no file of the name of the first one that can't be used
+abbrev pub HasMissing : Option Job → ToldFiles → Type 0
+HasMissing command contents = HasStopped command contents (λ w. IsMissing contents w.name)
 
 -- ---- completeness
 
@@ -63,8 +78,10 @@ pub record CanWork (command : Option Job) (contents : ToldFiles) : Type 0 where
   pub named : command ≡ Some job
   pub held : AreHeld contents (wanted job)
 
--- the status is one that goes with the whole text of the job
-pub record HasEnded (command : Option Job) (status : ℕ) : Type 0 where
+-- the whole text of the job was written, and the status is the one that goes with it
+pub record HasEnded {C : Type 0} (gives : Meaning C) (command : Option Job) (contents : ToldFiles) (core after : C)
+    (old new : Option Text) (status : ℕ) : Type 0 where
   pub job : Job
   pub named : command ≡ Some job
   pub ends : CanEnd job status
+  pub worked : HasWorked gives command contents core after old new status

@@ -1,5 +1,5 @@
 // The command `asm`: it assembles a source, and writes the bytes of the image.
-ghost use Rattle.std.specs.Prelude.{◌≡◌, Some};
+ghost use Rattle.std.specs.Prelude.{◌≡◌, Some, IsErrOf};
 ghost use Rattle.diva_args.specs.declared.job.Job.TheVariants.{Asm};
 ghost use Rattle.diva_cli.specs.Parts.{Answers};
 
@@ -21,9 +21,10 @@ pub(crate) fn asm<F: Files, S: Sink, C: Core>(
     sink: &mut S,
     _core: &C,
 ) -> Result<u8, Failure>
-    ensures { Answers C.gives (Some (Asm source)) (F.told files.old) (F.faults files.old)
+    ensures answers { Answers C.gives (Some (Asm source)) (F.told files.old) (F.faults files.old)
         (F.faults files.new) _core.now _core.now (S.contents sink.old) (S.contents sink.new)
         (S.faults sink.old) (S.faults sink.new) result }
+    ensures unput { IsErrOf result Failure.Memory → sink.new ≡ sink.old }
 {
     let image = match load_source(alloc, files, &source) {
         Ok(image) => image,

@@ -1,5 +1,5 @@
 // The command `debug`: it reads its files with neither core nor sink in its hands, and then replies to the commands.
-ghost use Rattle.std.specs.Prelude.{◌≡◌, ◌≤◌, length, Some};
+ghost use Rattle.std.specs.Prelude.{◌≡◌, ◌≤◌, length, Some, IsErrOf};
 ghost use Rattle.std.specs.List.{All};
 ghost use Rattle.diva_args.specs.declared.job.Job.TheVariants.{Debug};
 ghost use Rattle.diva_core.specs.Machine.{IsSizes};
@@ -27,9 +27,10 @@ pub(crate) fn debug<F: Files, S: Sink, C: Core>(
     sink: &mut S,
     core: &mut C,
 ) -> Result<u8, Failure>
-    ensures { Answers C.gives (Some (Debug options)) (F.told files.old) (F.faults files.old)
+    ensures answers { Answers C.gives (Some (Debug options)) (F.told files.old) (F.faults files.old)
         (F.faults files.new) core.old core.new (S.contents sink.old) (S.contents sink.new)
         (S.faults sink.old) (S.faults sink.new) result }
+    ensures unput { IsErrOf result Failure.Memory → sink.new ≡ sink.old }
 {
     match make_session(alloc, files, &options) {
         Ok(session) => debug_ready(session, options, sink, core),
@@ -49,9 +50,10 @@ fn debug_ready<S: Sink, C: Core>(
     requires narrow { session.ready.machine.timed.sizes.width ≡ 1 }
     requires few { length session.commands.items ≤ file_limit }
     requires short { All IsShort session.commands.items }
-    ensures { (bytes : FileBytes) → IsSession options bytes session
+    ensures writes { (bytes : FileBytes) → IsSession options bytes session
         → WritesText C.gives (Debug options) bytes core.old core.new
         (S.contents sink.old) (S.contents sink.new) (S.faults sink.old) (S.faults sink.new) result }
+    ensures unput { IsErrOf result Failure.Memory → sink.new ≡ sink.old }
 {
     let SessionReady { ready, commands } = session;
     let Ready {

@@ -1,5 +1,5 @@
 // The command `dis`: it lists the words of an image.
-ghost use Rattle.std.specs.Prelude.{◌≡◌, ◌+◌, ◌≤◌, ◌<◌, Some, length, slice_index};
+ghost use Rattle.std.specs.Prelude.{◌≡◌, ◌+◌, ◌≤◌, ◌<◌, Some, length, slice_index, IsErrOf};
 ghost use Rattle.diva_args.specs.declared.job.Job.TheVariants.{Dis};
 ghost use Rattle.diva_asm.specs.Listing.{list_line, word_at};
 ghost use Rattle.diva_cli.specs.Parts.{Answers};
@@ -23,9 +23,10 @@ pub(crate) fn dis<F: Files, S: Sink, C: Core>(
     sink: &mut S,
     _core: &C,
 ) -> Result<u8, Failure>
-    ensures { Answers C.gives (Some (Dis image)) (F.told files.old) (F.faults files.old)
+    ensures answers { Answers C.gives (Some (Dis image)) (F.told files.old) (F.faults files.old)
         (F.faults files.new) _core.now _core.now (S.contents sink.old) (S.contents sink.new)
         (S.faults sink.old) (S.faults sink.new) result }
+    ensures unput { IsErrOf result Failure.Memory → sink.new ≡ sink.old }
 {
     let listed = match load_image(alloc, files, &image) {
         Ok(listed) => listed,

@@ -1,11 +1,14 @@
 // The whole program, from the words to the status.
-ghost use Rattle.std.specs.Prelude.{◌≡◌, ◌⊎◌, map, None, Some};
+ghost use Rattle.std.specs.Prelude.{◌≡◌, ◌⊎◌, map, None, Some, IsErrOf};
+ghost use Rattle.std.specs.Io.KnownBytes.{Appends};
 ghost use Rattle.diva_outside.specs.Causes.{Rose};
+ghost use Rattle.diva_outside.specs.Text.{Text};
 ghost use Rattle.diva_outside.specs.declared.files.What.{What};
 ghost use Rattle.diva_args.specs.Line.{command_of};
 ghost use Rattle.diva_cli.specs.Texts.{IsDone};
 ghost use Rattle.diva_cli.specs.Answers.{IsMisused, HasUnread, HasRefused};
-ghost use Rattle.diva_cli.specs.Statuses.{HasWorked, HasLine, IsCut, HasNoMemory, CanWork, HasEnded, IsStatus};
+ghost use Rattle.diva_cli.specs.Statuses.{HasWorked, HasLine, IsCut, HasNoMemory, MustRefuse, HasMissing, IsHindered};
+ghost use Rattle.diva_cli.specs.Statuses.{CanWork, HasEnded, IsStatus};
 ghost use Rattle.diva_cli.specs.Parts.{Answers, status_of};
 
 use crate::asm::asm;
@@ -69,17 +72,25 @@ pub fn top<F: Files, S: Sink, C: Core>(
         → IsCut C.gives (command_of (map (λ w. w.now) words.now)) (F.told files.old)
         (F.faults files.old) (F.faults files.new) core.old core.new
         (S.contents sink.old) (S.contents sink.new) (S.faults sink.old) (S.faults sink.new) }
-    ensures memory { result ≡ 10
-        → HasNoMemory core.old core.new (S.contents sink.old) (S.contents sink.new) }
+    ensures memory { result ≡ 10 → HasNoMemory core.old core.new sink.old sink.new }
 
-    // Words that are not a valid command line are answered by the usage line, and a job whose files
-    // are sound is done.
+    // Words that are not a valid command line are answered by the usage line.
     ensures usage { command_of (map (λ w. w.now) words.now) ≡ None
         → (result ≡ 2) ⊎ ((result ≡ 9) ⊎ (result ≡ 10)) }
+
+    // Of known files, the first that can't be used is refused by its line, or is not there.
+    ensures refuses { (text : Text)
+        → MustRefuse (command_of (map (λ w. w.now) words.now)) (F.told files.old) text
+        → ((result ≡ 5) × Appends (S.contents sink.old) (S.contents sink.new) text) ⊎ IsHindered result }
+    ensures misses { HasMissing (command_of (map (λ w. w.now) words.now)) (F.told files.old)
+        → IsHindered result }
+
+    // A job whose files are known and sound is done, where neither they nor the sink fail.
     ensures complete { CanWork (command_of (map (λ w. w.now) words.now)) (F.told files.old)
         → ((what : What) → Rose (F.faults files.old what) (F.faults files.new what) → ⊥)
         → (Rose (S.faults sink.old) (S.faults sink.new) → ⊥)
-        → HasEnded (command_of (map (λ w. w.now) words.now)) result ⊎ (result ≡ 10) }
+        → HasEnded C.gives (command_of (map (λ w. w.now) words.now)) (F.told files.old)
+        core.old core.new (S.contents sink.old) (S.contents sink.new) result ⊎ (result ≡ 10) }
 {
     status_of(answer(alloc, words, files, sink, core))
 }
@@ -103,9 +114,10 @@ fn answer<F: Files, S: Sink, C: Core>(
     sink: &mut S,
     core: &mut C,
 ) -> Result<u8, Failure>
-    ensures { Answers C.gives (command_of (map (λ w. w.now) words.now)) (F.told files.old)
+    ensures answers { Answers C.gives (command_of (map (λ w. w.now) words.now)) (F.told files.old)
         (F.faults files.old) (F.faults files.new) core.old core.new
         (S.contents sink.old) (S.contents sink.new) (S.faults sink.old) (S.faults sink.new) result }
+    ensures unput { IsErrOf result Failure.Memory → sink.new ≡ sink.old }
 {
     match read_words(alloc, words) {
         Ok(job) => work(alloc, job, files, sink, core),
@@ -122,9 +134,10 @@ fn work<F: Files, S: Sink, C: Core>(
     sink: &mut S,
     core: &mut C,
 ) -> Result<u8, Failure>
-    ensures { Answers C.gives (Some job) (F.told files.old) (F.faults files.old)
+    ensures answers { Answers C.gives (Some job) (F.told files.old) (F.faults files.old)
         (F.faults files.new) core.old core.new (S.contents sink.old) (S.contents sink.new)
         (S.faults sink.old) (S.faults sink.new) result }
+    ensures unput { IsErrOf result Failure.Memory → sink.new ≡ sink.old }
 {
     match job {
         Job::Run(options) => run(alloc, options, files, sink, core),

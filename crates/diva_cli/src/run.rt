@@ -1,5 +1,5 @@
 // The command `run`: it reads its files with neither core nor sink in its hands, and then drives a machine.
-ghost use Rattle.std.specs.Prelude.{◌≡◌, Some};
+ghost use Rattle.std.specs.Prelude.{◌≡◌, Some, IsErrOf};
 ghost use Rattle.diva_args.specs.declared.job.Job.TheVariants.{Run};
 ghost use Rattle.diva_core.specs.Machine.{IsSizes};
 ghost use Rattle.diva_cli.specs.Wanted.{FileBytes};
@@ -26,9 +26,10 @@ pub(crate) fn run<F: Files, S: Sink, C: Core>(
     sink: &mut S,
     core: &mut C,
 ) -> Result<u8, Failure>
-    ensures { Answers C.gives (Some (Run options)) (F.told files.old) (F.faults files.old)
+    ensures answers { Answers C.gives (Some (Run options)) (F.told files.old) (F.faults files.old)
         (F.faults files.new) core.old core.new (S.contents sink.old) (S.contents sink.new)
         (S.faults sink.old) (S.faults sink.new) result }
+    ensures unput { IsErrOf result Failure.Memory → sink.new ≡ sink.old }
 {
     match make_ready(alloc, files, &options.setup) {
         Ok(ready) => run_ready(ready, options, sink, core),
@@ -45,9 +46,10 @@ fn run_ready<S: Sink, C: Core>(
 ) -> Result<u8, Failure>
     requires new { ready.machine.timed.cycles ≡ 0 }
     requires fits { IsSizes (sizes_of options.setup) }
-    ensures { (bytes : FileBytes) → IsReady options.setup bytes ready
+    ensures writes { (bytes : FileBytes) → IsReady options.setup bytes ready
         → WritesText C.gives (Run options) bytes core.old core.new
         (S.contents sink.old) (S.contents sink.new) (S.faults sink.old) (S.faults sink.new) result }
+    ensures unput { IsErrOf result Failure.Memory → sink.new ≡ sink.old }
 {
     let Ready {
         mut machine,

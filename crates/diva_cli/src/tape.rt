@@ -1,5 +1,5 @@
 // The command `tape`: it reads its files as `run` does, and writes what is handed over to the machine.
-ghost use Rattle.std.specs.Prelude.{◌≡◌, Some};
+ghost use Rattle.std.specs.Prelude.{◌≡◌, Some, IsErrOf};
 ghost use Rattle.diva_args.specs.declared.job.Job.TheVariants.{Tape};
 ghost use Rattle.diva_core.specs.Machine.{IsSizes};
 ghost use Rattle.diva_cli.specs.Wanted.{FileBytes};
@@ -25,9 +25,10 @@ pub(crate) fn tape<F: Files, S: Sink, C: Core>(
     sink: &mut S,
     core: &mut C,
 ) -> Result<u8, Failure>
-    ensures { Answers C.gives (Some (Tape options)) (F.told files.old) (F.faults files.old)
+    ensures answers { Answers C.gives (Some (Tape options)) (F.told files.old) (F.faults files.old)
         (F.faults files.new) core.old core.new (S.contents sink.old) (S.contents sink.new)
         (S.faults sink.old) (S.faults sink.new) result }
+    ensures unput { IsErrOf result Failure.Memory → sink.new ≡ sink.old }
 {
     match make_ready(alloc, files, &options.setup) {
         Ok(ready) => tape_ready(ready, options, sink, core),
@@ -44,9 +45,10 @@ fn tape_ready<S: Sink, C: Core>(
 ) -> Result<u8, Failure>
     requires new { ready.machine.timed.cycles ≡ 0 }
     requires fits { IsSizes (sizes_of options.setup) }
-    ensures { (bytes : FileBytes) → IsReady options.setup bytes ready
+    ensures writes { (bytes : FileBytes) → IsReady options.setup bytes ready
         → WritesText C.gives (Tape options) bytes core.old core.new
         (S.contents sink.old) (S.contents sink.new) (S.faults sink.old) (S.faults sink.new) result }
+    ensures unput { IsErrOf result Failure.Memory → sink.new ≡ sink.old }
 {
     let Ready {
         mut machine,

@@ -1,5 +1,5 @@
 // What is written, and the status that goes with it. No memory is taken.
-ghost use Rattle.std.specs.Prelude.{◌≡◌, ◌⊎◌, ◌+◌, ◌≤◌, ◌<◌, ◌^◌};
+ghost use Rattle.std.specs.Prelude.{◌≡◌, ◌⊎◌, ◌+◌, ◌≤◌, ◌<◌, ◌^◌, IsErrOf};
 ghost use Rattle.std.specs.Option.{ForSome};
 ghost use Rattle.diva_trace.specs.Text.{text_of};
 ghost use Rattle.diva_outside.specs.Sink.{Puts};
@@ -27,8 +27,9 @@ pub(crate) fn write_line<S: Sink>(line: &Line, status: u8, sink: &mut S) -> Resu
 /// Writes why the files of a job can't be used, and answers the status that goes with it. Where
 /// memory ran out nothing is written.
 pub(crate) fn write_stop<S: Sink>(stop: Stop, sink: &mut S) -> Result<u8, Failure>
-    ensures { WritesStop stop
+    ensures wrote { WritesStop stop
         (S.contents sink.old) (S.contents sink.new) (S.faults sink.old) (S.faults sink.new) result }
+    ensures unput { IsErrOf result Failure.Memory → sink.new ≡ sink.old }
 {
     match stop {
         Stop::Memory => Err(Failure::Memory),

@@ -25,6 +25,23 @@ impl Core for Flipped {
     }
 }
 
+/// Counts its calls, and hands over what `Lockstep` does.
+#[derive(Clone, Copy, Debug)]
+pub(crate) struct Counting {
+    pub calls: u64,
+}
+
+impl Core for Counting {
+    ghost use Rattle.std.specs.Prelude.{⊤};
+
+    ghost gives = { λ before told state list after. ⊤ };
+
+    fn cycle(&mut self, told: &Told, view: &View<'_>, out: &mut Claims) {
+        self.calls = self.calls.saturating_add(1);
+        Lockstep.cycle(told, view, out);
+    }
+}
+
 /// Hands over nothing before this cycle, and then what `Lockstep` does.
 #[derive(Clone, Copy, Debug)]
 pub(crate) struct Late {

@@ -2,14 +2,15 @@
 //! tests' own, and the answers of outside tools.
 //!
 //! - `programs`: small programs, the image files that they are, and the records of one of them;
-//! - `cores`: a core that claims a wrong value once, one that repeats itself, one that begins late, and
+//! - `cores`: a core that claims a wrong value once, one that counts its calls, one that begins late, and
 //!   one that hands over the lists that it is given;
 //! - `runs`: command lines over files and a sink in memory, with the status and the text that are
 //!   due: `runs/tables` has the programs that are run, `runs/pipelined` those that are run ahead of the
 //!   checker, `runs/tapes` tapes that are played, written and refused, `runs/staged` tapes whose claims are
 //!   checked while older ones are pending, `runs/scripts` scripts that are refused, `runs/traces` commit lines,
 //!   `runs/sessions` the commands of the debugger, `runs/sources` sources that are assembled and images that are listed,
-//!   `runs/refusals` what is not run, or is written in part, and `runs/texts` writes the text that is due;
+//!   `runs/refusals` what is not run, `runs/failing` loads and puts that fail in turn, and `runs/texts` writes the text that is
+//!   due;
 //! - `calls`: calls of a machine's parts, and of a machine that is driven;
 //! - `lists`: several claims in a cycle, right and wrong ones, and what each cycle commits:
 //!   `lists/tables` has the lists;

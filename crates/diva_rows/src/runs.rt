@@ -1,4 +1,5 @@
 // Command lines over files and a sink in memory, with the status and the text that are due.
+mod failing;
 mod hostile;
 mod pipelined;
 mod refusals;
@@ -11,12 +12,12 @@ mod tapes;
 mod texts;
 mod traces;
 
-use crate::cores::{Flipped, Lists};
+use crate::cores::{Counting, Flipped, Lists};
 use crate::programs::{ASKS, FIVE_FILE, HALTS, Program, image_file};
 use diva_cli::top;
 use diva_core::Core;
 use diva_isa::Record;
-use diva_outside::{Fail as SinkFail, MemFile, MemFiles, MemSink};
+use diva_outside::{Fail as SinkFail, MemFile, MemFiles, MemSink, What};
 use std::alloc::Global;
 use std::process::Abort;
 use std::test::Fail;
@@ -56,6 +57,17 @@ impl Outside {
             put_fails: Vec::new(alloc),
         }
     }
+
+    /// The bytes of the file of this kind.
+    fn file_mut(&mut self, what: What) -> &mut Vec<u8> {
+        match what {
+            What::Image => &mut self.file,
+            What::Script => &mut self.script,
+            What::Tape => &mut self.tape,
+            What::Source => &mut self.source,
+            What::Commands => &mut self.commands,
+        }
+    }
 }
 
 /// Runs the program as `compare_by` does, with `Flipped` as its own core.
@@ -67,6 +79,20 @@ fn compare(
     text: &str,
 ) -> Result<(), Fail> {
     compare_by(rt, &mut Flipped, line, outside, status, text)
+}
+
+/// Compares status and text where nothing is run: the program's own core is not asked.
+fn compare_unasked(
+    rt: &impl Abort,
+    line: &str,
+    outside: Outside,
+    status: u8,
+    text: &str,
+) -> Result<(), Fail> {
+    let mut core = Counting { calls: 0 };
+    compare_by(rt, &mut core, line, outside, status, text)?;
+    assert_eq!(rt; core.calls, 0, "{line}");
+    Ok(())
 }
 
 /// Runs the program on a command line, over the files of `outside` and with this core as its own, and

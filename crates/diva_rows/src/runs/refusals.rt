@@ -1,79 +1,60 @@
-// What is not run, and what is written in part.
-use super::{Outside, compare};
+// What is not run.
+use super::{Outside, compare_unasked};
 use crate::programs::FIVE_FILE;
-use diva_outside::Fail as SinkFail;
+use diva_outside::What;
 use std::test::Fail;
 
 /// What is written where the words are not a valid command line.
-const USAGE: &str = "\
+pub(super) const USAGE: &str = "\
 usage: diva run|tape IMAGE, debug IMAGE COMMANDS, asm SRC, dis IMAGE, soak SEED LENGTH
 ";
 
-/// Words that are not a valid command line, and a file that is not there or whose load fails. A
-/// name may be any word: the last four name files that are not there.
+/// Words that are not a valid command line, and files that are not there. A name may be any word: the
+/// last five name files that are not there.
 #[test]
 fn lines_that_are_not_run(rt: HostRuntime) -> Result<(), Fail> {
     let alloc = rt.alloc();
-    let rows: [(&str, &[u64], u8, &str); 27] = [
-        ("", &[], 2, USAGE),
-        ("run", &[], 2, USAGE),
-        ("run a.diva --width 5", &[], 2, USAGE),
-        ("run a.diva --window 1", &[], 2, USAGE),
-        ("walk a.diva", &[], 2, USAGE),
-        ("run a.diva --core tape", &[], 2, USAGE),
-        ("run a.diva --tape a.tape", &[], 2, USAGE),
-        ("tape a.diva --dump 0:4", &[], 2, USAGE),
-        ("tape a.diva --trace", &[], 2, USAGE),
-        ("debug a.diva", &[], 2, USAGE),
-        ("debug a.diva a.commands --width 2", &[], 2, USAGE),
-        ("asm", &[], 2, USAGE),
-        ("asm a.s --core own", &[], 2, USAGE),
-        ("dis a.diva b.diva", &[], 2, USAGE),
-        ("run b.diva", &[], 8, "unreadable image\n"),
-        ("run a.diva", &[1], 8, "unreadable image\n"),
+    for (line, status, text) in [
+        ("", 2, USAGE),
+        ("run", 2, USAGE),
+        ("run a.diva --width 5", 2, USAGE),
+        ("run a.diva --window 1", 2, USAGE),
+        ("walk a.diva", 2, USAGE),
+        ("run a.diva --core tape", 2, USAGE),
+        ("run a.diva --tape a.tape", 2, USAGE),
+        ("tape a.diva --dump 0:4", 2, USAGE),
+        ("tape a.diva --trace", 2, USAGE),
+        ("debug a.diva", 2, USAGE),
+        ("debug a.diva a.commands --width 2", 2, USAGE),
+        ("asm", 2, USAGE),
+        ("asm a.s --core own", 2, USAGE),
+        ("dis a.diva b.diva", 2, USAGE),
+        ("run b.diva", 8, "unreadable image\n"),
+        ("run a.diva --script b.script", 8, "unreadable script\n"),
+        ("run b.diva --script b.script", 8, "unreadable image\n"),
         (
-            "run a.diva --script b.script",
-            &[],
-            8,
-            "unreadable script\n",
+            "run a.script --script b.script",
+            5,
+            "refused image 1 at 0\n",
         ),
-        (
-            "run a.diva --script a.script",
-            &[2],
-            8,
-            "unreadable script\n",
-        ),
-        ("run b.diva --script b.script", &[], 8, "unreadable image\n"),
         (
             "run a.diva --core tape --tape b.tape",
-            &[],
-            8,
-            "unreadable tape\n",
-        ),
-        (
-            "tape a.diva --script a.script --core tape --tape a.tape",
-            &[3],
             8,
             "unreadable tape\n",
         ),
         (
             "tape a.diva --core tape --tape b.tape --script b.script",
-            &[],
             8,
             "unreadable script\n",
         ),
-        ("tape b.diva", &[], 8, "unreadable image\n"),
-        ("run ''", &[], 8, "unreadable image\n"),
-        ("run -", &[], 8, "unreadable image\n"),
-        ("run -- -x", &[], 8, "unreadable image\n"),
-        ("run --width 2 -- -x", &[], 8, "unreadable image\n"),
-    ];
-    for (line, fails, status, text) in rows {
-        let outside = Outside {
-            load_fails: Vec::from_slice(alloc, fails)?,
-            ..Outside::sound(alloc, Vec::from_slice(alloc, &FIVE_FILE)?)
-        };
-        compare(&rt, line, outside, status, text)?;
+        ("tape b.diva", 8, "unreadable image\n"),
+        ("run ''", 8, "unreadable image\n"),
+        ("run -", 8, "unreadable image\n"),
+        ("run -- -x", 8, "unreadable image\n"),
+        ("run --width 2 -- -x", 8, "unreadable image\n"),
+    ] {
+        let outside = Outside::sound(alloc, Vec::from_slice(alloc, &FIVE_FILE)?);
+        compare_unasked(&rt, line, outside, status, text)?;
     }
     Ok(())
 }
@@ -83,15 +64,12 @@ fn lines_that_are_not_run(rt: HostRuntime) -> Result<(), Fail> {
 fn images_that_are_refused(rt: HostRuntime) -> Result<(), Fail> {
     let alloc = rt.alloc();
     for (len, at, byte, kind, place) in [
-        (16_777_241, 0, b'D', 0, 16_777_240),
-        (23, 0, b'D', 1, 23),
         (36, 0, b'd', 2, 0),
         (36, 4, 2, 3, 4),
         (36, 8, 2, 4, 8),
         (36, 12, 0x42, 5, 12),
         (36, 16, 0x40, 6, 16),
         (36, 20, 0x41, 7, 20),
-        (35, 0, b'D', 8, 35),
         (37, 0, b'D', 9, 36),
     ] {
         let mut file = Vec::from_slice(alloc, &FIVE_FILE)?;
@@ -100,7 +78,7 @@ fn images_that_are_refused(rt: HostRuntime) -> Result<(), Fail> {
             *changed = byte;
         }
         let text = format!(in alloc; "refused image {kind} at {place}\n")?;
-        compare(
+        compare_unasked(
             &rt,
             "run a.diva",
             Outside::sound(alloc, file),
@@ -111,33 +89,40 @@ fn images_that_are_refused(rt: HostRuntime) -> Result<(), Fail> {
     Ok(())
 }
 
-/// Puts that fail: the number of the call, the bytes that it takes, and what is then written.
+/// An image file that ends within its header, or within its payload.
 #[test]
-fn sinks_that_fail(rt: HostRuntime) -> Result<(), Fail> {
+fn images_that_are_cut(rt: HostRuntime) -> Result<(), Fail> {
     let alloc = rt.alloc();
-    for (line, fail, text) in [
-        (
-            "run a.diva --core lockstep",
-            SinkFail { call: 2, takes: 0 },
-            "end halt 0\n",
-        ),
-        (
-            "run a.diva --core lockstep",
-            SinkFail { call: 2, takes: 3 },
-            "end halt 0\ncou",
-        ),
-        ("run b.diva", SinkFail { call: 1, takes: 0 }, ""),
-        ("run", SinkFail { call: 1, takes: 6 }, "usage:"),
-    ] {
-        let outside = Outside {
-            put_fails: Vec::from_slice(alloc, &[fail])?,
-            ..Outside::sound(alloc, Vec::from_slice(alloc, &FIVE_FILE)?)
-        };
-        compare(&rt, line, outside, 9, text)?;
+    for len in 0..36 {
+        let kind = if len < 24 { 1 } else { 8 };
+        let file = Vec::from_slice(alloc, FIVE_FILE.get(..len).ok_or("no such length")?)?;
+        let text = format!(in alloc; "refused image {kind} at {len}\n")?;
+        compare_unasked(
+            &rt,
+            "run a.diva",
+            Outside::sound(alloc, file),
+            5,
+            text.as_str(),
+        )?;
     }
-    let full = Outside {
-        room: 13,
-        ..Outside::sound(alloc, Vec::from_slice(alloc, &FIVE_FILE)?)
-    };
-    compare(&rt, "run a.diva --core lockstep", full, 9, "end halt 0\nco")
+    Ok(())
+}
+
+/// A file of one byte more than a file may have. But for an image its bytes are a comment.
+#[test]
+fn files_that_are_too_long(rt: HostRuntime) -> Result<(), Fail> {
+    let alloc = rt.alloc();
+    for (line, what, word) in [
+        ("run a.diva", What::Image, "image"),
+        ("run a.diva --script a.script", What::Script, "script"),
+        ("tape a.diva --core tape --tape a.tape", What::Tape, "tape"),
+        ("asm a.s", What::Source, "source"),
+        ("debug a.diva a.commands", What::Commands, "commands"),
+    ] {
+        let mut outside = Outside::sound(alloc, Vec::from_slice(alloc, &FIVE_FILE)?);
+        outside.file_mut(what).resize(16_777_241, b'#')?;
+        let text = format!(in alloc; "refused {word} 0 at 16777240\n")?;
+        compare_unasked(&rt, line, outside, 5, text.as_str())?;
+    }
+    Ok(())
 }

@@ -36,7 +36,8 @@ fn scripts_that_are_refused(rt: HostRuntime) -> Result<(), Fail> {
     Ok(())
 }
 
-/// 4,096 rows are taken; here they name cycles behind the run's end. One more is refused at its line.
+/// 4,096 rows are taken; here they name cycles behind the run's end, and a comment of any byte follows. One more is
+/// refused at its line.
 #[test]
 fn scripts_of_many_rows(rt: HostRuntime) -> Result<(), Fail> {
     let alloc = rt.alloc();
@@ -45,10 +46,11 @@ fn scripts_of_many_rows(rt: HostRuntime) -> Result<(), Fail> {
         (4097, 5, "refused script 5 at 4097\n"),
     ] {
         let script = "at 22 lane 0 lose\n".repeat(alloc, rows)?;
-        let outside = Outside {
+        let mut outside = Outside {
             script: Vec::from_slice(alloc, script.as_bytes())?,
             ..Outside::sound(alloc, Vec::from_slice(alloc, &FIVE_FILE)?)
         };
+        outside.script.extend_from_slice(b"# \xff")?;
         compare(&rt, LINE, outside, status, text)?;
     }
     Ok(())

@@ -1,7 +1,6 @@
 // Sessions: commands, and the replies to them.
-use super::{Outside, compare};
+use super::{Outside, compare, compare_unasked};
 use crate::programs::{FIVE, FIVE_FILE, LOOP, Program, image_file};
-use diva_outside::Fail as SinkFail;
 use std::alloc::Global;
 use std::test::Fail;
 
@@ -16,12 +15,17 @@ struct Session {
     text: &'static str,
 }
 
-/// `FIVE` in the pipeline, step by step.
+/// Commands that go through `FIVE`, step by step.
+pub(super) const STEPS_COMMANDS: &str = "step 2\nreg 1\nwhy\nstep 5\n";
+
+/// The replies to them in the pipeline.
+pub(super) const STEPS_TEXT: &str = "at 2 pc 00000008\nx1 00000005\nno flush\nended 3 halt 0\n";
+
 const STEPS: Session = Session {
     options: "--core scalar",
     program: FIVE,
-    commands: "step 2\nreg 1\nwhy\nstep 5\n",
-    text: "at 2 pc 00000008\nx1 00000005\nno flush\nended 3 halt 0\n",
+    commands: STEPS_COMMANDS,
+    text: STEPS_TEXT,
 };
 
 static SESSIONS: [Session; 8] = [
@@ -111,7 +115,7 @@ fn commands_that_are_refused(rt: HostRuntime) -> Result<(), Fail> {
         ("# step\nstep 1 2\n", "refused commands 3 at 2\n"),
     ] {
         let outside = with_commands(alloc, FIVE, commands)?;
-        compare(&rt, "debug a.diva a.commands", outside, 5, text)?;
+        compare_unasked(&rt, "debug a.diva a.commands", outside, 5, text)?;
     }
     Ok(())
 }
@@ -120,53 +124,16 @@ fn commands_that_are_refused(rt: HostRuntime) -> Result<(), Fail> {
 #[test]
 fn commands_that_are_not_there(rt: HostRuntime) -> Result<(), Fail> {
     let alloc = rt.alloc();
-    let rows: [(&str, &[u64], &str); 4] = [
-        ("debug a.diva b.commands", &[], "unreadable commands\n"),
-        (
-            "debug a.diva a.commands --script a.script",
-            &[3],
-            "unreadable commands\n",
-        ),
+    for (line, text) in [
+        ("debug a.diva b.commands", "unreadable commands\n"),
         (
             "debug a.diva b.commands --core tape --tape b.tape",
-            &[],
             "unreadable tape\n",
         ),
-        ("debug b.diva b.commands", &[], "unreadable image\n"),
-    ];
-    for (line, fails, text) in rows {
-        let outside = Outside {
-            load_fails: Vec::from_slice(alloc, fails)?,
-            ..Outside::sound(alloc, Vec::from_slice(alloc, &FIVE_FILE)?)
-        };
-        compare(&rt, line, outside, 8, text)?;
-    }
-    Ok(())
-}
-
-/// Each reply is one put.
-#[test]
-fn replies_that_are_cut(rt: HostRuntime) -> Result<(), Fail> {
-    let alloc = rt.alloc();
-    for (fail, text) in [
-        (SinkFail { call: 1, takes: 0 }, ""),
-        (SinkFail { call: 2, takes: 3 }, "at 2 pc 00000008\nx1 "),
-        (
-            SinkFail { call: 4, takes: 14 },
-            "at 2 pc 00000008\nx1 00000005\nno flush\nended 3 halt 0",
-        ),
+        ("debug b.diva b.commands", "unreadable image\n"),
     ] {
-        let outside = Outside {
-            put_fails: Vec::from_slice(alloc, &[fail])?,
-            ..with_commands(alloc, FIVE, STEPS.commands)?
-        };
-        compare(
-            &rt,
-            "debug a.diva a.commands --core scalar",
-            outside,
-            9,
-            text,
-        )?;
+        let outside = Outside::sound(alloc, Vec::from_slice(alloc, &FIVE_FILE)?);
+        compare_unasked(&rt, line, outside, 8, text)?;
     }
     Ok(())
 }

@@ -2,12 +2,18 @@
 use super::{Outside, compare, run_program};
 use crate::cores::Flipped;
 use crate::programs::{FIVE_FILE, Program, image_file};
-use diva_outside::Fail as SinkFail;
 use std::alloc::Global;
 use std::test::Fail;
 
 /// The source of `FIVE`.
-const FIVE_SOURCE: &[u8] = b".size 64\naddi x1, x0, 5\nli a7, 93\necall\n";
+pub(super) const FIVE_SOURCE: &[u8] = b".size 64\naddi x1, x0, 5\nli a7, 93\necall\n";
+
+/// The listing of `FIVE`.
+pub(super) const FIVE_LISTING: &str = "\
+00000000 00500093 addi x1, x0, 5
+00000004 05d00893 addi x17, x0, 93
+00000008 00000073 ecall
+";
 
 /// A jump forward and a branch back.
 const BOTH_WAYS_SOURCE: &[u8] = b"a: j b\nb: bne x1, x0, a";
@@ -56,12 +62,7 @@ fn images_that_are_listed(rt: HostRuntime) -> Result<(), Fail> {
         *length = 5;
     }
     for (file, text) in [
-        (
-            Vec::from_slice(alloc, &FIVE_FILE)?,
-            "00000000 00500093 addi x1, x0, 5\n\
-            00000004 05d00893 addi x17, x0, 93\n\
-            00000008 00000073 ecall\n",
-        ),
+        (Vec::from_slice(alloc, &FIVE_FILE)?, FIVE_LISTING),
         (
             image_file(alloc, BOTH_WAYS)?,
             "00000000 0040006f jal x0, 0x00000004\n\
@@ -98,10 +99,6 @@ fn sources_that_are_refused(rt: HostRuntime) -> Result<(), Fail> {
     ] {
         compare(&rt, "asm a.s", with_source(alloc, source)?, 5, text)?;
     }
-    let mut long = with_source(alloc, b"#")?;
-    long.source.resize(16_777_241, b'#')?;
-    compare(&rt, "asm a.s", long, 5, "refused source 0 at 16777240\n")?;
-
     let cut = Outside::sound(alloc, Vec::from_slice(alloc, b"DIVA")?);
     compare(&rt, "dis a.diva", cut, 5, "refused image 1 at 4\n")
 }
@@ -115,28 +112,6 @@ fn files_that_are_not_there(rt: HostRuntime) -> Result<(), Fail> {
         ("dis b.diva", "unreadable image\n"),
     ] {
         compare(&rt, line, with_source(alloc, b"")?, 8, text)?;
-    }
-    Ok(())
-}
-
-/// The image of a source is one put, and so is each line of a listing.
-#[test]
-fn texts_that_are_cut(rt: HostRuntime) -> Result<(), Fail> {
-    let alloc = rt.alloc();
-    for (line, fail, text) in [
-        ("asm a.s", SinkFail { call: 1, takes: 4 }, "DIVA"),
-        (
-            "dis a.diva",
-            SinkFail { call: 2, takes: 8 },
-            "00000000 00500093 addi x1, x0, 5\n00000004",
-        ),
-    ] {
-        let outside = Outside {
-            source: Vec::from_slice(alloc, FIVE_SOURCE)?,
-            put_fails: Vec::from_slice(alloc, &[fail])?,
-            ..Outside::sound(alloc, Vec::from_slice(alloc, &FIVE_FILE)?)
-        };
-        compare(&rt, line, outside, 9, text)?;
     }
     Ok(())
 }

@@ -76,7 +76,7 @@ fn tapes_that_are_played(rt: HostRuntime) -> Result<(), Fail> {
 
 /// What is written of `FIVE` in lockstep: 21 lines, of which the first, the eighth and the fifteenth have
 /// a claim.
-const IN_LOCKSTEP: &str = "\
+pub(super) const IN_LOCKSTEP: &str = "\
 00000000 00500093 00000000 00000000 00000000 00000005 00000004 00000000
 
 

@@ -2,11 +2,10 @@
 use super::texts::registers_text;
 use super::{FIVE_TEXT, Outside, compare};
 use crate::programs::{FIVE_FILE, Program, image_file};
-use diva_outside::Fail as SinkFail;
 use std::test::Fail;
 
 /// The commit lines of `FIVE`, whoever claims it.
-const FIVE_TRACE: &str = "\
+pub(super) const FIVE_TRACE: &str = "\
 0 00000000 00500093 00000000 00000000 00000000 00000005 00000004 00000000
 1 00000004 05d00893 00000000 00000000 00000000 0000005d 00000008 00000000
 2 00000008 00000073 0000005d 00000000 00000000 00000000 00000008 00000100
@@ -43,29 +42,4 @@ fn runs_with_commit_lines(rt: HostRuntime) -> Result<(), Fail> {
     let registers = registers_text(alloc, &[])?;
     let text = format!(in alloc; "{LAST_TRACE}{counts}{registers}pc 00000004\n")?;
     compare(&rt, line, last, 3, text.as_str())
-}
-
-/// Each commit line is one put: the put that fails, what it takes of its line, and how much is then written.
-#[test]
-fn commit_lines_that_are_cut(rt: HostRuntime) -> Result<(), Fail> {
-    let alloc = rt.alloc();
-    let line = "run a.diva --core lockstep --trace";
-    for (call, takes, written) in [
-        (1, 0, 0),
-        (1, 73, 73),
-        (2, 1, 75),
-        (3, 0, 148),
-        (3, 73, 221),
-        (4, 0, 222),
-    ] {
-        let outside = Outside {
-            put_fails: Vec::from_slice(alloc, &[SinkFail { call, takes }])?,
-            ..Outside::sound(alloc, Vec::from_slice(alloc, &FIVE_FILE)?)
-        };
-        let text = FIVE_TRACE
-            .get(..written)
-            .ok_or("the commit lines are shorter")?;
-        compare(&rt, line, outside, 9, text)?;
-    }
-    Ok(())
 }

@@ -7,8 +7,8 @@ use Rattle.diva_cli.proofs.Working.{done_answers}
 use Rattle.diva_cli.proofs.Alone.{wrote_all, wrote_part}
 use Rattle.diva_cli.proofs.asm.asm.Goals as goal
 
-pub returns-in-Ok-put : goal.returns-in-Ok-put
-returns-in-Ok-put g c =
+pub returns-in-Ok-put-clause-answers : goal.returns-in-Ok-put-clause-answers
+returns-in-Ok-put-clause-answers g c =
     let h = c.in-Ok.ensures.holds in
     done_answers g.C.Core.gives (g.F.Files.told c.args.files.now) (g.F.Files.faults c.args.files.now) (g.F.Files.faults c.load_source.new.files) c.args._core.now
     (g.S.Sink.contents c.args.sink.now) (g.S.Sink.contents c.put.new.self) (g.S.Sink.faults c.args.sink.now) (g.S.Sink.faults c.put.new.self)
@@ -17,8 +17,8 @@ returns-in-Ok-put g c =
     (record { image = layout c.in-Ok.image; assembled = h.holds; written = c.deref.ensures.value ∙ c.in-Ok-write.ensures.bytes; alone = record { unasked = refl; ended = refl } })
     c.in-Ok-put.ensures)
 
-pub returns : goal.returns
-returns g c =
+pub returns-clause-answers : goal.returns-clause-answers
+returns-clause-answers g c =
     let h = c.in-Ok.ensures.holds in
     done_answers g.C.Core.gives (g.F.Files.told c.args.files.now) (g.F.Files.faults c.args.files.now) (g.F.Files.faults c.load_source.new.files) c.args._core.now
     (g.S.Sink.contents c.args.sink.now) (g.S.Sink.contents c.put.new.self) (g.S.Sink.faults c.args.sink.now) (g.S.Sink.faults c.put.new.self)

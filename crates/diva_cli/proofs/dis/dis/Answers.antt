@@ -10,8 +10,8 @@ use Rattle.diva_cli.proofs.Working.{done_answers}
 use Rattle.diva_cli.proofs.Alone.{wrote_all, wrote_part}
 use Rattle.diva_cli.proofs.dis.dis.Goals as goal
 
-pub returns-in-Ok-write_lines : goal.returns-in-Ok-write_lines
-returns-in-Ok-write_lines g c =
+pub returns-in-Ok-write_lines-clause-answers : goal.returns-in-Ok-write_lines-clause-answers
+returns-in-Ok-write_lines-clause-answers g c =
     let h = c.in-Ok.ensures.holds in
     done_answers g.C.Core.gives (g.F.Files.told c.args.files.now) (g.F.Files.faults c.args.files.now) (g.F.Files.faults c.load_image.new.files) c.args._core.now
     (g.S.Sink.contents c.args.sink.now) (g.S.Sink.contents c.write_lines.new.sink) (g.S.Sink.faults c.args.sink.now) (g.S.Sink.faults c.write_lines.new.sink)
@@ -20,8 +20,8 @@ returns-in-Ok-write_lines g c =
     (record { lines = ap (λ (i : Layout). concat (listing_of i)) (sym h.holds); alone = record { unasked = refl; ended = refl } })
     c.in-Ok-write_lines.ensures)
 
-pub returns : goal.returns
-returns g c =
+pub returns-clause-answers : goal.returns-clause-answers
+returns-clause-answers g c =
     let h = c.in-Ok.ensures.holds in
     done_answers g.C.Core.gives (g.F.Files.told c.args.files.now) (g.F.Files.faults c.args.files.now) (g.F.Files.faults c.load_image.new.files) c.args._core.now
     (g.S.Sink.contents c.args.sink.now) (g.S.Sink.contents c.write_lines.new.sink) (g.S.Sink.faults c.args.sink.now) (g.S.Sink.faults c.write_lines.new.sink)

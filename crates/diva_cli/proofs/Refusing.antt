@@ -1,0 +1,170 @@
+-- Known files, the first of which that can't be used is refused or is not there.
+use Rattle.std.proofs.Common.{◌≡◌, ◌⊎◌, ℕ, List, [], ◌∷◌, length, Option, Some, None, Result, Ok, Err, IsSome, inl, inr, sym, ◌∙◌, refl, ap, arith, subst}
+use Rattle.std.proofs.lemmas.Bool.{true≢false}
+use Rattle.std.specs.Io.KnownBytes.{Appends}
+use Rattle.diva_outside.specs.Files.{ToldFiles, IsMissing}
+use Rattle.diva_outside.specs.Lines.{LineFault}
+use Rattle.diva_outside.specs.declared.files.What.{What}
+use Rattle.diva_outside.specs.declared.files.What.TheVariants.{Image, Script, Tape as TapeFile, Source, Commands}
+use Rattle.diva_image.specs.Images.{fault_of}
+use Rattle.diva_faults.specs.Reading.{script_of}
+use Rattle.diva_tape.specs.Tapes.{tape_of}
+use Rattle.diva_asm.specs.Sources.{source_of}
+use Rattle.diva_debug.specs.Reading.{commands_of}
+use Rattle.diva_core.specs.Log.{Meaning}
+use Rattle.diva_args.specs.declared.job.Job.{Job}
+use Rattle.diva_cli.specs.declared.stop.Failure.{Failure}
+use Rattle.diva_cli.specs.declared.stop.Failure.TheVariants.{Cut, Memory}
+use Rattle.diva_cli.specs.Lines.{refused_line}
+use Rattle.diva_cli.specs.Wanted.{Wanted, FileBytes, AreSound, HasFault, wanted}
+use Rattle.diva_cli.specs.Stops.{CanBeUsed, StopsAt, IsRefused, IsTooLong, HasFirstFault}
+use Rattle.diva_cli.specs.Answers.{IsAnswer, misused, unread, refused, done}
+use Rattle.diva_cli.specs.Statuses.{HasMissing, IsHeld, IsHindered, MustRefuse}
+use Rattle.diva_cli.specs.Parts.{Answers, status_of}
+use Rattle.diva_cli.proofs.Completing.{held-refused, some_same}
+
+-- ---- a first fault is one
+
+err_same : {A E : Type 0} (r : Result A E) (x y : E) → r ≡ Err x → r ≡ Err y → x ≡ y
+err_same r x y a b = cc
+
+record Same (kind place kind' place' : ℕ) : Type 0 where
+  kinds : kind ≡ kind'
+  places : place ≡ place'
+
+same_line : {A : Type 0} (r : Result A LineFault) (k l k' l' : ℕ) → r ≡ Err (record { line = l; kind = k }) → r ≡ Err (record { line = l'; kind = k' }) → Same k l k' l'
+same_line r k l k' l' a b =
+    let e = err_same r (record { line = l; kind = k }) (record { line = l'; kind = k' }) a b in
+    record { kinds = ap (λ (f : LineFault). f.kind) e; places = ap (λ (f : LineFault). f.line) e }
+
+same_fields : {A : Type 0} (r : Option A) (kind place : A → ℕ) (x y : A) → r ≡ Some x → r ≡ Some y → Same (kind x) (place x) (kind y) (place y)
+same_fields r kind place x y a b = let e = some_same r x y a b in record { kinds = ap kind e; places = ap place e }
+
+one_fault : (what : What) (bytes : List ℕ) (k p k' p' : ℕ) → HasFault what bytes k p → HasFault what bytes k' p' → Same k p k' p'
+one_fault Image bytes k p k' p' a b = same_fields (fault_of bytes) (λ f. f.kind) (λ f. f.place) _ _ a b
+one_fault Script bytes k p k' p' a b = same_line (script_of bytes) k p k' p' a b
+one_fault TapeFile bytes k p k' p' a b = same_line (tape_of bytes) k p k' p' a b
+one_fault Source bytes k p k' p' a b = same_line (source_of bytes) k p k' p' a b
+one_fault Commands bytes k p k' p' a b = same_line (commands_of bytes) k p k' p' a b
+
+-- ---- files that are known
+
+module _ (bytes_of : List ℕ → Option (List ℕ)) where
+  usable-refused : (text : List ℕ) (w : Wanted) → CanBeUsed (Some bytes_of) w → IsRefused (Some bytes_of) text w → ⊥
+  usable-refused text w u r =
+      held-refused (Some bytes_of) text w (record { bytes = u.bytes; held = u.sound.has; short = u.sound.short; faultless = u.sound.faultless }) r
+
+  usable-missing : (w : Wanted) → CanBeUsed (Some bytes_of) w → IsMissing (Some bytes_of) w.name → ⊥
+  usable-missing w u m = let e = sym u.sound.has ∙ m in cc
+
+  missing-refused : (text : List ℕ) (w : Wanted) → IsMissing (Some bytes_of) w.name → IsRefused (Some bytes_of) text w → ⊥
+  missing-refused text w m r = go r.cause
+    where
+      go : IsTooLong (Some bytes_of) w r.kind r.place ⊎ HasFirstFault (Some bytes_of) w r.kind r.place → ⊥
+      go (inl long) = let e = sym m ∙ long.longer.1 in cc
+      go (inr f) = let e = sym m ∙ f.has in cc
+
+  one_refusal : (text text' : List ℕ) (w : Wanted) → IsRefused (Some bytes_of) text w → IsRefused (Some bytes_of) text' w → text ≡ text'
+  one_refusal text text' w r r' =
+      let s = go r.cause r'.cause in let k = s.kinds in let p = s.places in let l = r.line in let l' = r'.line in cc
+    where
+      long-short : (k p k' p' : ℕ) → IsTooLong (Some bytes_of) w k p → HasFirstFault (Some bytes_of) w k' p' → ⊥
+      long-short k p k' p' long f =
+          let same : long.longer.0 ≡ f.bytes = some_same (bytes_of w.name) long.longer.0 f.bytes long.longer.1 f.has in
+          let n = ap (λ (b : List ℕ). length b) same in let a = f.short in let b = long.longer.2 in omega arith
+
+      go : IsTooLong (Some bytes_of) w r.kind r.place ⊎ HasFirstFault (Some bytes_of) w r.kind r.place
+          → IsTooLong (Some bytes_of) w r'.kind r'.place ⊎ HasFirstFault (Some bytes_of) w r'.kind r'.place → Same r.kind r.place r'.kind r'.place
+      go (inl a) (inl b) = record { kinds = a.numbered ∙ sym b.numbered; places = a.placed ∙ sym b.placed }
+      go (inl a) (inr b) = absurd (long-short r.kind r.place r'.kind r'.place a b)
+      go (inr a) (inl b) = absurd (long-short r'.kind r'.place r.kind r.place b a)
+      go (inr a) (inr b) =
+          let same : a.bytes ≡ b.bytes = some_same (bytes_of w.name) a.bytes b.bytes a.has b.has in
+          one_fault w.what b.bytes r.kind r.place r'.kind r'.place (subst (λ (z : List ℕ). HasFault w.what z r.kind r.place) same a.first) b.first
+
+  -- two stops, each at a file that can't be used, are at the same one
+  both_stop : (this that : Wanted → Type 0) (So : Type 0)
+      → ((w : Wanted) → CanBeUsed (Some bytes_of) w → this w → ⊥) → ((w : Wanted) → CanBeUsed (Some bytes_of) w → that w → ⊥)
+      → ((w : Wanted) → this w → that w → So)
+      → (ws : List Wanted) → StopsAt (Some bytes_of) this ws → StopsAt (Some bytes_of) that ws → So
+  both_stop this that So never never' so [] s t = absurd s
+  both_stop this that So never never' so (w ∷ ws) (inl a) (inl b) = so w a b
+  both_stop this that So never never' so (w ∷ ws) (inl a) (inr t) = absurd (never w t.0 a)
+  both_stop this that So never never' so (w ∷ ws) (inr s) (inl b) = absurd (never' w s.0 b)
+  both_stop this that So never never' so (w ∷ ws) (inr s) (inr t) = both_stop this that So never never' so ws s.1 t.1
+
+  sound-stops : (this : Wanted → Type 0) → ((w : Wanted) → CanBeUsed (Some bytes_of) w → this w → ⊥) → (ws : List Wanted) (bytes : FileBytes) → AreSound (Some bytes_of) ws bytes → StopsAt (Some bytes_of) this ws → ⊥
+  sound-stops this never [] bytes sound s = s
+  sound-stops this never (w ∷ ws) bytes sound (inl here) = never w (record { bytes = bytes w.what; sound = sound.0 }) here
+  sound-stops this never (w ∷ ws) bytes sound (inr later) = sound-stops this never ws bytes sound.1 later.1
+
+-- ---- what is answered
+
+module _ {C : Type 0} (gives : Meaning C) (command : Option Job) (bytes_of : List ℕ → Option (List ℕ)) (before now : What → ℕ) (core after : C) (old new : Option (List ℕ)) (faults faults' : ℕ)
+    (job : Job) (named : command ≡ Some job) where
+  first_of : (this : Wanted → Type 0) (other : Job) → command ≡ Some other → StopsAt (Some bytes_of) this (wanted job) → StopsAt (Some bytes_of) this (wanted other)
+  first_of this other e s = subst (λ (j : Job). StopsAt (Some bytes_of) this (wanted j)) (some_same command job other named e) s
+
+  abbrev pub Refuses : List ℕ → ℕ → Type 0
+  Refuses text status = ((status ≡ 5) × Appends old new text) ⊎ IsHindered status
+
+  answered_refused : (text : List ℕ) → StopsAt (Some bytes_of) (IsRefused (Some bytes_of) text) (wanted job)
+      → (status : ℕ) (line : List ℕ) → IsAnswer gives command (Some bytes_of) before now core after (Some status) line → Appends old new line → Refuses text status
+  answered_refused text first status line (misused m same s) w = absurd (let e = sym named ∙ m.none in cc)
+  answered_refused text first status line (unread u same s) w = inr (inl s)
+  answered_refused text first status line (refused r same s) w =
+      let one : line ≡ text = both_stop bytes_of (IsRefused (Some bytes_of) line) (IsRefused (Some bytes_of) text) (line ≡ text)
+      (usable-refused bytes_of line) (usable-refused bytes_of text) (one_refusal bytes_of line text) (wanted r.job) r.first (first_of (IsRefused (Some bytes_of) text) r.job r.named first) in
+      inl (s, subst (λ (t : List ℕ). Appends old new t) one w)
+  answered_refused text first status line (done d) w =
+      absurd (sound-stops bytes_of (IsRefused (Some bytes_of) text) (usable-refused bytes_of text) (wanted d.job) d.bytes d.sound (first_of (IsRefused (Some bytes_of) text) d.job d.named first))
+
+  refuses_known : (text : List ℕ) → StopsAt (Some bytes_of) (IsRefused (Some bytes_of) text) (wanted job)
+      → (result : Result ℕ Failure) → Answers gives command (Some bytes_of) before now core after old new faults faults' result → Refuses text (status_of result)
+  refuses_known text first (Ok status) w = answered_refused text first status w.text w.answer w.written
+  refuses_known text first (Err Cut) w = inr (inr (inl refl))
+  refuses_known text first (Err Memory) w = inr (inr (inr refl))
+
+  abbrev pub Missing : Wanted → Type 0
+  Missing w = IsMissing (Some bytes_of) w.name
+
+  answered_missing : StopsAt (Some bytes_of) Missing (wanted job)
+      → (status : ℕ) (line : List ℕ) → IsAnswer gives command (Some bytes_of) before now core after (Some status) line → IsHindered status
+  answered_missing first status line (misused m same s) = absurd (let e = sym named ∙ m.none in cc)
+  answered_missing first status line (unread u same s) = inl s
+  answered_missing first status line (refused r same s) =
+      absurd (both_stop bytes_of Missing (IsRefused (Some bytes_of) line) ⊥
+      (usable-missing bytes_of) (usable-refused bytes_of line) (missing-refused bytes_of line) (wanted r.job) (first_of Missing r.job r.named first) r.first)
+  answered_missing first status line (done d) =
+      absurd (sound-stops bytes_of Missing (usable-missing bytes_of) (wanted d.job) d.bytes d.sound (first_of Missing d.job d.named first))
+
+  misses_known : StopsAt (Some bytes_of) Missing (wanted job)
+      → (result : Result ℕ Failure) → Answers gives command (Some bytes_of) before now core after old new faults faults' result → IsHindered (status_of result)
+  misses_known first (Ok status) w = answered_missing first status w.text w.answer
+  misses_known first (Err Cut) w = inr (inl refl)
+  misses_known first (Err Memory) w = inr (inr refl)
+
+nothing-stops : (ws : List Wanted) → StopsAt None (λ w. IsMissing None w.name) ws → ⊥
+nothing-stops [] s = s
+nothing-stops (w ∷ ws) (inl here) = here
+nothing-stops (w ∷ ws) (inr later) = nothing-stops ws later.1
+
+module _ {C : Type 0} (gives : Meaning C) (command : Option Job) (contents : ToldFiles) (before now : What → ℕ) (core after : C) (old new : Option (List ℕ)) (faults faults' : ℕ)
+    (result : Result ℕ Failure) (answers : Answers gives command contents before now core after old new faults faults' result) where
+  pub refuses : (text : List ℕ) → MustRefuse command contents text → ((status_of result ≡ 5) × Appends old new text) ⊎ IsHindered (status_of result)
+  refuses text must = go contents must.known must.refused.first answers
+    where
+      go : (told : ToldFiles) → IsSome told → StopsAt told (IsRefused told text) (wanted must.refused.job)
+          → Answers gives command told before now core after old new faults faults' result → ((status_of result ≡ 5) × Appends old new text) ⊎ IsHindered (status_of result)
+      go None known first a = absurd (true≢false (sym known))
+      go (Some bytes_of) known first a =
+          refuses_known gives command bytes_of before now core after old new faults faults' must.refused.job must.refused.named text first result a
+
+  pub misses : HasMissing command contents → IsHindered (status_of result)
+  misses missing = go contents missing.first answers
+    where
+      go : (told : ToldFiles) → StopsAt told (λ w. IsMissing told w.name) (wanted missing.job)
+          → Answers gives command told before now core after old new faults faults' result → IsHindered (status_of result)
+      go None first a = absurd (nothing-stops (wanted missing.job) first)
+      go (Some bytes_of) first a =
+          misses_known gives command bytes_of before now core after old new faults faults' missing.job missing.named first result a
