@@ -12,3 +12,4 @@ pub mod Listing
 pub mod Completing
 pub mod Determining
 pub mod Commanding
+pub mod Soaking
