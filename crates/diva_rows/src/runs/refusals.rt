@@ -5,7 +5,7 @@ use diva_outside::Fail as SinkFail;
 use std::test::Fail;
 
 /// What is written where the words are not a valid command line.
-const USAGE: &str = "\
+pub(super) const USAGE: &str = "\
 usage: diva run|tape IMAGE, debug IMAGE COMMANDS, asm SRC, dis IMAGE, soak SEED LENGTH
 ";
 
