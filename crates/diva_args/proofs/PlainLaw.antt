@@ -8,7 +8,7 @@ use Rattle.std.proofs.lemmas.Slice.Eq.{bytes_eq-Decides}
 use Rattle.clap.specs.Walk.{Row, Text, nothing_held, walked}
 use Rattle.clap.specs.Simple.{Shape, argument_words, built}
 use Rattle.clap.proofs.WalkLemmas.{both}
-use Rattle.diva_args.specs.Command.{Leaf, asm, debug, dis, diva, leaves, run, tape}
+use Rattle.diva_args.specs.Command.{Leaf, asm, debug, dis, diva, leaves, run, soak, tape}
 use Rattle.diva_args.specs.Line.{command_of, cycles_from, job_from, run_from, run_with, setup_from, setup_with, taken, values_of, width_from}
 use Rattle.diva_args.specs.Plain.{IsPlainLine, PlainLine, Use, are_distinct, flagged, given_by, given_in, has_text, is_plain_word, is_use_of, job_on, name_of, names_in, use_words, value_in, valued, values_in}
 use Rattle.diva_args.specs.Values.{core_of, dump_of, is_set_by, number_of}
@@ -137,8 +137,22 @@ dis_sound = record {
   same = λ f g s. ap (job_from dis.name) (one_source f g s);
 }
 
+soak_sound : IsSound soak
+unfolding diva walked
+soak_sound = record {
+  enters = record { walk_is = refl; turn = refl; sub = refl; label = refl; bare = refl; negates = refl };
+  places = (refl, refl, refl, (refl, refl, refl, tt));
+  names = refl;
+  flag_names = refl;
+  apart = refl;
+  flags_apart = refl;
+  flags_no_positionals = refl;
+  distinct = refl;
+  same = λ f g s. ap (job_from soak.name) (one_source f g s);
+}
+
 each_sound : (l : Leaf) → Contains leaves l → IsSound l
-each_sound l listed = All-contains IsSound leaves l (All-from_recursion IsSound leaves (run_sound, (tape_sound, (debug_sound, (asm_sound, (dis_sound, tt)))))) listed
+each_sound l listed = All-contains IsSound leaves l (All-from_recursion IsSound leaves (run_sound, (tape_sound, (debug_sound, (asm_sound, (dis_sound, (soak_sound, tt))))))) listed
 
 -- ---- names and words
 

@@ -53,8 +53,11 @@ asm = record { name = codes "asm"; positionals = codes "SRC" ∷ []; options = [
 abbrev pub dis : Leaf
 dis = record { name = codes "dis"; positionals = codes "IMAGE" ∷ []; options = []; flags = [] }
 
+abbrev pub soak : Leaf
+soak = record { name = codes "soak"; positionals = codes "SEED" ∷ codes "LENGTH" ∷ []; options = []; flags = [] }
+
 abbrev pub leaves : List Leaf
-leaves = run ∷ tape ∷ debug ∷ asm ∷ dis ∷ []
+leaves = run ∷ tape ∷ debug ∷ asm ∷ dis ∷ soak ∷ []
 
 -- ---- the same for `clap`
 

@@ -7,8 +7,8 @@ use Rattle.clap.specs.Simple.{subcommand_of}
 use Rattle.clap.specs.Faults.{fault_of}
 use Rattle.clap.specs.Kinds.{Kinds}
 use Rattle.diva_args.specs.Command.{diva}
-use Rattle.diva_args.specs.Options.{DebugOptions, DumpRange, RunOptions, Setup, TapeOptions}
-use Rattle.diva_args.specs.Values.{core_of, dump_of, is_set_by, number_of}
+use Rattle.diva_args.specs.Options.{DebugOptions, DumpRange, RunOptions, Setup, SoakOptions, TapeOptions}
+use Rattle.diva_args.specs.Values.{core_of, dump_of, given_number, is_set_by, number_of}
 use Rattle.diva_args.specs.declared.job.CoreChoice.{CoreChoice}
 use Rattle.diva_args.specs.declared.job.Job.{Job}
 use Rattle.diva_args.specs.declared.job.Job.TheVariants as job
@@ -85,6 +85,14 @@ debug_with setup commands = option_and_then (λ s. option_map (λ c.
 unfoldable pub debug_from : (Text → Option Text) → Option DebugOptions
 debug_from value = debug_with (setup_from 1 value) (value (codes "COMMANDS"))
 
+abbrev pub soak_with : (seed instructions : Option ℕ) → Option SoakOptions
+soak_with seed instructions = option_and_then (λ s. option_map (λ n.
+    record { seed = s; instructions = n }) instructions) seed
+
+-- `soak`
+unfoldable pub soak_from : (Text → Option Text) → Option SoakOptions
+soak_from value = soak_with (given_number 0 4294967295 (value (codes "SEED"))) (given_number 1 65536 (value (codes "LENGTH")))
+
 -- the job of the command of this name
 abbrev pub job_from : Text → (Text → Option Text) → Option Job
 job_from name value =
@@ -93,6 +101,7 @@ job_from name value =
     else if bytes_eq name (codes "debug") then option_map job.Debug (debug_from value)
     else if bytes_eq name (codes "asm") then option_map job.Asm (value (codes "SRC"))
     else if bytes_eq name (codes "dis") then option_map job.Dis (value (codes "IMAGE"))
+    else if bytes_eq name (codes "soak") then option_map job.Soak (soak_from value)
     else None
 
 -- the first value of each positional, option and flag in the matches

@@ -55,3 +55,13 @@ pub record TapeOptions : Type 0 where
 pub record DebugOptions : Type 0 where
   pub setup : Setup
   pub commands : List ℕ
+
+-- `soak SEED LENGTH`: the seed of an image, and how many instructions are drawn from it
+pub record SoakOptions : Type 0 where
+  pub seed : ℕ
+  pub instructions : ℕ
+
+-- the range of that number
+pub record IsSoak (instructions : ℕ) : Type 0 where
+  pub low : 1 ≤ instructions
+  pub high : instructions ≤ 65536

@@ -41,6 +41,10 @@ within least most n = if nat_le least n && nat_le n most then Some n else None
 abbrev pub number_in_range : ℕ → ℕ → Text → Option ℕ
 number_in_range least most word = option_and_then (within least most) (decimal_of word)
 
+-- the same, of a word that has to be given
+abbrev pub given_number : ℕ → ℕ → Option Text → Option ℕ
+given_number least most word = option_and_then (number_in_range least most) word
+
 -- a number from `least` to `most`, or what stands for one that is not given
 abbrev pub number_of : ℕ → ℕ → ℕ → Option Text → Option ℕ
 number_of least most otherwise None = Some otherwise

@@ -19,7 +19,7 @@ pub(crate) struct Leaf {
 }
 
 // The commands of the program.
-static LEAVES: [Leaf; 5] = [
+static LEAVES: [Leaf; 6] = [
     Leaf {
         name: "run",
         positionals: &["IMAGE"],
@@ -51,6 +51,12 @@ static LEAVES: [Leaf; 5] = [
     Leaf {
         name: "dis",
         positionals: &["IMAGE"],
+        options: &[],
+        flags: &[],
+    },
+    Leaf {
+        name: "soak",
+        positionals: &["SEED", "LENGTH"],
         options: &[],
         flags: &[],
     },

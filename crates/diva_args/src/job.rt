@@ -15,6 +15,8 @@ pub enum Job {
     Asm(FileName),
     /// `dis IMAGE`: lists the image of this name. The name is the word as it is.
     Dis(FileName),
+    /// `soak SEED LENGTH`: runs the image of a seed twice, under two cores.
+    Soak(SoakOptions),
 }
 
 /// What commands have in common that run an image: the image, the core, the script, and the numbers of the machine.
@@ -109,6 +111,25 @@ impl Model for DebugOptions {
     ghost view = { λ d. record { setup = d.setup; commands = d.commands } };
 
     ghost invariant = { λ d. d.setup.width ≡ 1 };
+}
+
+/// `soak SEED LENGTH`. It names no file, and has no options.
+#[derive(Debug, Drop)]
+pub struct SoakOptions {
+    /// `SEED`: the number from which the image's instructions are drawn, 0 to 4,294,967,295.
+    pub seed: u32,
+    /// `LENGTH`: how many instructions are drawn, 1 to 65,536.
+    pub instructions: u32,
+}
+
+impl Model for SoakOptions {
+    ghost use Rattle.diva_args.specs.Options.{IsSoak, SoakOptions};
+
+    ghost Value = { SoakOptions };
+
+    ghost view = { λ s. record { seed = s.seed; instructions = s.instructions } };
+
+    ghost invariant = { λ s. IsSoak s.instructions };
 }
 
 /// The core that the checker watches.

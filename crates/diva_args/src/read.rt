@@ -2,17 +2,17 @@
 ghost use Rattle.std.specs.Prelude.{◌≡◌, ◌≤◌, IfOk, IfSome, None, Some, map, option_and_then, option_map};
 ghost use Rattle.clap.specs.Walk.{rows_of};
 ghost use Rattle.clap.specs.Words.{found_of, subcommand_rows_of};
-ghost use Rattle.diva_args.specs.Line.{command_of, cycles_from, debug_from, job_of, run_from, setup_from};
+ghost use Rattle.diva_args.specs.Line.{command_of, cycles_from, debug_from, job_of, run_from, setup_from, soak_from};
 ghost use Rattle.diva_args.specs.Line.{taken, tape_from, values_of, width_from};
 ghost use Rattle.diva_args.specs.Options.{IsBudget};
 ghost use Rattle.diva_args.specs.Plain.{IsPlainLine, PlainLine, job_on};
-ghost use Rattle.diva_args.specs.Values.{is_set_by};
+ghost use Rattle.diva_args.specs.Values.{given_number, is_set_by};
 
 use crate::command::command;
 use crate::fault::ArgsFault;
 use crate::file_name::FileName;
-use crate::job::{DebugOptions, Job, RunOptions, Setup, TapeOptions};
-use crate::values::{core, dump, number};
+use crate::job::{DebugOptions, Job, RunOptions, Setup, SoakOptions, TapeOptions};
+use crate::values::{core, dump, number, number_within};
 use clap::ArgMatches;
 use std::alloc::{AllocError, Global};
 
@@ -61,6 +61,7 @@ fn job(alloc: Global, matches: &ArgMatches<'_>) -> Result<Job, ArgsFault>
         "debug" => Ok(Job::Debug(debug(alloc, found)?)),
         "asm" => Ok(Job::Asm(file_of(alloc, found, "SRC")?)),
         "dis" => Ok(Job::Dis(file_of(alloc, found, "IMAGE")?)),
+        "soak" => Ok(Job::Soak(soak(found)?)),
         _ => Err(ArgsFault::Usage),
     }
 }
@@ -137,6 +138,31 @@ fn debug(alloc: Global, found: &ArgMatches<'_>) -> Result<DebugOptions, ArgsFaul
         setup,
         commands: FileName::new(alloc, commands)?,
     })
+}
+
+// `soak SEED LENGTH`.
+#[tactic(auto, unfolding(crate::specs::Line::soak_from))]
+fn soak(found: &ArgMatches<'_>) -> Result<SoakOptions, ArgsFault>
+    ensures soak { IfOk result (λ soak.
+        soak_from (values_of (rows_of (found_of found.now))) ≡ Some soak) }
+    ensures usage { result ≡ Err ArgsFault.Usage
+        → soak_from (values_of (rows_of (found_of found.now))) ≡ None }
+{
+    let Some(seed) = number_of(found, "SEED", 0, u32::MAX) else {
+        return Err(ArgsFault::Usage);
+    };
+    let Some(instructions) = number_of(found, "LENGTH", 1, 65_536) else {
+        return Err(ArgsFault::Usage);
+    };
+    Ok(SoakOptions { seed, instructions })
+}
+
+// The number from `least` to `most` that a positional spells.
+fn number_of(found: &ArgMatches<'_>, id: &str, least: u32, most: u32) -> Option<u32>
+    ensures value { result ≡ given_number least most (values_of (rows_of (found_of found.now)) id.now) }
+    ensures in_range { IfSome result (λ n. (least ≤ n) × (n ≤ most)) }
+{
+    number_within(text_of(found, id)?, least, most)
 }
 
 // What commands have in common that run an image, on a machine of this width.

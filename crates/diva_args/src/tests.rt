@@ -1,7 +1,7 @@
 // Lines that are taken, and lines that are refused.
 use crate::{
-    ArgsFault, CoreChoice, DebugOptions, DumpRange, FileName, Job, RunOptions, TapeOptions,
-    read_words,
+    ArgsFault, CoreChoice, DebugOptions, DumpRange, FileName, Job, RunOptions, SoakOptions,
+    TapeOptions, read_words,
 };
 use std::alloc::Global;
 use std::test::Fail;
@@ -139,6 +139,25 @@ fn lines_of_asm_and_dis(rt: HostRuntime) -> Result<(), Fail> {
 }
 
 #[test]
+fn lines_of_soak(rt: HostRuntime) -> Result<(), Fail> {
+    let lines: [(&[&str], u32, u32); 4] = [
+        (&["soak", "1", "1"], 1, 1),
+        (&["soak", "7", "65536"], 7, 65536),
+        (&["soak", "4294967295", "0000000002"], u32::MAX, 2),
+        (&["soak", "--", "0", "3"], 0, 3),
+    ];
+    for (words, due_seed, due_instructions) in lines {
+        match read_words(rt.alloc(), words)? {
+            Job::Soak(SoakOptions { seed, instructions }) => {
+                assert_eq!(rt; (seed, instructions), (due_seed, due_instructions));
+            }
+            _ => assert!(rt; false),
+        }
+    }
+    Ok(())
+}
+
+#[test]
 fn lines_of_debug(rt: HostRuntime) -> Result<(), Fail> {
     let DebugOptions { setup, commands } = debug(rt.alloc(), &["debug", "p", "c"])?;
     assert_eq!(rt; (setup.image.as_str(), commands.as_str()), ("p", "c"));
@@ -199,7 +218,7 @@ fn any_word_is_a_name(rt: HostRuntime) -> Result<(), Fail> {
 
 #[test]
 fn lines_that_are_refused(rt: HostRuntime) {
-    let lines: [&[&str]; 39] = [
+    let lines: [&[&str]; 50] = [
         &[],
         &["run"],
         &["run", "a", "b"],
@@ -239,6 +258,17 @@ fn lines_that_are_refused(rt: HostRuntime) {
         &["asm", "a", "--core", "own"],
         &["dis"],
         &["dis", "--help"],
+        &["soak"],
+        &["soak", "1"],
+        &["soak", "1", "0"],
+        &["soak", "1", "65537"],
+        &["soak", "4294967296", "1"],
+        &["soak", "00000000001", "1"],
+        &["soak", "-1", "1"],
+        &["soak", "1", "0x1"],
+        &["soak", "", "1"],
+        &["soak", "1", "1", "1"],
+        &["soak", "1", "1", "--core", "own"],
     ];
     for line in lines {
         let answer = read_words(rt.alloc(), line);

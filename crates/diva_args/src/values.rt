@@ -62,8 +62,8 @@ pub(crate) fn number(word: Option<&str>, least: u32, most: u32, otherwise: u32) 
     }
 }
 
-// The number from `least` to `most` that the word spells.
-fn number_within(word: &str, least: u32, most: u32) -> Option<u32>
+/// The number from `least` to `most` that the word spells.
+pub(crate) fn number_within(word: &str, least: u32, most: u32) -> Option<u32>
     ensures value { result ≡ number_in_range least most word.now }
     ensures in_range { IfSome result (λ n. (least ≤ n) × (n ≤ most)) }
 {

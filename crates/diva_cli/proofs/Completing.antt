@@ -9,7 +9,7 @@ use Rattle.diva_outside.specs.declared.files.What.TheVariants.{Image, Script, Ta
 use Rattle.diva_core.specs.Log.{Meaning}
 use Rattle.diva_core.specs.Timed.{Timed}
 use Rattle.diva_args.specs.declared.job.Job.{Job}
-use Rattle.diva_args.specs.declared.job.Job.TheVariants.{Run, Tape, Debug, Asm, Dis}
+use Rattle.diva_args.specs.declared.job.Job.TheVariants.{Run, Tape, Debug, Asm, Dis, Soak}
 use Rattle.diva_cli.specs.declared.stop.Failure.{Failure}
 use Rattle.diva_cli.specs.declared.stop.Failure.TheVariants.{Cut, Memory}
 use Rattle.diva_cli.specs.Wanted.{Wanted, FileBytes, wanted, IsFaultless, HasFault}
@@ -34,6 +34,7 @@ can_end gives (Tape options) bytes core after status text h = end_status h.last 
 can_end gives (Debug options) bytes core after status text h = h.whole.0
 can_end gives (Asm name) bytes core after status text h = h.alone.ended
 can_end gives (Dis name) bytes core after status text h = h.alone.ended
+can_end gives (Soak options) bytes core after status text h = h.ended
 
 -- ---- a file that is held is no cause to stop
 

@@ -1,5 +1,6 @@
 -- Two runs of one core from one machine are one.
-use Rattle.std.proofs.Common.{◌≡◌, ◌≤◌, ℕ, ◌-◌, true, List, [], ◌∷◌, ◌++◌, length, Option, Some, None, IsSome, refl, ap, sym, ◌∙◌, arith, subst}
+use Rattle.std.proofs.Common.{◌≡◌, ◌≤◌, ℕ, ◌+◌, ◌-◌, ◌==◌, true, false, List, [], ◌∷◌, ◌++◌, length, Option, Some, None, IsSome, refl, ap, sym, ◌∙◌, arith, subst}
+use Rattle.std.proofs.lemmas.Bool.{true≢false}
 use Rattle.std.proofs.lemmas.List.{length-map}
 use Rattle.diva_outside.specs.Text.{Text}
 use Rattle.diva_outside.specs.declared.files.What.TheVariants.{Script}
@@ -12,14 +13,18 @@ use Rattle.diva_core.specs.Log.{Meaning, IsLog}
 use Rattle.diva_faults.specs.declared.rows.Row.{Row}
 use Rattle.diva_faults.specs.Spoiled.{spoiled}
 use Rattle.diva_faults.specs.Lists.{scripted}
-use Rattle.diva_trace.specs.Text.{text_of}
-use Rattle.diva_args.specs.Options.{RunOptions}
+use Rattle.diva_trace.specs.Lines.{end_line, soak_line}
+use Rattle.diva_trace.specs.Text.{output_text, registers_text, soak_text, text_of}
+use Rattle.diva_trace.specs.declared.report.SoakCore.{SoakCore}
+use Rattle.diva_trace.specs.declared.report.SoakCore.TheVariants as soak_core
+use Rattle.diva_args.specs.Options.{RunOptions, SoakOptions}
 use Rattle.diva_args.specs.declared.job.CoreChoice.{CoreChoice}
 use Rattle.diva_args.specs.declared.job.CoreChoice.TheVariants.{Own}
 use Rattle.diva_cli.specs.Wanted.{FileBytes}
 use Rattle.diva_cli.specs.Determined.{IsDetermined}
 use Rattle.diva_cli.specs.Driven.{AreHanded, ByTurns}
 use Rattle.diva_cli.specs.Runs.{AreRows, HasRun, asked_trace, shown_dump, sizes_of, start_in}
+use Rattle.diva_cli.specs.SoakTexts.{HasSoaked, soak_cycles, soak_sizes, soak_start}
 
 module _ {C : Type 0} (gives : Meaning C) (determined : IsDetermined gives) where
   -- the turns of two logs that were not broken off
@@ -84,3 +89,35 @@ text_same gives determined options bytes core after last status other text same 
     let j = ran gives options bytes core last other same rows own k (λ on. (asked on).1) refl in
     let ends : h.last ≡ k.last = last_same (spoiled rows gives) (spoiled_determined gives rows determined) options.cycles (new_timed (sizes_of options.setup) (start_in bytes)) h.last k.last core after last i.log j.log i.good j.good i.most j.most i.all j.all in
     h.lines ∙ ap (λ (m : Timed). asked_trace options.trace (start_in bytes) m.count ++ text_of m (shown_dump options.dump)) ends ∙ sym k.lines
+
+-- ---- the text of `soak`
+
+-- the turns of its second run, which has ended
+soak_ran : {C : Type 0} (gives : Meaning C) (options : SoakOptions) (core after : C) (status : Option ℕ) (text : Text)
+    → (h : HasSoaked gives options core after status text)
+    → Ran (spoiled [] gives) (soak_cycles options.instructions) (new_timed soak_sizes (soak_start options)) core h.second after
+soak_ran gives options core after status text h =
+    let driven = h.under_own.driven in
+    let turns : ByTurns (spoiled [] gives) (new_timed soak_sizes (soak_start options)) core driven.lists h.second after = driven.handed in
+    let long : length driven.lists ≡ length turns.log = ap length turns.in_order ∙ length-map turns.log (λ turn. turn.0) in
+    let most = driven.most in
+    let off : goes_on h.second.arch ≡ false = ap (λ end. end == 0) h.halts.1 in
+    record { log = turns.log; good = turns.good; most = omega arith; all = λ on. absurd (true≢false (sym on ∙ off)) }
+
+line_same : (core : SoakCore) (n n' y y' f f' : ℕ) → n ≡ n' → y ≡ y' → f ≡ f' → soak_line core n y f ≡ soak_line core n' y' f'
+line_same core n n' y y' f f' a b c = cc
+
+pub soak_same : {C : Type 0} (gives : Meaning C) → IsDetermined gives → (options : SoakOptions) (core after last : C) (status other : Option ℕ) (text same : Text)
+    → HasSoaked gives options core after status text → HasSoaked gives options core last other same → text ≡ same
+soak_same gives determined options core after last status other text same h k =
+    let i = soak_ran gives options core after status text h in
+    let j = soak_ran gives options core last other same k in
+    let ends : h.second ≡ k.second = last_same (spoiled [] gives) (spoiled_determined gives [] determined) (soak_cycles options.instructions) (new_timed soak_sizes (soak_start options)) h.second k.second core after last i.log j.log i.good j.good i.most j.most i.all j.all in
+    let counted : h.first.count ≡ k.first.count = sym h.same.1 ∙ ap (λ (m : Timed). m.count) ends ∙ k.same.1 in
+    let cycles : h.first.cycles ≡ k.first.cycles = h.paced ∙ ap (λ n. n + 6) counted ∙ sym k.paced in
+    let flushes : h.first.flushes ≡ k.first.flushes = h.unflushed ∙ sym k.unflushed in
+    let line = line_same soak_core.Scalar h.first.count k.first.count h.first.cycles k.first.cycles h.first.flushes k.first.flushes counted cycles flushes in
+    h.lines ∙ ap (soak_text h.first) ends
+    ∙ ap (λ (l : List ℕ). l ++ soak_line soak_core.Own k.second.count k.second.cycles k.second.flushes ++ end_line k.second.arch.end ++ output_text k.second.arch.output
+    ++ registers_text k.second.arch.regs k.second.arch.pc) line
+    ∙ sym k.lines

@@ -63,11 +63,11 @@ performs_faulty gives script m core f last final after this lent rows ends p =
 
 -- ---- a drive of which nothing is written
 
-record WentFar (m last : Timed) (budget : ℕ) : Type 0 where
+pub record WentFar (m last : Timed) (budget : ℕ) : Type 0 where
   pub most : last.cycles ≤ m.cycles + budget
   pub whole : goes_on last.arch ≡ true → last.cycles ≡ m.cycles + budget
 
-went_far :
+pub went_far :
     (m last : Timed) (budget : ℕ) (r : Drive)
     → last.cycles ≤ m.cycles + budget
     → (r ≡ Ended) ↔ (goes_on last.arch ≡ false)

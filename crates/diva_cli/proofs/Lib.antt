@@ -13,3 +13,4 @@ pub mod Completing
 pub mod Refusing
 pub mod Determining
 pub mod Commanding
+pub mod Soaking

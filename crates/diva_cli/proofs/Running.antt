@@ -116,7 +116,7 @@ tape_goes_on before after told s list n h =
     ap (λ (l : List Record). l ∷ played n after) h.next ∙ ap (λ (t : List (List Record)). next_list before ∷ played n t) h.later ∙ played-next n before
 
 -- where the lists come from, told by the choice of the core
-handed_for :
+pub handed_for :
     {C : Type 0} (gives : Meaning C) (asked : CoreChoice) (tape : List (List Record)) (script : List Row) (m : Timed) (core : C) (lists : List (List Record)) (last : Timed) (after : C)
     → MayLead m new_scalar
     → AreHandedBy gives (core_for asked tape) script m core lists last after → AreHanded gives asked tape script m core lists last after
@@ -131,7 +131,7 @@ handed_for gives Noise tape script m core lists last after leads h =
 handed_for gives (Tape name) tape script m core lists last after leads h =
     by_calls tape_call played (λ before. refl) tape_goes_on tape script m core lists last after leads.machine h
 
-run_from_start :
+pub run_from_start :
     {C : Type 0} (gives : Meaning C) (setup : Setup) (cycles : ℕ) (tape : List (List Record)) (script : List Row) (start : State) (core : C) (last : Timed) (after : C)
     → IsSizes (sizes_of setup)
     → IsDriven gives setup.core tape script cycles (new_timed (sizes_of setup) start) core last after

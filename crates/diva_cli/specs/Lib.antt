@@ -8,6 +8,7 @@ pub mod TapeTexts
 pub mod Replies
 pub mod DebugTexts
 pub mod ImageTexts
+pub mod SoakTexts
 pub mod Texts
 pub mod Answers
 pub mod Statuses

@@ -12,7 +12,7 @@ use Rattle.diva_core.specs.Timed.{new_timed}
 use Rattle.diva_core.specs.Log.{Meaning}
 use Rattle.diva_faults.specs.declared.rows.Row.{Row}
 use Rattle.diva_tape.specs.Scalar.{new_scalar}
-use Rattle.diva_args.specs.Options.{DebugOptions, Setup}
+use Rattle.diva_args.specs.Options.{DebugOptions, Setup, SoakOptions}
 use Rattle.diva_debug.specs.Reading.{commands_of}
 use Rattle.diva_args.specs.declared.job.CoreChoice.{CoreChoice}
 use Rattle.diva_args.specs.declared.job.CoreChoice.TheVariants as choice
@@ -21,6 +21,7 @@ use Rattle.diva_cli.specs.declared.driving.CoreInUse.{CoreInUse}
 use Rattle.diva_cli.specs.declared.driving.CoreInUse.TheVariants.{Own, Lockstep, Scalar, Silent, Flood, Echo, Noise, Tape}
 use Rattle.diva_cli.specs.declared.loading.Ready.{Ready}
 use Rattle.diva_cli.specs.declared.loading.SessionReady.{SessionReady}
+use Rattle.diva_cli.specs.declared.soak.SoakReady.{SoakReady}
 use Rattle.diva_cli.specs.declared.stop.Stop.{Stop}
 use Rattle.diva_cli.specs.declared.stop.Stop.TheVariants.{Memory, Unread, Refused}
 use Rattle.diva_cli.specs.declared.stop.Failure.{Failure}
@@ -28,6 +29,7 @@ use Rattle.diva_cli.specs.declared.stop.Failure.TheVariants.{Cut, Memory as NoMe
 use Rattle.diva_cli.specs.Lines.{unreadable_line, refused_line}
 use Rattle.diva_cli.specs.Wanted.{Wanted, FileBytes, IsSound, AreSound, file_if, machine_files, session_files, tape_name}
 use Rattle.diva_cli.specs.Runs.{AreRows, AreLists, start_in, sizes_of}
+use Rattle.diva_cli.specs.SoakTexts.{soak_sizes, soak_start}
 use Rattle.diva_cli.specs.Stops.{StopsAt, IsUnread, IsRefused}
 use Rattle.diva_cli.specs.Texts.{HasText}
 use Rattle.diva_cli.specs.Answers.{IsAnswer}
@@ -100,6 +102,12 @@ pub record HoldsSession (contents : ToldFiles) (options : DebugOptions) (session
   pub bytes : FileBytes
   pub sound : AreSound contents (session_files options) bytes
   pub is : IsSession options bytes session
+
+-- both machines are new and begin with the image of the seed, and so is the core of the first
+pub record IsSoakReady (options : SoakOptions) (ready : SoakReady) : Type 0 where
+  pub first : ready.first.timed ≡ new_timed soak_sizes (soak_start options)
+  pub second : ready.second.timed ≡ new_timed soak_sizes (soak_start options)
+  pub scalar : ready.scalar ≡ new_scalar
 
 -- ---- writing
 

@@ -4,12 +4,13 @@ use Rattle.std.specs.Prelude.{◌≡◌, ◌⊎◌, ℕ, Option}
 use Rattle.diva_outside.specs.Text.{Text}
 use Rattle.diva_core.specs.Log.{Meaning}
 use Rattle.diva_args.specs.declared.job.Job.{Job}
-use Rattle.diva_args.specs.declared.job.Job.TheVariants.{Run, Tape, Debug, Asm, Dis}
+use Rattle.diva_args.specs.declared.job.Job.TheVariants.{Run, Tape, Debug, Asm, Dis, Soak}
 use Rattle.diva_cli.specs.Wanted.{FileBytes}
 use Rattle.diva_cli.specs.Runs.{HasRun}
 use Rattle.diva_cli.specs.TapeTexts.{HasTape}
 use Rattle.diva_cli.specs.DebugTexts.{HasReplies}
 use Rattle.diva_cli.specs.ImageTexts.{HasAssembled, HasListing}
+use Rattle.diva_cli.specs.SoakTexts.{HasSoaked}
 
 -- ---- a line for each command
 
@@ -19,6 +20,7 @@ HasText gives (Tape options) bytes core after status text = HasTape gives option
 HasText gives (Debug options) bytes core after status text = HasReplies gives options bytes core after status text
 HasText gives (Asm name) bytes core after status text = HasAssembled bytes core after status text
 HasText gives (Dis name) bytes core after status text = HasListing bytes core after status text
+HasText gives (Soak options) bytes core after status text = HasSoaked gives options core after status text
 
 -- the statuses of commands whose text was written whole
 abbrev pub IsDone : ℕ → Type 0
@@ -31,3 +33,4 @@ CanEnd (Tape options) status = IsDone status
 CanEnd (Debug options) status = status ≡ 0
 CanEnd (Asm name) status = status ≡ 0
 CanEnd (Dis name) status = status ≡ 0
+CanEnd (Soak options) status = status ≡ 0

@@ -10,7 +10,7 @@ use Rattle.diva_args.specs.Options.{DebugOptions, Setup}
 use Rattle.diva_args.specs.declared.job.CoreChoice.{CoreChoice}
 use Rattle.diva_args.specs.declared.job.CoreChoice.TheVariants.{Own, Lockstep, Scalar, Silent, Flood, Echo, Noise, Tape as OfTape}
 use Rattle.diva_args.specs.declared.job.Job.{Job}
-use Rattle.diva_args.specs.declared.job.Job.TheVariants.{Run, Tape, Debug, Asm, Dis}
+use Rattle.diva_args.specs.declared.job.Job.TheVariants.{Run, Tape, Debug, Asm, Dis, Soak}
 use Rattle.diva_asm.specs.Sources.{source_of}
 use Rattle.diva_debug.specs.Reading.{commands_of}
 
@@ -57,6 +57,7 @@ wanted (Tape options) = machine_files options.setup
 wanted (Debug options) = session_files options
 wanted (Asm name) = file Source name ∷ []
 wanted (Dis name) = file Image name ∷ []
+wanted (Soak options) = []
 
 -- ---- the first fault of a file's bytes, by what the file is for
 

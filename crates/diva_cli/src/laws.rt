@@ -1,21 +1,26 @@
-//! What follows of the text of a run. The function has no body: its clause is about the definitions.
+//! What follows of the text of a run, and of the text of `soak`. The function has no body: its clauses are about the definitions.
 ghost use Rattle.std.specs.Prelude.{◌≡◌, ℕ, true, Option, IsSome};
 ghost use Rattle.diva_outside.specs.Text.{Text};
-ghost use Rattle.diva_args.specs.Options.{RunOptions};
+ghost use Rattle.diva_args.specs.Options.{RunOptions, SoakOptions};
 ghost use Rattle.diva_args.specs.declared.job.CoreChoice.TheVariants.{Own};
 ghost use Rattle.diva_cli.specs.Determined.{IsDetermined};
 ghost use Rattle.diva_cli.specs.Runs.{HasRun};
+ghost use Rattle.diva_cli.specs.SoakTexts.{HasSoaked};
 ghost use Rattle.diva_cli.specs.Wanted.{FileBytes};
 
 use diva_core::Core;
 
 /// Where the calls of the core that is handed in are determined, so is the text of a run under it: by the words, the bytes
-/// of the files and the core. Of a run with commit lines that is said where they were all written.
+/// of the files and the core. Of a run with commit lines that is said where they were all written. The text of `soak` is
+/// determined by its words and the core.
 pub fn own_run_is_determined<C: Core>()
     requires { IsDetermined C.gives }
-    ensures { (options : RunOptions) (bytes : FileBytes) (core after last : C) (status other : Option ℕ) (text same : Text)
+    ensures run { (options : RunOptions) (bytes : FileBytes) (core after last : C) (status other : Option ℕ) (text same : Text)
         → options.setup.core ≡ Own
         → HasRun C.gives options bytes core after status text → HasRun C.gives options bytes core last other same
         → (options.trace ≡ true → IsSome status × IsSome other)
+        → text ≡ same }
+    ensures soak { (options : SoakOptions) (core after last : C) (status other : Option ℕ) (text same : Text)
+        → HasSoaked C.gives options core after status text → HasSoaked C.gives options core last other same
         → text ≡ same }
 {}

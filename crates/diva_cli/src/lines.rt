@@ -4,7 +4,7 @@ ghost use Rattle.diva_cli.specs.Lines.{word_for, usage_line, unreadable_line, re
 
 use diva_outside::{Line, What};
 
-/// The line for words that are not a valid command line. It names commands that are to come.
+/// The line for words that are not a valid command line.
 #[tactic(auto, unfolding(crate::specs::Lines::usage_line))]
 pub(crate) fn usage_line() -> Line
     ensures { result ≡ usage_line }

@@ -16,6 +16,7 @@ use crate::debug::debug;
 use crate::dis::dis;
 use crate::lines::usage_line;
 use crate::run::run;
+use crate::soak::soak;
 use crate::stop::Failure;
 use crate::tape::tape;
 use crate::writing::write_line;
@@ -50,7 +51,8 @@ pub fn top<F: Files, S: Sink, C: Core>(
     // hands over and a script makes of it, the text of a run is that of a machine whose committed
     // state is the table's after the counted instructions, from the state of the image's bytes; and
     // the text of a tape is all that was handed to such a machine, and leads another one to its state.
-    // The replies of a session show the table's states, and the flushes of such a machine.
+    // The replies of a session show the table's states, and the flushes of such a machine. Both runs of
+    // a seed's image halt, in the same state.
     ensures worked { IsDone result
         → HasWorked C.gives (command_of (map (λ w. w.now) words.now)) (F.told files.old)
         core.old core.new (S.contents sink.old) (S.contents sink.new) result }
@@ -145,5 +147,6 @@ fn work<F: Files, S: Sink, C: Core>(
         Job::Debug(options) => debug(alloc, options, files, sink, core),
         Job::Asm(source) => asm(alloc, source, files, sink, core),
         Job::Dis(image) => dis(alloc, image, files, sink, core),
+        Job::Soak(options) => soak(alloc, options, files, sink, core),
     }
 }

@@ -1,7 +1,8 @@
 // What is written, and the status that goes with it. No memory is taken.
 ghost use Rattle.std.specs.Prelude.{◌≡◌, ◌⊎◌, ◌+◌, ◌≤◌, ◌<◌, ◌^◌, IsErrOf};
 ghost use Rattle.std.specs.Option.{ForSome};
-ghost use Rattle.diva_trace.specs.Text.{text_of};
+ghost use Rattle.diva_trace.specs.Text.{soak_text, text_of};
+ghost use Rattle.diva_trace.specs.Lines.{soak_line};
 ghost use Rattle.diva_outside.specs.Sink.{Puts};
 ghost use Rattle.diva_cli.specs.Runs.{shown_dump};
 ghost use Rattle.diva_cli.specs.Parts.{WritesLine, WritesStop};
@@ -10,8 +11,10 @@ use crate::lines::{refused_line, unreadable_line};
 use crate::stop::{Failure, Stop};
 use diva_args::DumpRange;
 use diva_machine::{End, Machine};
-use diva_outside::{Line, Sink, SinkFailed};
-use diva_trace::{Dump, Report, write_run};
+use diva_outside::{Line, Sink, SinkFailed, put_lines};
+use diva_trace::{
+    Dump, Report, SoakCore, end_line, soak_line, write_output, write_registers, write_run,
+};
 
 /// Writes a line, and answers its status.
 pub(crate) fn write_line<S: Sink>(line: &Line, status: u8, sink: &mut S) -> Result<u8, Failure>
@@ -74,6 +77,40 @@ fn shown_dump(asked: Option<DumpRange>) -> Option<Dump>
         }),
         None => None,
     }
+}
+
+/// Writes what two runs came to, line by line: the counts of both, and what the second one left.
+pub(crate) fn write_soaked<S: Sink>(
+    first: &Machine,
+    second: &Machine,
+    sink: &mut S,
+) -> Result<(), SinkFailed>
+    ensures { Puts (soak_text first.now.timed second.now.timed)
+        (S.contents sink.old) (S.contents sink.new) (S.faults sink.old) (S.faults sink.new) result }
+{
+    match put_lines(
+        sink,
+        &[
+            counts_line(SoakCore::Scalar, first),
+            counts_line(SoakCore::Own, second),
+            end_line(second.ended().number()),
+        ],
+    ) {
+        Ok(()) => {}
+        Err(fault) => return Err(fault),
+    }
+    match write_output(second.output(), sink) {
+        Ok(()) => {}
+        Err(fault) => return Err(fault),
+    }
+    write_registers(&second.view(), sink)
+}
+
+/// The line of a run of `soak`.
+fn counts_line(core: SoakCore, machine: &Machine) -> Line
+    ensures { result ≡ soak_line core machine.now.timed.count machine.now.timed.cycles machine.now.timed.flushes }
+{
+    soak_line(core, machine.count(), machine.cycles(), machine.flushes())
 }
 
 /// The status that says how a machine ended: 0 where it halted, 3 where it trapped, 4 where it goes

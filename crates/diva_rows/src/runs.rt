@@ -5,6 +5,7 @@ mod pipelined;
 mod refusals;
 mod scripts;
 mod sessions;
+mod soaks;
 mod sources;
 mod staged;
 mod tables;

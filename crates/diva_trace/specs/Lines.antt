@@ -11,6 +11,8 @@ use Rattle.diva_core.specs.declared.flushes.Cause.{Cause}
 use Rattle.diva_core.specs.declared.flushes.Cause.TheVariants.{Differs, Silent}
 use Rattle.diva_core.specs.declared.flushes.FlushRow.{FlushRow}
 use Rattle.diva_outside.specs.Text.{hex_byte, hex_word}
+use Rattle.diva_trace.specs.declared.report.SoakCore.{SoakCore}
+use Rattle.diva_trace.specs.declared.report.SoakCore.TheVariants.{Scalar, Own}
 
 -- ---- what was committed, and what was flushed
 
@@ -62,6 +64,16 @@ cycles_line n = codes "cycles " ++ decimal n ++ codes "\n"
 -- the flushes, and how many of them were silent
 unfoldable pub flushes_line : ℕ → ℕ → List ℕ
 flushes_line n silent = codes "flushes " ++ decimal n ++ codes " silent " ++ decimal silent ++ codes "\n"
+
+-- the name of a core under which `soak` runs its image
+abbrev pub soak_core_name : SoakCore → List ℕ
+soak_core_name Scalar = codes "scalar"
+soak_core_name Own = codes "own"
+
+-- a run of `soak`: its core, the instructions committed, the cycles run, and the flushes
+unfoldable pub soak_line : SoakCore → (count cycles flushes : ℕ) → List ℕ
+soak_line core count cycles flushes =
+    soak_core_name core ++ codes " count " ++ decimal count ++ codes " cycles " ++ decimal cycles ++ codes " flushes " ++ decimal flushes ++ codes "\n"
 
 -- how many bytes the program put out
 unfoldable pub output_line : ℕ → List ℕ

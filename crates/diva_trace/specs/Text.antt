@@ -8,9 +8,10 @@ use Rattle.diva_isa.specs.declared.record.Record.{Record}
 use Rattle.diva_core.specs.Headline.{dues}
 use Rattle.diva_core.specs.Timed.{Timed}
 use Rattle.diva_core.specs.declared.flushes.FlushRow.{FlushRow}
-use Rattle.diva_trace.specs.Lines.{commit_line, flush_line, end_line, count_line, cycles_line, flushes_line, output_line, out_line, registers_line, pc_line, mem_line}
+use Rattle.diva_trace.specs.Lines.{commit_line, flush_line, end_line, count_line, cycles_line, flushes_line, soak_line, output_line, out_line, registers_line, pc_line, mem_line}
 use Rattle.diva_trace.specs.declared.report.Dump.{Dump}
 use Rattle.diva_trace.specs.declared.report.Report.{Report}
+use Rattle.diva_trace.specs.declared.report.SoakCore.TheVariants.{Scalar, Own}
 
 -- ---- what was committed
 
@@ -101,3 +102,14 @@ pub record IsReportOf (m : Timed) (r : Report) : Type 0 where
   pub silent : r.silent ≡ m.silent
   pub output : r.output.now ≡ m.arch.output
   pub view : r.view.now ≡ record m.arch { end = 0 }
+
+-- ---- the text of two runs
+
+-- a line for each of them, and how the second one ended, with its output, registers and pc
+abbrev pub soak_text : (first second : Timed) → List ℕ
+soak_text first second =
+    soak_line Scalar first.count first.cycles first.flushes
+    ++ soak_line Own second.count second.cycles second.flushes
+    ++ end_line second.arch.end
+    ++ output_text second.arch.output
+    ++ registers_text second.arch.regs second.arch.pc

@@ -2,8 +2,9 @@
 ghost use Rattle.std.specs.Prelude.{◌≡◌, ◌+◌, ◌*◌, ◌%◌, ◌^◌, ◌<◌, ◌≤◌, ◌++◌, length, codes};
 ghost use Rattle.std.specs.Fmt.{decimal};
 ghost use Rattle.diva_isa.specs.State.{memory_of};
-ghost use Rattle.diva_trace.specs.Lines.{commit_line, fields_text, field_name, cause_text, flush_line, end_line, count_line, cycles_line, flushes_line, output_line, out_line, register_text, registers_line, pc_line, byte_text, mem_line};
+ghost use Rattle.diva_trace.specs.Lines.{commit_line, fields_text, field_name, cause_text, flush_line, end_line, count_line, cycles_line, flushes_line, soak_line, soak_core_name, output_line, out_line, register_text, registers_line, pc_line, byte_text, mem_line};
 
+use crate::report::SoakCore;
 use diva_core::{Cause, Field, FlushRow, View};
 use diva_isa::Record;
 use diva_outside::Line;
@@ -130,6 +131,34 @@ pub fn flushes_line(n: u64, silent: u64) -> Line
     line.decimal(silent);
     line.text(b"\n");
     line
+}
+
+/// A run of `soak`: its core, the number of committed instructions, the number of cycles, and that of flushes.
+#[tactic(auto, unfolding(crate::specs::Lines::soak_line))]
+pub fn soak_line(core: SoakCore, count: u64, cycles: u64, flushes: u64) -> Line
+    ensures { result ≡ soak_line core count cycles flushes }
+{
+    let mut line = Line::new();
+    line.text(soak_core_name(core).as_bytes());
+    line.text(b" count ");
+    line.decimal(count);
+    line.text(b" cycles ");
+    line.decimal(cycles);
+    line.text(b" flushes ");
+    line.decimal(flushes);
+    line.text(b"\n");
+    line
+}
+
+// The name of a core of `soak`.
+fn soak_core_name(core: SoakCore) -> &'static str
+    ensures name { result.now ≡ soak_core_name core }
+    ensures short { length result.now ≤ 6 }
+{
+    match core {
+        SoakCore::Scalar => "scalar",
+        SoakCore::Own => "own",
+    }
 }
 
 /// The number of bytes that the program put out.

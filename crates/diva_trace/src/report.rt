@@ -1,4 +1,4 @@
-// What a run's text is made of.
+// What a run's text is made of, and that of two runs.
 use diva_core::{FlushRow, View};
 
 /// A part of memory that is to be shown.
@@ -31,4 +31,13 @@ pub struct Report<'a> {
     pub view: &'a View<'a>,
     /// The part of memory to show at the end; `None` where none is asked for.
     pub dump: Option<Dump>,
+}
+
+/// The cores under which `soak` runs its image.
+#[derive(Clone, Copy, Debug, PartialEq, Eq)]
+pub enum SoakCore {
+    /// The core `scalar`, in the first run.
+    Scalar,
+    /// The core that the program is handed, in the second run.
+    Own,
 }

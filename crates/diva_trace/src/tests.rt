@@ -1,5 +1,5 @@
 // The text of a run, and some lines.
-use crate::{Dump, Report, commit_line, end_line, flushes_line, write_run};
+use crate::{Dump, Report, SoakCore, commit_line, end_line, flushes_line, soak_line, write_run};
 use diva_core::{Cause, Diff, Field, FlushRow, Output, View};
 use diva_isa::{Record, Regs};
 use diva_memory::Memory;
@@ -53,6 +53,8 @@ const LINES: &str = "\
 end trap 4
 end none
 flushes 1 silent 0
+scalar count 4 cycles 10 flushes 0
+own count 4 cycles 11 flushes 2
 ";
 
 /// The record of `addi x1, x0, 5`, the first instruction.
@@ -97,6 +99,8 @@ fn worked_texts(rt: HostRuntime) -> Result<(), Fail> {
         end_line(5),
         end_line(0),
         flushes_line(1, 0),
+        soak_line(SoakCore::Scalar, 4, 10, 0),
+        soak_line(SoakCore::Own, 4, 11, 2),
     ];
     assert_eq!(rt; put_lines(&mut lines, &made), Ok(()));
     assert_eq!(rt; lines.bytes(), LINES.as_bytes());

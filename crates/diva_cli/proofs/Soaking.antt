@@ -1,0 +1,171 @@
+-- What the two runs of `soak` come to, and what is written of them.
+use Rattle.std.proofs.Common.{◌≡◌, ◌↔◌, ◌≤◌, ◌+◌, ◌==◌, ℕ, true, false, List, [], length, Option, Some, None, IfSome, Ok, Err, refl, ap, sym, ◌∙◌, subst, arith}
+use Rattle.diva_outside.specs.Sink.{Puts}
+use Rattle.diva_outside.specs.declared.sink.SinkFailed.{SinkFailed}
+use Rattle.diva_isa.specs.State.{State, goes_on}
+use Rattle.diva_isa.specs.Step.{halt, steps}
+use Rattle.diva_isa.specs.declared.record.Record.{Record}
+use Rattle.diva_core.specs.Timed.{Timed, new_timed}
+use Rattle.diva_core.specs.Cycle.{run_of}
+use Rattle.diva_core.specs.Log.{Meaning, Turns, lists_of}
+use Rattle.diva_core.specs.Machine.{IsSizes}
+use Rattle.diva_core.proofs.Ending.{same_end}
+use Rattle.diva_core.proofs.Turning.{IsLog-run, length-lists_of}
+use Rattle.diva_machine.specs.declared.ends.Drive.{Drive}
+use Rattle.diva_machine.specs.declared.ends.Drive.TheVariants.{Ended, Budget}
+use Rattle.diva_faults.proofs.Spoiling.{Turns-none}
+use Rattle.diva_ahead.specs.Lead.{Lead}
+use Rattle.diva_tape.specs.Scalar.{IsScalarCall, new_scalar}
+use Rattle.diva_tape.proofs.Following.{new_leads}
+use Rattle.diva_tape.proofs.Pacing.{scalar_ends, scalar_unflushed}
+use Rattle.diva_soak.specs.Halts.{HaltsWithin}
+use Rattle.diva_soak.proofs.Halting.{soak_halts}
+use Rattle.diva_trace.specs.Text.{soak_text}
+use Rattle.diva_args.specs.Options.{SoakOptions}
+use Rattle.diva_args.specs.declared.job.CoreChoice.TheVariants.{Own, Scalar}
+use Rattle.diva_args.specs.declared.job.Job.TheVariants.{Soak}
+use Rattle.diva_cli.specs.Wanted.{FileBytes}
+use Rattle.diva_cli.specs.SoakTexts.{HasSoaked, IsSoakRun, soak_cycles, soak_setup, soak_sizes, soak_start}
+use Rattle.diva_cli.specs.Parts.{WritesPart, WritesWhole}
+use Rattle.diva_cli.proofs.Handing.{went_far}
+use Rattle.diva_cli.proofs.Running.{handed_for, run_from_start}
+
+sizes_fit : IsSizes soak_sizes
+sizes_fit = record {
+  width_low = omega arith;
+  width_high = omega arith;
+  window_low = omega arith;
+  window_high = omega arith;
+  stores_low = omega arith;
+  stores_high = omega arith;
+  limit_low = omega arith;
+  limit_high = omega arith;
+}
+
+-- the machine with which both runs begin
+abbrev soak_new : SoakOptions → Timed
+soak_new options = new_timed soak_sizes (soak_start options)
+
+-- ---- a drive from there
+
+-- it led to a machine that has ended, or that has run all the cycles
+pub record Soaks {D : Type 0} (gives : Meaning D) (options : SoakOptions) (core : D) (last : Timed) (after : D) : Type 0 where
+  pub turns : Turns gives (new_timed soak_sizes (soak_start options)) core last after
+  pub most : last.cycles ≤ soak_cycles options.instructions
+  pub whole : goes_on last.arch ≡ true → last.cycles ≡ soak_cycles options.instructions
+
+pub drove :
+    {D : Type 0} (gives : Meaning D) (options : SoakOptions) (m : Timed) (core begun : D) (last : Timed) (after : D) (budget : ℕ) (r : Drive)
+    → m ≡ new_timed soak_sizes (soak_start options)
+    → core ≡ begun
+    → budget ≡ soak_cycles options.instructions
+    → Turns gives m core last after
+    → last.cycles ≤ m.cycles + budget
+    → (r ≡ Ended) ↔ (goes_on last.arch ≡ false)
+    → (r ≡ Budget) ↔ ((last.cycles ≡ m.cycles + budget) × (goes_on last.arch ≡ true))
+    → Soaks gives options begun last after
+drove gives options m core begun last after budget r is first all t within ended ran =
+    let far = went_far m last budget r within ended ran in
+    let none : m.cycles ≡ 0 = ap (λ (n : Timed). n.cycles) is in
+    record {
+      turns = subst (λ (n : Timed). Turns gives n begun last after) is (subst (λ d. Turns gives m d last after) first t);
+      most = (let w = far.most in omega arith);
+      whole = λ on. (let w = far.whole on in omega arith);
+    }
+
+module _ {D : Type 0} (gives : Meaning D) (options : SoakOptions) (core : D) (last : Timed) (after : D)
+    (few : options.instructions ≤ 65536) (s : Soaks gives options core last after) where
+  abbrev lists : List (List Record)
+  lists = lists_of s.turns.log
+
+  led : last ≡ run_of (soak_new options) lists
+  led = IsLog-run gives (soak_new options) core s.turns.log last after s.turns.good
+
+  each : last.cycles ≡ length lists
+  each = let e = s.turns.each in let l = length-lists_of s.turns.log in omega arith
+
+  within : length lists ≤ soak_cycles options.instructions
+  within = let e = each in let m = s.most in omega arith
+
+  abbrev halts : HaltsWithin (options.instructions + 3) (soak_start options)
+  halts = soak_halts options.seed options.instructions few
+
+  -- it has ended where the table does
+  at_end : (last.arch ≡ steps halts.after (soak_start options)) × (last.count ≡ halts.after)
+  at_end =
+      let h = halts.few in
+      subst (λ (m : Timed). (m.arch ≡ steps halts.after (soak_start options)) × (m.count ≡ halts.after)) (sym led)
+      (same_end soak_sizes (soak_start options) lists halts.after (soak_cycles options.instructions) sizes_fit
+      (λ on. sym each ∙ s.whole (ap (λ (m : Timed). goes_on m.arch) led ∙ on)) halts.ends (omega arith))
+
+  halted : last.arch.end ≡ halt 0
+  halted = ap (λ (t : State). t.end) at_end.0 ∙ halts.status
+
+-- ---- the two runs
+
+pub own_run :
+    {C : Type 0} (gives : Meaning C) (options : SoakOptions) (core : C) (last : Timed) (after : C)
+    → options.instructions ≤ 65536 → Soaks gives options core last after
+    → IsSoakRun gives options Own core last after
+own_run gives options core last after few s =
+    let t = Turns-none gives (soak_new options) core last after s.turns in
+    run_from_start gives (soak_setup Own) (soak_cycles options.instructions) [] [] (soak_start options) core last after sizes_fit
+    (record {
+      lists = lists gives options core last after few s;
+      ran = led gives options core last after few s;
+      each = (let e = each gives options core last after few s in omega arith);
+      most = within gives options core last after few s;
+      handed = record { log = t.turns.log; good = t.turns.good; in_order = sym t.same };
+    })
+
+pub scalar_run :
+    {C : Type 0} (gives : Meaning C) (options : SoakOptions) (core : C) (last : Timed) (lead : Lead)
+    → options.instructions ≤ 65536 → Soaks IsScalarCall options new_scalar last lead
+    → IsSoakRun gives options Scalar core last core
+scalar_run gives options core last lead few s =
+    let t = Turns-none IsScalarCall (soak_new options) new_scalar last lead s.turns in
+    run_from_start gives (soak_setup Scalar) (soak_cycles options.instructions) [] [] (soak_start options) core last core sizes_fit
+    (record {
+      lists = lists IsScalarCall options new_scalar last lead few s;
+      ran = led IsScalarCall options new_scalar last lead few s;
+      each = (let e = each IsScalarCall options new_scalar last lead few s in omega arith);
+      most = within IsScalarCall options new_scalar last lead few s;
+      handed = handed_for gives Scalar [] [] (soak_new options) core (lists IsScalarCall options new_scalar last lead few s) last core
+          (new_leads soak_sizes (soak_start options) sizes_fit)
+          (record { final = lead; turns = record { log = t.turns.log; good = t.turns.good; in_order = sym t.same }; same = refl });
+    })
+
+-- ---- what is written of them
+
+module _ {C : Type 0} (gives : Meaning C) (options : SoakOptions) (bytes : FileBytes) (core : C) (lead : Lead) (first second : Timed) (after : C)
+    (few : options.instructions ≤ 65536) (one : Soaks IsScalarCall options new_scalar first lead) (two : Soaks gives options core second after)
+    (old new : Option (List ℕ)) (before now : ℕ) where
+  abbrev first_end : (first.arch ≡ steps (soak_halts options.seed options.instructions few).after (soak_start options)) × (first.count ≡ (soak_halts options.seed options.instructions few).after)
+  first_end = at_end IsScalarCall options new_scalar first lead few one
+
+  abbrev second_end : (second.arch ≡ steps (soak_halts options.seed options.instructions few).after (soak_start options)) × (second.count ≡ (soak_halts options.seed options.instructions few).after)
+  second_end = at_end gives options core second after few two
+
+  first_halts : first.arch.end ≡ halt 0
+  first_halts = halted IsScalarCall options new_scalar first lead few one
+
+  means : (status : Option ℕ) → IfSome status (λ s. s ≡ 0) → HasSoaked gives options core after status (soak_text first second)
+  means status ended = record {
+    first = first;
+    under_scalar = scalar_run gives options core first lead few one;
+    second = second;
+    under_own = own_run gives options core second after few two;
+    halts = (first_halts, halted gives options core second after few two);
+    few = (let e = first_end.1 in let h = (soak_halts options.seed options.instructions few).few in omega arith);
+    same = (second_end.0 ∙ sym first_end.0, second_end.1 ∙ sym first_end.1);
+    paced = scalar_ends soak_sizes (soak_start options) first lead one.turns.log sizes_fit refl one.turns.good (ap (λ end. end == 0) first_halts);
+    unflushed = scalar_unflushed soak_sizes (soak_start options) first lead one.turns.log sizes_fit one.turns.good;
+    lines = refl;
+    ended = ended;
+  }
+
+  pub wrote_soaked : Puts {E = SinkFailed} (soak_text first second) old new before now (Ok tt) → WritesWhole gives (Soak options) bytes core after old new 0
+  wrote_soaked put = record { text = soak_text first second; means = means (Some 0) refl; written = put.ok }
+
+  pub cut_soaked : (e : SinkFailed) → Puts (soak_text first second) old new before now (Err e) → WritesPart gives (Soak options) bytes core after old new before now
+  cut_soaked e put = record { rose = put.failed; text = soak_text first second; means = means None tt; written = put.part }

@@ -1,0 +1,9 @@
+-- What was written of the two runs comes to an answer.
+use Rattle.std.proofs.Common.{[]}
+use Rattle.diva_args.specs.declared.job.Job.TheVariants.{Soak}
+use Rattle.diva_cli.proofs.Working.{done_answers}
+use Rattle.diva_cli.proofs.soak.soak.Goals as goal
+
+pub returns-in-Ok-clause-answers : goal.returns-in-Ok-clause-answers
+returns-in-Ok-clause-answers g c =
+    done_answers g.C.Core.gives _ _ _ _ _ _ _ _ (Soak c.args.options) (λ _. []) _ _ tt (c.soak_ready.ensures.writes (λ _. []))

@@ -1,0 +1,55 @@
+-- The text that the command `soak` writes: what two runs of the image of a seed came to, the first under a new `Scalar`, the second
+-- under the core that is handed in.
+use Rattle.std.specs.Prelude.{◌≡◌, ◌≤◌, ◌+◌, ◌*◌, ℕ, [], Option, None, IfSome}
+use Rattle.diva_outside.specs.Text.{Text}
+use Rattle.diva_isa.specs.State.{State}
+use Rattle.diva_isa.specs.Step.{halt}
+use Rattle.diva_core.specs.Timed.{Timed, Sizes, depth}
+use Rattle.diva_core.specs.Log.{Meaning}
+use Rattle.diva_machine.specs.Start.{start_of}
+use Rattle.diva_soak.specs.Soak.{soak_of}
+use Rattle.diva_trace.specs.Text.{soak_text}
+use Rattle.diva_args.specs.Options.{Setup, SoakOptions}
+use Rattle.diva_args.specs.declared.job.CoreChoice.{CoreChoice}
+use Rattle.diva_args.specs.declared.job.CoreChoice.TheVariants.{Own, Scalar}
+use Rattle.diva_cli.specs.Runs.{IsRunFrom, sizes_of}
+
+-- ---- one run
+
+-- the numbers of a machine where no option asks for others, and this core; no file is named
+abbrev pub soak_setup : CoreChoice → Setup
+soak_setup core = record { image = []; core = core; script = None; width = 2; window = 16; stores = 4; watchdog = 64 }
+
+abbrev pub soak_sizes : Sizes
+soak_sizes = sizes_of (soak_setup Own)
+
+-- W + 6 cycles for each of n drawn instructions and the three behind them, W being the watchdog's limit
+abbrev pub soak_cycles : (n : ℕ) → ℕ
+soak_cycles n = (64 + depth) * (n + 3)
+
+-- the state that the image starts
+abbrev pub soak_start : SoakOptions → State
+soak_start options = start_of (soak_of options.seed options.instructions)
+
+-- a run from there by the core of a choice, for these cycles at most, without a script
+abbrev pub IsSoakRun : {C : Type 0} → Meaning C → SoakOptions → CoreChoice → (core : C) → (last : Timed) → (after : C) → Type 0
+IsSoakRun gives options choice core last after =
+    IsRunFrom gives (soak_setup choice) (soak_cycles options.instructions) [] [] (soak_start options) core last after
+
+-- ---- the command
+
+-- the text of `soak`, and the status that goes with it where it was written whole. Both runs are over by then
+pub record HasSoaked {C : Type 0} (gives : Meaning C) (options : SoakOptions) (core after : C) (status : Option ℕ) (text : Text) : Type 0 where
+  pub first : Timed
+  pub under_scalar : IsSoakRun gives options Scalar core first core
+  pub second : Timed
+  pub under_own : IsSoakRun gives options Own core second after
+  -- both halt with status 0, after three instructions more than were drawn at most, and leave the same
+  pub halts : (first.arch.end ≡ halt 0) × (second.arch.end ≡ halt 0)
+  pub few : first.count ≤ options.instructions + 3
+  pub same : (second.arch ≡ first.arch) × (second.count ≡ first.count)
+  -- the first counts an instruction in each cycle but the first six, and is never flushed
+  pub paced : first.cycles ≡ first.count + depth
+  pub unflushed : first.flushes ≡ 0
+  pub lines : text ≡ soak_text first second
+  pub ended : IfSome status (λ s. s ≡ 0)

@@ -1,0 +1,104 @@
+// The command `soak`: it makes the image of a seed and two machines that begin with it, and drives one under a new `Scalar` and one
+// under the core that is handed in.
+ghost use Rattle.std.specs.Prelude.{◌≡◌, IfOk, IsErrOf, Some};
+ghost use Rattle.diva_args.specs.declared.job.Job.TheVariants.{Soak};
+ghost use Rattle.diva_cli.specs.SoakTexts.{soak_cycles, soak_sizes};
+ghost use Rattle.diva_cli.specs.Wanted.{FileBytes};
+ghost use Rattle.diva_cli.specs.Parts.{Answers, IsSoakReady, WritesText};
+
+use crate::stop::Failure;
+use crate::writing::write_soaked;
+use diva_args::SoakOptions;
+use diva_core::Core;
+use diva_machine::{Config, DEPTH, Machine, drive};
+use diva_outside::{Files, Sink};
+use diva_soak::soak_image;
+use diva_tape::Scalar;
+use std::alloc::{AllocError, Global};
+
+/// The watchdog's limit of both machines.
+const WATCHDOG: u32 = 64;
+
+/// Runs the image of a seed under two cores, and then writes what the runs came to. All memory is taken before the core that is
+/// handed in is asked, and before anything is written; no file is loaded.
+pub(crate) fn soak<F: Files, S: Sink, C: Core>(
+    alloc: Global,
+    options: SoakOptions,
+    _files: &F,
+    sink: &mut S,
+    core: &mut C,
+) -> Result<u8, Failure>
+    ensures answers { Answers C.gives (Some (Soak options)) (F.told _files.now) (F.faults _files.now)
+        (F.faults _files.now) core.old core.new (S.contents sink.old) (S.contents sink.new)
+        (S.faults sink.old) (S.faults sink.new) result }
+    ensures unput { IsErrOf result Failure.Memory → sink.new ≡ sink.old }
+{
+    match make_soak(alloc, &options) {
+        Ok(ready) => soak_ready(ready, options, sink, core),
+        Err(_) => Err(Failure::Memory),
+    }
+}
+
+/// What the command needs, with all memory that is ever taken.
+#[derive(Drop)]
+struct SoakReady {
+    /// A new machine that begins with the image of the seed, and one more.
+    first: Machine,
+    second: Machine,
+    /// The core of the first one.
+    scalar: Scalar,
+}
+
+/// Two new machines that begin with the image of a seed, and the core of the first one.
+fn make_soak(alloc: Global, options: &SoakOptions) -> Result<SoakReady, AllocError>
+    ensures { IfOk result (IsSoakReady options.now) }
+{
+    let config = soak_config();
+    let image = soak_image(alloc, options.seed, options.instructions)?;
+    Ok(SoakReady {
+        first: Machine::new(alloc, &image, config)?,
+        second: Machine::new(alloc, &image, config)?,
+        scalar: Scalar::new(alloc)?,
+    })
+}
+
+/// The numbers that a machine has where no option asks for others.
+fn soak_config() -> Config
+    ensures { result ≡ soak_sizes }
+{
+    Config::new(2, 16, 4, WATCHDOG).unwrap()
+}
+
+/// Drives both machines to their ends, and then writes what they came to.
+fn soak_ready<S: Sink, C: Core>(
+    ready: SoakReady,
+    options: SoakOptions,
+    sink: &mut S,
+    core: &mut C,
+) -> Result<u8, Failure>
+    requires { IsSoakReady options ready }
+    ensures writes { (bytes : FileBytes) → WritesText C.gives (Soak options) bytes core.old core.new
+        (S.contents sink.old) (S.contents sink.new) (S.faults sink.old) (S.faults sink.new) result }
+    ensures unput { IsErrOf result Failure.Memory → sink.new ≡ sink.old }
+{
+    let SoakReady {
+        mut first,
+        mut second,
+        mut scalar,
+    } = ready;
+    let cycles = soak_cycles(options.instructions);
+    drive(&mut first, &mut scalar, cycles);
+    drive(&mut second, core, cycles);
+    match write_soaked(&first, &second, sink) {
+        Ok(()) => Ok(0),
+        Err(_) => Err(Failure::Cut),
+    }
+}
+
+/// The cycles in which a machine ends for sure whose image has so many drawn instructions: W + 6 for each that may commit, W being
+/// the watchdog's limit.
+fn soak_cycles(instructions: u32) -> u64
+    ensures { result ≡ soak_cycles instructions }
+{
+    (u64::from(WATCHDOG) + DEPTH) * (u64::from(instructions) + 3)
+}

@@ -1,0 +1,105 @@
+// Images of seeds, each run under two cores.
+use super::refusals::USAGE;
+use super::{Outside, compare, compare_by};
+use crate::cores::Flipped;
+use diva_ooo::Ooo;
+use diva_outside::Fail as SinkFail;
+use std::alloc::Global;
+use std::test::Fail;
+
+/// The seed 1 draws sub x8, x2, x1, which stands at 800, before addi x0, x0, 0, addi x17, x0, 93 and ecall; memory ends behind them.
+/// All registers are 0 before, and x10 is the status.
+///
+/// `Scalar` claims one in each of the cycles 1 to 4, and they commit in 7 to 10. The out-of-order core fetches the first two in cycle
+/// 1 and the others in cycle 2. The first two begin in cycle 2 and are claimed in cycle 3, in which the third begins, but not the
+/// ecall, which is not the oldest. In cycle 4 the third is claimed, and the ecall begins; it is claimed in cycle 5, and the word that
+/// was fetched outside memory is dropped. So two commit in cycle 9, the third in cycle 10, and the ecall in cycle 11.
+const LINES: &str = "\
+scalar count 4 cycles 10 flushes 0
+own count 4 cycles 11 flushes 0
+";
+
+/// The same where the first claim of the program's own core is wrong: it is refused in cycle 7, the checker's own
+/// instruction commits in 13, and the others are claimed one by one in the cycles 14, 21 and 28.
+const FLIPPED_LINES: &str = "\
+scalar count 4 cycles 10 flushes 0
+own count 4 cycles 34 flushes 1
+";
+
+/// What both runs leave.
+const LEFT: &str = "\
+end halt 0
+output 0
+x0 00000000 x1 00000000 x2 00000000 x3 00000000
+x4 00000000 x5 00000000 x6 00000000 x7 00000000
+x8 00000000 x9 00000000 x10 00000000 x11 00000000
+x12 00000000 x13 00000000 x14 00000000 x15 00000000
+x16 00000000 x17 0000005d x18 00000000 x19 00000000
+x20 00000000 x21 00000000 x22 00000000 x23 00000000
+x24 00000000 x25 00000000 x26 00000000 x27 00000000
+x28 00000000 x29 00000000 x30 00000000 x31 00000000
+pc 0000080c
+";
+
+/// No file is there, and a load would fail.
+fn without_files(alloc: Global) -> Result<Outside, Fail> {
+    Ok(Outside {
+        load_fails: Vec::from_slice(alloc, &[1])?,
+        ..Outside::sound(alloc, Vec::new(alloc))
+    })
+}
+
+#[test]
+fn seeds_that_soak(rt: HostRuntime) -> Result<(), Fail> {
+    let alloc = rt.alloc();
+    let text = format!(in alloc; "{LINES}{LEFT}")?;
+    let mut own = Ooo::new(alloc)?;
+    let outside = without_files(alloc)?;
+    compare_by(&rt, &mut own, "soak 1 1", outside, 0, text.as_str())?;
+
+    let text = format!(in alloc; "{FLIPPED_LINES}{LEFT}")?;
+    compare(&rt, "soak 1 1", without_files(alloc)?, 0, text.as_str())
+}
+
+/// Each of the thirteen lines is one put. It fails, and takes nothing, one byte, or all but one.
+#[test]
+fn soaks_that_are_cut(rt: HostRuntime) -> Result<(), Fail> {
+    let alloc = rt.alloc();
+    let whole = format!(in alloc; "{LINES}{LEFT}")?;
+    assert_eq!(rt; whole.as_str().lines().count(), 13);
+    let mut before = String::new(alloc);
+    for (call, line) in (1..=13).zip(whole.as_str().split_inclusive('\n')) {
+        for takes in [0, 1, line.len().saturating_sub(1)] {
+            let outside = Outside {
+                put_fails: Vec::from_slice(alloc, &[SinkFail { call, takes }])?,
+                ..without_files(alloc)?
+            };
+            let mut text = String::from_str(alloc, before.as_str())?;
+            for letter in line.chars().take(takes) {
+                text.push(letter)?;
+            }
+            let mut own = Ooo::new(alloc)?;
+            compare_by(&rt, &mut own, "soak 1 1", outside, 9, text.as_str())?;
+        }
+        before.push_str(line)?;
+    }
+    Ok(())
+}
+
+#[test]
+fn lines_that_do_not_soak(rt: HostRuntime) -> Result<(), Fail> {
+    let alloc = rt.alloc();
+    for line in [
+        "soak",
+        "soak 1",
+        "soak 1 0",
+        "soak 1 65537",
+        "soak 4294967296 1",
+        "soak 1 1 1",
+        "soak 1 1 --core own",
+        "soak 1 1 --cycles 9",
+    ] {
+        compare(&rt, line, without_files(alloc)?, 2, USAGE)?;
+    }
+    Ok(())
+}
