@@ -4,6 +4,8 @@ use Rattle.std.specs.Prelude.{slice_set, nat_lt, nat_le}
 use Rattle.std.proofs.lemmas.Bool.Decides.{nat_tests}
 use Rattle.std.proofs.lemmas.Grind.{common_steps}
 use Rattle.std.proofs.lemmas.List.{append-nil}
+use Rattle.diva_core.specs.Cycle.{is_store}
+use Rattle.diva_isa.specs.declared.effect.Effect.{Effect}
 use Rattle.diva_ooo.specs.declared.entry.Entry.{Entry}
 use Rattle.diva_ooo.specs.declared.entry.Stage.{Stage}
 use Rattle.diva_ooo.specs.declared.entry.Stage.TheVariants.{Waiting, Running, Done}
@@ -16,7 +18,7 @@ use Rattle.diva_ooo.specs.Board.{IsBoard, IsCandidate, IsLastOf, IsNextOf, can_a
 use Rattle.diva_ooo.specs.Finish.{is_running}
 use Rattle.diva_ooo.specs.Issue.{are_stored, can_begin, is_available, is_awaited, is_done, is_free, is_ready, is_storing, is_waiting}
 use Rattle.diva_ooo.specs.MarkSets.{AreThose, IsLast, IsNext, has, holds_at}
-use Rattle.diva_ooo.proofs.Marking.{holds_end, holds_take, those_drop, those_dropped, those_none, those_pop, those_push, those_same, those_set}
+use Rattle.diva_ooo.proofs.Marking.{holds_end, holds_here, holds_take, those_kept, those_lowered, those_none, those_pop, those_push, those_same, those_set}
 
 -- ---- what holds of each stage
 
@@ -158,10 +160,12 @@ could_pushed older [] e (suc i) other = refl
 could_pushed older (x ∷ w) e zero other = refl
 could_pushed older (x ∷ w) e (suc i) other = could_pushed (older ++ x ∷ []) w e i (λ is. other (omega arith))
 
-could_dropped : (older w : List Entry) (e : Entry) (i : ℕ) → could_at older (w ++ e ∷ []) i ≡ false → could_at older w i ≡ false
-could_dropped older [] e i h = refl
-could_dropped older (x ∷ w) e zero h = h
-could_dropped older (x ∷ w) e (suc i) h = could_dropped (older ++ x ∷ []) w e i h
+could_taken : (older w : List Entry) (most i : ℕ) → could_at older w i ≡ false → could_at older (take most w) i ≡ false
+could_taken older [] zero i h = refl
+could_taken older [] (suc most) i h = refl
+could_taken older (e ∷ w) zero i h = refl
+could_taken older (e ∷ w) (suc most) zero h = h
+could_taken older (e ∷ w) (suc most) (suc i) h = could_taken (older ++ e ∷ []) w most i h
 
 could_waits : (older w : List Entry) (i : ℕ) → holds_at (λ e. is_waiting e.stage) w i ≡ false → could_at older w i ≡ false
 could_waits older [] i h = refl
@@ -196,6 +200,7 @@ board_pop w e b few i is =
       done = those_pop (λ x. is_done x.stage) w e b.base b.done i.done;
       gone = λ n h. gone_one (nat_lt n b.base) w e b n i is refl h;
       storing = those_pop is_open_store w e b.base b.storing i.storing;
+      stored = those_pop (λ x. is_store x.effect) w e b.base b.stored i.stored;
       loads = those_pop is_load w e b.base b.loads i.loads;
       candidates = λ n none.
           let at : b.base + 1 + n ≡ b.base + suc n = omega arith in
@@ -219,8 +224,8 @@ read_same : (n : ℕ) (x y : Entry) → y.profile ≡ x.profile → reads n y �
 read_same n x y profile = ap (λ (p : Profile). ((p.rs1 == n) || (p.rs2 == n)) && not (n == 0)) profile
 
 -- an entry that runs goes on
-pub board_runs : (w : List Entry) (at : ℕ) (x y : Entry) (b : Board) → IsBoard w b → slice_get w at ≡ Some x → is_running x.stage ≡ true → is_running y.stage ≡ true → y.profile ≡ x.profile → IsBoard (slice_set w at y) b
-board_runs w at x y b i is was now profile =
+pub board_runs : (w : List Entry) (at : ℕ) (x y : Entry) (b : Board) → IsBoard w b → slice_get w at ≡ Some x → is_running x.stage ≡ true → is_running y.stage ≡ true → y.profile ≡ x.profile → y.effect ≡ x.effect → IsBoard (slice_set w at y) b
+board_runs w at x y b i is was now profile effect =
     let before = runs_only x.stage was in
     let after = runs_only y.stage now in
     record {
@@ -230,6 +235,7 @@ board_runs w at x y b i is was now profile =
       done = those_same (λ e. is_done e.stage) w at x y b.base b.done i.done is (after.1 ∙ sym before.1);
       gone = i.gone;
       storing = those_same is_open_store w at x y b.base b.storing i.storing is (not_open x y profile (after.1 ∙ sym before.1));
+      stored = those_same (λ e. is_store e.effect) w at x y b.base b.stored i.stored is (ap is_store effect);
       loads = those_same is_load w at x y b.base b.loads i.loads is (load_same x y profile);
       candidates = λ n none. could_begun [] w at n x y is profile (after.1 ∙ sym before.1) after.0 (i.candidates n none);
       write_sets = i.write_sets;
@@ -239,11 +245,16 @@ board_runs w at x y b i is was now profile =
     }
 
 -- an entry begins
-pub board_begun : (w : List Entry) (at : ℕ) (x y : Entry) (b : Board) (waiting running : MarkSet) → IsBoard w b → slice_get w at ≡ Some x → is_waiting x.stage ≡ true → is_running y.stage ≡ true → y.profile ≡ x.profile
+or_off_right : (b : Bool) → (b || false) ≡ b
+or_off_right true = refl
+or_off_right false = refl
+
+pub board_begun : (w : List Entry) (at : ℕ) (x y : Entry) (b : Board) (waiting running stored : MarkSet) (stores : Bool) → IsBoard w b → slice_get w at ≡ Some x → is_waiting x.stage ≡ true → is_running y.stage ≡ true → y.profile ≡ x.profile → is_store x.effect ≡ false → is_store y.effect ≡ stores
     → ((i : ℕ) → has waiting i ≡ (if i == b.base + at then false else has b.waiting i))
     → ((i : ℕ) → has running i ≡ (if i == b.base + at then true else has b.running i))
-    → IsBoard (slice_set w at y) (record b { waiting = waiting; running = running })
-board_begun w at x y b waiting running i is was now profile takes puts =
+    → ((i : ℕ) → has stored i ≡ (if i == b.base + at then stores || has b.stored (b.base + at) else has b.stored i))
+    → IsBoard (slice_set w at y) (record b { waiting = waiting; running = running; stored = stored })
+board_begun w at x y b waiting running stored stores i is was now profile none does takes puts adds =
     let before = waits_only x.stage was in
     let after = runs_only y.stage now in
     record {
@@ -253,6 +264,9 @@ board_begun w at x y b waiting running i is was now profile takes puts =
       done = those_same (λ e. is_done e.stage) w at x y b.base b.done i.done is (after.1 ∙ sym before.1);
       gone = i.gone;
       storing = those_same is_open_store w at x y b.base b.storing i.storing is (not_open x y profile (after.1 ∙ sym before.1));
+      stored =
+          those_set (λ e. is_store e.effect) w at x y b.base stores b.stored stored i.stored is does
+          (λ k. adds k ∙ ap (λ (c : Bool). if k == b.base + at then c else has b.stored k) (ap (λ (c : Bool). stores || c) (i.stored at ∙ holds_here (λ e. is_store e.effect) w at x is ∙ none) ∙ or_off_right stores));
       loads = those_same is_load w at x y b.base b.loads i.loads is (load_same x y profile);
       candidates = λ n none. could_begun [] w at n x y is profile (after.1 ∙ sym before.1) after.0 (i.candidates n none);
       write_sets = i.write_sets;
@@ -270,13 +284,13 @@ or_off false true h = absurd (cc)
 or_off false false h = (refl, refl)
 
 -- an entry is done
-pub board_done : (w : List Entry) (at : ℕ) (x y : Entry) (b : Board) (running done storing candidates : MarkSet) → IsBoard w b → x.profile.rd < 32 → slice_get w at ≡ Some x → is_running x.stage ≡ true → is_done y.stage ≡ true → y.profile ≡ x.profile
+pub board_done : (w : List Entry) (at : ℕ) (x y : Entry) (b : Board) (running done storing candidates : MarkSet) → IsBoard w b → x.profile.rd < 32 → slice_get w at ≡ Some x → is_running x.stage ≡ true → is_done y.stage ≡ true → y.profile ≡ x.profile → y.effect ≡ x.effect
     → ((i : ℕ) → has running i ≡ (if i == b.base + at then false else has b.running i))
     → ((i : ℕ) → has done i ≡ (if i == b.base + at then true else has b.done i))
     → ((i : ℕ) → has storing i ≡ (if i == b.base + at then false else has b.storing i))
     → ((i : ℕ) → has candidates i ≡ (has b.candidates i || has (get_or b.readers x.profile.rd no_mark) i))
     → IsBoard (slice_set w at y) (record b { running = running; done = done; storing = storing; candidates = candidates })
-board_done w at x y b running done storing candidates i below is was now profile takes puts closes adds =
+board_done w at x y b running done storing candidates i below is was now profile effect takes puts closes adds =
     let before = runs_only x.stage was in
     let after = done_only y.stage now in
     record {
@@ -286,6 +300,7 @@ board_done w at x y b running done storing candidates i below is was now profile
       done = those_set (λ e. is_done e.stage) w at x y b.base true b.done done i.done is now puts;
       gone = λ n h. puts n ∙ ap (λ (c : Bool). if c then true else has b.done n) (apart_mark b.base at n h) ∙ i.gone n h;
       storing = those_set is_open_store w at x y b.base false b.storing storing i.storing is (closed y now) closes;
+      stored = those_same (λ e. is_store e.effect) w at x y b.base b.stored i.stored is (ap is_store effect);
       loads = those_same is_load w at x y b.base b.loads i.loads is (load_same x y profile);
       candidates = λ n none.
           let neither = or_off (has b.candidates (b.base + n)) (has (get_or b.readers x.profile.rd no_mark) (b.base + n)) (sym (adds (b.base + n)) ∙ none) in
@@ -311,6 +326,7 @@ board_passed w at b candidates i idle takes =
       done = i.done;
       gone = i.gone;
       storing = i.storing;
+      stored = i.stored;
       loads = i.loads;
       candidates = λ n none. passed_by (b.base + n == b.base + at) w at n b i idle refl (sym (takes (b.base + n)) ∙ none);
       write_sets = i.write_sets;
@@ -321,7 +337,7 @@ board_passed w at b candidates i idle takes =
 
 -- ---- the sets by register
 
-get_set : (xs : List MarkSet) (k n : ℕ) (t : MarkSet) → n < length xs → get_or (slice_set xs k t) n no_mark ≡ (if k == n then t else get_or xs n no_mark)
+pub get_set : (xs : List MarkSet) (k n : ℕ) (t : MarkSet) → n < length xs → get_or (slice_set xs k t) n no_mark ≡ (if k == n then t else get_or xs n no_mark)
 get_set [] k n t h = absurd (omega arith)
 get_set (x ∷ xs) zero zero t h = refl
 get_set (x ∷ xs) zero (suc n) t h = let other : (0 == suc n) ≡ false = grind (arith, nat_tests) in rw other refl
@@ -348,24 +364,6 @@ put_sets_by false xs r mark b t n i h is puts = as_was (i == mark) (get_or xs n 
 put_sets : (xs : List MarkSet) (r mark : ℕ) (b : Bool) (t : MarkSet) → ((k : ℕ) → has t k ≡ (if k == mark then b || has (get_or xs r no_mark) mark else has (get_or xs r no_mark) k))
     → (n : ℕ) → n < length xs → (i : ℕ) → has (get_or (slice_set xs r t) n no_mark) i ≡ (if i == mark then ((r == n) && b) || has (get_or xs n no_mark) mark else has (get_or xs n no_mark) i)
 put_sets xs r mark b t puts n h i = ap (λ (s : MarkSet). has s i) (get_set xs r n t h) ∙ put_sets_by (r == n) xs r mark b t n i h refl puts
-
-remove_sets_by : (c : Bool) (xs : List MarkSet) (r mark : ℕ) (t : MarkSet) (n i : ℕ) → n < length xs → (r == n) ≡ c
-    → ((k : ℕ) → has t k ≡ (if k == mark then false else has (get_or xs r no_mark) k))
-    → has (if c then t else get_or xs n no_mark) i ≡ (if i == mark then (if c then false else has (get_or xs n no_mark) mark) else has (get_or xs n no_mark) i)
-remove_sets_by true xs r mark t n i h is removes =
-    let same : r ≡ n = grind (arith, nat_tests) in
-    removes i ∙ ap (λ (m : ℕ). if i == mark then false else has (get_or xs m no_mark) i) same
-remove_sets_by false xs r mark t n i h is removes = as_was (i == mark) (get_or xs n no_mark) mark i refl
-
-remove_sets : (xs : List MarkSet) (r mark : ℕ) (t : MarkSet) → ((k : ℕ) → has t k ≡ (if k == mark then false else has (get_or xs r no_mark) k))
-    → (n : ℕ) → n < length xs → (i : ℕ) → has (get_or (slice_set xs r t) n no_mark) i ≡ (if i == mark then (if r == n then false else has (get_or xs n no_mark) mark) else has (get_or xs n no_mark) i)
-remove_sets xs r mark t removes n h i = ap (λ (s : MarkSet). has s i) (get_set xs r n t h) ∙ remove_sets_by (r == n) xs r mark t n i h refl removes
-
-dropped_by : (k : Bool) (p : Entry → Bool) (w : List Entry) (e : Entry) (base : ℕ) (s t : MarkSet) → AreThose p (w ++ e ∷ []) base s
-    → ((i : ℕ) → has t i ≡ (if i == base + length w then (if k then false else has s (base + length w)) else has s i)) → (k ≡ false → p e ≡ false) → AreThose p w base t
-dropped_by true p w e base s t those removes other = those_drop p w e base s t those removes
-dropped_by false p w e base s t those removes other = λ i.
-    removes (base + i) ∙ sym (as_was (base + i == base + length w) s (base + length w) (base + i) refl) ∙ those_dropped p w e base s those (other refl) i
 
 -- a register that is not x0
 zero_same : (c : Bool) (r n : ℕ) → (r == n) ≡ c → ((r == n) && not (r == 0)) ≡ ((r == n) && not (n == 0))
@@ -425,44 +423,6 @@ readers_push w e base xs r1 r2 b1 b2 t1 t2 is1 is2 some1 some2 long those puts1 
     ∙ ap (λ (c : Bool). if i == mark then ((r2 == n) && b2) || (if mark == mark then ((r1 == n) && b1) || has s mark else has s mark) else c) (first i)
     ∙ joint (i == mark) ((r2 == n) && b2) ((r1 == n) && b1) i mark s refl)
 
-pub writers_drop : (w : List Entry) (e : Entry) (base : ℕ) (xs : List MarkSet) (r : ℕ) (t : MarkSet) → r ≡ e.profile.rd → length xs ≡ 32
-    → ((n : ℕ) → n < 32 → AreThose (writes n) (w ++ e ∷ []) base (get_or xs n no_mark))
-    → ((k : ℕ) → has t k ≡ (if k == base + length w then false else has (get_or xs r no_mark) k))
-    → (n : ℕ) → n < 32 → AreThose (writes n) w base (get_or (slice_set xs r t) n no_mark)
-writers_drop w e base xs r t is long those removes n h =
-    dropped_by (r == n) (writes n) w e base (get_or xs n no_mark) (get_or (slice_set xs r t) n no_mark) (those n h) (remove_sets xs r (base + length w) t removes n (omega arith))
-    (λ other. ap (λ (m : ℕ). (m == n) && not (n == 0)) (sym is) ∙ rw other refl)
-
-neither : (c a b : Bool) (i mark : ℕ) (s : MarkSet) → (i == mark) ≡ c
-    → (if c then (if a then false else (if mark == mark then (if b then false else has s mark) else has s mark)) else (if i == mark then (if b then false else has s mark) else has s i)) ≡ (if c then (if b || a then false else has s mark) else has s i)
-neither true true true i mark s is = refl
-neither true true false i mark s is = refl
-neither true false true i mark s is = let same : (mark == mark) ≡ true = grind (arith, nat_tests) in rw same refl
-neither true false false i mark s is = let same : (mark == mark) ≡ true = grind (arith, nat_tests) in rw same refl
-neither false a b i mark s is = rw is refl
-
-pub readers_drop : (w : List Entry) (e : Entry) (base : ℕ) (xs : List MarkSet) (r1 r2 : ℕ) (t1 t2 : MarkSet) → r1 ≡ e.profile.rs1 → r2 ≡ e.profile.rs2 → length xs ≡ 32
-    → ((n : ℕ) → n < 32 → AreThose (reads n) (w ++ e ∷ []) base (get_or xs n no_mark))
-    → ((k : ℕ) → has t1 k ≡ (if k == base + length w then false else has (get_or xs r1 no_mark) k))
-    → ((k : ℕ) → has t2 k ≡ (if k == base + length w then false else has (get_or (slice_set xs r1 t1) r2 no_mark) k))
-    → (n : ℕ) → n < 32 → AreThose (reads n) w base (get_or (slice_set (slice_set xs r1 t1) r2 t2) n no_mark)
-readers_drop w e base xs r1 r2 t1 t2 is1 is2 long those removes1 removes2 n h =
-    let mark = base + length w in
-    let s = get_or xs n no_mark in
-    let longer = set_length xs r1 t1 in
-    let first = remove_sets xs r1 mark t1 removes1 n (omega arith) in
-    let second = remove_sets (slice_set xs r1 t1) r2 mark t2 removes2 n (omega arith) in
-    dropped_by ((r1 == n) || (r2 == n)) (reads n) w e base s (get_or (slice_set (slice_set xs r1 t1) r2 t2) n no_mark) (those n h)
-    (λ i.
-    second i
-    ∙ ap (λ (c : Bool). if i == mark then (if r2 == n then false else c) else has (get_or (slice_set xs r1 t1) n no_mark) i) (first mark)
-    ∙ ap (λ (c : Bool). if i == mark then (if r2 == n then false else (if mark == mark then (if r1 == n then false else has s mark) else has s mark)) else c) (first i)
-    ∙ neither (i == mark) (r2 == n) (r1 == n) i mark s refl)
-    (λ other.
-    ap (λ (m : ℕ). ((m == n) || (e.profile.rs2 == n)) && not (n == 0)) (sym is1)
-    ∙ ap (λ (m : ℕ). ((r1 == n) || (m == n)) && not (n == 0)) (sym is2)
-    ∙ rw other refl)
-
 -- ---- an entry more, and an entry less
 
 pushed_by : (c : Bool) (w : List Entry) (e : Entry) (n : ℕ) (b : Board) → IsBoard w b → (b.base + n == b.base + length w) ≡ c → (if c then true else has b.candidates (b.base + n)) ≡ false → could_at [] (w ++ e ∷ []) n ≡ false
@@ -471,58 +431,106 @@ pushed_by false w e n b i is none =
     let other : n ≡ length w → ⊥ = λ at. absurd (grind (arith, nat_tests)) in
     could_pushed [] w e n other ∙ i.candidates n none
 
-pub board_pushed : (w : List Entry) (e : Entry) (b c : Board) → IsBoard w b
-    → (bw br bd bs bl : Bool) → bw ≡ is_waiting e.stage → br ≡ is_running e.stage → bd ≡ is_done e.stage → bs ≡ is_open_store e → bl ≡ is_load e
-    → ((i : ℕ) → has c.waiting i ≡ (if i == b.base + length w then bw || has b.waiting (b.base + length w) else has b.waiting i))
-    → ((i : ℕ) → has c.running i ≡ (if i == b.base + length w then br || has b.running (b.base + length w) else has b.running i))
-    → ((i : ℕ) → has c.done i ≡ (if i == b.base + length w then bd || has b.done (b.base + length w) else has b.done i))
+open_by_stage : (s : Stage) (c : Class) → is_waiting s ≡ true → is_storing c ≡ (not (is_done s) && is_storing c)
+open_by_stage Waiting c waits = refl
+open_by_stage (Running left) c waits = absurd (cc)
+open_by_stage Done c waits = absurd (cc)
+
+-- a store that waits is not done
+pub open_waiting : (e : Entry) (p : Profile) → p ≡ e.profile → is_waiting e.stage ≡ true → is_storing p.class ≡ is_open_store e
+open_waiting e p is waits = ap (λ (q : Profile). is_storing q.class) is ∙ open_by_stage e.stage e.profile.class waits
+
+pub board_pushed : (w : List Entry) (e : Entry) (b c : Board) → IsBoard w b → is_waiting e.stage ≡ true → is_store e.effect ≡ false
+    → (bs bl : Bool) → bs ≡ is_open_store e → bl ≡ is_load e
+    → ((i : ℕ) → has c.waiting i ≡ (if i == b.base + length w then true else has b.waiting i))
     → ((i : ℕ) → has c.storing i ≡ (if i == b.base + length w then bs || has b.storing (b.base + length w) else has b.storing i))
     → ((i : ℕ) → has c.loads i ≡ (if i == b.base + length w then bl || has b.loads (b.base + length w) else has b.loads i))
     → ((i : ℕ) → has c.candidates i ≡ (if i == b.base + length w then true else has b.candidates i))
     → length c.writers ≡ 32 → length c.readers ≡ 32
     → ((n : ℕ) → n < 32 → AreThose (writes n) (w ++ e ∷ []) b.base (get_or c.writers n no_mark))
     → ((n : ℕ) → n < 32 → AreThose (reads n) (w ++ e ∷ []) b.base (get_or c.readers n no_mark))
-    → IsBoard (w ++ e ∷ []) (record c { base = b.base })
-board_pushed w e b c i bw br bd bs bl isw isr isd iss isl putw putr putd puts putl putc ws rs writers readers =
+    → IsBoard (w ++ e ∷ []) (record c { base = b.base; running = b.running; done = b.done; stored = b.stored })
+board_pushed w e b c i waits none bs bl iss isl putw puts putl putc ws rs writers readers =
+    let idle = waits_only e.stage waits in
+    let mark = b.base + length w in
     record {
       base = i.base;
-      waiting = those_push (λ x. is_waiting x.stage) w e b.base b.waiting c.waiting bw i.waiting isw putw;
-      running = those_push (λ x. is_running x.stage) w e b.base b.running c.running br i.running isr putr;
-      done = those_push (λ x. is_done x.stage) w e b.base b.done c.done bd i.done isd putd;
-      gone = λ n h. putd n ∙ ap (λ (k : Bool). if k then bd || has b.done (b.base + length w) else has b.done n) (apart_mark b.base (length w) n h) ∙ i.gone n h;
+      waiting = those_push (λ x. is_waiting x.stage) w e b.base b.waiting c.waiting true i.waiting (sym waits) putw;
+      running = those_push (λ x. is_running x.stage) w e b.base b.running b.running false i.running (sym idle.0) (λ k. as_was (k == mark) b.running mark k refl);
+      done = those_push (λ x. is_done x.stage) w e b.base b.done b.done false i.done (sym idle.1) (λ k. as_was (k == mark) b.done mark k refl);
+      gone = i.gone;
       storing = those_push is_open_store w e b.base b.storing c.storing bs i.storing iss puts;
+      stored = those_push (λ x. is_store x.effect) w e b.base b.stored b.stored false i.stored (sym none) (λ k. as_was (k == mark) b.stored mark k refl);
       loads = those_push is_load w e b.base b.loads c.loads bl i.loads isl putl;
-      candidates = λ n none. pushed_by (b.base + n == b.base + length w) w e n b i refl (sym (putc (b.base + n)) ∙ none);
+      candidates = λ n no. pushed_by (b.base + n == b.base + length w) w e n b i refl (sym (putc (b.base + n)) ∙ no);
       write_sets = ws;
       read_sets = rs;
       writers = writers;
       readers = readers;
     }
 
-pub board_dropped : (w : List Entry) (e : Entry) (b c : Board) → IsBoard (w ++ e ∷ []) b
-    → ((i : ℕ) → has c.waiting i ≡ (if i == b.base + length w then false else has b.waiting i))
-    → ((i : ℕ) → has c.running i ≡ (if i == b.base + length w then false else has b.running i))
-    → ((i : ℕ) → has c.done i ≡ (if i == b.base + length w then false else has b.done i))
-    → ((i : ℕ) → has c.storing i ≡ (if i == b.base + length w then false else has b.storing i))
-    → ((i : ℕ) → has c.loads i ≡ (if i == b.base + length w then false else has b.loads i))
+within_end : (base most n : ℕ) → n < base → nat_lt n (base + most) ≡ true
+within_end base most n h = grind (arith, nat_tests)
+
+pub board_kept : (w : List Entry) (b c : Board) (most : ℕ) → IsBoard w b
+    → ((i : ℕ) → has c.waiting i ≡ (if nat_lt i (b.base + most) then has b.waiting i else false))
+    → ((i : ℕ) → has c.running i ≡ (if nat_lt i (b.base + most) then has b.running i else false))
+    → ((i : ℕ) → has c.done i ≡ (if nat_lt i (b.base + most) then has b.done i else false))
+    → ((i : ℕ) → has c.storing i ≡ (if nat_lt i (b.base + most) then has b.storing i else false))
+    → ((i : ℕ) → has c.stored i ≡ (if nat_lt i (b.base + most) then has b.stored i else false))
+    → ((i : ℕ) → has c.loads i ≡ (if nat_lt i (b.base + most) then has b.loads i else false))
     → length c.writers ≡ 32 → length c.readers ≡ 32
-    → ((n : ℕ) → n < 32 → AreThose (writes n) w b.base (get_or c.writers n no_mark))
-    → ((n : ℕ) → n < 32 → AreThose (reads n) w b.base (get_or c.readers n no_mark))
-    → IsBoard w (record c { base = b.base; candidates = b.candidates })
-board_dropped w e b c i takew taker taked takes takel ws rs writers readers =
+    → ((n : ℕ) → n < 32 → (i : ℕ) → has (get_or c.writers n no_mark) i ≡ (if nat_lt i (b.base + most) then has (get_or b.writers n no_mark) i else false))
+    → ((n : ℕ) → n < 32 → (i : ℕ) → has (get_or c.readers n no_mark) i ≡ (if nat_lt i (b.base + most) then has (get_or b.readers n no_mark) i else false))
+    → IsBoard (take most w) (record c { base = b.base; candidates = b.candidates })
+board_kept w b c most i keepw keepr keepd keeps keepe keepl ws rs writers readers =
     record {
       base = i.base;
-      waiting = those_drop (λ x. is_waiting x.stage) w e b.base b.waiting c.waiting i.waiting takew;
-      running = those_drop (λ x. is_running x.stage) w e b.base b.running c.running i.running taker;
-      done = those_drop (λ x. is_done x.stage) w e b.base b.done c.done i.done taked;
-      gone = λ n h. taked n ∙ ap (λ (k : Bool). if k then false else has b.done n) (apart_mark b.base (length w) n h) ∙ i.gone n h;
-      storing = those_drop is_open_store w e b.base b.storing c.storing i.storing takes;
-      loads = those_drop is_load w e b.base b.loads c.loads i.loads takel;
-      candidates = λ n none. could_dropped [] w e n (i.candidates n none);
+      waiting = those_kept (λ x. is_waiting x.stage) w b.base most b.waiting c.waiting i.waiting keepw;
+      running = those_kept (λ x. is_running x.stage) w b.base most b.running c.running i.running keepr;
+      done = those_kept (λ x. is_done x.stage) w b.base most b.done c.done i.done keepd;
+      gone = λ n h. keepd n ∙ ap (λ (k : Bool). if k then has b.done n else false) (within_end b.base most n h) ∙ i.gone n h;
+      storing = those_kept is_open_store w b.base most b.storing c.storing i.storing keeps;
+      stored = those_kept (λ x. is_store x.effect) w b.base most b.stored c.stored i.stored keepe;
+      loads = those_kept is_load w b.base most b.loads c.loads i.loads keepl;
+      candidates = λ n none. could_taken [] w most n (i.candidates n none);
       write_sets = ws;
       read_sets = rs;
-      writers = writers;
-      readers = readers;
+      writers = λ n h. those_kept (writes n) w b.base most (get_or b.writers n no_mark) (get_or c.writers n no_mark) (i.writers n h) (writers n h);
+      readers = λ n h. those_kept (reads n) w b.base most (get_or b.readers n no_mark) (get_or c.readers n no_mark) (i.readers n h) (readers n h);
+    }
+
+-- ---- the marks are lower by 32
+
+pub board_lowered : (w : List Entry) (b c : Board) → b.base ≡ 32 → IsBoard w b
+    → ((i : ℕ) → has c.waiting i ≡ has b.waiting (32 + i))
+    → ((i : ℕ) → has c.running i ≡ has b.running (32 + i))
+    → ((i : ℕ) → has c.done i ≡ has b.done (32 + i))
+    → ((i : ℕ) → has c.storing i ≡ has b.storing (32 + i))
+    → ((i : ℕ) → has c.stored i ≡ has b.stored (32 + i))
+    → ((i : ℕ) → has c.loads i ≡ has b.loads (32 + i))
+    → ((i : ℕ) → has c.candidates i ≡ has b.candidates (32 + i))
+    → length c.writers ≡ 32 → length c.readers ≡ 32
+    → ((n : ℕ) → n < 32 → (i : ℕ) → has (get_or c.writers n no_mark) i ≡ has (get_or b.writers n no_mark) (32 + i))
+    → ((n : ℕ) → n < 32 → (i : ℕ) → has (get_or c.readers n no_mark) i ≡ has (get_or b.readers n no_mark) (32 + i))
+    → IsBoard w (record c { base = 0 })
+board_lowered w b c is i lowerw lowerr lowerd lowers lowere lowerl lowerc ws rs writers readers =
+    record {
+      base = omega arith;
+      waiting = those_lowered (λ x. is_waiting x.stage) w b.base b.waiting c.waiting is i.waiting lowerw;
+      running = those_lowered (λ x. is_running x.stage) w b.base b.running c.running is i.running lowerr;
+      done = those_lowered (λ x. is_done x.stage) w b.base b.done c.done is i.done lowerd;
+      gone = λ n h. absurd (omega arith);
+      storing = those_lowered is_open_store w b.base b.storing c.storing is i.storing lowers;
+      stored = those_lowered (λ x. is_store x.effect) w b.base b.stored c.stored is i.stored lowere;
+      loads = those_lowered is_load w b.base b.loads c.loads is i.loads lowerl;
+      candidates = λ n none.
+          let at : b.base + n ≡ 32 + (0 + n) = omega arith in
+          i.candidates n (ap (has b.candidates) at ∙ sym (lowerc (0 + n)) ∙ none);
+      write_sets = ws;
+      read_sets = rs;
+      writers = λ n h. those_lowered (writes n) w b.base (get_or b.writers n no_mark) (get_or c.writers n no_mark) is (i.writers n h) (writers n h);
+      readers = λ n h. those_lowered (reads n) w b.base (get_or b.readers n no_mark) (get_or c.readers n no_mark) is (i.readers n h) (readers n h);
     }
 
 -- ---- what the board is asked

@@ -7,3 +7,4 @@ pub mod Handing
 pub mod Marking
 pub mod Boarding
 pub mod Windowing
+pub mod Registers
