@@ -1,5 +1,5 @@
 -- The board follows the entries of its window.
-use Rattle.std.proofs.Common.{◌≡◌, ◌<◌, ◌≤◌, ℕ, zero, suc, ◌+◌, ◌-◌, ◌==◌, Bool, true, false, not, ◌&&◌, ◌||◌, List, [], ◌∷◌, ◌++◌, length, get_or, replicate, take, Some, refl, ap, sym, ◌∙◌, arith, slice_get, append_assoc, if◌then◌else◌}
+use Rattle.std.proofs.Common.{◌≡◌, ◌<◌, ◌≤◌, ℕ, zero, suc, ◌+◌, ◌-◌, ◌==◌, Bool, true, false, not, ◌&&◌, ◌||◌, ◌⊎◌, inl, inr, List, [], ◌∷◌, ◌++◌, length, get_or, replicate, take, Some, refl, ap, sym, ◌∙◌, arith, slice_get, append_assoc, if◌then◌else◌}
 use Rattle.std.specs.Prelude.{slice_set, nat_lt, nat_le}
 use Rattle.std.proofs.lemmas.Bool.Decides.{nat_tests}
 use Rattle.std.proofs.lemmas.Grind.{common_steps}
@@ -14,7 +14,7 @@ use Rattle.diva_ooo.specs.declared.mark_set.MarkSet.{MarkSet}
 use Rattle.diva_ooo.specs.declared.profile.Class.{Class}
 use Rattle.diva_ooo.specs.declared.profile.Class.TheVariants.{Plain, Loads, Stores, Calls}
 use Rattle.diva_ooo.specs.declared.profile.Profile.{Profile}
-use Rattle.diva_ooo.specs.Board.{IsBoard, IsCandidate, IsLastOf, IsNextOf, can_at, could_at, has_result, is_load, is_loading, is_open_store, no_mark, reads, writes}
+use Rattle.diva_ooo.specs.Board.{IsBoard, IsCandidate, IsLastOf, IsNextOf, IsWrittenBetween, can_at, could_at, has_result, is_load, is_loading, is_open_store, no_mark, reads, writes}
 use Rattle.diva_ooo.specs.Finish.{is_running}
 use Rattle.diva_ooo.specs.Issue.{are_stored, can_begin, is_available, is_awaited, is_done, is_free, is_ready, is_storing, is_waiting}
 use Rattle.diva_ooo.specs.MarkSets.{AreThose, IsLast, IsNext, has, holds_at}
@@ -144,6 +144,45 @@ could_finished older (e ∷ w) zero (suc i) x y is profile idle unread' h =
     ∙ h
 could_finished older (e ∷ w) (suc at) zero x y is profile idle unread' h = h
 could_finished older (e ∷ w) (suc at) (suc i) x y is profile idle unread' h = could_finished (older ++ e ∷ []) w at i x y is profile idle unread' h
+
+-- behind an entry that writes the register the same is available
+covered_by : (c : Bool) (o1 o2 : List Entry) (r n : ℕ) (e : Entry) → AreAlike r o1 o2 → e.profile.rd ≡ r → (e.profile.rd == n) ≡ c → is_available (o1 ++ e ∷ []) n ≡ is_available (o2 ++ e ∷ []) n
+covered_by true o1 o2 r n e alike writes' is =
+    available_more o1 e n
+    ∙ ap (λ (c : Bool). (n == 0) || not (if c then not (is_done e.stage) else is_awaited false o1 n)) is
+    ∙ ap (λ (c : Bool). (n == 0) || not (if c then not (is_done e.stage) else is_awaited false o2 n)) (sym is)
+    ∙ sym (available_more o2 e n)
+covered_by false o1 o2 r n e alike writes' is =
+    let other : (n == r) ≡ false = grind (arith, nat_tests) in
+    alike_more r o1 o2 e alike n (rw other refl)
+
+writes_it : (e : Entry) (r : ℕ) (c : Bool) → (e.profile.rd == r) ≡ c → (c && not (r == 0)) ≡ true → e.profile.rd ≡ r
+writes_it e r true is there = grind (arith, nat_tests)
+writes_it e r false is there = absurd (cc)
+
+could_between : (r : ℕ) (o1 o2 w : List Entry) (j i : ℕ) → AreAlike r o1 o2 → holds_at (writes r) w j ≡ true → j < i → could_at o1 w i ≡ could_at o2 w i
+could_between r o1 o2 [] j i alike there h = refl
+could_between r o1 o2 (e ∷ w) j zero alike there h = absurd (omega arith)
+could_between r o1 o2 (e ∷ w) zero (suc i) alike there h =
+    could_same (o1 ++ e ∷ []) (o2 ++ e ∷ []) w i (λ n. covered_by (e.profile.rd == n) o1 o2 r n e alike (writes_it e r (e.profile.rd == r) refl there) refl)
+could_between r o1 o2 (e ∷ w) (suc j) (suc i) alike there h = could_between r (o1 ++ e ∷ []) (o2 ++ e ∷ []) w j i (alike_more r o1 o2 e alike) there (omega arith)
+
+could_covered : (older w : List Entry) (at j i : ℕ) (x y : Entry) → slice_get w at ≡ Some x → y.profile ≡ x.profile → holds_at (writes x.profile.rd) w j ≡ true → at < j → j < i
+    → could_at older w i ≡ false → could_at older (slice_set w at y) i ≡ false
+could_covered older [] at j i x y is profile there h k none = refl
+could_covered older (e ∷ w) at j zero x y is profile there h k none = absurd (omega arith)
+could_covered older (e ∷ w) at zero (suc i) x y is profile there h k none = absurd (omega arith)
+could_covered older (e ∷ w) zero (suc j) (suc i) x y is profile there h k none =
+    let here : e ≡ x = cc in
+    could_between x.profile.rd (older ++ y ∷ []) (older ++ x ∷ []) w j i (λ n other. finished_by (x.profile.rd == n) older x y n profile refl other) there (omega arith)
+    ∙ ap (λ (z : Entry). could_at (older ++ z ∷ []) w i) (sym here)
+    ∙ none
+could_covered older (e ∷ w) (suc at) (suc j) (suc i) x y is profile there h k none = could_covered (older ++ e ∷ []) w at j i x y is profile there (omega arith) (omega arith) none
+
+could_done : (w : List Entry) (at i : ℕ) (x y : Entry) → slice_get w at ≡ Some x → y.profile ≡ x.profile → is_waiting y.stage ≡ false
+    → (holds_at (reads x.profile.rd) w i ≡ false) ⊎ IsWrittenBetween w x.profile.rd at i → could_at [] w i ≡ false → could_at [] (slice_set w at y) i ≡ false
+could_done w at i x y is profile idle (inl unread') h = could_finished [] w at i x y is profile idle unread' h
+could_done w at i x y is profile idle (inr between) h = could_covered [] w at between.place i x y is profile between.there between.behind between.before h
 
 -- ---- the window gets longer and shorter
 
@@ -284,13 +323,14 @@ or_off false true h = absurd (cc)
 or_off false false h = (refl, refl)
 
 -- an entry is done
-pub board_done : (w : List Entry) (at : ℕ) (x y : Entry) (b : Board) (running done storing candidates : MarkSet) → IsBoard w b → x.profile.rd < 32 → slice_get w at ≡ Some x → is_running x.stage ≡ true → is_done y.stage ≡ true → y.profile ≡ x.profile → y.effect ≡ x.effect
+pub board_done : (w : List Entry) (at : ℕ) (x y : Entry) (b : Board) (running done storing candidates waiting : MarkSet) → IsBoard w b → slice_get w at ≡ Some x → is_running x.stage ≡ true → is_done y.stage ≡ true → y.profile ≡ x.profile → y.effect ≡ x.effect
     → ((i : ℕ) → has running i ≡ (if i == b.base + at then false else has b.running i))
     → ((i : ℕ) → has done i ≡ (if i == b.base + at then true else has b.done i))
     → ((i : ℕ) → has storing i ≡ (if i == b.base + at then false else has b.storing i))
-    → ((i : ℕ) → has candidates i ≡ (has b.candidates i || has (get_or b.readers x.profile.rd no_mark) i))
+    → ((i : ℕ) → has candidates i ≡ (has b.candidates i || has waiting i))
+    → ((i : ℕ) → has waiting (b.base + i) ≡ false → (holds_at (reads x.profile.rd) w i ≡ false) ⊎ IsWrittenBetween w x.profile.rd at i)
     → IsBoard (slice_set w at y) (record b { running = running; done = done; storing = storing; candidates = candidates })
-board_done w at x y b running done storing candidates i below is was now profile effect takes puts closes adds =
+board_done w at x y b running done storing candidates waiting i is was now profile effect takes puts closes adds others =
     let before = runs_only x.stage was in
     let after = done_only y.stage now in
     record {
@@ -303,8 +343,8 @@ board_done w at x y b running done storing candidates i below is was now profile
       stored = those_same (λ e. is_store e.effect) w at x y b.base b.stored i.stored is (ap is_store effect);
       loads = those_same is_load w at x y b.base b.loads i.loads is (load_same x y profile);
       candidates = λ n none.
-          let neither = or_off (has b.candidates (b.base + n)) (has (get_or b.readers x.profile.rd no_mark) (b.base + n)) (sym (adds (b.base + n)) ∙ none) in
-          could_finished [] w at n x y is profile after.0 (sym (i.readers x.profile.rd below n) ∙ neither.1) (i.candidates n neither.0);
+          let neither = or_off (has b.candidates (b.base + n)) (has waiting (b.base + n)) (sym (adds (b.base + n)) ∙ none) in
+          could_done w at n x y is profile after.0 (others n neither.1) (i.candidates n neither.0);
       write_sets = i.write_sets;
       read_sets = i.read_sets;
       writers = λ n h. those_same (writes n) w at x y b.base (get_or b.writers n no_mark) (i.writers n h) is (written_same n x y profile);
@@ -547,6 +587,29 @@ next_of p w base s from m those next =
 
 pub none_of : (p : Entry → Bool) (w : List Entry) (base : ℕ) (s : MarkSet) (from i : ℕ) → AreThose p w base s → ((k : ℕ) → base + from ≤ k → has s k ≡ false) → from ≤ i → holds_at p w i ≡ false
 none_of p w base s from i those none h = sym (those i) ∙ none (base + i) (omega arith)
+
+-- ---- the readers up to the next writer
+
+pub woken_all : (w : List Entry) (b : Board) (r at i : ℕ) → IsBoard w b → r < 32 → has (get_or b.readers r no_mark) (b.base + i) ≡ false → (holds_at (reads r) w i ≡ false) ⊎ IsWrittenBetween w r at i
+woken_all w b r at i board h none = inl (sym (board.readers r h i) ∙ none)
+
+woken_by : (c : Bool) (w : List Entry) (b : Board) (r at m i : ℕ) → IsBoard w b → r < 32 → nat_lt (b.base + i) (m + 1) ≡ c → IsNext (get_or b.writers r no_mark) (b.base + at + 1) m
+    → (if c then has (get_or b.readers r no_mark) (b.base + i) else false) ≡ false → (holds_at (reads r) w i ≡ false) ⊎ IsWrittenBetween w r at i
+woken_by true w b r at m i board h is next none = woken_all w b r at i board h none
+woken_by false w b r at m i board h is next none =
+    let far : m < b.base + i = grind (arith, nat_tests) in
+    let behind = next.behind in
+    let here : b.base + (m - b.base) ≡ m = omega arith in
+    inr (record {
+      place = m - b.base;
+      behind = omega arith;
+      before = omega arith;
+      there = sym (board.writers r h (m - b.base)) ∙ ap (has (get_or b.writers r no_mark)) here ∙ next.there;
+    })
+
+pub woken_some : (w : List Entry) (b : Board) (r at m i : ℕ) → IsBoard w b → r < 32 → IsNext (get_or b.writers r no_mark) (b.base + at + 1) m
+    → (if nat_lt (b.base + i) (m + 1) then has (get_or b.readers r no_mark) (b.base + i) else false) ≡ false → (holds_at (reads r) w i ≡ false) ⊎ IsWrittenBetween w r at i
+woken_some w b r at m i board h next none = woken_by (nat_lt (b.base + i) (m + 1)) w b r at m i board h refl next none
 
 -- ---- a register
 

@@ -87,3 +87,10 @@ pub record IsCandidate (w : List Entry) (from n : ℕ) : Type 0 where
 abbrev pub passed : List Entry → List Entry → ℕ
 passed older [] = 0
 passed older (e ∷ rest) = if can_begin older e then 0 else suc (passed (older ++ e ∷ []) rest)
+
+-- an entry between two places writes a register
+pub record IsWrittenBetween (w : List Entry) (r from to : ℕ) : Type 0 where
+  pub place : ℕ
+  pub behind : from < place
+  pub before : place < to
+  pub there : holds_at (writes r) w place ≡ true

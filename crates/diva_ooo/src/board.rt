@@ -1,8 +1,8 @@
 // What is known of the entries of a window.
-ghost use Rattle.std.specs.Prelude.{◌≡◌, ◌+◌, ◌&&◌, ◌<◌, ◌≤◌, ℕ, List, [], ◌∷◌, ◌++◌, length, get_or, nat_lt, take, IfSome, IsNone, Some, false, if◌then◌else◌, slice_get, slice_set, true};
+ghost use Rattle.std.specs.Prelude.{◌≡◌, ◌+◌, ◌&&◌, ◌<◌, ◌≤◌, ◌⊎◌, ℕ, List, [], ◌∷◌, ◌++◌, length, get_or, nat_lt, take, IfSome, IsNone, Some, false, if◌then◌else◌, slice_get, slice_set, true};
 ghost use Rattle.diva_ooo.specs.declared.entry.Entry.{Entry};
 ghost use Rattle.diva_core.specs.Cycle.{is_store};
-ghost use Rattle.diva_ooo.specs.Board.{IsBoard, IsCandidate, IsLastOf, IsNextOf, can_at, could_at, has_result, no_mark};
+ghost use Rattle.diva_ooo.specs.Board.{IsBoard, IsCandidate, IsLastOf, IsNextOf, IsWrittenBetween, can_at, could_at, has_result, no_mark, reads};
 ghost use Rattle.diva_ooo.specs.Finish.{is_running};
 ghost use Rattle.diva_ooo.specs.Issue.{are_stored, is_available, is_done, is_free, is_waiting};
 ghost use Rattle.diva_ooo.specs.Known.{HasSources};
@@ -137,7 +137,7 @@ impl Board {
 
     /// The entry at a place, which runs and writes a register, is done.
     pub(crate) fn complete(&mut self, at: usize, rd: u8)
-        requires base { self.old.base ≤ 32 }
+        requires base { self.old.base < 32 }
         requires place { at < 32 }
         requires register { rd < 32 }
         ensures board { (w : List Entry) (e new : Entry) → IsBoard w self.old → slice_get w at ≡ Some e
@@ -146,10 +146,26 @@ impl Board {
         ensures base { self.new.base ≡ self.old.base }
     {
         let mark = self.base + at;
+        let waiting = self.readers_of(at, rd);
         self.running.remove(mark);
         self.done.put(mark, true);
         self.storing.remove(mark);
-        self.candidates.put_all(self.readers[usize::from(rd)]);
+        self.candidates.put_all(waiting);
+    }
+
+    // The readers of the register that the entry at a place writes, up to the next entry that writes it.
+    fn readers_of(&self, at: usize, rd: u8) -> MarkSet
+        requires base { self.now.base < 32 }
+        requires place { at < 32 }
+        requires register { rd < 32 }
+        ensures { (w : List Entry) → IsBoard w self.now → (i : ℕ) → has result (self.now.base + i) ≡ false
+            → (holds_at (reads rd) w i ≡ false) ⊎ IsWrittenBetween w rd at i }
+    {
+        let readers = self.readers[usize::from(rd)];
+        match self.writers[usize::from(rd)].next(self.base + at + 1) {
+            Some(next) if next < 63 => readers.below(next + 1),
+            _ => readers,
+        }
     }
 
     /// The entry at a place is no candidate.
