@@ -6,5 +6,6 @@ pub mod Issued
 pub mod Handing
 pub mod Marking
 pub mod Boarding
+pub mod Asking
 pub mod Windowing
 pub mod Registers

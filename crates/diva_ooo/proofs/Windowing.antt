@@ -9,7 +9,7 @@ use Rattle.diva_ooo.specs.declared.board.Board.{Board}
 use Rattle.diva_ooo.specs.Board.{IsBoard, IsLastOf, can_at, could_at, has_result, writes}
 use Rattle.diva_ooo.specs.Issue.{can_begin, is_available, is_done, is_free, is_ready, is_waiting, written}
 use Rattle.diva_ooo.specs.MarkSets.{holds_at}
-use Rattle.diva_ooo.proofs.Boarding.{before_none}
+use Rattle.diva_ooo.proofs.Asking.{before_none}
 use Rattle.diva_ooo.proofs.Marking.{holds_take}
 use Rattle.diva_ooo.proofs.Places.{take_all, take_at}
 

@@ -1,6 +1,6 @@
 use Rattle.std.proofs.Common.{refl}
 use Rattle.diva_core.specs.Cycle.{is_store}
-use Rattle.diva_ooo.proofs.Boarding.{next_of, none_of}
+use Rattle.diva_ooo.proofs.Asking.{next_of, none_of}
 use Rattle.diva_ooo.proofs.board.Board.next_store.Goals as goal
 
 pub returns-in-Some-clause-some : goal.returns-in-Some-clause-some
