@@ -8,9 +8,11 @@ use Rattle.std.proofs.lemmas.List.Elements.{All-set, All-head, All-tail}
 use Rattle.diva_decode.specs.declared.instr.Instr.{Instr}
 use Rattle.diva_decode.specs.Table.{row_of}
 use Rattle.diva_isa.specs.State.{State}
-use Rattle.diva_isa.specs.Step.{HasRegister, fetched}
+use Rattle.diva_isa.specs.Kind.{kind}
+use Rattle.diva_isa.specs.declared.kind.Kind.TheVariants.{Immediate, Register}
+use Rattle.diva_isa.specs.Step.{HasRegister, fetched, going, whole}
 use Rattle.diva_isa.specs.declared.effect.Effect.{Effect}
-use Rattle.diva_isa.specs.declared.effect.Effect.TheVariants.{Nothing}
+use Rattle.diva_isa.specs.declared.effect.Effect.TheVariants.{Nothing, Writes}
 use Rattle.diva_isa.specs.declared.record.Record.{Record}
 use Rattle.diva_ahead.specs.Effects.{done_by}
 use Rattle.diva_ooo.specs.declared.entry.Entry.{Entry}
@@ -54,3 +56,12 @@ pub known_staged : (w : List Entry) (at : ℕ) (e : Entry) (stage : Stage) → s
 known_staged w at e stage is begun all =
     let k = known_at w at e is all in
     All-set IsKnown w at (record e { stage = stage }) (record { decoded = k.decoded; registers = k.registers; sources = k.sources; effect = k.effect; register = k.register; fresh = λ waits. absurd (true≢false (sym waits ∙ begun)) }) all
+
+-- what an operation on registers does
+pub immediate_does : (pc word a b v : ℕ) (i : Instr) → row_of word ≡ Some i → kind i.op ≡ Immediate → Writes i.rd v ≡ done_by (whole pc word a b 0 (going pc v))
+unfolding done_by
+immediate_does pc word a b v i says is = rw (says, is) refl
+
+pub register_does : (pc word a b v : ℕ) (i : Instr) → row_of word ≡ Some i → kind i.op ≡ Register → Writes i.rd v ≡ done_by (whole pc word a b 0 (going pc v))
+unfolding done_by
+register_does pc word a b v i says is = rw (says, is) refl
