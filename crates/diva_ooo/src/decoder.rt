@@ -1,4 +1,4 @@
-// What the words say that were fetched last.
+// What words say that were fetched.
 ghost use Rattle.std.specs.Prelude.{◌≡◌};
 ghost use Rattle.diva_ooo.specs.Known.{IsDecoded};
 
@@ -33,7 +33,8 @@ impl Decoded {
     }
 }
 
-/// The words that were fetched last, by their addresses, and what they say: so the words of a loop are decoded once.
+/// Words that were fetched, and what they say: for each of 64 places, which the address decides, the last one. So the words of
+/// a short loop are decoded once.
 #[derive(Drop)]
 pub(crate) struct Decoder {
     words: [Decoded; 64],
