@@ -373,7 +373,7 @@ board_passed w at b candidates i idle takes =
 
 -- ---- the sets by register
 
-pub get_set : (xs : List MarkSet) (k n : ℕ) (t : MarkSet) → n < length xs → get_or (slice_set xs k t) n no_mark ≡ (if k == n then t else get_or xs n no_mark)
+get_set : (xs : List MarkSet) (k n : ℕ) (t : MarkSet) → n < length xs → get_or (slice_set xs k t) n no_mark ≡ (if k == n then t else get_or xs n no_mark)
 get_set [] k n t h = absurd (omega arith)
 get_set (x ∷ xs) zero zero t h = refl
 get_set (x ∷ xs) zero (suc n) t h = let other : (0 == suc n) ≡ false = grind (arith, nat_tests) in rw other refl

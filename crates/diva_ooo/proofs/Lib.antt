@@ -8,4 +8,3 @@ pub mod Marking
 pub mod Boarding
 pub mod Asking
 pub mod Windowing
-pub mod Registers
