@@ -1,5 +1,5 @@
 -- What an entry reads of memory.
-use Rattle.std.proofs.Common.{◌≡◌, ◌<◌, ◌≤◌, ℕ, zero, suc, ◌+◌, ◌-◌, ◌^◌, arith, append_assoc, length, List, [], ◌∷◌, ◌++◌, take, drop, map, Some, None, Bool, true, false, refl, ap, sym, ◌∙◌, slice_get}
+use Rattle.std.proofs.Common.{◌≡◌, ◌<◌, ◌≤◌, ℕ, suc, ◌+◌, ◌-◌, ◌^◌, arith, append_assoc, length, List, [], ◌∷◌, ◌++◌, take, drop, map, Some, None, Bool, true, false, refl, ap, sym, ◌∙◌, slice_get}
 use Rattle.std.specs.Prelude.{nat_lt}
 use Rattle.std.proofs.lemmas.Bool.Decides.{nat_tests}
 use Rattle.std.proofs.lemmas.Grind.{common_steps}

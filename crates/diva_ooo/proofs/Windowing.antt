@@ -1,5 +1,5 @@
 -- A window's entries, and what is written and can begin behind them.
-use Rattle.std.proofs.Common.{◌≡◌, ◌<◌, ℕ, zero, suc, ◌+◌, ◌-◌, ◌==◌, Bool, true, false, not, ◌&&◌, List, [], ◌∷◌, ◌++◌, length, take, drop, Option, Some, None, is_some, refl, ap, sym, ◌∙◌, arith, slice_get, append_assoc, if◌then◌else◌}
+use Rattle.std.proofs.Common.{◌≡◌, ◌<◌, ℕ, zero, suc, ◌==◌, Bool, true, false, not, ◌&&◌, List, [], ◌∷◌, ◌++◌, length, take, drop, Option, Some, None, is_some, refl, ap, sym, ◌∙◌, arith, slice_get, append_assoc, if◌then◌else◌}
 use Rattle.std.specs.Prelude.{slice_set, slice_index}
 use Rattle.std.proofs.lemmas.Bool.Decides.{nat_tests}
 use Rattle.std.proofs.lemmas.List.{append-nil}
@@ -11,7 +11,6 @@ use Rattle.diva_ooo.specs.Issue.{can_begin, is_available, is_done, is_free, is_r
 use Rattle.diva_ooo.specs.MarkSets.{holds_at}
 use Rattle.diva_ooo.proofs.Asking.{before_none}
 use Rattle.diva_ooo.proofs.Marking.{holds_take}
-use Rattle.diva_ooo.proofs.Places.{take_all, take_at}
 
 -- ---- the registers behind some entries
 

@@ -1,7 +1,4 @@
-use Rattle.std.proofs.Common.{◌+◌, get_or, ℕ, subst, sym, ap, ◌∙◌, if◌then◌else◌, false}
-use Rattle.std.specs.Prelude.{nat_lt}
-use Rattle.diva_ooo.specs.Board.{no_mark}
-use Rattle.diva_ooo.specs.MarkSets.{IsNext, has}
+use Rattle.std.proofs.Common.{◌+◌, sym, ◌∙◌}
 use Rattle.diva_ooo.proofs.Asking.{woken_all, woken_some}
 use Rattle.diva_ooo.proofs.board.Board.readers_of.Goals as goal
 

@@ -1,4 +1,4 @@
-use Rattle.std.proofs.Common.{◌≡◌, ◌≤◌, ◌<◌, ◌^◌, ◌++◌, List, None, Some, arith, sym, ap, refl, ◌∙◌, rules, take}
+use Rattle.std.proofs.Common.{◌≡◌, ◌<◌, ◌^◌, List, None, Some, arith, sym, ap, refl, ◌∙◌, rules, take}
 use Rattle.diva_isa.specs.State.{word_of}
 use Rattle.diva_isa.specs.declared.effect.Effect.{Effect}
 use Rattle.diva_isa.specs.declared.effect.Effect.TheVariants.{Stores}

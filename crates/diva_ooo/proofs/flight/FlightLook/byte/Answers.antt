@@ -1,9 +1,7 @@
-use Rattle.std.proofs.Common.{◌≡◌, ◌≤◌, ◌++◌, None, Some, arith, length, sym, ap, ◌∙◌, rules, take, slice_get, refl, List}
+use Rattle.std.proofs.Common.{◌≡◌, None, Some, arith, sym, ap, ◌∙◌, rules, take, refl, List}
 use Rattle.diva_isa.specs.State.{byte_of}
 use Rattle.diva_isa.specs.declared.effect.Effect.{Effect}
-use Rattle.diva_core.specs.Cycle.{is_store}
 use Rattle.diva_core.specs.Effects.{with_effects}
-use Rattle.diva_ooo.proofs.Marking.{holds_within}
 use Rattle.diva_ooo.proofs.Reading.{byte_next, byte_quiet, effects, none_yet, older_none}
 use Rattle.diva_ooo.proofs.flight.FlightLook.byte.Goals as goal
 
