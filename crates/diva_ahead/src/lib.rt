@@ -15,4 +15,5 @@ mod ring;
 mod stand;
 
 pub use ahead::Ahead;
+pub use effects::is_store;
 pub use ring::Ring;

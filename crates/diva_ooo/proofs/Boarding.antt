@@ -1,22 +1,20 @@
 -- The board follows the entries of its window.
-use Rattle.std.proofs.Common.{◌≡◌, ◌<◌, ◌≤◌, ℕ, zero, suc, ◌+◌, ◌-◌, ◌==◌, Bool, true, false, not, ◌&&◌, ◌||◌, List, [], ◌∷◌, ◌++◌, length, get_or, replicate, take, Some, refl, ap, sym, ◌∙◌, arith, slice_get, append_assoc, if◌then◌else◌}
-use Rattle.std.specs.Prelude.{slice_set, nat_lt, nat_le}
+use Rattle.std.proofs.Common.{◌≡◌, ℕ, ◌<◌, zero, suc, ◌+◌, ◌==◌, Bool, true, false, not, ◌&&◌, ◌||◌, ◌⊎◌, inl, inr, List, [], ◌∷◌, ◌++◌, length, get_or, replicate, take, Some, refl, ap, sym, ◌∙◌, arith, slice_get, if◌then◌else◌}
+use Rattle.std.specs.Prelude.{slice_set, nat_lt}
 use Rattle.std.proofs.lemmas.Bool.Decides.{nat_tests}
-use Rattle.std.proofs.lemmas.Grind.{common_steps}
-use Rattle.std.proofs.lemmas.List.{append-nil}
+use Rattle.diva_core.specs.Cycle.{is_store}
 use Rattle.diva_ooo.specs.declared.entry.Entry.{Entry}
 use Rattle.diva_ooo.specs.declared.entry.Stage.{Stage}
 use Rattle.diva_ooo.specs.declared.entry.Stage.TheVariants.{Waiting, Running, Done}
 use Rattle.diva_ooo.specs.declared.board.Board.{Board}
 use Rattle.diva_ooo.specs.declared.mark_set.MarkSet.{MarkSet}
 use Rattle.diva_ooo.specs.declared.profile.Class.{Class}
-use Rattle.diva_ooo.specs.declared.profile.Class.TheVariants.{Plain, Loads, Stores, Calls}
 use Rattle.diva_ooo.specs.declared.profile.Profile.{Profile}
-use Rattle.diva_ooo.specs.Board.{IsBoard, IsCandidate, IsLastOf, IsNextOf, can_at, could_at, has_result, is_load, is_loading, is_open_store, no_mark, reads, writes}
+use Rattle.diva_ooo.specs.Board.{IsBoard, IsWrittenBetween, could_at, is_load, is_loading, is_open_store, no_mark, reads, writes}
 use Rattle.diva_ooo.specs.Finish.{is_running}
-use Rattle.diva_ooo.specs.Issue.{are_stored, can_begin, is_available, is_awaited, is_done, is_free, is_ready, is_storing, is_waiting}
-use Rattle.diva_ooo.specs.MarkSets.{AreThose, IsLast, IsNext, has, holds_at}
-use Rattle.diva_ooo.proofs.Marking.{holds_end, holds_take, those_drop, those_dropped, those_none, those_pop, those_push, those_same, those_set}
+use Rattle.diva_ooo.specs.Issue.{is_available, is_awaited, is_done, is_storing, is_waiting}
+use Rattle.diva_ooo.specs.MarkSets.{AreThose, has, holds_at}
+use Rattle.diva_ooo.proofs.Marking.{holds_here, those_kept, those_lowered, those_none, those_pop, those_push, those_same, those_set}
 
 -- ---- what holds of each stage
 
@@ -76,7 +74,7 @@ could_alike r o1 o2 (e ∷ w) zero alike not_read =
     ∙ ap (λ (b : Bool). is_waiting e.stage && (is_available o2 e.profile.rs1 && b)) (alike e.profile.rs2 both.1)
 could_alike r o1 o2 (e ∷ w) (suc i) alike not_read = could_alike r (o1 ++ e ∷ []) (o2 ++ e ∷ []) w i (alike_more r o1 o2 e alike) not_read
 
-and_off : (b : Bool) → (b && false) ≡ false
+pub and_off : (b : Bool) → (b && false) ≡ false
 and_off true = refl
 and_off false = refl
 
@@ -143,6 +141,45 @@ could_finished older (e ∷ w) zero (suc i) x y is profile idle unread' h =
 could_finished older (e ∷ w) (suc at) zero x y is profile idle unread' h = h
 could_finished older (e ∷ w) (suc at) (suc i) x y is profile idle unread' h = could_finished (older ++ e ∷ []) w at i x y is profile idle unread' h
 
+-- behind an entry that writes the register the same is available
+covered_by : (c : Bool) (o1 o2 : List Entry) (r n : ℕ) (e : Entry) → AreAlike r o1 o2 → e.profile.rd ≡ r → (e.profile.rd == n) ≡ c → is_available (o1 ++ e ∷ []) n ≡ is_available (o2 ++ e ∷ []) n
+covered_by true o1 o2 r n e alike writes' is =
+    available_more o1 e n
+    ∙ ap (λ (c : Bool). (n == 0) || not (if c then not (is_done e.stage) else is_awaited false o1 n)) is
+    ∙ ap (λ (c : Bool). (n == 0) || not (if c then not (is_done e.stage) else is_awaited false o2 n)) (sym is)
+    ∙ sym (available_more o2 e n)
+covered_by false o1 o2 r n e alike writes' is =
+    let other : (n == r) ≡ false = grind (arith, nat_tests) in
+    alike_more r o1 o2 e alike n (rw other refl)
+
+writes_it : (e : Entry) (r : ℕ) (c : Bool) → (e.profile.rd == r) ≡ c → (c && not (r == 0)) ≡ true → e.profile.rd ≡ r
+writes_it e r true is there = grind (arith, nat_tests)
+writes_it e r false is there = absurd (cc)
+
+could_between : (r : ℕ) (o1 o2 w : List Entry) (j i : ℕ) → AreAlike r o1 o2 → holds_at (writes r) w j ≡ true → j < i → could_at o1 w i ≡ could_at o2 w i
+could_between r o1 o2 [] j i alike there h = refl
+could_between r o1 o2 (e ∷ w) j zero alike there h = absurd (omega arith)
+could_between r o1 o2 (e ∷ w) zero (suc i) alike there h =
+    could_same (o1 ++ e ∷ []) (o2 ++ e ∷ []) w i (λ n. covered_by (e.profile.rd == n) o1 o2 r n e alike (writes_it e r (e.profile.rd == r) refl there) refl)
+could_between r o1 o2 (e ∷ w) (suc j) (suc i) alike there h = could_between r (o1 ++ e ∷ []) (o2 ++ e ∷ []) w j i (alike_more r o1 o2 e alike) there (omega arith)
+
+could_covered : (older w : List Entry) (at j i : ℕ) (x y : Entry) → slice_get w at ≡ Some x → y.profile ≡ x.profile → holds_at (writes x.profile.rd) w j ≡ true → at < j → j < i
+    → could_at older w i ≡ false → could_at older (slice_set w at y) i ≡ false
+could_covered older [] at j i x y is profile there h k none = refl
+could_covered older (e ∷ w) at j zero x y is profile there h k none = absurd (omega arith)
+could_covered older (e ∷ w) at zero (suc i) x y is profile there h k none = absurd (omega arith)
+could_covered older (e ∷ w) zero (suc j) (suc i) x y is profile there h k none =
+    let here : e ≡ x = cc in
+    could_between x.profile.rd (older ++ y ∷ []) (older ++ x ∷ []) w j i (λ n other. finished_by (x.profile.rd == n) older x y n profile refl other) there (omega arith)
+    ∙ ap (λ (z : Entry). could_at (older ++ z ∷ []) w i) (sym here)
+    ∙ none
+could_covered older (e ∷ w) (suc at) (suc j) (suc i) x y is profile there h k none = could_covered (older ++ e ∷ []) w at j i x y is profile there (omega arith) (omega arith) none
+
+could_done : (w : List Entry) (at i : ℕ) (x y : Entry) → slice_get w at ≡ Some x → y.profile ≡ x.profile → is_waiting y.stage ≡ false
+    → (holds_at (reads x.profile.rd) w i ≡ false) ⊎ IsWrittenBetween w x.profile.rd at i → could_at [] w i ≡ false → could_at [] (slice_set w at y) i ≡ false
+could_done w at i x y is profile idle (inl unread') h = could_finished [] w at i x y is profile idle unread' h
+could_done w at i x y is profile idle (inr between) h = could_covered [] w at between.place i x y is profile between.there between.behind between.before h
+
 -- ---- the window gets longer and shorter
 
 gone_by : (c z : Bool) → (z || not (if c then false else false)) ≡ (z || true)
@@ -158,12 +195,14 @@ could_pushed older [] e (suc i) other = refl
 could_pushed older (x ∷ w) e zero other = refl
 could_pushed older (x ∷ w) e (suc i) other = could_pushed (older ++ x ∷ []) w e i (λ is. other (omega arith))
 
-could_dropped : (older w : List Entry) (e : Entry) (i : ℕ) → could_at older (w ++ e ∷ []) i ≡ false → could_at older w i ≡ false
-could_dropped older [] e i h = refl
-could_dropped older (x ∷ w) e zero h = h
-could_dropped older (x ∷ w) e (suc i) h = could_dropped (older ++ x ∷ []) w e i h
+could_taken : (older w : List Entry) (most i : ℕ) → could_at older w i ≡ false → could_at older (take most w) i ≡ false
+could_taken older [] zero i h = refl
+could_taken older [] (suc most) i h = refl
+could_taken older (e ∷ w) zero i h = refl
+could_taken older (e ∷ w) (suc most) zero h = h
+could_taken older (e ∷ w) (suc most) (suc i) h = could_taken (older ++ e ∷ []) w most i h
 
-could_waits : (older w : List Entry) (i : ℕ) → holds_at (λ e. is_waiting e.stage) w i ≡ false → could_at older w i ≡ false
+pub could_waits : (older w : List Entry) (i : ℕ) → holds_at (λ e. is_waiting e.stage) w i ≡ false → could_at older w i ≡ false
 could_waits older [] i h = refl
 could_waits older (e ∷ w) zero h = waits_not older w e h
 could_waits older (e ∷ w) (suc i) h = could_waits (older ++ e ∷ []) w i h
@@ -196,6 +235,7 @@ board_pop w e b few i is =
       done = those_pop (λ x. is_done x.stage) w e b.base b.done i.done;
       gone = λ n h. gone_one (nat_lt n b.base) w e b n i is refl h;
       storing = those_pop is_open_store w e b.base b.storing i.storing;
+      stored = those_pop (λ x. is_store x.effect) w e b.base b.stored i.stored;
       loads = those_pop is_load w e b.base b.loads i.loads;
       candidates = λ n none.
           let at : b.base + 1 + n ≡ b.base + suc n = omega arith in
@@ -219,8 +259,8 @@ read_same : (n : ℕ) (x y : Entry) → y.profile ≡ x.profile → reads n y �
 read_same n x y profile = ap (λ (p : Profile). ((p.rs1 == n) || (p.rs2 == n)) && not (n == 0)) profile
 
 -- an entry that runs goes on
-pub board_runs : (w : List Entry) (at : ℕ) (x y : Entry) (b : Board) → IsBoard w b → slice_get w at ≡ Some x → is_running x.stage ≡ true → is_running y.stage ≡ true → y.profile ≡ x.profile → IsBoard (slice_set w at y) b
-board_runs w at x y b i is was now profile =
+pub board_runs : (w : List Entry) (at : ℕ) (x y : Entry) (b : Board) → IsBoard w b → slice_get w at ≡ Some x → is_running x.stage ≡ true → is_running y.stage ≡ true → y.profile ≡ x.profile → y.effect ≡ x.effect → IsBoard (slice_set w at y) b
+board_runs w at x y b i is was now profile effect =
     let before = runs_only x.stage was in
     let after = runs_only y.stage now in
     record {
@@ -230,6 +270,7 @@ board_runs w at x y b i is was now profile =
       done = those_same (λ e. is_done e.stage) w at x y b.base b.done i.done is (after.1 ∙ sym before.1);
       gone = i.gone;
       storing = those_same is_open_store w at x y b.base b.storing i.storing is (not_open x y profile (after.1 ∙ sym before.1));
+      stored = those_same (λ e. is_store e.effect) w at x y b.base b.stored i.stored is (ap is_store effect);
       loads = those_same is_load w at x y b.base b.loads i.loads is (load_same x y profile);
       candidates = λ n none. could_begun [] w at n x y is profile (after.1 ∙ sym before.1) after.0 (i.candidates n none);
       write_sets = i.write_sets;
@@ -239,11 +280,16 @@ board_runs w at x y b i is was now profile =
     }
 
 -- an entry begins
-pub board_begun : (w : List Entry) (at : ℕ) (x y : Entry) (b : Board) (waiting running : MarkSet) → IsBoard w b → slice_get w at ≡ Some x → is_waiting x.stage ≡ true → is_running y.stage ≡ true → y.profile ≡ x.profile
+or_off_right : (b : Bool) → (b || false) ≡ b
+or_off_right true = refl
+or_off_right false = refl
+
+pub board_begun : (w : List Entry) (at : ℕ) (x y : Entry) (b : Board) (waiting running stored : MarkSet) (stores : Bool) → IsBoard w b → slice_get w at ≡ Some x → is_waiting x.stage ≡ true → is_running y.stage ≡ true → y.profile ≡ x.profile → is_store x.effect ≡ false → is_store y.effect ≡ stores
     → ((i : ℕ) → has waiting i ≡ (if i == b.base + at then false else has b.waiting i))
     → ((i : ℕ) → has running i ≡ (if i == b.base + at then true else has b.running i))
-    → IsBoard (slice_set w at y) (record b { waiting = waiting; running = running })
-board_begun w at x y b waiting running i is was now profile takes puts =
+    → ((i : ℕ) → has stored i ≡ (if i == b.base + at then stores || has b.stored (b.base + at) else has b.stored i))
+    → IsBoard (slice_set w at y) (record b { waiting = waiting; running = running; stored = stored })
+board_begun w at x y b waiting running stored stores i is was now profile none does takes puts adds =
     let before = waits_only x.stage was in
     let after = runs_only y.stage now in
     record {
@@ -253,6 +299,9 @@ board_begun w at x y b waiting running i is was now profile takes puts =
       done = those_same (λ e. is_done e.stage) w at x y b.base b.done i.done is (after.1 ∙ sym before.1);
       gone = i.gone;
       storing = those_same is_open_store w at x y b.base b.storing i.storing is (not_open x y profile (after.1 ∙ sym before.1));
+      stored =
+          those_set (λ e. is_store e.effect) w at x y b.base stores b.stored stored i.stored is does
+          (λ k. adds k ∙ ap (λ (c : Bool). if k == b.base + at then c else has b.stored k) (ap (λ (c : Bool). stores || c) (i.stored at ∙ holds_here (λ e. is_store e.effect) w at x is ∙ none) ∙ or_off_right stores));
       loads = those_same is_load w at x y b.base b.loads i.loads is (load_same x y profile);
       candidates = λ n none. could_begun [] w at n x y is profile (after.1 ∙ sym before.1) after.0 (i.candidates n none);
       write_sets = i.write_sets;
@@ -270,13 +319,14 @@ or_off false true h = absurd (cc)
 or_off false false h = (refl, refl)
 
 -- an entry is done
-pub board_done : (w : List Entry) (at : ℕ) (x y : Entry) (b : Board) (running done storing candidates : MarkSet) → IsBoard w b → x.profile.rd < 32 → slice_get w at ≡ Some x → is_running x.stage ≡ true → is_done y.stage ≡ true → y.profile ≡ x.profile
+pub board_done : (w : List Entry) (at : ℕ) (x y : Entry) (b : Board) (running done storing candidates waiting : MarkSet) → IsBoard w b → slice_get w at ≡ Some x → is_running x.stage ≡ true → is_done y.stage ≡ true → y.profile ≡ x.profile → y.effect ≡ x.effect
     → ((i : ℕ) → has running i ≡ (if i == b.base + at then false else has b.running i))
     → ((i : ℕ) → has done i ≡ (if i == b.base + at then true else has b.done i))
     → ((i : ℕ) → has storing i ≡ (if i == b.base + at then false else has b.storing i))
-    → ((i : ℕ) → has candidates i ≡ (has b.candidates i || has (get_or b.readers x.profile.rd no_mark) i))
+    → ((i : ℕ) → has candidates i ≡ (has b.candidates i || has waiting i))
+    → ((i : ℕ) → has waiting (b.base + i) ≡ false → (holds_at (reads x.profile.rd) w i ≡ false) ⊎ IsWrittenBetween w x.profile.rd at i)
     → IsBoard (slice_set w at y) (record b { running = running; done = done; storing = storing; candidates = candidates })
-board_done w at x y b running done storing candidates i below is was now profile takes puts closes adds =
+board_done w at x y b running done storing candidates waiting i is was now profile effect takes puts closes adds others =
     let before = runs_only x.stage was in
     let after = done_only y.stage now in
     record {
@@ -286,10 +336,11 @@ board_done w at x y b running done storing candidates i below is was now profile
       done = those_set (λ e. is_done e.stage) w at x y b.base true b.done done i.done is now puts;
       gone = λ n h. puts n ∙ ap (λ (c : Bool). if c then true else has b.done n) (apart_mark b.base at n h) ∙ i.gone n h;
       storing = those_set is_open_store w at x y b.base false b.storing storing i.storing is (closed y now) closes;
+      stored = those_same (λ e. is_store e.effect) w at x y b.base b.stored i.stored is (ap is_store effect);
       loads = those_same is_load w at x y b.base b.loads i.loads is (load_same x y profile);
       candidates = λ n none.
-          let neither = or_off (has b.candidates (b.base + n)) (has (get_or b.readers x.profile.rd no_mark) (b.base + n)) (sym (adds (b.base + n)) ∙ none) in
-          could_finished [] w at n x y is profile after.0 (sym (i.readers x.profile.rd below n) ∙ neither.1) (i.candidates n neither.0);
+          let neither = or_off (has b.candidates (b.base + n)) (has waiting (b.base + n)) (sym (adds (b.base + n)) ∙ none) in
+          could_done w at n x y is profile after.0 (others n neither.1) (i.candidates n neither.0);
       write_sets = i.write_sets;
       read_sets = i.read_sets;
       writers = λ n h. those_same (writes n) w at x y b.base (get_or b.writers n no_mark) (i.writers n h) is (written_same n x y profile);
@@ -311,6 +362,7 @@ board_passed w at b candidates i idle takes =
       done = i.done;
       gone = i.gone;
       storing = i.storing;
+      stored = i.stored;
       loads = i.loads;
       candidates = λ n none. passed_by (b.base + n == b.base + at) w at n b i idle refl (sym (takes (b.base + n)) ∙ none);
       write_sets = i.write_sets;
@@ -348,24 +400,6 @@ put_sets_by false xs r mark b t n i h is puts = as_was (i == mark) (get_or xs n 
 put_sets : (xs : List MarkSet) (r mark : ℕ) (b : Bool) (t : MarkSet) → ((k : ℕ) → has t k ≡ (if k == mark then b || has (get_or xs r no_mark) mark else has (get_or xs r no_mark) k))
     → (n : ℕ) → n < length xs → (i : ℕ) → has (get_or (slice_set xs r t) n no_mark) i ≡ (if i == mark then ((r == n) && b) || has (get_or xs n no_mark) mark else has (get_or xs n no_mark) i)
 put_sets xs r mark b t puts n h i = ap (λ (s : MarkSet). has s i) (get_set xs r n t h) ∙ put_sets_by (r == n) xs r mark b t n i h refl puts
-
-remove_sets_by : (c : Bool) (xs : List MarkSet) (r mark : ℕ) (t : MarkSet) (n i : ℕ) → n < length xs → (r == n) ≡ c
-    → ((k : ℕ) → has t k ≡ (if k == mark then false else has (get_or xs r no_mark) k))
-    → has (if c then t else get_or xs n no_mark) i ≡ (if i == mark then (if c then false else has (get_or xs n no_mark) mark) else has (get_or xs n no_mark) i)
-remove_sets_by true xs r mark t n i h is removes =
-    let same : r ≡ n = grind (arith, nat_tests) in
-    removes i ∙ ap (λ (m : ℕ). if i == mark then false else has (get_or xs m no_mark) i) same
-remove_sets_by false xs r mark t n i h is removes = as_was (i == mark) (get_or xs n no_mark) mark i refl
-
-remove_sets : (xs : List MarkSet) (r mark : ℕ) (t : MarkSet) → ((k : ℕ) → has t k ≡ (if k == mark then false else has (get_or xs r no_mark) k))
-    → (n : ℕ) → n < length xs → (i : ℕ) → has (get_or (slice_set xs r t) n no_mark) i ≡ (if i == mark then (if r == n then false else has (get_or xs n no_mark) mark) else has (get_or xs n no_mark) i)
-remove_sets xs r mark t removes n h i = ap (λ (s : MarkSet). has s i) (get_set xs r n t h) ∙ remove_sets_by (r == n) xs r mark t n i h refl removes
-
-dropped_by : (k : Bool) (p : Entry → Bool) (w : List Entry) (e : Entry) (base : ℕ) (s t : MarkSet) → AreThose p (w ++ e ∷ []) base s
-    → ((i : ℕ) → has t i ≡ (if i == base + length w then (if k then false else has s (base + length w)) else has s i)) → (k ≡ false → p e ≡ false) → AreThose p w base t
-dropped_by true p w e base s t those removes other = those_drop p w e base s t those removes
-dropped_by false p w e base s t those removes other = λ i.
-    removes (base + i) ∙ sym (as_was (base + i == base + length w) s (base + length w) (base + i) refl) ∙ those_dropped p w e base s those (other refl) i
 
 -- a register that is not x0
 zero_same : (c : Bool) (r n : ℕ) → (r == n) ≡ c → ((r == n) && not (r == 0)) ≡ ((r == n) && not (n == 0))
@@ -425,44 +459,6 @@ readers_push w e base xs r1 r2 b1 b2 t1 t2 is1 is2 some1 some2 long those puts1 
     ∙ ap (λ (c : Bool). if i == mark then ((r2 == n) && b2) || (if mark == mark then ((r1 == n) && b1) || has s mark else has s mark) else c) (first i)
     ∙ joint (i == mark) ((r2 == n) && b2) ((r1 == n) && b1) i mark s refl)
 
-pub writers_drop : (w : List Entry) (e : Entry) (base : ℕ) (xs : List MarkSet) (r : ℕ) (t : MarkSet) → r ≡ e.profile.rd → length xs ≡ 32
-    → ((n : ℕ) → n < 32 → AreThose (writes n) (w ++ e ∷ []) base (get_or xs n no_mark))
-    → ((k : ℕ) → has t k ≡ (if k == base + length w then false else has (get_or xs r no_mark) k))
-    → (n : ℕ) → n < 32 → AreThose (writes n) w base (get_or (slice_set xs r t) n no_mark)
-writers_drop w e base xs r t is long those removes n h =
-    dropped_by (r == n) (writes n) w e base (get_or xs n no_mark) (get_or (slice_set xs r t) n no_mark) (those n h) (remove_sets xs r (base + length w) t removes n (omega arith))
-    (λ other. ap (λ (m : ℕ). (m == n) && not (n == 0)) (sym is) ∙ rw other refl)
-
-neither : (c a b : Bool) (i mark : ℕ) (s : MarkSet) → (i == mark) ≡ c
-    → (if c then (if a then false else (if mark == mark then (if b then false else has s mark) else has s mark)) else (if i == mark then (if b then false else has s mark) else has s i)) ≡ (if c then (if b || a then false else has s mark) else has s i)
-neither true true true i mark s is = refl
-neither true true false i mark s is = refl
-neither true false true i mark s is = let same : (mark == mark) ≡ true = grind (arith, nat_tests) in rw same refl
-neither true false false i mark s is = let same : (mark == mark) ≡ true = grind (arith, nat_tests) in rw same refl
-neither false a b i mark s is = rw is refl
-
-pub readers_drop : (w : List Entry) (e : Entry) (base : ℕ) (xs : List MarkSet) (r1 r2 : ℕ) (t1 t2 : MarkSet) → r1 ≡ e.profile.rs1 → r2 ≡ e.profile.rs2 → length xs ≡ 32
-    → ((n : ℕ) → n < 32 → AreThose (reads n) (w ++ e ∷ []) base (get_or xs n no_mark))
-    → ((k : ℕ) → has t1 k ≡ (if k == base + length w then false else has (get_or xs r1 no_mark) k))
-    → ((k : ℕ) → has t2 k ≡ (if k == base + length w then false else has (get_or (slice_set xs r1 t1) r2 no_mark) k))
-    → (n : ℕ) → n < 32 → AreThose (reads n) w base (get_or (slice_set (slice_set xs r1 t1) r2 t2) n no_mark)
-readers_drop w e base xs r1 r2 t1 t2 is1 is2 long those removes1 removes2 n h =
-    let mark = base + length w in
-    let s = get_or xs n no_mark in
-    let longer = set_length xs r1 t1 in
-    let first = remove_sets xs r1 mark t1 removes1 n (omega arith) in
-    let second = remove_sets (slice_set xs r1 t1) r2 mark t2 removes2 n (omega arith) in
-    dropped_by ((r1 == n) || (r2 == n)) (reads n) w e base s (get_or (slice_set (slice_set xs r1 t1) r2 t2) n no_mark) (those n h)
-    (λ i.
-    second i
-    ∙ ap (λ (c : Bool). if i == mark then (if r2 == n then false else c) else has (get_or (slice_set xs r1 t1) n no_mark) i) (first mark)
-    ∙ ap (λ (c : Bool). if i == mark then (if r2 == n then false else (if mark == mark then (if r1 == n then false else has s mark) else has s mark)) else c) (first i)
-    ∙ neither (i == mark) (r2 == n) (r1 == n) i mark s refl)
-    (λ other.
-    ap (λ (m : ℕ). ((m == n) || (e.profile.rs2 == n)) && not (n == 0)) (sym is1)
-    ∙ ap (λ (m : ℕ). ((r1 == n) || (m == n)) && not (n == 0)) (sym is2)
-    ∙ rw other refl)
-
 -- ---- an entry more, and an entry less
 
 pushed_by : (c : Bool) (w : List Entry) (e : Entry) (n : ℕ) (b : Board) → IsBoard w b → (b.base + n == b.base + length w) ≡ c → (if c then true else has b.candidates (b.base + n)) ≡ false → could_at [] (w ++ e ∷ []) n ≡ false
@@ -471,329 +467,104 @@ pushed_by false w e n b i is none =
     let other : n ≡ length w → ⊥ = λ at. absurd (grind (arith, nat_tests)) in
     could_pushed [] w e n other ∙ i.candidates n none
 
-pub board_pushed : (w : List Entry) (e : Entry) (b c : Board) → IsBoard w b
-    → (bw br bd bs bl : Bool) → bw ≡ is_waiting e.stage → br ≡ is_running e.stage → bd ≡ is_done e.stage → bs ≡ is_open_store e → bl ≡ is_load e
-    → ((i : ℕ) → has c.waiting i ≡ (if i == b.base + length w then bw || has b.waiting (b.base + length w) else has b.waiting i))
-    → ((i : ℕ) → has c.running i ≡ (if i == b.base + length w then br || has b.running (b.base + length w) else has b.running i))
-    → ((i : ℕ) → has c.done i ≡ (if i == b.base + length w then bd || has b.done (b.base + length w) else has b.done i))
+open_by_stage : (s : Stage) (c : Class) → is_waiting s ≡ true → is_storing c ≡ (not (is_done s) && is_storing c)
+open_by_stage Waiting c waits = refl
+open_by_stage (Running left) c waits = absurd (cc)
+open_by_stage Done c waits = absurd (cc)
+
+-- a store that waits is not done
+pub open_waiting : (e : Entry) (p : Profile) → p ≡ e.profile → is_waiting e.stage ≡ true → is_storing p.class ≡ is_open_store e
+open_waiting e p is waits = ap (λ (q : Profile). is_storing q.class) is ∙ open_by_stage e.stage e.profile.class waits
+
+pub board_pushed : (w : List Entry) (e : Entry) (b c : Board) → IsBoard w b → is_waiting e.stage ≡ true → is_store e.effect ≡ false
+    → (bs bl : Bool) → bs ≡ is_open_store e → bl ≡ is_load e
+    → ((i : ℕ) → has c.waiting i ≡ (if i == b.base + length w then true else has b.waiting i))
     → ((i : ℕ) → has c.storing i ≡ (if i == b.base + length w then bs || has b.storing (b.base + length w) else has b.storing i))
     → ((i : ℕ) → has c.loads i ≡ (if i == b.base + length w then bl || has b.loads (b.base + length w) else has b.loads i))
     → ((i : ℕ) → has c.candidates i ≡ (if i == b.base + length w then true else has b.candidates i))
     → length c.writers ≡ 32 → length c.readers ≡ 32
     → ((n : ℕ) → n < 32 → AreThose (writes n) (w ++ e ∷ []) b.base (get_or c.writers n no_mark))
     → ((n : ℕ) → n < 32 → AreThose (reads n) (w ++ e ∷ []) b.base (get_or c.readers n no_mark))
-    → IsBoard (w ++ e ∷ []) (record c { base = b.base })
-board_pushed w e b c i bw br bd bs bl isw isr isd iss isl putw putr putd puts putl putc ws rs writers readers =
+    → IsBoard (w ++ e ∷ []) (record c { base = b.base; running = b.running; done = b.done; stored = b.stored })
+board_pushed w e b c i waits none bs bl iss isl putw puts putl putc ws rs writers readers =
+    let idle = waits_only e.stage waits in
+    let mark = b.base + length w in
     record {
       base = i.base;
-      waiting = those_push (λ x. is_waiting x.stage) w e b.base b.waiting c.waiting bw i.waiting isw putw;
-      running = those_push (λ x. is_running x.stage) w e b.base b.running c.running br i.running isr putr;
-      done = those_push (λ x. is_done x.stage) w e b.base b.done c.done bd i.done isd putd;
-      gone = λ n h. putd n ∙ ap (λ (k : Bool). if k then bd || has b.done (b.base + length w) else has b.done n) (apart_mark b.base (length w) n h) ∙ i.gone n h;
+      waiting = those_push (λ x. is_waiting x.stage) w e b.base b.waiting c.waiting true i.waiting (sym waits) putw;
+      running = those_push (λ x. is_running x.stage) w e b.base b.running b.running false i.running (sym idle.0) (λ k. as_was (k == mark) b.running mark k refl);
+      done = those_push (λ x. is_done x.stage) w e b.base b.done b.done false i.done (sym idle.1) (λ k. as_was (k == mark) b.done mark k refl);
+      gone = i.gone;
       storing = those_push is_open_store w e b.base b.storing c.storing bs i.storing iss puts;
+      stored = those_push (λ x. is_store x.effect) w e b.base b.stored b.stored false i.stored (sym none) (λ k. as_was (k == mark) b.stored mark k refl);
       loads = those_push is_load w e b.base b.loads c.loads bl i.loads isl putl;
-      candidates = λ n none. pushed_by (b.base + n == b.base + length w) w e n b i refl (sym (putc (b.base + n)) ∙ none);
+      candidates = λ n no. pushed_by (b.base + n == b.base + length w) w e n b i refl (sym (putc (b.base + n)) ∙ no);
       write_sets = ws;
       read_sets = rs;
       writers = writers;
       readers = readers;
     }
 
-pub board_dropped : (w : List Entry) (e : Entry) (b c : Board) → IsBoard (w ++ e ∷ []) b
-    → ((i : ℕ) → has c.waiting i ≡ (if i == b.base + length w then false else has b.waiting i))
-    → ((i : ℕ) → has c.running i ≡ (if i == b.base + length w then false else has b.running i))
-    → ((i : ℕ) → has c.done i ≡ (if i == b.base + length w then false else has b.done i))
-    → ((i : ℕ) → has c.storing i ≡ (if i == b.base + length w then false else has b.storing i))
-    → ((i : ℕ) → has c.loads i ≡ (if i == b.base + length w then false else has b.loads i))
+within_end : (base most n : ℕ) → n < base → nat_lt n (base + most) ≡ true
+within_end base most n h = grind (arith, nat_tests)
+
+pub board_kept : (w : List Entry) (b c : Board) (most : ℕ) → IsBoard w b
+    → ((i : ℕ) → has c.waiting i ≡ (if nat_lt i (b.base + most) then has b.waiting i else false))
+    → ((i : ℕ) → has c.running i ≡ (if nat_lt i (b.base + most) then has b.running i else false))
+    → ((i : ℕ) → has c.done i ≡ (if nat_lt i (b.base + most) then has b.done i else false))
+    → ((i : ℕ) → has c.storing i ≡ (if nat_lt i (b.base + most) then has b.storing i else false))
+    → ((i : ℕ) → has c.stored i ≡ (if nat_lt i (b.base + most) then has b.stored i else false))
+    → ((i : ℕ) → has c.loads i ≡ (if nat_lt i (b.base + most) then has b.loads i else false))
     → length c.writers ≡ 32 → length c.readers ≡ 32
-    → ((n : ℕ) → n < 32 → AreThose (writes n) w b.base (get_or c.writers n no_mark))
-    → ((n : ℕ) → n < 32 → AreThose (reads n) w b.base (get_or c.readers n no_mark))
-    → IsBoard w (record c { base = b.base; candidates = b.candidates })
-board_dropped w e b c i takew taker taked takes takel ws rs writers readers =
+    → ((n : ℕ) → n < 32 → (i : ℕ) → has (get_or c.writers n no_mark) i ≡ (if nat_lt i (b.base + most) then has (get_or b.writers n no_mark) i else false))
+    → ((n : ℕ) → n < 32 → (i : ℕ) → has (get_or c.readers n no_mark) i ≡ (if nat_lt i (b.base + most) then has (get_or b.readers n no_mark) i else false))
+    → IsBoard (take most w) (record c { base = b.base; candidates = b.candidates })
+board_kept w b c most i keepw keepr keepd keeps keepe keepl ws rs writers readers =
     record {
       base = i.base;
-      waiting = those_drop (λ x. is_waiting x.stage) w e b.base b.waiting c.waiting i.waiting takew;
-      running = those_drop (λ x. is_running x.stage) w e b.base b.running c.running i.running taker;
-      done = those_drop (λ x. is_done x.stage) w e b.base b.done c.done i.done taked;
-      gone = λ n h. taked n ∙ ap (λ (k : Bool). if k then false else has b.done n) (apart_mark b.base (length w) n h) ∙ i.gone n h;
-      storing = those_drop is_open_store w e b.base b.storing c.storing i.storing takes;
-      loads = those_drop is_load w e b.base b.loads c.loads i.loads takel;
-      candidates = λ n none. could_dropped [] w e n (i.candidates n none);
+      waiting = those_kept (λ x. is_waiting x.stage) w b.base most b.waiting c.waiting i.waiting keepw;
+      running = those_kept (λ x. is_running x.stage) w b.base most b.running c.running i.running keepr;
+      done = those_kept (λ x. is_done x.stage) w b.base most b.done c.done i.done keepd;
+      gone = λ n h. keepd n ∙ ap (λ (k : Bool). if k then has b.done n else false) (within_end b.base most n h) ∙ i.gone n h;
+      storing = those_kept is_open_store w b.base most b.storing c.storing i.storing keeps;
+      stored = those_kept (λ x. is_store x.effect) w b.base most b.stored c.stored i.stored keepe;
+      loads = those_kept is_load w b.base most b.loads c.loads i.loads keepl;
+      candidates = λ n none. could_taken [] w most n (i.candidates n none);
       write_sets = ws;
       read_sets = rs;
-      writers = writers;
-      readers = readers;
+      writers = λ n h. those_kept (writes n) w b.base most (get_or b.writers n no_mark) (get_or c.writers n no_mark) (i.writers n h) (writers n h);
+      readers = λ n h. those_kept (reads n) w b.base most (get_or b.readers n no_mark) (get_or c.readers n no_mark) (i.readers n h) (readers n h);
     }
 
--- ---- what the board is asked
+-- ---- the marks are lower by 32
 
-pub next_of : (p : Entry → Bool) (w : List Entry) (base : ℕ) (s : MarkSet) (from m : ℕ) → AreThose p w base s → IsNext s (base + from) m → IsNextOf p w from (m - base)
-next_of p w base s from m those next =
-    let behind = next.behind in
-    let at : base + (m - base) ≡ m = omega arith in
+pub board_lowered : (w : List Entry) (b c : Board) → b.base ≡ 32 → IsBoard w b
+    → ((i : ℕ) → has c.waiting i ≡ has b.waiting (32 + i))
+    → ((i : ℕ) → has c.running i ≡ has b.running (32 + i))
+    → ((i : ℕ) → has c.done i ≡ has b.done (32 + i))
+    → ((i : ℕ) → has c.storing i ≡ has b.storing (32 + i))
+    → ((i : ℕ) → has c.stored i ≡ has b.stored (32 + i))
+    → ((i : ℕ) → has c.loads i ≡ has b.loads (32 + i))
+    → ((i : ℕ) → has c.candidates i ≡ has b.candidates (32 + i))
+    → length c.writers ≡ 32 → length c.readers ≡ 32
+    → ((n : ℕ) → n < 32 → (i : ℕ) → has (get_or c.writers n no_mark) i ≡ has (get_or b.writers n no_mark) (32 + i))
+    → ((n : ℕ) → n < 32 → (i : ℕ) → has (get_or c.readers n no_mark) i ≡ has (get_or b.readers n no_mark) (32 + i))
+    → IsBoard w (record c { base = 0 })
+board_lowered w b c is i lowerw lowerr lowerd lowers lowere lowerl lowerc ws rs writers readers =
     record {
-      behind = omega arith;
-      there = sym (those (m - base)) ∙ ap (has s) at ∙ next.there;
-      first = λ i h k. sym (those i) ∙ next.first (base + i) (omega arith) (omega arith);
-    }
-
-pub none_of : (p : Entry → Bool) (w : List Entry) (base : ℕ) (s : MarkSet) (from i : ℕ) → AreThose p w base s → ((k : ℕ) → base + from ≤ k → has s k ≡ false) → from ≤ i → holds_at p w i ≡ false
-none_of p w base s from i those none h = sym (those i) ∙ none (base + i) (omega arith)
-
--- ---- a register
-
-not_zero : (a b : Bool) → (a && not b) ≡ true → (a ≡ true) × (b ≡ false)
-not_zero true true h = absurd (cc)
-not_zero true false h = (refl, refl)
-not_zero false b h = absurd (cc)
-
-unwritten_by : (c : Bool) (n : ℕ) (e : Entry) → (e.profile.rd == n) ≡ c → (n == 0) ≡ false → writes n e ≡ false → (e.profile.rd == n) ≡ false
-unwritten_by true n e is some none =
-    let both : (true && not false) ≡ false = ap (λ (k : Bool). k && not false) (sym is) ∙ ap (λ (k : Bool). (e.profile.rd == n) && not k) (sym some) ∙ none in
-    absurd (cc)
-unwritten_by false n e is some none = is
-
-awaited_none : (so : Bool) (w : List Entry) (n : ℕ) → (n == 0) ≡ false → ((i : ℕ) → holds_at (writes n) w i ≡ false) → is_awaited so w n ≡ so
-awaited_none so [] n some none = refl
-awaited_none so (e ∷ w) n some none =
-    let other = unwritten_by (e.profile.rd == n) n e refl some (none 0) in
-    rw other (awaited_none so w n some (λ i. none (suc i)))
-
-awaited_last : (so : Bool) (w : List Entry) (n j : ℕ) → (n == 0) ≡ false → holds_at (writes n) w j ≡ true → ((i : ℕ) → j < i → holds_at (writes n) w i ≡ false) → is_awaited so w n ≡ not (holds_at (λ e. is_done e.stage) w j)
-awaited_last so [] n j some there last = absurd (cc)
-awaited_last so (e ∷ w) n zero some there last =
-    let here = not_zero (e.profile.rd == n) (n == 0) there in
-    ap (λ (c : Bool). is_awaited (if c then not (is_done e.stage) else so) w n) here.0 ∙ awaited_none (not (is_done e.stage)) w n some (λ i. last (suc i) (omega arith))
-awaited_last so (e ∷ w) n (suc j) some there last = awaited_last (if e.profile.rd == n then not (is_done e.stage) else so) w n j some there (λ i h. last (suc i) (omega arith))
-
-available_by : (c : Bool) (w : List Entry) (n : ℕ) → (n == 0) ≡ c → ((i : ℕ) → holds_at (writes n) w i ≡ false) → (c || not (is_awaited false w n)) ≡ true
-available_by true w n is none = refl
-available_by false w n is none = rw (awaited_none false w n is none) refl
-
-available_none : (w : List Entry) (n : ℕ) → ((i : ℕ) → holds_at (writes n) w i ≡ false) → is_available w n ≡ true
-available_none w n none = available_by (n == 0) w n refl none
-
-writes_some : (w : List Entry) (n j : ℕ) → holds_at (writes n) w j ≡ true → (n == 0) ≡ false
-writes_some [] n j there = absurd (cc)
-writes_some (e ∷ w) n zero there = (not_zero (e.profile.rd == n) (n == 0) there).1
-writes_some (e ∷ w) n (suc j) there = writes_some w n j there
-
-twice : (b : Bool) → not (not b) ≡ b
-twice true = refl
-twice false = refl
-
-available_last : (w : List Entry) (n j : ℕ) → holds_at (writes n) w j ≡ true → ((i : ℕ) → j < i → holds_at (writes n) w i ≡ false) → is_available w n ≡ holds_at (λ e. is_done e.stage) w j
-available_last w n j there last =
-    let some = writes_some w n j there in
-    rw (some, awaited_last false w n j some there last) (twice (holds_at (λ e. is_done e.stage) w j))
-
--- the entries before a place
-before_by : (c : Bool) (p : Entry → Bool) (w : List Entry) (at i : ℕ) → nat_lt i at ≡ c → (i < at → holds_at p w i ≡ false) → holds_at p (take at w) i ≡ false
-before_by true p w at i is none = let h : i < at = grind (arith, nat_tests) in holds_take p w at i h ∙ none h
-before_by false p w at i is none =
-    let h : at ≤ i = grind (arith, nat_tests) in
-    holds_end p (take at w) i (grind (arith, common_steps))
-
-pub before_none : (p : Entry → Bool) (w : List Entry) (at i : ℕ) → (i < at → holds_at p w i ≡ false) → holds_at p (take at w) i ≡ false
-before_none p w at i none = before_by (nat_lt i at) p w at i refl none
-
-pub available_free : (w : List Entry) (b : Board) (at n : ℕ) → IsBoard w b → n < 32 → ((i : ℕ) → i < b.base + at → has (get_or b.writers n no_mark) i ≡ false) → true ≡ is_available (take at w) n
-available_free w b at n board h none =
-    sym (available_none (take at w) n (λ i. before_none (writes n) w at i (λ lt. sym (board.writers n h i) ∙ none (b.base + i) (omega arith))))
-
-available_at_by : (c : Bool) (w : List Entry) (b : Board) (at n m : ℕ) → IsBoard w b → n < 32 → IsLast (get_or b.writers n no_mark) (b.base + at) m → nat_lt m b.base ≡ c → has b.done m ≡ is_available (take at w) n
-available_at_by true w b at n m board h last is =
-    let old : m < b.base = grind (arith, nat_tests) in
-    board.gone m old ∙ sym (available_none (take at w) n (λ i. before_none (writes n) w at i (λ lt. sym (board.writers n h i) ∙ last.last (b.base + i) (omega arith) (omega arith))))
-available_at_by false w b at n m board h last is =
-    let new : b.base ≤ m = grind (arith, nat_tests) in
-    let here : b.base + (m - b.base) ≡ m = omega arith in
-    let lt = last.before in
-    let place : m - b.base < at = omega arith in
-    let there : holds_at (writes n) w (m - b.base) ≡ true = sym (board.writers n h (m - b.base)) ∙ ap (has (get_or b.writers n no_mark)) here ∙ last.there in
-    ap (has b.done) (sym here)
-    ∙ board.done (m - b.base)
-    ∙ sym (holds_take (λ e. is_done e.stage) w at (m - b.base) place)
-    ∙ sym (available_last (take at w) n (m - b.base) (holds_take (writes n) w at (m - b.base) place ∙ there)
-    (λ i k. before_none (writes n) w at i (λ l. sym (board.writers n h i) ∙ last.last (b.base + i) (omega arith) (omega arith))))
-
-pub available_at : (w : List Entry) (b : Board) (at n m : ℕ) → IsBoard w b → n < 32 → IsLast (get_or b.writers n no_mark) (b.base + at) m → has b.done m ≡ is_available (take at w) n
-available_at w b at n m board h last = available_at_by (nat_lt m b.base) w b at n m board h last refl
-
--- ---- the older stores
-
-open_by : (d s : Bool) → (not d && s) ≡ false → (d || not s) ≡ true
-open_by true s h = refl
-open_by false true h = absurd (cc)
-open_by false false h = refl
-
-open_not : (d s : Bool) → (not d && s) ≡ true → (d || not s) ≡ false
-open_not true s h = absurd (cc)
-open_not false true h = refl
-open_not false false h = absurd (cc)
-
-open_store : (e : Entry) → is_open_store e ≡ false → (is_done e.stage || not (is_storing e.profile.class)) ≡ true
-open_store e none = open_by (is_done e.stage) (is_storing e.profile.class) none
-
-stored_none : (w : List Entry) → ((i : ℕ) → holds_at is_open_store w i ≡ false) → are_stored w ≡ true
-stored_none [] none = refl
-stored_none (e ∷ w) none = rw (open_store e (none 0)) (stored_none w (λ i. none (suc i)))
-
-stored_some : (w : List Entry) (j : ℕ) → holds_at is_open_store w j ≡ true → are_stored w ≡ false
-stored_some [] j there = absurd (cc)
-stored_some (e ∷ w) zero there = rw (open_not (is_done e.stage) (is_storing e.profile.class) there) refl
-stored_some (e ∷ w) (suc j) there = rw (stored_some w j there) (and_off (is_done e.stage || not (is_storing e.profile.class)))
-
-pub stored_free : (w : List Entry) (b : Board) (at : ℕ) → IsBoard w b → ((i : ℕ) → b.base ≤ i → has b.storing i ≡ false) → true ≡ are_stored (take at w)
-stored_free w b at board none = sym (stored_none (take at w) (λ i. before_none is_open_store w at i (λ lt. sym (board.storing i) ∙ none (b.base + i) (omega arith))))
-
-stored_at_by : (c : Bool) (w : List Entry) (b : Board) (at m : ℕ) → IsBoard w b → IsNext b.storing b.base m → nat_le (b.base + at) m ≡ c → c ≡ are_stored (take at w)
-stored_at_by true w b at m board next is =
-    let far : b.base + at ≤ m = grind (arith, nat_tests) in
-    sym (stored_none (take at w) (λ i. before_none is_open_store w at i (λ lt. sym (board.storing i) ∙ next.first (b.base + i) (omega arith) (omega arith))))
-stored_at_by false w b at m board next is =
-    let near : m < b.base + at = grind (arith, nat_tests) in
-    let behind = next.behind in
-    let here : b.base + (m - b.base) ≡ m = omega arith in
-    let place : m - b.base < at = omega arith in
-    sym (stored_some (take at w) (m - b.base) (holds_take is_open_store w at (m - b.base) place ∙ sym (board.storing (m - b.base)) ∙ ap (has b.storing) here ∙ next.there))
-
-pub stored_at : (w : List Entry) (b : Board) (at m : ℕ) → IsBoard w b → IsNext b.storing b.base m → nat_le (b.base + at) m ≡ are_stored (take at w)
-stored_at w b at m board next = stored_at_by (nat_le (b.base + at) m) w b at m board next refl
-
--- ---- the last result
-
-holds_both : (p q : Entry → Bool) (w : List Entry) (i : ℕ) → (holds_at p w i && holds_at q w i) ≡ holds_at (λ e. p e && q e) w i
-holds_both p q [] i = refl
-holds_both p q (e ∷ w) zero = refl
-holds_both p q (e ∷ w) (suc i) = holds_both p q w i
-
-pub results_those : (w : List Entry) (b : Board) (s : MarkSet) (n : ℕ) → IsBoard w b → n < 32 → ((k : ℕ) → has s k ≡ (has (get_or b.writers n no_mark) k && has b.done k)) → AreThose (has_result n) w b.base s
-results_those w b s n board h both = λ i.
-    both (b.base + i)
-    ∙ ap (λ (c : Bool). c && has b.done (b.base + i)) (board.writers n h i)
-    ∙ ap (λ (c : Bool). holds_at (writes n) w i && c) (board.done i)
-    ∙ holds_both (writes n) (λ e. is_done e.stage) w i
-
-pub last_of : (p : Entry → Bool) (w : List Entry) (base : ℕ) (s : MarkSet) (at m : ℕ) → AreThose p w base s → base ≤ m → IsLast s (base + at) m → IsLastOf p w at (m - base)
-last_of p w base s at m those h last =
-    let here : base + (m - base) ≡ m = omega arith in
-    let before = last.before in
-    record {
-      before = omega arith;
-      there = sym (those (m - base)) ∙ ap (has s) here ∙ last.there;
-      last = λ i k l. sym (those i) ∙ last.last (base + i) (omega arith) (omega arith);
-    }
-
-pub last_none_of : (p : Entry → Bool) (w : List Entry) (base : ℕ) (s : MarkSet) (at i : ℕ) → AreThose p w base s → ((k : ℕ) → k < base + at → has s k ≡ false) → i < at → holds_at p w i ≡ false
-last_none_of p w base s at i those none h = sym (those i) ∙ none (base + i) (omega arith)
-
-pub last_old_of : (p : Entry → Bool) (w : List Entry) (base : ℕ) (s : MarkSet) (at m i : ℕ) → AreThose p w base s → m < base → IsLast s (base + at) m → i < at → holds_at p w i ≡ false
-last_old_of p w base s at m i those old last h = sym (those i) ∙ last.last (base + i) (omega arith) (omega arith)
-
--- ---- those that may begin
-
-not_le : (c : Bool) (m n : ℕ) → nat_le m n ≡ c → not c ≡ false → m ≤ n
-not_le true m n is h = grind (arith, nat_tests)
-not_le false m n is h = absurd (cc)
-
-stalled_by : (a b : Bool) → (a && (b && false)) ≡ false
-stalled_by true true = refl
-stalled_by true false = refl
-stalled_by false b = refl
-
-stalled : (e : Entry) (older : List Entry) (c : Class) → e.profile.class ≡ c → is_loading c ≡ true → are_stored older ≡ false → can_begin older e ≡ false
-unfolding is_ready
-stalled e older Plain is load open' = absurd (cc)
-stalled e older Loads is load open' = rw (is, open') (stalled_by (is_waiting e.stage) (is_available older e.profile.rs1 && is_available older e.profile.rs2))
-stalled e older Stores is load open' = absurd (cc)
-stalled e older Calls is load open' = absurd (cc)
-
-abbrev could : List Entry → Entry → Bool
-could older e = is_waiting e.stage && (is_available older e.profile.rs1 && is_available older e.profile.rs2)
-
-never_waits : (a b d : Bool) → (a && b) ≡ false → (a && (b && d)) ≡ false
-never_waits true true d h = absurd (cc)
-never_waits true false d h = refl
-never_waits false b d h = refl
-
-could_can : (older : List Entry) (e : Entry) → could older e ≡ false → can_begin older e ≡ false
-unfolding is_ready
-could_can older e none = never_waits (is_waiting e.stage) (is_available older e.profile.rs1 && is_available older e.profile.rs2) (is_free e.profile.class older) none
-
-could_can_at : (older w : List Entry) (i : ℕ) → could_at older w i ≡ false → can_at older w i ≡ false
-could_can_at older [] i none = refl
-could_can_at older (e ∷ w) zero none = could_can older e none
-could_can_at older (e ∷ w) (suc i) none = could_can_at (older ++ e ∷ []) w i none
-
-and_right : (a b : Bool) → (a && b) ≡ true → b ≡ true
-and_right true b h = h
-and_right false b h = absurd (cc)
-
-and_left : (a b : Bool) → (a && b) ≡ true → a ≡ true
-and_left true b h = refl
-and_left false b h = absurd (cc)
-
-not_candidate : (a : Bool) (w : List Entry) (b : Board) (i : ℕ) → IsBoard w b → has b.candidates (b.base + i) ≡ a → (a && has b.waiting (b.base + i)) ≡ false → could_at [] w i ≡ false
-not_candidate true w b i board is none = could_waits [] w i (sym (board.waiting i) ∙ none)
-not_candidate false w b i board is none = board.candidates i is
-
-load_stalls : (older w : List Entry) (i : ℕ) → holds_at is_load w i ≡ true → are_stored (older ++ take i w) ≡ false → can_at older w i ≡ false
-load_stalls older [] i load open' = refl
-load_stalls older (e ∷ w) zero load open' = stalled e older e.profile.class refl load (ap are_stored (sym (append-nil older)) ∙ open')
-load_stalls older (e ∷ w) (suc i) load open' = load_stalls (older ++ e ∷ []) w i load (ap are_stored (append_assoc older (e ∷ []) (take i w)) ∙ open')
-
--- a load and a store are not the same
-apart_by : (c : Class) → is_loading c ≡ true → is_storing c ≡ false
-apart_by Plain h = refl
-apart_by Loads h = refl
-apart_by Stores h = absurd (cc)
-apart_by Calls h = refl
-
-load_open : (w : List Entry) (i : ℕ) → holds_at is_load w i ≡ true → holds_at is_open_store w i ≡ true → ⊥
-load_open [] i load open' = absurd (cc)
-load_open (e ∷ w) zero load open' = let none = apart_by e.profile.class load in let some = and_right (not (is_done e.stage)) (is_storing e.profile.class) open' in absurd (cc)
-load_open (e ∷ w) (suc i) load open' = load_open w i load open'
-
-waits_behind : (w : List Entry) (b : Board) (m i : ℕ) → IsBoard w b → IsNext b.storing b.base m → has b.loads (b.base + i) ≡ true → m ≤ b.base + i → can_at [] w i ≡ false
-waits_behind w b m i board next load h =
-    let behind = next.behind in
-    let here : b.base + (m - b.base) ≡ m = omega arith in
-    let is_load' : holds_at is_load w i ≡ true = sym (board.loads i) ∙ load in
-    let open' : holds_at is_open_store w (m - b.base) ≡ true = sym (board.storing (m - b.base)) ∙ ap (has b.storing) here ∙ next.there in
-    let other : i ≡ m - b.base → ⊥ = λ is. load_open w i is_load' (ap (holds_at is_open_store w) is ∙ open') in
-    let before : m - b.base < i = omega (arith, other) in
-    load_stalls [] w i is_load' (stored_some (take i w) (m - b.base) (holds_take is_open_store w i (m - b.base) before ∙ open'))
-
-pub eligible_all : (w : List Entry) (b : Board) (s : MarkSet) (i : ℕ) → IsBoard w b → ((k : ℕ) → has s k ≡ (has b.candidates k && has b.waiting k)) → has s (b.base + i) ≡ false → can_at [] w i ≡ false
-eligible_all w b s i board both none = could_can_at [] w i (not_candidate (has b.candidates (b.base + i)) w b i board refl (sym (both (b.base + i)) ∙ none))
-
-pub eligible_waits : (w : List Entry) (b : Board) (s : MarkSet) (i : ℕ) → IsBoard w b → ((k : ℕ) → has s k ≡ (has b.candidates k && has b.waiting k)) → has s (b.base + i) ≡ true → holds_at (λ e. is_waiting e.stage) w i ≡ true
-eligible_waits w b s i board both there = sym (board.waiting i) ∙ and_right (has b.candidates (b.base + i)) (has b.waiting (b.base + i)) (sym (both (b.base + i)) ∙ there)
-
-except_by : (a l : Bool) (w : List Entry) (b : Board) (s : MarkSet) (m i : ℕ) → IsBoard w b → ((k : ℕ) → has s k ≡ (has b.candidates k && has b.waiting k)) → IsNext b.storing b.base m
-    → has s (b.base + i) ≡ a → has b.loads (b.base + i) ≡ l → (a && not (l && nat_le m (b.base + i))) ≡ false → can_at [] w i ≡ false
-except_by false l w b s m i board both next is load none = eligible_all w b s i board both is
-except_by true false w b s m i board both next is load none = absurd (cc)
-except_by true true w b s m i board both next is load none =
-    let h : m ≤ b.base + i = not_le (nat_le m (b.base + i)) m (b.base + i) refl none in
-    waits_behind w b m i board next load h
-
-pub eligible_but : (w : List Entry) (b : Board) (s t : MarkSet) (m i : ℕ) → IsBoard w b → ((k : ℕ) → has s k ≡ (has b.candidates k && has b.waiting k)) → IsNext b.storing b.base m
-    → ((k : ℕ) → has t k ≡ (has s k && not (has b.loads k && nat_le m k))) → has t (b.base + i) ≡ false → can_at [] w i ≡ false
-eligible_but w b s t m i board both next but none = except_by (has s (b.base + i)) (has b.loads (b.base + i)) w b s m i board both next refl refl (sym (but (b.base + i)) ∙ none)
-
-pub eligible_but_waits : (w : List Entry) (b : Board) (s t : MarkSet) (m i : ℕ) → IsBoard w b → ((k : ℕ) → has s k ≡ (has b.candidates k && has b.waiting k))
-    → ((k : ℕ) → has t k ≡ (has s k && not (has b.loads k && nat_le m k))) → has t (b.base + i) ≡ true → holds_at (λ e. is_waiting e.stage) w i ≡ true
-eligible_but_waits w b s t m i board both but there = eligible_waits w b s i board both (and_left (has s (b.base + i)) (not (has b.loads (b.base + i) && nat_le m (b.base + i))) (sym (but (b.base + i)) ∙ there))
-
-pub candidate_of : (w : List Entry) (b : Board) (s : MarkSet) (from m : ℕ) → ((i : ℕ) → has s (b.base + i) ≡ true → holds_at (λ e. is_waiting e.stage) w i ≡ true) → ((i : ℕ) → has s (b.base + i) ≡ false → can_at [] w i ≡ false)
-    → IsNext s (b.base + from) m → IsCandidate w from (m - b.base)
-candidate_of w b s from m waiting others next =
-    let behind = next.behind in
-    let at : b.base + (m - b.base) ≡ m = omega arith in
-    record {
-      behind = omega arith;
-      there = waiting (m - b.base) (ap (has s) at ∙ next.there);
-      first = λ i h k. others i (next.first (b.base + i) (omega arith) (omega arith));
+      base = omega arith;
+      waiting = those_lowered (λ x. is_waiting x.stage) w b.base b.waiting c.waiting is i.waiting lowerw;
+      running = those_lowered (λ x. is_running x.stage) w b.base b.running c.running is i.running lowerr;
+      done = those_lowered (λ x. is_done x.stage) w b.base b.done c.done is i.done lowerd;
+      gone = λ n h. absurd (omega arith);
+      storing = those_lowered is_open_store w b.base b.storing c.storing is i.storing lowers;
+      stored = those_lowered (λ x. is_store x.effect) w b.base b.stored c.stored is i.stored lowere;
+      loads = those_lowered is_load w b.base b.loads c.loads is i.loads lowerl;
+      candidates = λ n none.
+          let at : b.base + n ≡ 32 + (0 + n) = omega arith in
+          i.candidates n (ap (has b.candidates) at ∙ sym (lowerc (0 + n)) ∙ none);
+      write_sets = ws;
+      read_sets = rs;
+      writers = λ n h. those_lowered (writes n) w b.base (get_or b.writers n no_mark) (get_or c.writers n no_mark) is (i.writers n h) (writers n h);
+      readers = λ n h. those_lowered (reads n) w b.base (get_or b.readers n no_mark) (get_or c.readers n no_mark) is (i.readers n h) (readers n h);
     }

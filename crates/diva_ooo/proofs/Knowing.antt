@@ -1,23 +1,27 @@
 -- What is known of the entries of a window.
-use Rattle.std.proofs.Common.{◌≡◌, ℕ, zero, suc, [], ◌∷◌, subst, List, Option, Some, None, refl, slice_get, IfSome}
+use Rattle.std.proofs.Common.{◌≡◌, ℕ, zero, suc, [], ◌∷◌, subst, List, Option, Some, None, refl, slice_get, false, ap, sym, ◌∙◌}
+use Rattle.std.proofs.lemmas.Bool.{true≢false}
 use Rattle.std.specs.Prelude.{slice_set}
 use Rattle.std.specs.Option.{option_and_then}
 use Rattle.std.specs.List.{All}
 use Rattle.std.proofs.lemmas.List.Elements.{All-set, All-head, All-tail}
 use Rattle.diva_decode.specs.declared.instr.Instr.{Instr}
-use Rattle.diva_decode.specs.Table.{HasRegisters, row_of}
+use Rattle.diva_decode.specs.Table.{row_of}
 use Rattle.diva_isa.specs.State.{State}
-use Rattle.diva_isa.specs.Step.{HasRegister, fetched}
+use Rattle.diva_isa.specs.Kind.{kind}
+use Rattle.diva_isa.specs.declared.kind.Kind.TheVariants.{Immediate, Register}
+use Rattle.diva_isa.specs.Step.{HasRegister, fetched, going, whole}
 use Rattle.diva_isa.specs.declared.effect.Effect.{Effect}
-use Rattle.diva_isa.specs.declared.effect.Effect.TheVariants.{Nothing}
+use Rattle.diva_isa.specs.declared.effect.Effect.TheVariants.{Nothing, Writes}
 use Rattle.diva_isa.specs.declared.record.Record.{Record}
 use Rattle.diva_ahead.specs.Effects.{done_by}
 use Rattle.diva_ooo.specs.declared.entry.Entry.{Entry}
 use Rattle.diva_ooo.specs.declared.entry.Stage.{Stage}
-use Rattle.diva_ooo.specs.Known.{IsKnown, HasSources}
-use Rattle.diva_ooo.specs.Issue.{running}
-use Rattle.diva_ooo.specs.Ooo.{new_entry, blank}
-use Rattle.diva_ooo.specs.Profile.{profile_of}
+use Rattle.diva_ooo.specs.declared.entry.Stage.TheVariants.{Waiting}
+use Rattle.diva_ooo.specs.declared.decoder.Decoded.{Decoded}
+use Rattle.diva_ooo.specs.Known.{IsDecoded, IsKnown}
+use Rattle.diva_ooo.specs.Issue.{is_waiting, running}
+use Rattle.diva_ooo.specs.Ooo.{blank}
 
 pub known_at : (w : List Entry) (at : ℕ) (e : Entry) → slice_get w at ≡ Some e → All IsKnown w → IsKnown e
 known_at [] at e is all = absurd (cc)
@@ -29,16 +33,17 @@ pub known_begun : (w : List Entry) (at : ℕ) (e : Entry) (r : Record) (effect :
     → All IsKnown (slice_set w at (record (running e r) { effect = effect }))
 known_begun w at e r effect is all does register =
     let k = known_at w at e is all in
-    All-set IsKnown w at (record (running e r) { effect = effect }) (record { decoded = k.decoded; registers = k.registers; sources = k.sources; effect = does; register = register }) all
+    All-set IsKnown w at (record (running e r) { effect = effect }) (record { decoded = k.decoded; registers = k.registers; sources = k.sources; effect = does; register = register; fresh = λ waits. absurd (cc) }) all
 
 blank_does : Nothing ≡ done_by blank
 unfolding done_by row_of
 blank_does = refl
 
 -- an entry that was fetched
-pub known_new : (pc : ℕ) (word : Option ℕ) (decoded : Option Instr) → decoded ≡ option_and_then row_of word → IfSome decoded HasRegisters → HasSources (profile_of decoded) → IsKnown (new_entry pc word decoded)
-known_new pc word decoded is registers sources =
-    record { decoded = is; registers = registers; sources = sources; effect = blank_does; register = search }
+pub known_new : (pc predicted : ℕ) (word : Option ℕ) (d : Decoded) → d.word ≡ word → IsDecoded d
+    → IsKnown (record { pc = pc; word = word; decoded = d.form; profile = d.profile; predicted = predicted; stage = Waiting; result = blank; effect = Nothing })
+known_new pc predicted word d is i =
+    record { decoded = i.form ∙ ap (option_and_then row_of) is; registers = i.registers; sources = i.sources; effect = blank_does; register = search; fresh = λ waits. refl }
 
 -- what the word of a record says
 pub decoded_kept : (s : State) (word : Option ℕ) (decoded : Option Instr) → decoded ≡ option_and_then row_of word → decoded ≡ row_of (fetched s word).word
@@ -47,7 +52,16 @@ decoded_kept s None decoded is = is
 decoded_kept s (Some w) decoded is = is
 
 -- an entry that is further
-pub known_staged : (w : List Entry) (at : ℕ) (e : Entry) (stage : Stage) → slice_get w at ≡ Some e → All IsKnown w → All IsKnown (slice_set w at (record e { stage = stage }))
-known_staged w at e stage is all =
+pub known_staged : (w : List Entry) (at : ℕ) (e : Entry) (stage : Stage) → slice_get w at ≡ Some e → is_waiting stage ≡ false → All IsKnown w → All IsKnown (slice_set w at (record e { stage = stage }))
+known_staged w at e stage is begun all =
     let k = known_at w at e is all in
-    All-set IsKnown w at (record e { stage = stage }) (record { decoded = k.decoded; registers = k.registers; sources = k.sources; effect = k.effect; register = k.register }) all
+    All-set IsKnown w at (record e { stage = stage }) (record { decoded = k.decoded; registers = k.registers; sources = k.sources; effect = k.effect; register = k.register; fresh = λ waits. absurd (true≢false (sym waits ∙ begun)) }) all
+
+-- what an operation on registers does
+pub immediate_does : (pc word a b v : ℕ) (i : Instr) → row_of word ≡ Some i → kind i.op ≡ Immediate → Writes i.rd v ≡ done_by (whole pc word a b 0 (going pc v))
+unfolding done_by
+immediate_does pc word a b v i says is = rw (says, is) refl
+
+pub register_does : (pc word a b v : ℕ) (i : Instr) → row_of word ≡ Some i → kind i.op ≡ Register → Writes i.rd v ≡ done_by (whole pc word a b 0 (going pc v))
+unfolding done_by
+register_does pc word a b v i says is = rw (says, is) refl

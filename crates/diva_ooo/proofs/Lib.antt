@@ -6,4 +6,5 @@ pub mod Issued
 pub mod Handing
 pub mod Marking
 pub mod Boarding
+pub mod Asking
 pub mod Windowing

@@ -5,6 +5,7 @@ use Rattle.std.specs.Int.{bit_at, bit_not, trailing_zeros}
 use Rattle.std.specs.Int.Bits.{bit_and, bit_or}
 use Rattle.std.specs.List.{position_or_len}
 use Rattle.std.proofs.lemmas.Bool.Decides.{nat_tests}
+use Rattle.std.proofs.lemmas.Grind.{common_steps}
 use Rattle.std.proofs.lemmas.List.{length-drop}
 use Rattle.std.proofs.lemmas.Nat.{div_below, le-div, one_shl, pow_pos, shr-shr}
 use Rattle.std.proofs.Math.Nat.{pow-suc}
@@ -150,6 +151,9 @@ keep_has n most h i = rw (one_shl most 64 h) (keep_by (nat_lt i most) n most i r
 shifted : (n from i : ℕ) → bit_at (n / 2 ^ from) i ≡ bit_at n (from + i)
 shifted n from i = rw (shr-shr n from i) refl
 
+pub lowered_has : (n i : ℕ) → (bit_at (n / 2 ^ 32) i == 1) ≡ (bit_at n (32 + i) == 1)
+lowered_has n i = ap (λ (b : ℕ). b == 1) (shifted n 32 i)
+
 unset : (n : ℕ) → n ≡ 0 → (n == 1) ≡ false
 unset n is = rw is refl
 
@@ -239,12 +243,6 @@ holds_other p [] e (suc i) other = refl
 holds_other p (x ∷ w) e zero other = refl
 holds_other p (x ∷ w) e (suc i) other = holds_other p w e i (λ is. other (omega arith))
 
-holds_push : (p : Entry → Bool) (w : List Entry) (e : Entry) (i : ℕ) → p e ≡ false → holds_at p (w ++ e ∷ []) i ≡ holds_at p w i
-holds_push p [] e zero is = is
-holds_push p [] e (suc i) is = refl
-holds_push p (x ∷ w) e zero is = refl
-holds_push p (x ∷ w) e (suc i) is = holds_push p w e i is
-
 pub holds_take : (p : Entry → Bool) (w : List Entry) (n i : ℕ) → i < n → holds_at p (take n w) i ≡ holds_at p w i
 holds_take p [] zero i h = refl
 holds_take p [] (suc n) i h = refl
@@ -297,21 +295,26 @@ pub those_push : (p : Entry → Bool) (w : List Entry) (e : Entry) (base : ℕ) 
     → ((i : ℕ) → has t i ≡ (if i == base + length w then b || has s (base + length w) else has s i)) → AreThose p (w ++ e ∷ []) base t
 those_push p w e base s t b those is puts = λ i. puts (base + i) ∙ push_by (base + i == base + length w) p w e base s b i those is refl
 
-drop_by : (c : Bool) (p : Entry → Bool) (w : List Entry) (e : Entry) (base : ℕ) (s : MarkSet) (i : ℕ) → AreThose p (w ++ e ∷ []) base s → (base + i == base + length w) ≡ c
-    → (if c then false else has s (base + i)) ≡ holds_at p w i
-drop_by true p w e base s i those here =
-    let at : length w ≤ i = grind (arith, nat_tests) in
-    sym (holds_end p w i at)
-drop_by false p w e base s i those here =
-    let other : i ≡ length w → ⊥ = λ at. absurd (grind (arith, nat_tests)) in
-    those i ∙ holds_other p w e i other
+kept_by : (c : Bool) (p : Entry → Bool) (w : List Entry) (base most : ℕ) (s : MarkSet) (i : ℕ) → AreThose p w base s → nat_lt (base + i) (base + most) ≡ c
+    → (if c then has s (base + i) else false) ≡ holds_at p (take most w) i
+kept_by true p w base most s i those is =
+    let within : i < most = grind (arith, nat_tests) in
+    those i ∙ sym (holds_take p w most i within)
+kept_by false p w base most s i those is =
+    let far : most ≤ i = grind (arith, nat_tests) in
+    let long : length (take most w) ≤ i = grind (arith, common_steps) in
+    sym (holds_end p (take most w) i long)
 
-pub those_drop : (p : Entry → Bool) (w : List Entry) (e : Entry) (base : ℕ) (s t : MarkSet) → AreThose p (w ++ e ∷ []) base s
-    → ((i : ℕ) → has t i ≡ (if i == base + length w then false else has s i)) → AreThose p w base t
-those_drop p w e base s t those removes = λ i. removes (base + i) ∙ drop_by (base + i == base + length w) p w e base s i those refl
+-- of the oldest
+pub those_kept : (p : Entry → Bool) (w : List Entry) (base most : ℕ) (s t : MarkSet) → AreThose p w base s
+    → ((i : ℕ) → has t i ≡ (if nat_lt i (base + most) then has s i else false)) → AreThose p (take most w) base t
+those_kept p w base most s t those keeps = λ i. keeps (base + i) ∙ kept_by (nat_lt (base + i) (base + most)) p w base most s i those refl
 
-pub those_dropped : (p : Entry → Bool) (w : List Entry) (e : Entry) (base : ℕ) (s : MarkSet) → AreThose p (w ++ e ∷ []) base s → p e ≡ false → AreThose p w base s
-those_dropped p w e base s those is = λ i. those i ∙ holds_push p w e i is
+-- where the marks are lower by 32
+pub those_lowered : (p : Entry → Bool) (w : List Entry) (base : ℕ) (s t : MarkSet) → base ≡ 32 → AreThose p w base s → ((i : ℕ) → has t i ≡ has s (32 + i)) → AreThose p w 0 t
+those_lowered p w base s t is those lowers = λ i.
+    let at : 32 + (0 + i) ≡ base + i = omega arith in
+    lowers (0 + i) ∙ ap (has s) at ∙ those i
 
 same_mark : (base i at : ℕ) → (base + i == base + at) ≡ (i == at)
 same_mark base i at = grind (arith, nat_tests)
@@ -331,7 +334,7 @@ those_same p w at x y base s those is same = λ i. those i ∙ sym (holds_same p
 
 -- ---- the first of them from a place on
 
-holds_drop : (p : Entry → Bool) (w : List Entry) (at i : ℕ) → holds_at p (drop at w) i ≡ holds_at p w (at + i)
+pub holds_drop : (p : Entry → Bool) (w : List Entry) (at i : ℕ) → holds_at p (drop at w) i ≡ holds_at p w (at + i)
 holds_drop p w zero i = let e : 0 + i ≡ i = omega arith in rw e refl
 holds_drop p [] (suc at) i = refl
 holds_drop p (e ∷ w) (suc at) i = let e' : suc at + i ≡ suc (at + i) = omega arith in rw e' (holds_drop p w at i)

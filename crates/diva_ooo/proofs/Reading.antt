@@ -1,14 +1,23 @@
 -- What an entry reads of memory.
-use Rattle.std.proofs.Common.{◌≡◌, ◌<◌, ℕ, zero, suc, ◌+◌, arith, get_or, length, List, [], ◌∷◌, ◌++◌, take, map, Some, None, Bool, true, false, ◌&&◌, refl, ap, sym, ◌∙◌, slice_get}
+use Rattle.std.proofs.Common.{◌≡◌, ◌<◌, ◌≤◌, ℕ, suc, ◌+◌, ◌-◌, ◌^◌, arith, append_assoc, length, List, [], ◌∷◌, ◌++◌, take, drop, map, Some, None, Bool, true, false, refl, ap, sym, ◌∙◌, slice_get}
+use Rattle.std.specs.Prelude.{nat_lt}
+use Rattle.std.proofs.lemmas.Bool.Decides.{nat_tests}
+use Rattle.std.proofs.lemmas.Grind.{common_steps}
 use Rattle.std.specs.Option.{unwrap_or}
 use Rattle.std.specs.List.{list_all}
-use Rattle.std.proofs.lemmas.List.{map-append}
+use Rattle.std.proofs.lemmas.List.{append-nil, map-append}
 use Rattle.diva_isa.specs.State.{State, byte_of, word_of}
 use Rattle.diva_isa.specs.declared.effect.Effect.{Effect}
+use Rattle.diva_isa.specs.declared.effect.Effect.TheVariants.{Nothing, Writes, Stores, Puts}
+use Rattle.diva_isa.specs.declared.kind.Width.TheVariants.{Word}
+use Rattle.diva_core.specs.Cycle.{is_store}
 use Rattle.diva_core.specs.Effects.{byte_in, is_apart, with_effects}
-use Rattle.diva_core.proofs.Laying.{effects_append, effects_more, effects_none, effects_word, effects_word_none}
+use Rattle.diva_core.proofs.Laying.{effects_append, effects_byte, effects_more, effects_none, effects_word, effects_word_none}
 use Rattle.diva_ooo.specs.declared.entry.Entry.{Entry}
-use Rattle.diva_ooo.proofs.Places.{take_at}
+use Rattle.diva_ahead.proofs.Whole.{apart_more, whole_more}
+use Rattle.diva_ooo.specs.MarkSets.{holds_at}
+use Rattle.diva_ooo.proofs.Marking.{holds_drop, holds_end, holds_take}
+use Rattle.diva_ooo.proofs.Places.{take_at, take_more}
 
 abbrev pub effects : List Entry → List Effect
 effects w = map (λ x. x.effect) w
@@ -16,53 +25,96 @@ effects w = map (λ x. x.effect) w
 pub older_none : (s : State) (ring more : List Effect) (a : ℕ) → byte_of (with_effects s ring) a ≡ None → byte_of (with_effects s (ring ++ more)) a ≡ None
 older_none s ring more a e = ap (λ (t : State). byte_of t a) (effects_append s ring more) ∙ effects_none (with_effects s ring) more a e
 
--- ---- the entries in two parts
+-- ---- one store more
 
-parts : (xs ys w : List Entry) → xs ++ ys ≡ w → effects w ≡ effects xs ++ effects ys
-parts xs ys w is = ap effects (sym is) ∙ map-append (λ (x : Entry). x.effect) xs ys
+ring_next : (ring : List Effect) (w : List Entry) (at : ℕ) (e : Entry) → slice_get w at ≡ Some e → ring ++ effects (take (at + 1) w) ≡ (ring ++ effects (take at w)) ++ e.effect ∷ []
+ring_next ring w at e is =
+    ap (λ (es : List Effect). ring ++ es) (ap effects (take_at w at e is) ∙ map-append (λ (x : Entry). x.effect) (take at w) (e ∷ []))
+    ∙ sym (append_assoc ring (effects (take at w)) (e.effect ∷ []))
 
-pub byte_parts : (s : State) (ring : List Effect) (xs ys w : List Entry) (a b : ℕ) → xs ++ ys ≡ w
-    → byte_of (with_effects (with_effects (with_effects s ring) (effects xs)) (effects ys)) a ≡ Some b
-    → byte_of (with_effects s (ring ++ effects w)) a ≡ Some b
-byte_parts s ring xs ys w a b is h =
-    ap (λ (es : List Effect). byte_of (with_effects s (ring ++ es)) a) (parts xs ys w is)
-    ∙ ap (λ (t : State). byte_of t a) (effects_append s ring (effects xs ++ effects ys) ∙ effects_append (with_effects s ring) (effects xs) (effects ys))
+pub byte_next : (s : State) (ring : List Effect) (w : List Entry) (at : ℕ) (e : Entry) (a b : ℕ) → slice_get w at ≡ Some e
+    → byte_of (with_effects s (ring ++ effects (take at w))) a ≡ Some b
+    → byte_of (with_effects s (ring ++ effects (take (at + 1) w))) a ≡ Some (unwrap_or (byte_in e.effect a) b)
+byte_next s ring w at e a b is h =
+    ap (λ (es : List Effect). byte_of (with_effects s es) a) (ring_next ring w at e is) ∙ effects_more s (ring ++ effects (take at w)) e.effect a b h
+
+pub word_whole : (s : State) (ring : List Effect) (w : List Entry) (at : ℕ) (e : Entry) (a v b : ℕ) → slice_get w at ≡ Some e → e.effect ≡ Stores Word a v → v < 2 ^ 32
+    → word_of (with_effects s (ring ++ effects (take at w))) a ≡ Some b
+    → word_of (with_effects s (ring ++ effects (take (at + 1) w))) a ≡ Some v
+word_whole s ring w at e a v b is whole fits h =
+    ap (λ (es : List Effect). word_of (with_effects s es) a) (ring_next ring w at e is ∙ ap (λ (d : Effect). (ring ++ effects (take at w)) ++ d ∷ []) whole)
+    ∙ whole_more s (ring ++ effects (take at w)) a v b fits h
+
+pub word_apart : (s : State) (ring : List Effect) (w : List Entry) (at : ℕ) (e : Entry) (a b : ℕ) → slice_get w at ≡ Some e → is_apart e.effect a 4 ≡ true
+    → word_of (with_effects s (ring ++ effects (take at w))) a ≡ Some b
+    → word_of (with_effects s (ring ++ effects (take (at + 1) w))) a ≡ Some b
+word_apart s ring w at e a b is apart h =
+    ap (λ (es : List Effect). word_of (with_effects s es) a) (ring_next ring w at e is) ∙ apart_more s (ring ++ effects (take at w)) e.effect a b apart h
+
+-- ---- entries that store nothing
+
+quiet_one : (e : Effect) (a n : ℕ) → is_store e ≡ false → is_apart e a n ≡ true
+quiet_one Nothing a n h = refl
+quiet_one (Writes rd value) a n h = refl
+quiet_one (Stores width addr value) a n h = absurd (cc)
+quiet_one (Puts byte) a n h = refl
+
+all_quiet : (w : List Entry) (a n : ℕ) → ((i : ℕ) → holds_at (λ e. is_store e.effect) w i ≡ false) → list_all (λ d. is_apart d a n) (effects w) ≡ true
+all_quiet [] a n none = refl
+all_quiet (x ∷ w) a n none = rw (quiet_one x.effect a n (none 0)) (all_quiet w a n (λ i. none (suc i)))
+
+none_by : (c : Bool) (p : Entry → Bool) (w : List Entry) (from k i : ℕ) → nat_lt i k ≡ c → ((j : ℕ) → from ≤ j → j < from + k → holds_at p w j ≡ false) → holds_at p (take k (drop from w)) i ≡ false
+none_by true p w from k i is none =
+    let within : i < k = grind (arith, nat_tests) in
+    holds_take p (drop from w) k i within ∙ holds_drop p w from i ∙ none (from + i) (omega arith) (omega arith)
+none_by false p w from k i is none =
+    let far : k ≤ i = grind (arith, nat_tests) in
+    let long : length (take k (drop from w)) ≤ i = grind (arith, common_steps) in
+    holds_end p (take k (drop from w)) i long
+
+-- entries from a place to another
+seen_more : (s : State) (ring : List Effect) (w : List Entry) (from k : ℕ)
+    → with_effects s (ring ++ effects (take (from + k) w)) ≡ with_effects (with_effects s (ring ++ effects (take from w))) (effects (take k (drop from w)))
+seen_more s ring w from k =
+    ap (λ (es : List Effect). with_effects s (ring ++ es)) (ap effects (take_more w from k) ∙ map-append (λ (x : Entry). x.effect) (take from w) (take k (drop from w)))
+    ∙ ap (with_effects s) (sym (append_assoc ring (effects (take from w)) (effects (take k (drop from w)))))
+    ∙ effects_append s (ring ++ effects (take from w)) (effects (take k (drop from w)))
+
+abbrev pub NoneStores : List Entry → (from to : ℕ) → Type 0
+NoneStores w from to = (i : ℕ) → from ≤ i → i < to → holds_at (λ e. is_store e.effect) w i ≡ false
+
+up_to : (w : List Entry) (from to : ℕ) → from ≤ to → NoneStores w from to → NoneStores w from (from + (to - from))
+up_to w from to le none = λ i h k. none i h (omega arith)
+
+pub byte_quiet : (s : State) (ring : List Effect) (w : List Entry) (from to a b : ℕ) → from ≤ to → NoneStores w from to
+    → byte_of (with_effects s (ring ++ effects (take from w))) a ≡ Some b
+    → byte_of (with_effects s (ring ++ effects (take to w))) a ≡ Some b
+byte_quiet s ring w from to a b le none h =
+    let at : from + (to - from) ≡ to = omega arith in
+    let k = to - from in
+    let quiet = all_quiet (take k (drop from w)) a 1 (λ i. none_by (nat_lt i k) (λ e. is_store e.effect) w from k i refl (up_to w from to le none)) in
+    ap (λ (n : ℕ). byte_of (with_effects s (ring ++ effects (take n w))) a) (sym at)
+    ∙ ap (λ (t : State). byte_of t a) (seen_more s ring w from k)
+    ∙ effects_byte (with_effects s (ring ++ effects (take from w))) (effects (take k (drop from w))) a quiet
     ∙ h
 
-all_front : (b c k : Bool) → (b && c) ≡ true → (c ≡ true → k ≡ true) → (b && k) ≡ true
-all_front true c k h f = f h
-all_front false c k h f = absurd (cc)
+pub word_quiet : (s : State) (ring : List Effect) (w : List Entry) (from to a b : ℕ) → from ≤ to → NoneStores w from to
+    → word_of (with_effects s (ring ++ effects (take from w))) a ≡ Some b
+    → word_of (with_effects s (ring ++ effects (take to w))) a ≡ Some b
+word_quiet s ring w from to a b le none h =
+    let at : from + (to - from) ≡ to = omega arith in
+    let k = to - from in
+    let quiet = all_quiet (take k (drop from w)) a 4 (λ i. none_by (nat_lt i k) (λ e. is_store e.effect) w from k i refl (up_to w from to le none)) in
+    ap (λ (n : ℕ). word_of (with_effects s (ring ++ effects (take n w))) a) (sym at)
+    ∙ ap (λ (t : State). word_of t a) (seen_more s ring w from k)
+    ∙ effects_word (with_effects s (ring ++ effects (take from w))) (effects (take k (drop from w))) a quiet
+    ∙ h
 
-all_both : (p : Effect → Bool) (ds es : List Effect) → list_all p ds ≡ true → list_all p es ≡ true → list_all p (ds ++ es) ≡ true
-all_both p [] es h k = k
-all_both p (d ∷ ds) es h k = all_front (p d) (list_all p ds) (list_all p (ds ++ es)) h (λ g. all_both p ds es g k)
-
-all_effects : (w : List Entry) (a : ℕ) → list_all (λ x. is_apart x.effect a 4) w ≡ list_all (λ d. is_apart d a 4) (effects w)
-all_effects [] a = refl
-all_effects (x ∷ w) a = ap (λ (b : Bool). is_apart x.effect a 4 && b) (all_effects w a)
-
-pub apart_parts : (xs ys w : List Entry) (a : ℕ) → xs ++ ys ≡ w → list_all (λ x. is_apart x.effect a 4) xs ≡ true → list_all (λ x. is_apart x.effect a 4) ys ≡ true
-    → list_all (λ d. is_apart d a 4) (effects w) ≡ true
-apart_parts xs ys w a is h k = ap (list_all (λ d. is_apart d a 4)) (parts xs ys w is) ∙ all_both (λ d. is_apart d a 4) (effects xs) (effects ys) (sym (all_effects xs a) ∙ h) (sym (all_effects ys a) ∙ k)
-
-get_at : (w : List Entry) (at : ℕ) (d : Entry) → at < length w → slice_get w at ≡ Some (get_or w at d)
-get_at [] at d h = absurd (omega arith)
-get_at (x ∷ w) zero d h = refl
-get_at (x ∷ w) (suc at) d h = get_at w at d (omega arith)
-
--- one store more
-pub effects_next : (s : State) (w : List Entry) (at : ℕ) (d : Entry) (a b : ℕ) → at < length w
-    → byte_of (with_effects s (effects (take at w))) a ≡ Some b
-    → byte_of (with_effects s (effects (take (at + 1) w))) a ≡ Some (unwrap_or (byte_in (get_or w at d).effect a) b)
-effects_next s w at d a b lt h =
-    let e : Entry = get_or w at d in
-    ap (λ (es : List Effect). byte_of (with_effects s es) a) (ap effects (take_at w at e (get_at w at d lt)) ∙ map-append (λ (x : Entry). x.effect) (take at w) (e ∷ []))
-    ∙ effects_more s (effects (take at w)) e.effect a b h
+-- no entry yet
+pub none_yet : (ring : List Effect) (w : List Entry) → ring ++ effects (take 0 w) ≡ ring
+none_yet ring w = append-nil ring
 
 -- ---- the words that an entry reads
-
-pub older_word : (s : State) (ring more : List Effect) (a : ℕ) → list_all (λ d. is_apart d a 4) more ≡ true → word_of (with_effects s (ring ++ more)) a ≡ word_of (with_effects s ring) a
-older_word s ring more a h = ap (λ (t : State). word_of t a) (effects_append s ring more) ∙ effects_word (with_effects s ring) more a h
 
 pub older_word_none : (s : State) (ring more : List Effect) (a : ℕ) → word_of (with_effects s ring) a ≡ None → word_of (with_effects s (ring ++ more)) a ≡ None
 older_word_none s ring more a e = ap (λ (t : State). word_of t a) (effects_append s ring more) ∙ effects_word_none (with_effects s ring) more a e

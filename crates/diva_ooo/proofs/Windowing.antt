@@ -1,5 +1,5 @@
 -- A window's entries, and what is written and can begin behind them.
-use Rattle.std.proofs.Common.{◌≡◌, ◌<◌, ℕ, zero, suc, ◌+◌, ◌-◌, ◌==◌, Bool, true, false, not, ◌&&◌, List, [], ◌∷◌, ◌++◌, length, take, drop, Option, Some, None, is_some, refl, ap, sym, ◌∙◌, arith, slice_get, append_assoc, if◌then◌else◌}
+use Rattle.std.proofs.Common.{◌≡◌, ◌<◌, ℕ, zero, suc, ◌==◌, Bool, true, false, not, ◌&&◌, List, [], ◌∷◌, ◌++◌, length, take, drop, Option, Some, None, is_some, refl, ap, sym, ◌∙◌, arith, slice_get, append_assoc, if◌then◌else◌}
 use Rattle.std.specs.Prelude.{slice_set, slice_index}
 use Rattle.std.proofs.lemmas.Bool.Decides.{nat_tests}
 use Rattle.std.proofs.lemmas.List.{append-nil}
@@ -9,34 +9,8 @@ use Rattle.diva_ooo.specs.declared.board.Board.{Board}
 use Rattle.diva_ooo.specs.Board.{IsBoard, IsLastOf, can_at, could_at, has_result, writes}
 use Rattle.diva_ooo.specs.Issue.{can_begin, is_available, is_done, is_free, is_ready, is_waiting, written}
 use Rattle.diva_ooo.specs.MarkSets.{holds_at}
-use Rattle.diva_ooo.proofs.Boarding.{before_none}
+use Rattle.diva_ooo.proofs.Asking.{before_none}
 use Rattle.diva_ooo.proofs.Marking.{holds_take}
-use Rattle.diva_ooo.proofs.Places.{take_all, take_at}
-
--- ---- the youngest
-
-get_within : (w : List Entry) (i : ℕ) (e : Entry) → slice_get w i ≡ Some e → i < length w
-get_within [] i e is = absurd (cc)
-get_within (x ∷ w) zero e is = omega arith
-get_within (x ∷ w) (suc i) e is = let more = get_within w i e is in omega arith
-
-pub last_split : (w : List Entry) (e : Entry) → slice_get w (length w - 1) ≡ Some e → w ≡ take (length w - 1) w ++ e ∷ []
-last_split w e is =
-    let within = get_within w (length w - 1) e is in
-    let all : length w - 1 + 1 ≡ length w = omega arith in
-    sym (take_all w (length w) (omega arith)) ∙ ap (λ (n : ℕ). take n w) (sym all) ∙ take_at w (length w - 1) e is
-
-get_some : (w : List Entry) (i : ℕ) → i < length w → slice_get w i ≡ None → ⊥
-get_some [] i h is = absurd (omega arith)
-get_some (e ∷ w) zero h is = absurd (cc)
-get_some (e ∷ w) (suc i) h is = get_some w i (omega arith) is
-
-none_last : (e : Entry) (w : List Entry) → slice_get (e ∷ w) (length (e ∷ w) - 1) ≡ None → ⊥
-none_last e w is = get_some (e ∷ w) (length (e ∷ w) - 1) (omega arith) is
-
-pub last_none : (w : List Entry) → slice_get w (length w - 1) ≡ None → take (length w - 1) w ≡ w
-last_none [] is = refl
-last_none (e ∷ w) is = absurd (none_last e w is)
 
 -- ---- the registers behind some entries
 

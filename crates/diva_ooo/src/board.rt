@@ -1,13 +1,13 @@
 // What is known of the entries of a window.
-ghost use Rattle.std.specs.Prelude.{◌≡◌, ◌+◌, ◌&&◌, ◌<◌, ◌≤◌, ℕ, List, [], ◌∷◌, ◌++◌, length, take, IfSome, IsNone, Some, false, slice_get, slice_set, true};
+ghost use Rattle.std.specs.Prelude.{◌≡◌, ◌+◌, ◌&&◌, ◌<◌, ◌≤◌, ◌⊎◌, ℕ, List, [], ◌∷◌, ◌++◌, length, get_or, nat_lt, take, IfSome, IsNone, Some, false, if◌then◌else◌, slice_get, slice_set, true};
 ghost use Rattle.diva_ooo.specs.declared.entry.Entry.{Entry};
-ghost use Rattle.diva_ooo.specs.Board.{IsBoard, IsCandidate, IsLastOf, IsNextOf, can_at, could_at, has_result};
+ghost use Rattle.diva_core.specs.Cycle.{is_store};
+ghost use Rattle.diva_ooo.specs.Board.{IsBoard, IsCandidate, IsLastOf, IsNextOf, IsWrittenBetween, can_at, could_at, has_result, no_mark, reads};
 ghost use Rattle.diva_ooo.specs.Finish.{is_running};
 ghost use Rattle.diva_ooo.specs.Issue.{are_stored, is_available, is_done, is_free, is_waiting};
 ghost use Rattle.diva_ooo.specs.Known.{HasSources};
 ghost use Rattle.diva_ooo.specs.MarkSets.{has, holds_at};
 
-use crate::entry::Entry;
 use crate::mark_set::MarkSet;
 use crate::profile::{Class, Profile};
 
@@ -24,6 +24,8 @@ pub(crate) struct Board {
     pub done: MarkSet,
     /// Those that store, and are not done.
     pub storing: MarkSet,
+    /// Those whose results store.
+    pub stored: MarkSet,
     pub loads: MarkSet,
     /// Those among which are all that wait and have their sources.
     pub candidates: MarkSet,
@@ -45,6 +47,7 @@ impl Board {
             running: MarkSet::NONE,
             done: MarkSet::NONE,
             storing: MarkSet::NONE,
+            stored: MarkSet::NONE,
             loads: MarkSet::NONE,
             candidates: MarkSet::NONE,
             writers: [MarkSet::NONE; 32],
@@ -52,21 +55,19 @@ impl Board {
         }
     }
 
-    /// Adds the youngest entry, which is at a place.
+    /// Adds the youngest entry, which is at a place and has not begun.
     #[inline(always)]
-    pub(crate) fn push(&mut self, at: usize, entry: &Entry)
+    pub(crate) fn push(&mut self, at: usize, profile: &Profile)
         requires base { self.old.base ≤ 32 }
         requires place { at < 32 }
-        requires sources { HasSources entry.now.profile }
-        ensures board { (w : List Entry) → IsBoard w self.old → length w ≡ at → IsBoard (w ++ entry.now ∷ []) self.new }
+        requires sources { HasSources profile.now }
+        ensures board { (w : List Entry) (e : Entry) → IsBoard w self.old → length w ≡ at → is_waiting e.stage ≡ true
+            → is_store e.effect ≡ false → e.profile ≡ profile.now → IsBoard (w ++ e ∷ []) self.new }
         ensures base { self.new.base ≡ self.old.base }
     {
         let mark = self.base + at;
-        let profile = entry.profile;
-        self.waiting.put(mark, entry.stage.is_waiting());
-        self.running.put(mark, entry.stage.is_running());
-        self.done.put(mark, entry.stage.is_done());
-        self.storing.put(mark, entry.is_open_store());
+        self.waiting.put(mark, true);
+        self.storing.put(mark, profile.class.is_storing());
         self.loads.put(mark, profile.class.is_loading());
         self.candidates.put(mark, true);
         self.writers[usize::from(profile.rd)].put(mark, profile.rd != 0);
@@ -74,24 +75,22 @@ impl Board {
         self.readers[usize::from(profile.rs2)].put(mark, profile.rs2 != 0);
     }
 
-    /// Removes the youngest entry, which is at a place.
-    pub(crate) fn drop_youngest(&mut self, at: usize, profile: &Profile)
-        requires base { self.old.base ≤ 32 }
-        requires place { at < 32 }
-        requires sources { HasSources profile.now }
-        ensures board { (w : List Entry) (e : Entry) → IsBoard (w ++ e ∷ []) self.old → length w ≡ at
-            → e.profile ≡ profile.now → IsBoard w self.new }
+    /// Keeps the oldest `most` entries.
+    pub(crate) fn keep(&mut self, most: usize)
+        requires base { self.old.base < 32 }
+        requires most { most ≤ 32 }
+        ensures board { (w : List Entry) → IsBoard w self.old → IsBoard (take most w) self.new }
         ensures base { self.new.base ≡ self.old.base }
     {
-        let mark = self.base + at;
-        self.waiting.remove(mark);
-        self.running.remove(mark);
-        self.done.remove(mark);
-        self.storing.remove(mark);
-        self.loads.remove(mark);
-        self.writers[usize::from(profile.rd)].remove(mark);
-        self.readers[usize::from(profile.rs1)].remove(mark);
-        self.readers[usize::from(profile.rs2)].remove(mark);
+        let end = self.base + most;
+        self.waiting = self.waiting.below(end);
+        self.running = self.running.below(end);
+        self.done = self.done.below(end);
+        self.storing = self.storing.below(end);
+        self.stored = self.stored.below(end);
+        self.loads = self.loads.below(end);
+        keep_below(&mut self.writers, end);
+        keep_below(&mut self.readers, end);
     }
 
     /// Removes the oldest entry, which is done.
@@ -103,35 +102,70 @@ impl Board {
         self.base += 1;
     }
 
-    /// The entry at a place, which waits, begins to run.
-    pub(crate) fn begin(&mut self, at: usize)
+    /// Gives the oldest entry the mark 0 again.
+    pub(crate) fn renumber(&mut self)
+        requires { self.old.base ≡ 32 }
+        ensures board { (w : List Entry) → IsBoard w self.old → IsBoard w self.new }
+        ensures base { self.new.base ≡ 0 }
+    {
+        self.base = 0;
+        self.waiting = self.waiting.lowered();
+        self.running = self.running.lowered();
+        self.done = self.done.lowered();
+        self.storing = self.storing.lowered();
+        self.stored = self.stored.lowered();
+        self.loads = self.loads.lowered();
+        self.candidates = self.candidates.lowered();
+        lower(&mut self.writers);
+        lower(&mut self.readers);
+    }
+
+    /// The entry at a place, which waits, begins to run; `stores` says whether its result stores.
+    pub(crate) fn begin(&mut self, at: usize, stores: bool)
         requires base { self.old.base ≤ 32 }
         requires place { at < 32 }
         ensures board { (w : List Entry) (e new : Entry) → IsBoard w self.old → slice_get w at ≡ Some e
             → is_waiting e.stage ≡ true → is_running new.stage ≡ true → new.profile ≡ e.profile
-            → IsBoard (slice_set w at new) self.new }
+            → is_store e.effect ≡ false → is_store new.effect ≡ stores → IsBoard (slice_set w at new) self.new }
         ensures base { self.new.base ≡ self.old.base }
     {
         let mark = self.base + at;
         self.waiting.remove(mark);
         self.running.put(mark, true);
+        self.stored.put(mark, stores);
     }
 
     /// The entry at a place, which runs and writes a register, is done.
     pub(crate) fn complete(&mut self, at: usize, rd: u8)
-        requires base { self.old.base ≤ 32 }
+        requires base { self.old.base < 32 }
         requires place { at < 32 }
         requires register { rd < 32 }
         ensures board { (w : List Entry) (e new : Entry) → IsBoard w self.old → slice_get w at ≡ Some e
-            → is_running e.stage ≡ true → is_done new.stage ≡ true → new.profile ≡ e.profile → rd ≡ e.profile.rd
-            → IsBoard (slice_set w at new) self.new }
+            → is_running e.stage ≡ true → is_done new.stage ≡ true → new.profile ≡ e.profile → new.effect ≡ e.effect
+            → rd ≡ e.profile.rd → IsBoard (slice_set w at new) self.new }
         ensures base { self.new.base ≡ self.old.base }
     {
         let mark = self.base + at;
+        let waiting = self.readers_of(at, rd);
         self.running.remove(mark);
         self.done.put(mark, true);
         self.storing.remove(mark);
-        self.candidates.put_all(self.readers[usize::from(rd)]);
+        self.candidates.put_all(waiting);
+    }
+
+    // The readers of the register that the entry at a place writes, up to the next entry that writes it.
+    fn readers_of(&self, at: usize, rd: u8) -> MarkSet
+        requires base { self.now.base < 32 }
+        requires place { at < 32 }
+        requires register { rd < 32 }
+        ensures { (w : List Entry) → IsBoard w self.now → (i : ℕ) → has result (self.now.base + i) ≡ false
+            → (holds_at (reads rd) w i ≡ false) ⊎ IsWrittenBetween w rd at i }
+    {
+        let readers = self.readers[usize::from(rd)];
+        match self.writers[usize::from(rd)].next(self.base + at + 1) {
+            Some(next) if next < 63 => readers.below(next + 1),
+            _ => readers,
+        }
     }
 
     /// The entry at a place is no candidate.
@@ -153,6 +187,21 @@ impl Board {
             → (i : ℕ) → from ≤ i → holds_at (λ e. is_running e.stage) w i ≡ false }
     {
         match self.running.next(self.base + from) {
+            Some(mark) => Some(mark - self.base),
+            None => None,
+        }
+    }
+
+    /// The place of the first entry whose result stores, from a place on.
+    #[inline]
+    pub(crate) fn next_store(&self, from: usize) -> Option<usize>
+        requires base { self.now.base < 32 }
+        requires place { from ≤ 32 }
+        ensures some { (w : List Entry) → IsBoard w self.now → IfSome result (IsNextOf (λ e. is_store e.effect) w from) }
+        ensures none { (w : List Entry) → IsBoard w self.now → IsNone result
+            → (i : ℕ) → from ≤ i → holds_at (λ e. is_store e.effect) w i ≡ false }
+    {
+        match self.stored.next(self.base + from) {
             Some(mark) => Some(mark - self.base),
             None => None,
         }
@@ -205,6 +254,9 @@ impl Board {
         requires register { n < 32 }
         ensures { (w : List Entry) → IsBoard w self.now → at ≤ length w → result ≡ is_available (take at w) n }
     {
+        if n == 0 {
+            return true;
+        }
         match self.writers[usize::from(n)].last(self.base + at) {
             Some(mark) => self.done.has(mark),
             None => true,
@@ -250,5 +302,28 @@ impl Board {
             Some(mark) if mark >= self.base => Some(mark - self.base),
             _ => None,
         }
+    }
+}
+
+// Keeps the marks of each set that are below one.
+fn keep_below(sets: &mut [MarkSet; 32], end: usize)
+    requires { end < 64 }
+    ensures kept { (n : ℕ) → n < 32 → (i : ℕ) → has (get_or sets.new n no_mark) i
+        ≡ (if nat_lt i end then has (get_or sets.old n no_mark) i else false) }
+    ensures sets { length sets.new ≡ 32 }
+{
+    for n in 0..32 {
+        sets[n] = sets[n].below(end);
+    }
+}
+
+// Each mark of each set is lower by 32.
+fn lower(sets: &mut [MarkSet; 32])
+    ensures lowered { (n : ℕ) → n < 32 → (i : ℕ) → has (get_or sets.new n no_mark) i
+        ≡ has (get_or sets.old n no_mark) (32 + i) }
+    ensures sets { length sets.new ≡ 32 }
+{
+    for n in 0..32 {
+        sets[n] = sets[n].lowered();
     }
 }

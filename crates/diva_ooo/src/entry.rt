@@ -1,8 +1,6 @@
 // An instruction under way.
 ghost use Rattle.std.specs.Prelude.{◌≡◌};
-ghost use Rattle.diva_ooo.specs.Board.{is_open_store};
-ghost use Rattle.diva_ooo.specs.Finish.{is_running};
-ghost use Rattle.diva_ooo.specs.Issue.{is_done, is_waiting};
+ghost use Rattle.diva_ooo.specs.Issue.{is_done};
 
 use crate::profile::Profile;
 use diva_decode::Instr;
@@ -20,20 +18,6 @@ pub enum Stage {
 }
 
 impl Stage {
-    /// Whether it has not begun.
-    pub fn is_waiting(self) -> bool
-        ensures { result ≡ is_waiting self }
-    {
-        matches!(self, Stage::Waiting)
-    }
-
-    /// Whether it has begun, and is not done.
-    pub fn is_running(self) -> bool
-        ensures { result ≡ is_running self }
-    {
-        matches!(self, Stage::Running(_))
-    }
-
     /// Whether it is to be handed over.
     pub fn is_done(self) -> bool
         ensures { result ≡ is_done self }
@@ -61,13 +45,4 @@ pub struct Entry {
     pub result: Record,
     /// What that does besides moving the pc: nothing where it ends, or where it has not begun.
     pub effect: Effect,
-}
-
-impl Entry {
-    /// Whether it is a store that is not done.
-    pub fn is_open_store(&self) -> bool
-        ensures { result ≡ is_open_store self.now }
-    {
-        !self.stage.is_done() && self.profile.class.is_storing()
-    }
 }

@@ -4,11 +4,10 @@ ghost use Rattle.std.specs.List.{list_all};
 ghost use Rattle.diva_isa.specs.State.{State, byte_of, word_of};
 ghost use Rattle.diva_core.specs.Effects.{is_apart, with_effects};
 
-use crate::entry::Entry;
 use crate::window::Window;
 use diva_ahead::Ahead;
 use diva_core::{View, byte_in, is_apart};
-use diva_isa::{Look, Width};
+use diva_isa::{Effect, Look, Width};
 
 /// The state that the entry at a place reads: registers with what the older ones wrote, and the machine's memory with what
 /// the core handed over and then what the older entries store laid over it.
@@ -27,14 +26,25 @@ impl Flight<'_> {
     fn find_word(&self, addr: u32) -> Option<u32>
         ensures { result ≡ word_of (with_effects self.now.view.now (self.now.ahead.now.ring ++ map (λ x. x.effect) (take self.now.at self.now.window.now))) addr }
     {
-        let word = self.ahead.ring().word(self.view, addr)?;
-        if self.is_apart(addr) {
-            return Some(word);
+        let mut latest = self.ahead.ring().word(self.view, addr)?;
+        let mut from = 0;
+        while let Some(place) = self.window.next_store(from, self.at) {
+            let effect = &self.window.entry(place).effect;
+            match *effect {
+                Effect::Stores {
+                    width: Width::Word,
+                    addr: start,
+                    value,
+                } if start == addr => latest = value,
+                _ if is_apart(effect, addr, 4) => {}
+                _ => return self.overlaid(addr),
+            }
+            from = place + 1;
         }
-        self.overlaid(addr)
+        Some(latest)
     }
 
-    // The same, byte by byte: few reads meet a store in flight.
+    // The same, byte by byte: few reads meet a part of a store in flight.
     #[cold]
     fn overlaid(&self, addr: u32) -> Option<u32>
         requires { IsSome (word_of (with_effects self.now.view.now self.now.ahead.now.ring) addr) }
@@ -47,35 +57,6 @@ impl Flight<'_> {
             self.byte(addr + 3)?,
         ]))
     }
-
-    // Whether no older entry stores a byte of the word at an address.
-    #[tactic(auto, using(crate::proofs::Reading::apart_parts))]
-    fn is_apart(&self, addr: u32) -> bool
-        ensures { IsTrue result → list_all (λ e. is_apart e addr 4) (map (λ x. x.effect) (take self.now.at self.now.window.now)) ≡ true }
-    {
-        let (front, back) = self.window.before(self.at);
-        are_apart(front, addr) && are_apart(back, addr)
-    }
-}
-
-// Whether none of some entries stores a byte of the word at an address.
-fn are_apart(entries: &[Entry], addr: u32) -> bool
-    ensures { result ≡ list_all (λ e. is_apart e.effect addr 4) entries.now }
-{
-    entries.iter().all(|entry| is_apart(&entry.effect, addr, 4))
-}
-
-// The byte that the youngest store of some entries has for an address, or else the one that memory has.
-#[tactic(auto, using(crate::proofs::Reading::effects_next))]
-fn youngest(entries: &[Entry], addr: u32, byte: u8) -> u8
-    ensures { (s : State) → byte_of s addr ≡ Some byte
-        → byte_of (with_effects s (map (λ x. x.effect) entries.now)) addr ≡ Some result }
-{
-    let mut youngest = byte;
-    for entry in entries {
-        youngest = byte_in(&entry.effect, addr).unwrap_or(youngest);
-    }
-    youngest
 }
 
 impl Look for Flight<'_> {
@@ -94,9 +75,13 @@ impl Look for Flight<'_> {
     }
 
     fn byte(&self, addr: u32) -> Option<u8> {
-        let byte = self.ahead.ring().byte(self.view, addr)?;
-        let (front, back) = self.window.before(self.at);
-        Some(youngest(back, addr, youngest(front, addr, byte)))
+        let mut byte = self.ahead.ring().byte(self.view, addr)?;
+        let mut from = 0;
+        while let Some(place) = self.window.next_store(from, self.at) {
+            byte = byte_in(&self.window.entry(place).effect, addr).unwrap_or(byte);
+            from = place + 1;
+        }
+        Some(byte)
     }
 
     fn word(&self, addr: u32) -> Option<u32> {

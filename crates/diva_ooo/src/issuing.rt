@@ -2,7 +2,8 @@
 ghost use Rattle.std.specs.Prelude.{◌≡◌, ◌<◌, length, slice_get, slice_set, take, IfSome, Some, true};
 ghost use Rattle.std.specs.Option.{option_and_then};
 ghost use Rattle.diva_decode.specs.Table.{HasRegisters, row_of};
-ghost use Rattle.diva_isa.specs.Step.{HasRegister, fetched};
+ghost use Rattle.diva_isa.specs.Step.{HasRegister, fetched, going, whole};
+ghost use Rattle.diva_isa.specs.declared.effect.Effect.TheVariants.{Writes};
 ghost use Rattle.diva_ahead.specs.Effects.{done_by};
 ghost use Rattle.diva_ooo.specs.declared.entry.Entry.{Entry};
 ghost use Rattle.diva_ooo.specs.Issue.{is_waiting, issued, started};
@@ -12,7 +13,9 @@ use crate::window::Window;
 use diva_ahead::Ahead;
 use diva_core::View;
 use diva_decode::Instr;
-use diva_isa::{Effect, Look, Record, address, effect_by, finish, sources};
+use diva_isa::{
+    Effect, Kind, Look, Operands, Record, address, alu, effect_by, finish, kind_of, sources,
+};
 
 /// At most two waiting entries begin to run, oldest first.
 pub(crate) fn issue(window: &mut Window, ahead: &Ahead, view: &View<'_>)
@@ -30,7 +33,7 @@ pub(crate) fn issue(window: &mut Window, ahead: &Ahead, view: &View<'_>)
 }
 
 // Begins to run the entry at a place, which waits.
-#[tactic(auto, using(crate::proofs::Knowing::decoded_kept), unfolding(crate::specs::Issue::started))]
+#[tactic(auto, unfolding(crate::specs::Issue::started))]
 fn begin_at(window: &mut Window, at: usize, ahead: &Ahead, view: &View<'_>)
     requires place { at < length window.old }
     requires waits { (e : Entry) → slice_get window.old at ≡ Some e → is_waiting e.stage ≡ true }
@@ -46,9 +49,68 @@ fn begin_at(window: &mut Window, at: usize, ahead: &Ahead, view: &View<'_>)
         at,
         view,
     };
-    let result = record_by(&flight, entry.word, entry.decoded);
-    let effect = effect_at(entry.decoded, &result);
+    let Begun { result, effect } = run(&flight, entry.word, entry.decoded);
     window.begin(at, result, effect);
+}
+
+// What an instruction comes to: its record, and what that does besides moving the pc.
+struct Begun {
+    result: Record,
+    effect: Effect,
+}
+
+// What a word comes to that was fetched already, if there is one; `decoded` is what it says.
+#[inline(always)]
+#[tactic(auto, using(crate::proofs::Knowing::decoded_kept))]
+fn run<L: Look>(state: &L, word: Option<u32>, decoded: Option<Instr>) -> Begun
+    requires decoded { decoded ≡ option_and_then row_of word }
+    requires registers { IfSome decoded HasRegisters }
+    ensures record { result.result ≡ fetched (L.shows state.now) word }
+    ensures effect { result.effect ≡ done_by result.result }
+    ensures register { HasRegister result.effect }
+{
+    if let (Some(word), Some(i)) = (word, decoded) {
+        // The kinds that programs have most of are told apart first: what is done for such a kind is then one piece.
+        match kind_of(i.op) {
+            Kind::Immediate => {
+                let first = state.reg(i.rs1);
+                let read = Operands { first, second: 0 };
+                let value = alu(i.op, first, i.imm.cast_unsigned());
+                return computed(state.pc(), word, read, i.rd, value);
+            }
+            Kind::Register => {
+                let read = state.operands(i.rs1, i.rs2);
+                let value = alu(i.op, read.first, read.second);
+                return computed(state.pc(), word, read, i.rd, value);
+            }
+            _ => {}
+        }
+    }
+    let result = record_by(state, word, decoded);
+    let effect = effect_at(decoded, &result);
+    Begun { result, effect }
+}
+
+// What an operation comes to that puts a value into a register.
+#[inline(always)]
+fn computed(pc: u32, word: u32, read: Operands, rd: u8, value: u32) -> Begun
+    ensures { result ≡ record {
+      result = whole pc word read.first read.second 0 (going pc value);
+      effect = Writes rd value;
+    } }
+{
+    let result = Record {
+        pc,
+        word,
+        src1: read.first,
+        src2: read.second,
+        addr: 0,
+        value,
+        next: pc.wrapping_add(4),
+        end: 0,
+    };
+    let effect = Effect::Writes { rd, value };
+    Begun { result, effect }
 }
 
 // What a record does besides moving the pc; `decoded` is what its word says.

@@ -1,5 +1,5 @@
 // Sets of entries.
-ghost use Rattle.std.specs.Prelude.{◌≡◌, ◌==◌, ◌&&◌, ◌||◌, ◌<◌, ◌≤◌, ℕ, nat_le, not, false, true, IfSome, IsNone, if◌then◌else◌};
+ghost use Rattle.std.specs.Prelude.{◌≡◌, ◌==◌, ◌&&◌, ◌||◌, ◌<◌, ◌≤◌, ◌+◌, ℕ, nat_le, nat_lt, not, false, true, IfSome, IsNone, if◌then◌else◌};
 ghost use Rattle.std.specs.Int.{bit_at};
 ghost use Rattle.diva_ooo.specs.MarkSets.{IsLast, IsNext, has};
 
@@ -60,6 +60,25 @@ impl MarkSet {
     {
         MarkSet {
             bits: without_all(self.bits, high_bits(others.bits, from)),
+        }
+    }
+
+    /// The marks below one.
+    pub(crate) fn below(self, end: usize) -> MarkSet
+        requires { end < 64 }
+        ensures { (i : ℕ) → has result i ≡ (if nat_lt i end then has self i else false) }
+    {
+        MarkSet {
+            bits: self.bits & ((1 << end) - 1),
+        }
+    }
+
+    /// The marks from 32 on, each of them lower by 32.
+    pub(crate) fn lowered(self) -> MarkSet
+        ensures { (i : ℕ) → has result i ≡ has self (32 + i) }
+    {
+        MarkSet {
+            bits: self.bits >> 32,
         }
     }
 

@@ -1,8 +1,9 @@
 // The instructions under way, in program order.
-ghost use Rattle.std.specs.Prelude.{◌≡◌, ◌≤◌, ◌<◌, ◌+◌, ◌-◌, [], ◌∷◌, ◌++◌, length, drop, take, IfOk, Some, slice_get, slice_index, slice_set, true};
+ghost use Rattle.std.specs.Prelude.{◌≡◌, ◌≤◌, ◌<◌, ◌+◌, ◌-◌, ℕ, false, [], ◌∷◌, ◌++◌, length, drop, take, IfOk, IfSome, IsNone, Some, slice_get, slice_index, slice_set, true};
 ghost use Rattle.std.specs.List.{All, position_or_len};
 ghost use Rattle.diva_ooo.specs.declared.entry.Stage.TheVariants.{Done, Running};
-ghost use Rattle.diva_ooo.specs.Board.{IsBoard, can_at, passed};
+ghost use Rattle.diva_core.specs.Cycle.{is_store};
+ghost use Rattle.diva_ooo.specs.Board.{IsBoard, IsNextOf, can_at, passed};
 ghost use Rattle.diva_ooo.specs.Finish.{is_running};
 ghost use Rattle.diva_ooo.specs.Issue.{is_done, is_waiting, running, written};
 ghost use Rattle.diva_ooo.specs.Known.{IsKnown};
@@ -11,6 +12,7 @@ ghost use Rattle.diva_ooo.specs.MarkSets.{holds_at};
 use crate::board::Board;
 use crate::entry::{Entry, Stage};
 use circular_buffer::HeapCircularBuffer;
+use diva_ahead::is_store;
 use diva_isa::{Effect, Record, Regs};
 use std::alloc::{AllocError, Global};
 use std::marker::Model;
@@ -73,18 +75,19 @@ impl Window {
         self.entries.get(at).unwrap()
     }
 
-    /// The entries before a place, in two parts that follow one another.
+    /// The place of the first entry whose result stores, from a place on and before another.
     #[inline]
-    #[tactic(auto, using(crate::proofs::Places::take_parts))]
-    pub(crate) fn before(&self, place: usize) -> (&[Entry], &[Entry])
-        requires { place ≤ length self.now }
-        ensures { result.0.now ++ result.1.now ≡ take place self.now }
+    pub(crate) fn next_store(&self, from: usize, end: usize) -> Option<usize>
+        requires from { from ≤ end }
+        requires end { end ≤ length self.now }
+        ensures some { IfSome result (λ n. IsNextOf (λ e. is_store e.effect) self.now from n × (n < end)) }
+        ensures below { IfSome result (λ n. n < 32) }
+        ensures none { IsNone result → (i : ℕ) → from ≤ i → i < end → holds_at (λ e. is_store e.effect) self.now i ≡ false }
     {
-        let (front, back) = self.entries.as_slices();
-        if place <= front.len() {
-            (&front[..place], &[])
-        } else {
-            (front, &back[..place - front.len()])
+        let _ = self.len();
+        match self.board.next_store(from) {
+            Some(place) if place < end => Some(place),
+            _ => None,
         }
     }
 
@@ -174,16 +177,17 @@ impl Window {
         entry.stage = Stage::Running(entry.profile.cycles);
         entry.result = r;
         entry.effect = effect;
-        self.board.begin(at);
+        self.board.begin(at, is_store(&effect));
     }
 
-    /// Adds the youngest entry. There is room for it.
+    /// Adds the youngest entry, which waits. There is room for it.
     pub(crate) fn push(&mut self, entry: Entry)
         requires room { length self.old < 32 }
         requires known { IsKnown entry }
+        requires waits { is_waiting entry.stage ≡ true }
         ensures { self.new ≡ self.old ++ entry ∷ [] }
     {
-        self.board.push(self.entries.len(), &entry);
+        self.board.push(self.entries.len(), &entry.profile);
         let _ = self.entries.try_push_back(entry);
     }
 
@@ -198,26 +202,18 @@ impl Window {
         }
         self.board.pop();
         if self.board.base == 32 {
-            renumber(&self.entries, &mut self.board);
+            self.board.renumber();
         }
     }
 
     /// Keeps the oldest `most`.
+    #[tactic(auto, using(crate::proofs::Places::take_all))]
     pub(crate) fn keep(&mut self, most: usize)
         ensures { self.new ≡ take most self.old }
     {
-        for _ in most..self.len() {
-            self.drop_youngest();
-        }
-    }
-
-    // Removes the youngest entry, if there is one.
-    fn drop_youngest(&mut self)
-        ensures { self.new ≡ take (length self.old - 1) self.old }
-    {
-        let _ = self.len();
-        if let Some(entry) = self.entries.pop_back() {
-            self.board.drop_youngest(self.entries.len(), &entry.profile);
+        if most < self.len() {
+            self.entries.truncate_back(most);
+            self.board.keep(most);
         }
     }
 
@@ -227,21 +223,6 @@ impl Window {
     {
         self.entries.clear();
         self.board = Board::new();
-    }
-}
-
-// Makes the board of some entries anew: so the mark of the oldest is 0 again.
-#[cold]
-#[inline(never)]
-fn renumber(entries: &HeapCircularBuffer<Entry>, board: &mut Board)
-    requires known { All IsKnown entries.now.items }
-    requires few { length entries.now.items ≤ 32 }
-    ensures board { IsBoard entries.now.items board.new }
-    ensures base { board.new.base ≡ 0 }
-{
-    *board = Board::new();
-    for at in 0..entries.len() {
-        board.push(at, entries.get(at).unwrap());
     }
 }
 

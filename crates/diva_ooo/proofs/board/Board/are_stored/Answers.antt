@@ -1,5 +1,5 @@
 use Rattle.std.proofs.Common.{refl}
-use Rattle.diva_ooo.proofs.Boarding.{stored_at, stored_free}
+use Rattle.diva_ooo.proofs.Asking.{stored_at, stored_free}
 use Rattle.diva_ooo.proofs.board.Board.are_stored.Goals as goal
 
 pub returns-in-Some : goal.returns-in-Some

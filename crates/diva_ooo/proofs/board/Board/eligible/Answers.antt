@@ -1,4 +1,4 @@
-use Rattle.diva_ooo.proofs.Boarding.{eligible_all, eligible_but, eligible_but_waits, eligible_waits}
+use Rattle.diva_ooo.proofs.Asking.{eligible_all, eligible_but, eligible_but_waits, eligible_waits}
 use Rattle.diva_ooo.proofs.board.Board.eligible.Goals as goal
 
 pub returns-in-Some-clause-waiting : goal.returns-in-Some-clause-waiting

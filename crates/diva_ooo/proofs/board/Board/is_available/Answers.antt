@@ -1,7 +1,7 @@
 use Rattle.std.proofs.Common.{ℕ, refl, subst, ◌∙◌, ◌+◌, get_or}
 use Rattle.diva_ooo.specs.Board.{no_mark}
 use Rattle.diva_ooo.specs.MarkSets.{IsLast}
-use Rattle.diva_ooo.proofs.Boarding.{available_at, available_free}
+use Rattle.diva_ooo.proofs.Asking.{available_at, available_free}
 use Rattle.diva_ooo.proofs.board.Board.is_available.Goals as goal
 
 pub returns-in-Some : goal.returns-in-Some

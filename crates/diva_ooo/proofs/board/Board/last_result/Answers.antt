@@ -1,6 +1,6 @@
 use Rattle.std.proofs.Common.{refl}
 use Rattle.diva_ooo.specs.Board.{has_result}
-use Rattle.diva_ooo.proofs.Boarding.{last_none_of, last_of, last_old_of, results_those}
+use Rattle.diva_ooo.proofs.Asking.{last_none_of, last_of, last_old_of, results_those}
 use Rattle.diva_ooo.proofs.board.Board.last_result.Goals as goal
 
 pub returns-in-Some-clause-some : goal.returns-in-Some-clause-some

@@ -1,4 +1,5 @@
 use Rattle.std.proofs.Common.{arith, refl}
+use Rattle.diva_core.specs.Cycle.{is_store}
 use Rattle.diva_ooo.specs.Board.{is_load, is_open_store, reads, writes}
 use Rattle.diva_ooo.specs.Finish.{is_running}
 use Rattle.diva_ooo.specs.Issue.{is_done, is_waiting}
@@ -15,6 +16,7 @@ returns-clause-board c =
       done = those_none (λ e. is_done e.stage) 0;
       gone = λ i h. absurd (omega arith);
       storing = those_none is_open_store 0;
+      stored = those_none (λ e. is_store e.effect) 0;
       loads = those_none is_load 0;
       candidates = λ i none. refl;
       write_sets = refl;

@@ -1,5 +1,5 @@
 use Rattle.std.proofs.Common.{◌+◌, arith, refl}
-use Rattle.diva_ooo.proofs.Boarding.{candidate_of}
+use Rattle.diva_ooo.proofs.Asking.{candidate_of}
 use Rattle.diva_ooo.proofs.board.Board.next_candidate.Goals as goal
 
 pub returns-in-Some-clause-some : goal.returns-in-Some-clause-some

@@ -1,6 +1,6 @@
 use Rattle.std.proofs.Common.{refl}
 use Rattle.diva_ooo.specs.Finish.{is_running}
-use Rattle.diva_ooo.proofs.Boarding.{next_of, none_of}
+use Rattle.diva_ooo.proofs.Asking.{next_of, none_of}
 use Rattle.diva_ooo.proofs.board.Board.next_running.Goals as goal
 
 pub returns-in-Some-clause-some : goal.returns-in-Some-clause-some

@@ -1,7 +1,8 @@
-use Rattle.std.proofs.Common.{◌≡◌, None, Some, sym, rules, take}
+use Rattle.std.proofs.Common.{◌≡◌, None, Some, arith, sym, ap, ◌∙◌, rules, take, refl, List}
 use Rattle.diva_isa.specs.State.{byte_of}
+use Rattle.diva_isa.specs.declared.effect.Effect.{Effect}
 use Rattle.diva_core.specs.Effects.{with_effects}
-use Rattle.diva_ooo.proofs.Reading.{byte_parts, effects, older_none}
+use Rattle.diva_ooo.proofs.Reading.{byte_next, byte_quiet, effects, none_yet, older_none}
 use Rattle.diva_ooo.proofs.flight.FlightLook.byte.Goals as goal
 
 pub returns-in_err-byte : goal.returns-in_err-byte
@@ -10,11 +11,29 @@ returns-in_err-byte c =
     let outside : byte_of (with_effects f.view.now f.ahead.now.ring) c.args.addr ≡ None = search rules in
     rw c.from_residual.ensures (sym (older_none f.view.now f.ahead.now.ring (effects (take f.at f.window.now)) c.args.addr outside))
 
+pub loop-place-init : goal.loop-place-init
+loop-place-init c =
+    let f = c.args.self.now in
+    let here : byte_of (with_effects f.view.now f.ahead.now.ring) c.args.addr ≡ Some c.in_ok-byte.byte = search rules in
+    record { seen = ap (λ (es : List Effect). byte_of (with_effects f.view.now es) c.args.addr) (none_yet f.ahead.now.ring f.window.now) ∙ here; within = omega arith }
+
+pub overflow_add-from : goal.overflow_add-from
+overflow_add-from c =
+    let below = c.in-Some.ensures.below in
+    omega arith
+
+pub loop-place-preserved : goal.loop-place-preserved
+loop-place-preserved c =
+    let f = c.args.self.now in
+    let next = c.in-Some.ensures.some in
+    let before = next.1 in
+    let quiet = byte_quiet f.view.now f.ahead.now.ring f.window.now c.loop-place.from c.in-Some.place c.args.addr c.loop-place.byte next.0.behind (λ i h k. next.0.first i h k) c.loop-place.invariant.seen in
+    record {
+      seen = rw (c.unwrap_or-byte.ensures, c.byte_in.ensures) (byte_next f.view.now f.ahead.now.ring f.window.now c.in-Some.place c.entry.result.now c.args.addr c.loop-place.byte c.entry.ensures.value quiet);
+      within = omega arith;
+    }
+
 pub returns : goal.returns
 returns c =
     let f = c.args.self.now in
-    let here : byte_of (with_effects f.view.now f.ahead.now.ring) c.args.addr ≡ Some c.in_ok-byte.byte = search rules in
-    let ring = with_effects f.view.now f.ahead.now.ring in
-    let front = c.before-2.result.0.now in
-    let back = c.before-2.result.1.now in
-    sym (byte_parts f.view.now f.ahead.now.ring front back (take f.at f.window.now) c.args.addr c.youngest-2.result c.before-2.ensures (c.youngest-2.ensures (with_effects ring (effects front)) (c.youngest.ensures ring here)))
+    sym (byte_quiet f.view.now f.ahead.now.ring f.window.now c.loop-place.from f.at c.args.addr c.loop-place.byte c.loop-place.invariant.within (λ i h k. c.in_default.ensures.none refl i h k) c.loop-place.invariant.seen)

@@ -10,7 +10,7 @@ invariant_of-self c =
     let e = c.unwrap-entry.result.now in
     let here : slice_get w c.args.at ≡ Some e = search rules in (
       c.self.invariant.0,
-      known_staged w c.args.at e (Running c.args.left) here c.self.invariant.1,
-      board_runs w c.args.at e (record e { stage = Running c.args.left }) c.self.inside.board c.self.invariant.2 here (c.requires.runs e (rw (← c.self.view_is) here)) refl refl,
+      known_staged w c.args.at e (Running c.args.left) here refl c.self.invariant.1,
+      board_runs w c.args.at e (record e { stage = Running c.args.left }) c.self.inside.board c.self.invariant.2 here (c.requires.runs e (rw (← c.self.view_is) here)) refl refl refl,
       c.self.invariant.3,
     )

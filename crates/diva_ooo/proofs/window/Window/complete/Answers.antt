@@ -16,7 +16,7 @@ invariant_of-self c =
     let e = c.unwrap-entry.result.now in
     let here : slice_get w c.args.at ≡ Some e = search rules in (
       c.self.invariant.0,
-      known_staged w c.args.at e Done here c.self.invariant.1,
-      c.complete.ensures.board w e (record e { stage = Done }) c.self.invariant.2 here (c.requires.runs e (rw (← c.self.view_is) here)) refl refl refl,
+      known_staged w c.args.at e Done here refl c.self.invariant.1,
+      c.complete.ensures.board w e (record e { stage = Done }) c.self.invariant.2 here (c.requires.runs e (rw (← c.self.view_is) here)) refl refl refl refl,
       rw c.complete.ensures.base c.self.invariant.3,
     )

@@ -4,16 +4,16 @@ use Rattle.diva_ooo.specs.Known.{IsKnown}
 use Rattle.diva_ooo.proofs.Windowing.{popped}
 use Rattle.diva_ooo.proofs.window.Window.pop.Goals as goal
 
-pub renumber-requires-clause-known : goal.renumber-requires-clause-known
-renumber-requires-clause-known c = rw c.pop_front.ensures.items (All-drop IsKnown 1 c.self.inside.entries.items c.self.invariant.1)
-
 pub invariant_of-self-then-self-eq32 : goal.invariant_of-self-then-self-eq32
-invariant_of-self-then-self-eq32 c = (
-  rw c.pop_front.ensures.items c.self.invariant.0,
-  rw c.pop_front.ensures.items (All-drop IsKnown 1 c.self.inside.entries.items c.self.invariant.1),
-  c.renumber.ensures.board,
-  rw c.renumber.ensures.base (omega arith),
-)
+invariant_of-self-then-self-eq32 c =
+    let w = c.self.inside.entries.items in (
+      rw c.pop_front.ensures.items c.self.invariant.0,
+      rw c.pop_front.ensures.items (All-drop IsKnown 1 w c.self.invariant.1),
+      rw c.pop_front.ensures.items
+          (c.renumber.ensures.board _
+          (popped w c.pop_front.result c.self.inside.board c.pop.new.self c.pop_front.ensures.value c.if-is_none.ensures c.self.invariant.2 (λ e is. c.requires e (rw (← c.self.view_is) is)) c.pop.ensures.board)),
+      rw c.renumber.ensures.base (omega arith),
+    )
 
 pub invariant_of-self-else-self-eq32 : goal.invariant_of-self-else-self-eq32
 invariant_of-self-else-self-eq32 c =
