@@ -1,6 +1,6 @@
 -- Reads of memory that meet no store in flight.
 use Rattle.std.proofs.Common.{◌≡◌, ◌≤◌, ℕ, zero, suc, ◌+◌, ◌-◌, ◌^◌, ◌%◌, ◌==◌, List, [], ◌∷◌, Bool, true, false, ◌&&◌, ◌⊎◌, inl, inr, cond, refl, sym, ap, ◌∙◌, arith, subst, map, drop, slice_get, slice_set, Option, Some, None, if◌then◌else◌}
-use Rattle.std.specs.Prelude.{count_by}
+use Rattle.std.specs.Prelude.{count_by, IfSome}
 use Rattle.std.specs.List.{All, list_all}
 use Rattle.std.proofs.lemmas.Bool.Decides.{nat_tests}
 use Rattle.std.proofs.lemmas.List.Elements.{All-head, All-set, All-tail}
@@ -137,6 +137,11 @@ popped_store n entries e m h t = let all : n ≡ 1 + count_by may_store (drop 1 
 
 pub popped_other : (n : ℕ) (entries : List Entry) (e : Entry) → n ≡ count_by may_store entries → slice_get entries 0 ≡ Some e → has_store_opcode e.claim.word ≡ false → n ≡ count_by may_store (drop 1 entries)
 popped_other n entries e m h t = let all : n ≡ 0 + count_by may_store (drop 1 entries) = popped n false entries e m h t in omega arith
+
+-- what the table says of a word is its decoded form
+pub decoded_by : (word : ℕ) (form : Option Instr) → form ≡ row_of word → IfSome form (λ i. row_of word ≡ Some i)
+decoded_by word None h = tt
+decoded_by word (Some i) h = sym h
 
 -- the claim stays
 pub noted_count : (entries : List Entry) (at : ℕ) (e d : Entry) → slice_get entries at ≡ Some e → d.claim ≡ e.claim → count_by may_store (slice_set entries at d) ≡ count_by may_store entries

@@ -198,6 +198,18 @@ impl Pending {
         entry.verdict = verdict;
     }
 
+    /// Notes of the claim at a place (the oldest is at 0) what its word says.
+    #[inline(always)]
+    pub fn note_form(&mut self, at: usize)
+        requires { at < length self.old.items }
+        ensures items { (e : Entry) → slice_get self.old.items at ≡ Some e
+            → self.new.items ≡ slice_set self.old.items at (record e { decoded = row_of e.claim.word }) }
+        ensures capacity { self.new.capacity ≡ self.old.capacity }
+    {
+        let noted = self.entries.get_mut(at).unwrap();
+        noted.decoded = decode(noted.claim.word);
+    }
+
     /// Puts a claim behind the others, neither decoded nor checked yet.
     pub fn push(&mut self, claim: Claim, cycle: u64)
         requires { length self.old.items < self.old.capacity }

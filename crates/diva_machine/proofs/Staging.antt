@@ -3,7 +3,7 @@ use Rattle.std.proofs.Common.{◌≡◌, ◌≢◌, ℕ, zero, suc, ◌+◌, ◌
 use Rattle.std.specs.Prelude.{slice_set}
 use Rattle.std.proofs.lemmas.Bool.{true≢false, cases_lt, le-leb, lt-leb}
 use Rattle.std.proofs.lemmas.Bool.Decides.{eqb_tells}
-use Rattle.std.specs.Option.{is_some}
+use Rattle.std.specs.Option.{is_some, option_or}
 use Rattle.std.proofs.lemmas.List.{length-map}
 use Rattle.std.proofs.lemmas.Option.{none-some, same_Some}
 use Rattle.diva_decode.specs.Table.{row_of}
@@ -221,6 +221,31 @@ verdict_kept arch entries now at a e here found age other adv =
     (λ c. let k : IsChecked s a e = subst (λ (n : ℕ). IsChecked s n e) before c in
     subst (λ (n : ℕ). IsChecked s n e) (sym behind) (record { verdict = stays_found s e a found k.verdict; decoded = k.decoded ∙ sym (form_kept a e.claim.word other) }))
     adv
+
+-- what its stage answers of an entry is its verdict, unless it has one
+pub stage_noted :
+    (arch view : State) (entries new : List Entry) (now at a : ℕ) (e : Entry) (earlier : List Field) (own : Bool → List Field) (v : Option Diff)
+    → slice_get entries at ≡ Some e → new ≡ slice_set entries at (record e { verdict = option_or e.verdict v }) → view ≡ record arch { end = 0 } → now + 1 ≡ suc a + e.cycle → a ≢ 1
+    → Answers earlier own (before_entry view entries at) e.claim v
+    → (e.verdict ≡ None → (s : State) → Answers earlier own s e.claim v → HasVerdict s a e → HasVerdict s (suc a) (record e { verdict = v }))
+    → IsAdvanced arch now at entries → IsAdvanced arch now (at + 1) new
+stage_noted arch view entries new now at a e earlier own v here is shows age other answer found adv = by_verdict e.verdict refl
+  where
+    by_verdict : (w : Option Diff) → e.verdict ≡ w → IsAdvanced arch now (at + 1) new
+    by_verdict None p =
+        stage_passed arch view entries new now at a e earlier own v here (is ∙ ap (λ (w : Option Diff). slice_set entries at (record e { verdict = option_or w v })) p) shows age other answer (found p) adv
+    by_verdict (Some d) p =
+        let kept : new ≡ slice_set entries at e = is ∙ ap (λ (w : Option Diff). slice_set entries at (record e { verdict = option_or w v })) p ∙ ap (λ (w : Option Diff). slice_set entries at (record e { verdict = w })) (sym p) in
+        subst (λ (es : List Entry). IsAdvanced arch now (at + 1) es) (sym (kept ∙ set_same entries at e here)) (verdict_kept arch entries now at a e here (ap is_some p) age other adv)
+
+-- the first of two verdicts, where one is known
+pub or_none : (w : Option Diff) → option_or w None ≡ w
+or_none None = refl
+or_none (Some d) = refl
+
+pub or_first : (w v : Option Diff) → is_some w ≡ true → option_or w v ≡ w
+or_first None v h = absurd (true≢false (sym h))
+or_first (Some d) v h = refl
 
 -- it is past the last stage
 pub past_kept : (arch : State) (entries : List Entry) (now at : ℕ) (e : Entry) → slice_get entries at ≡ Some e → e.cycle + 5 ≤ now → IsAdvanced arch now at entries → IsAdvanced arch now (at + 1) entries

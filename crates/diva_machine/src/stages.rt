@@ -1,5 +1,6 @@
 // The checker's stages: what a pending claim passes through at each age, and what the solo instruction does.
 ghost use Rattle.std.specs.Prelude.{◌≡◌, ◌≤◌, ◌<◌, ◌+◌, ◌-◌, ℕ, length, map, None, Some, slice_get, slice_set};
+ghost use Rattle.std.specs.Option.{option_or};
 ghost use Rattle.diva_decode.specs.Table.{row_of};
 ghost use Rattle.diva_core.specs.declared.pending.Entry.{Entry};
 ghost use Rattle.diva_core.specs.Older.{before_entry};
@@ -9,7 +10,6 @@ ghost use Rattle.diva_machine.specs.Staged.{IsAdvanced, IsFilled};
 
 use crate::arch::Arch;
 use diva_core::{Diff, Field, Pending, View};
-use diva_decode::decode;
 use diva_execchk::is_memory;
 use diva_isa::Record;
 
@@ -30,15 +30,9 @@ pub(crate) fn pass(pending: &mut Pending, at: usize, arch: &Arch, age: u64)
         → IsAdvanced arch.now.state now at pending.old.items
         → IsAdvanced arch.now.state now (at + 1) pending.new.items }
 {
-    if age == 2 {
-        note_form(pending, at);
-        return;
-    }
-    if pending.at(at).verdict.is_some() {
-        return;
-    }
     match age {
         1 => note(pending, at, diva_fetchchk::check(pending, at, &arch.view())),
+        2 => note_form(pending, at),
         3 => note(pending, at, diva_opchk::check(pending, at, &arch.view())),
         4 => note(pending, at, diva_execchk::check(pending, at, &arch.view())),
         LAST_STAGE => note(pending, at, check_memory(pending, at, arch)),
@@ -77,18 +71,16 @@ fn note_form(pending: &mut Pending, at: usize)
     ensures waits { map waiting_of pending.new.items ≡ map waiting_of pending.old.items }
     ensures capacity { pending.new.capacity ≡ pending.old.capacity }
 {
-    let entry = pending.at(at);
-    let (form, verdict) = (decode(entry.claim.word), entry.verdict);
-    pending.set(at, form, verdict);
+    let _ = pending.at(at);
+    pending.note_form(at);
 }
 
-/// Gives the claim at a place, which has no verdict so far, what its stage found.
+/// Gives the claim at a place what its stage found, unless an earlier stage found a difference: that one stays.
 #[inline(always)]
 fn note(pending: &mut Pending, at: usize, found: Option<Diff>)
-    requires place { at < length pending.old.items }
-    requires open { (e : Entry) → slice_get pending.old.items at ≡ Some e → e.verdict ≡ None }
+    requires { at < length pending.old.items }
     ensures items { (e : Entry) → slice_get pending.old.items at ≡ Some e
-        → pending.new.items ≡ slice_set pending.old.items at (record e { verdict = found }) }
+        → pending.new.items ≡ slice_set pending.old.items at (record e { verdict = option_or e.verdict found }) }
     ensures waits { map waiting_of pending.new.items ≡ map waiting_of pending.old.items }
     ensures capacity { pending.new.capacity ≡ pending.old.capacity }
 {
@@ -102,12 +94,16 @@ fn note(pending: &mut Pending, at: usize, found: Option<Diff>)
 fn note_difference(pending: &mut Pending, at: usize, field: Field, claimed: u32, due: u32)
     requires { at < length pending.old.items }
     ensures items { (e : Entry) → slice_get pending.old.items at ≡ Some e
-        → pending.new.items
-        ≡ slice_set pending.old.items at (record e { verdict = Some (record { field = field; claimed = claimed; due = due }) }) }
+        → pending.new.items ≡ slice_set pending.old.items at
+        (record e { verdict = option_or e.verdict (Some (record { field = field; claimed = claimed; due = due })) }) }
     ensures waits { map waiting_of pending.new.items ≡ map waiting_of pending.old.items }
     ensures capacity { pending.new.capacity ≡ pending.old.capacity }
 {
-    let form = pending.at(at).decoded;
+    let entry = pending.at(at);
+    if entry.verdict.is_some() {
+        return;
+    }
+    let form = entry.decoded;
     pending.set(at, form, Some(Diff::new(field, claimed, due)));
 }
 

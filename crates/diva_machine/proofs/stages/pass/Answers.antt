@@ -1,46 +1,32 @@
-use Rattle.std.proofs.Common.{◌-◌, [], refl, sym, ap, ◌∙◌, arith}
-use Rattle.std.specs.Option.{is_some}
-use Rattle.std.proofs.lemmas.Option.{same_Some}
-use Rattle.diva_core.specs.declared.pending.Entry.{Entry}
+use Rattle.std.proofs.Common.{◌-◌, [], refl, arith}
 use Rattle.diva_core.specs.Stages.{fetch_fields, operand_fields, read_fields, execute_fields, address_fields, memory_fields}
 use Rattle.diva_machine.proofs.Verdicts.{found_fetch, found_operands, found_execute, found_memory}
-use Rattle.diva_machine.proofs.Staging.{decode_passed, open_at, past_kept, stage_passed, verdict_kept}
+use Rattle.diva_machine.proofs.Staging.{decode_passed, past_kept, stage_noted}
 use Rattle.diva_machine.proofs.stages.pass.Goals as goal
-
-pub returns-then-age-eq2-clause-advanced : goal.returns-then-age-eq2-clause-advanced
-returns-then-age-eq2-clause-advanced c = λ now e here age adv.
-    decode_passed _ _ _ now c.args.at e here (c.note_form.ensures.items e here) (let two = c.if-age-eq2.true in omega arith) adv
-
-pub returns-then-is_some-clause-advanced : goal.returns-then-is_some-clause-advanced
-returns-then-is_some-clause-advanced c = λ now e here age adv.
-    let found = ap (λ (x : Entry). is_some x.verdict) (same_Some _ _ (sym here ∙ c.at.ensures.value)) ∙ sym c.is_some.ensures ∙ c.if-is_some.true in
-    let some = c.requires.age in
-    let other = c.if-age-eq2.false in
-    verdict_kept _ _ now c.args.at (c.args.age - 1) e here found (omega arith) (λ one. other (omega arith)) adv
 
 pub returns-in-1-clause-advanced : goal.returns-in-1-clause-advanced
 returns-in-1-clause-advanced c = λ now e here age adv.
-    let none = open_at _ c.args.at e c.at.result.now c.at.ensures.value (sym c.is_some.ensures ∙ c.if-is_some.false) here in
-    stage_passed _ _ _ _ now c.args.at 0 e [] (λ memory. fetch_fields) _ here (c.note.ensures.items e here) c.view.ensures (let is = c.in-1.is in omega arith) (λ z. omega arith) (c.check.ensures e here)
-    (λ s. found_fetch s e _ none) adv
+    stage_noted _ _ _ _ now c.args.at 0 e [] (λ memory. fetch_fields) _ here (c.note.ensures.items e here) c.view.ensures (let is = c.in-1.is in omega arith) (λ z. omega arith) (c.check.ensures e here)
+    (λ none s. found_fetch s e _ none) adv
+
+pub returns-in-2-clause-advanced : goal.returns-in-2-clause-advanced
+returns-in-2-clause-advanced c = λ now e here age adv.
+    decode_passed _ _ _ now c.args.at e here (c.note_form.ensures.items e here) (let is = c.in-2.is in omega arith) adv
 
 pub returns-in-3-clause-advanced : goal.returns-in-3-clause-advanced
 returns-in-3-clause-advanced c = λ now e here age adv.
-    let none = open_at _ c.args.at e c.at.result.now c.at.ensures.value (sym c.is_some.ensures ∙ c.if-is_some.false) here in
-    stage_passed _ _ _ _ now c.args.at 2 e fetch_fields (λ memory. operand_fields) _ here (c.note-in-3.ensures.items e here) c.view-in-3.ensures (let is = c.in-3.is in omega arith) (λ z. omega arith) (c.check-in-3.ensures e here)
-    (λ s. found_operands s e _ none) adv
+    stage_noted _ _ _ _ now c.args.at 2 e fetch_fields (λ memory. operand_fields) _ here (c.note-in-3.ensures.items e here) c.view-in-3.ensures (let is = c.in-3.is in omega arith) (λ z. omega arith) (c.check-in-3.ensures e here)
+    (λ none s. found_operands s e _ none) adv
 
 pub returns-in-4-clause-advanced : goal.returns-in-4-clause-advanced
 returns-in-4-clause-advanced c = λ now e here age adv.
-    let none = open_at _ c.args.at e c.at.result.now c.at.ensures.value (sym c.is_some.ensures ∙ c.if-is_some.false) here in
-    stage_passed _ _ _ _ now c.args.at 3 e read_fields execute_fields _ here (c.note-in-4.ensures.items e here) c.view-in-4.ensures (let is = c.in-4.is in omega arith) (λ z. omega arith) (c.check-in-4.ensures e here)
-    (λ s. found_execute s e _ none) adv
+    stage_noted _ _ _ _ now c.args.at 3 e read_fields execute_fields _ here (c.note-in-4.ensures.items e here) c.view-in-4.ensures (let is = c.in-4.is in omega arith) (λ z. omega arith) (c.check-in-4.ensures e here)
+    (λ none s. found_execute s e _ none) adv
 
 pub returns-in-5-clause-advanced : goal.returns-in-5-clause-advanced
 returns-in-5-clause-advanced c = λ now e here age adv.
-    let none = open_at _ c.args.at e c.at.result.now c.at.ensures.value (sym c.is_some.ensures ∙ c.if-is_some.false) here in
-    stage_passed _ _ _ _ now c.args.at 4 e address_fields memory_fields _ here (c.note-in-5.ensures.items e here) refl (let is = c.in-5.is in omega arith) (λ z. omega arith) (c.check_memory.ensures e here)
-    (λ s. found_memory s e _ none) adv
+    stage_noted _ _ _ _ now c.args.at 4 e address_fields memory_fields _ here (c.note-in-5.ensures.items e here) refl (let is = c.in-5.is in omega arith) (λ z. omega arith) (c.check_memory.ensures e here)
+    (λ none s. found_memory s e _ none) adv
 
 pub returns-in_default-clause-advanced : goal.returns-in_default-clause-advanced
 returns-in_default-clause-advanced c = λ now e here age adv. past_kept _ _ now c.args.at e here (omega arith) adv
