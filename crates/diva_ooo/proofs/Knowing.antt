@@ -1,12 +1,12 @@
 -- What is known of the entries of a window.
-use Rattle.std.proofs.Common.{◌≡◌, ℕ, zero, suc, [], ◌∷◌, subst, List, Option, Some, None, refl, slice_get, false, ap, sym, ◌∙◌}
+use Rattle.std.proofs.Common.{◌≡◌, ℕ, zero, suc, [], ◌∷◌, subst, List, Option, Some, None, refl, slice_get, IfSome, false, sym, ◌∙◌}
 use Rattle.std.proofs.lemmas.Bool.{true≢false}
 use Rattle.std.specs.Prelude.{slice_set}
 use Rattle.std.specs.Option.{option_and_then}
 use Rattle.std.specs.List.{All}
 use Rattle.std.proofs.lemmas.List.Elements.{All-set, All-head, All-tail}
 use Rattle.diva_decode.specs.declared.instr.Instr.{Instr}
-use Rattle.diva_decode.specs.Table.{row_of}
+use Rattle.diva_decode.specs.Table.{HasRegisters, row_of}
 use Rattle.diva_isa.specs.State.{State}
 use Rattle.diva_isa.specs.Kind.{kind}
 use Rattle.diva_isa.specs.declared.kind.Kind.TheVariants.{Immediate, Register}
@@ -17,11 +17,10 @@ use Rattle.diva_isa.specs.declared.record.Record.{Record}
 use Rattle.diva_ahead.specs.Effects.{done_by}
 use Rattle.diva_ooo.specs.declared.entry.Entry.{Entry}
 use Rattle.diva_ooo.specs.declared.entry.Stage.{Stage}
-use Rattle.diva_ooo.specs.declared.entry.Stage.TheVariants.{Waiting}
-use Rattle.diva_ooo.specs.declared.decoder.Decoded.{Decoded}
-use Rattle.diva_ooo.specs.Known.{IsDecoded, IsKnown}
+use Rattle.diva_ooo.specs.Known.{IsKnown, HasSources}
 use Rattle.diva_ooo.specs.Issue.{is_waiting, running}
-use Rattle.diva_ooo.specs.Ooo.{blank}
+use Rattle.diva_ooo.specs.Ooo.{new_entry, blank}
+use Rattle.diva_ooo.specs.Profile.{profile_of}
 
 pub known_at : (w : List Entry) (at : ℕ) (e : Entry) → slice_get w at ≡ Some e → All IsKnown w → IsKnown e
 known_at [] at e is all = absurd (cc)
@@ -40,10 +39,9 @@ unfolding done_by row_of
 blank_does = refl
 
 -- an entry that was fetched
-pub known_new : (pc predicted : ℕ) (word : Option ℕ) (d : Decoded) → d.word ≡ word → IsDecoded d
-    → IsKnown (record { pc = pc; word = word; decoded = d.form; profile = d.profile; predicted = predicted; stage = Waiting; result = blank; effect = Nothing })
-known_new pc predicted word d is i =
-    record { decoded = i.form ∙ ap (option_and_then row_of) is; registers = i.registers; sources = i.sources; effect = blank_does; register = search; fresh = λ waits. refl }
+pub known_new : (pc : ℕ) (word : Option ℕ) (decoded : Option Instr) → decoded ≡ option_and_then row_of word → IfSome decoded HasRegisters → HasSources (profile_of decoded) → IsKnown (new_entry pc word decoded)
+known_new pc word decoded is registers sources =
+    record { decoded = is; registers = registers; sources = sources; effect = blank_does; register = search; fresh = λ waits. refl }
 
 -- what the word of a record says
 pub decoded_kept : (s : State) (word : Option ℕ) (decoded : Option Instr) → decoded ≡ option_and_then row_of word → decoded ≡ row_of (fetched s word).word

@@ -5,11 +5,9 @@ use Rattle.diva_decode.specs.Table.{HasRegisters, row_of}
 use Rattle.diva_isa.specs.Step.{HasRegister}
 use Rattle.diva_core.specs.Cycle.{is_store}
 use Rattle.diva_ahead.specs.Effects.{done_by}
-use Rattle.diva_ooo.specs.declared.decoder.Decoded.{Decoded}
 use Rattle.diva_ooo.specs.declared.entry.Entry.{Entry}
 use Rattle.diva_ooo.specs.declared.profile.Profile.{Profile}
 use Rattle.diva_ooo.specs.Issue.{is_waiting}
-use Rattle.diva_ooo.specs.Profile.{profile_of}
 
 -- its registers are below 32
 pub record HasSources (s : Profile) : Type 0 where
@@ -26,10 +24,3 @@ pub record IsKnown (e : Entry) : Type 0 where
   pub register : HasRegister e.effect
   -- one that waits has no result yet
   pub fresh : is_waiting e.stage ≡ true → is_store e.effect ≡ false
-
--- what a word says is noted, and what the core notes of that
-pub record IsDecoded (d : Decoded) : Type 0 where
-  pub form : d.form ≡ option_and_then row_of d.word
-  pub registers : IfSome d.form HasRegisters
-  pub profile : d.profile ≡ profile_of d.form
-  pub sources : HasSources d.profile

@@ -1,7 +1,6 @@
 //! A sample out-of-order core.
 //!
 //! - `profile`: what the core notes of an instruction that it fetches; `predicting`: where it fetches next;
-//! - `decoder`: what words say that were fetched, so that not each is decoded anew;
 //! - `entry`, `window`: the instructions under way, in program order;
 //! - `finishing`: what runs has one cycle less to run;
 //! - `board`: which of them are how far, and which registers they read and write; `mark_set`: sets of them;
@@ -15,7 +14,6 @@
 #![tactic(auto)]
 
 mod board;
-mod decoder;
 mod entry;
 mod finishing;
 mod flight;

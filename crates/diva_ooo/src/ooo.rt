@@ -6,15 +6,15 @@ ghost use Rattle.diva_isa.specs.State.{State};
 ghost use Rattle.diva_ahead.specs.Lead.{is_epoch};
 ghost use Rattle.diva_ooo.specs.Ooo.{IsOooCall, call_of, completed, dropped, fetched, fetching, handed_over, new_pipeline, ooo_call, restarted, with_issued, with_word, worked};
 
-use crate::decoder::{Decoded, Decoder};
 use crate::entry::{Entry, Stage};
 use crate::finishing::{Turn, finish};
 use crate::issuing::issue;
 use crate::predicting::predicted;
+use crate::profile::Profile;
 use crate::window::Window;
 use diva_ahead::Ahead;
 use diva_core::{Claims, Core, Told, View};
-use diva_isa::{Effect, Record, effect_of};
+use diva_isa::{Effect, Record, effect_of, form_of};
 use std::alloc::{AllocError, Global};
 use std::marker::Model;
 
@@ -27,7 +27,6 @@ pub struct Ooo {
     window: Window,
     fetch_pc: u32,
     dry: bool,
-    decoder: Decoder,
 }
 
 impl Model for Ooo {
@@ -61,7 +60,6 @@ impl Ooo {
             window: Window::new(alloc)?,
             fetch_pc: 0,
             dry: false,
-            decoder: Decoder::new(),
         })
     }
 
@@ -175,14 +173,14 @@ impl Ooo {
         ensures { self.new ≡ with_word self.old word (option_and_then row_of word) }
     {
         let pc = self.fetch_pc;
-        let Decoded { form, profile, .. } = self.decoder.read(pc, word);
-        self.fetch_pc = predicted(form, pc);
+        let decoded = form_of(word);
+        self.fetch_pc = predicted(decoded, pc);
         self.dry = word.is_none();
         self.window.push(Entry {
             pc,
             word,
-            decoded: form,
-            profile,
+            decoded,
+            profile: Profile::of(decoded),
             predicted: self.fetch_pc,
             stage: Stage::Waiting,
             result: BLANK,

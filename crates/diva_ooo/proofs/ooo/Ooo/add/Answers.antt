@@ -2,4 +2,5 @@ use Rattle.diva_ooo.proofs.Knowing.{known_new}
 use Rattle.diva_ooo.proofs.ooo.Ooo.add.Goals as goal
 
 pub push-requires-clause-known : goal.push-requires-clause-known
-push-requires-clause-known c = known_new c.self.inside.fetch_pc c.predicted-self-inside.result c.args.word c.read-form.result c.read-form.ensures.word c.read-form.ensures.decoded
+push-requires-clause-known c =
+    rw (c.of.ensures.value, c.predicted-self-inside.ensures) (known_new c.self.inside.fetch_pc c.args.word c.form_of-decoded.result c.form_of-decoded.ensures.form c.form_of-decoded.ensures.registers (rw (← c.of.ensures.value) c.of.ensures.below))
