@@ -1,11 +1,11 @@
 -- What an answer of the commit says.
-use Rattle.std.proofs.Common.{◌≡◌, ℕ, ◌==◌, ◌&&◌, ◌-◌, nat_lt, Option, Some, None, Bool, true, false, refl, sym, ap, ◌∙◌, cond}
+use Rattle.std.proofs.Common.{◌≡◌, ℕ, ◌==◌, ◌&&◌, ◌-◌, nat_lt, Option, Some, None, Bool, true, false, refl, sym, ◌∙◌, cond}
 use Rattle.std.proofs.lemmas.Bool.{true≢false}
 use Rattle.diva_isa.specs.declared.record.Record.{Record}
 use Rattle.diva_core.specs.declared.differences.Diff.{Diff}
 use Rattle.diva_core.specs.Cycle.{puts_store}
 use Rattle.diva_commit.specs.declared.commits.Committed.{Committed}
-use Rattle.diva_commit.specs.declared.commits.Committed.TheVariants.{GoesOn, Halt, Trap, Held, Differs}
+use Rattle.diva_commit.specs.declared.commits.Committed.TheVariants.{GoesOn, Halt, Trap, Held}
 use Rattle.diva_commit.specs.Committing.{answer, ending, is_committed}
 
 -- what commits carries no verdict
@@ -27,24 +27,6 @@ pub committed_room : (v : Option Diff) (r : Record) (full : Bool) → is_committ
 committed_room None r full h = held_or (puts_store r && full) (ending r.end) (ending_committed (r.end == 0) (nat_lt r.end 256) (r.end - 1) (r.end - 256)) h
 committed_room (Some d) r full h = absurd (true≢false (sym h))
 
-no_difference : (a b : Bool) (n m : ℕ) (d : Diff) → cond a GoesOn (cond b (Trap n) (Halt m)) ≡ Differs d → ⊥
-no_difference true b n m d h = absurd (cc)
-no_difference false true n m d h = absurd (cc)
-no_difference false false n m d h = absurd (cc)
-
-held_not : (b : Bool) (c : Committed) (d : Diff) → (c ≡ Differs d → ⊥) → cond b Held c ≡ Differs d → ⊥
-held_not true c d f h = absurd (cc)
-held_not false c d f h = f h
-
-same_diff : (c d : Diff) → Differs c ≡ Differs d → c ≡ d
-same_diff c d h = cc
-
--- it differs only by its verdict
-pub differs_by : (v : Option Diff) (r : Record) (full : Bool) (d : Diff) → answer v r full ≡ Differs d → v ≡ Some d
-differs_by (Some c) r full d h = ap (λ (x : Diff). Some x) (same_diff c d h)
-differs_by None r full d h =
-    absurd (held_not (puts_store r && full) (ending r.end) d (no_difference (r.end == 0) (nat_lt r.end 256) (r.end - 1) (r.end - 256) d) h)
-
 both : (b c : Bool) (x : Committed) → is_committed x ≡ true → is_committed (cond (b && c) Held x) ≡ false → (b ≡ true) × (c ≡ true)
 both true true x h k = (refl, refl)
 both true false x h k = absurd (true≢false (sym h ∙ k))
@@ -53,8 +35,3 @@ both false c x h k = absurd (true≢false (sym h ∙ k))
 -- without a verdict it is held only as a store, where the queue is full
 pub held_by : (r : Record) (full : Bool) → is_committed (answer None r full) ≡ false → (puts_store r ≡ true) × (full ≡ true)
 held_by r full h = both (puts_store r) full (ending r.end) (ending_committed (r.end == 0) (nat_lt r.end 256) (r.end - 1) (r.end - 256)) h
-
--- what is not told to differ has no verdict
-pub no_verdict : (v : Option Diff) (r : Record) (full : Bool) (a : Committed) → a ≡ answer v r full → ((d : Diff) → a ≡ Differs d → ⊥) → v ≡ None
-no_verdict None r full a h f = refl
-no_verdict (Some d) r full a h f = absurd (f d h)

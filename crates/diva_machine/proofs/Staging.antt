@@ -1,5 +1,5 @@
 -- The entries, as they pass through the stages, as claims come, and as the front one goes.
-use Rattle.std.proofs.Common.{◌≡◌, ◌≢◌, ℕ, zero, suc, ◌+◌, ◌-◌, ◌==◌, ◌≤◌, ◌<◌, List, [], ◌∷◌, ◌++◌, length, map, drop, slice_get, Option, Some, None, Bool, true, false, refl, sym, ap, ◌∙◌, arith, subst, inl, inr}
+use Rattle.std.proofs.Common.{◌≡◌, ◌≢◌, ℕ, zero, suc, ◌+◌, ◌-◌, ◌==◌, ◌≤◌, ◌<◌, List, [], ◌∷◌, ◌++◌, length, map, drop, slice_get, Option, Some, None, Bool, true, refl, sym, ap, ◌∙◌, arith, subst, inl, inr}
 use Rattle.std.specs.Prelude.{slice_set}
 use Rattle.std.proofs.lemmas.Bool.{true≢false, cases_lt, le-leb, lt-leb}
 use Rattle.std.proofs.lemmas.Bool.Decides.{eqb_tells}
@@ -162,14 +162,6 @@ pub answers_there : (arch view : State) (entries : List Entry) (at : ℕ) (earli
 answers_there arch view entries at earlier own p v is answer = λ on.
     let same : view ≡ arch = goes_view arch view is (after_goes arch (older entries at) on) in
     subst (λ (s : State). Answers earlier own (before_entry s entries at) p v) same answer on
-
-no_verdict : (o : Option Diff) → is_some o ≡ false → o ≡ None
-no_verdict None h = refl
-no_verdict (Some d) h = absurd (true≢false h)
-
--- the entry at a place has no verdict so far
-pub open_at : (entries : List Entry) (at : ℕ) (e f : Entry) → slice_get entries at ≡ Some f → is_some f.verdict ≡ false → slice_get entries at ≡ Some e → e.verdict ≡ None
-open_at entries at e f there none here = no_verdict e.verdict (ap (λ (x : Entry). is_some x.verdict) (same_Some _ _ (sym here ∙ there)) ∙ none)
 
 -- what its stage answers of an entry without a verdict is its verdict
 pub stage_passed :

@@ -35,31 +35,46 @@ pub(crate) fn pass(pending: &mut Pending, at: usize, arch: &Arch, age: u64)
         2 => note_form(pending, at),
         3 => note(pending, at, diva_opchk::check(pending, at, &arch.view())),
         4 => note(pending, at, diva_execchk::check(pending, at, &arch.view())),
-        LAST_STAGE => note(pending, at, check_memory(pending, at, arch)),
+        LAST_STAGE => pass_last(pending, at, arch),
         _ => {}
     }
 }
 
 /// The last stage: of a claim that is no load and no store it compares nothing, and needs no view.
 #[inline(always)]
-fn check_memory(pending: &Pending, at: usize, arch: &Arch) -> Option<Diff>
-    requires { at < length pending.now.items }
-    ensures { (e : Entry) → slice_get pending.now.items at ≡ Some e → Answers address_fields memory_fields
-        (before_entry (record arch.now.state { end = 0 }) pending.now.items at) e.claim result }
+fn pass_last(pending: &mut Pending, at: usize, arch: &Arch)
+    requires { at < length pending.old.items }
+    ensures waits { map waiting_of pending.new.items ≡ map waiting_of pending.old.items }
+    ensures capacity { pending.new.capacity ≡ pending.old.capacity }
+    ensures advanced { (now : ℕ) (e : Entry)
+        → slice_get pending.old.items at ≡ Some e
+        → now + 1 ≡ LAST_STAGE + e.cycle
+        → IsAdvanced arch.now.state now at pending.old.items
+        → IsAdvanced arch.now.state now (at + 1) pending.new.items }
 {
     match pending.at(at).decoded {
-        Some(form) if !is_memory(Some(form)) => None,
-        _ => check_access(pending, at, arch),
+        Some(form) if !is_memory(Some(form)) => {}
+        _ => pass_access(pending, at, arch),
     }
 }
 
+/// The same of a load or a store, or where what the word says was not noted.
 #[inline(never)]
-fn check_access(pending: &Pending, at: usize, arch: &Arch) -> Option<Diff>
-    requires { at < length pending.now.items }
-    ensures { (e : Entry) → slice_get pending.now.items at ≡ Some e → Answers address_fields memory_fields
-        (before_entry (record arch.now.state { end = 0 }) pending.now.items at) e.claim result }
+fn pass_access(pending: &mut Pending, at: usize, arch: &Arch)
+    requires { at < length pending.old.items }
+    ensures waits { map waiting_of pending.new.items ≡ map waiting_of pending.old.items }
+    ensures capacity { pending.new.capacity ≡ pending.old.capacity }
+    ensures advanced { (now : ℕ) (e : Entry)
+        → slice_get pending.old.items at ≡ Some e
+        → now + 1 ≡ LAST_STAGE + e.cycle
+        → IsAdvanced arch.now.state now at pending.old.items
+        → IsAdvanced arch.now.state now (at + 1) pending.new.items }
 {
-    diva_execchk::check_memory(pending, at, &arch.view())
+    note(
+        pending,
+        at,
+        diva_execchk::check_memory(pending, at, &arch.view()),
+    );
 }
 
 /// Decodes the claim at a place.

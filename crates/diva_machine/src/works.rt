@@ -265,12 +265,11 @@ impl Works {
         ensures staged { IsStaged (self.new.timed.cycles - 1) self.new }
         ensures solo { IsSoloFilled self.new.timed.cycles self.new }
     {
-        let answer = self.settle_front();
-        if let Committed::Differs(diff) = answer {
+        if let Some(diff) = self.pending.at(0).verdict {
             self.flush(Cause::Differs(diff));
             return false;
         }
-        if !answer.is_committed() {
+        if !self.settle_front().is_committed() {
             return false;
         }
         self.leave_front()
@@ -402,8 +401,11 @@ impl Works {
         ensures rest { self.new ≡ record self.old { entries = self.new.entries; passed = self.new.passed } }
         ensures staged { IsStaged self.new.timed.cycles self.new }
     {
-        for at in self.passed..self.pending.len() {
+        // The ring asks for its length at each look-up: this test serves both.
+        let mut at = self.passed;
+        while at < self.pending.len() {
             self.pass_stage(at);
+            at += 1;
         }
     }
 

@@ -1,6 +1,6 @@
-use Rattle.std.proofs.Common.{◌-◌, [], refl, arith}
-use Rattle.diva_core.specs.Stages.{fetch_fields, operand_fields, read_fields, execute_fields, address_fields, memory_fields}
-use Rattle.diva_machine.proofs.Verdicts.{found_fetch, found_operands, found_execute, found_memory}
+use Rattle.std.proofs.Common.{[], arith}
+use Rattle.diva_core.specs.Stages.{fetch_fields, operand_fields, read_fields, execute_fields}
+use Rattle.diva_machine.proofs.Verdicts.{found_fetch, found_operands, found_execute}
 use Rattle.diva_machine.proofs.Staging.{decode_passed, past_kept, stage_noted}
 use Rattle.diva_machine.proofs.stages.pass.Goals as goal
 
@@ -25,8 +25,7 @@ returns-in-4-clause-advanced c = λ now e here age adv.
 
 pub returns-in-5-clause-advanced : goal.returns-in-5-clause-advanced
 returns-in-5-clause-advanced c = λ now e here age adv.
-    stage_noted _ _ _ _ now c.args.at 4 e address_fields memory_fields _ here (c.note-in-5.ensures.items e here) refl (let is = c.in-5.is in omega arith) (λ z. omega arith) (c.check_memory.ensures e here)
-    (λ none s. found_memory s e _ none) adv
+    c.pass_last.ensures.advanced now e here (let is = c.in-5.is in omega arith) adv
 
 pub returns-in_default-clause-advanced : goal.returns-in_default-clause-advanced
 returns-in_default-clause-advanced c = λ now e here age adv. past_kept _ _ now c.args.at e here (omega arith) adv

@@ -1,44 +1,48 @@
-use Rattle.std.proofs.Common.{◌≡◌, ◌==◌, Bool, Option, None, sym, ap, ◌∙◌, arith, true, false}
+use Rattle.std.proofs.Common.{◌≡◌, ◌==◌, Bool, Option, Some, None, slice_get, sym, ap, ◌∙◌, arith, true, false}
 use Rattle.std.proofs.lemmas.Bool.{eqb-true, true≢false}
+use Rattle.std.proofs.lemmas.Option.{same_Some}
 use Rattle.std.specs.Prelude.{if◌then◌else◌}
 use Rattle.diva_isa.specs.State.{goes_on}
-use Rattle.diva_core.specs.Cycle.{flushed}
-use Rattle.diva_core.specs.declared.flushes.Cause.TheVariants.{Differs}
 use Rattle.diva_core.specs.declared.differences.Diff.{Diff}
+use Rattle.diva_core.specs.declared.pending.Entry.{Entry}
 use Rattle.diva_commit.specs.Committing.{answer, is_committed}
 use Rattle.diva_machine.specs.Staged.{Staged, left}
-use Rattle.diva_machine.proofs.Answering.{committed_none, committed_room, differs_by, no_verdict}
+use Rattle.diva_machine.proofs.Answering.{committed_none, committed_room}
 use Rattle.diva_machine.proofs.Judged.{IsFront, with_front, claim_is, form_is, judged_differs, judged_held, judged_settled, settled, left_staged, left_solo, left_count, left_running, left_stepped, left_last, left_log, left_bounds, steps_none, dues_none, bounds_none}
 use Rattle.diva_machine.proofs.Staging.{get_within}
 use Rattle.diva_machine.proofs.works.Works.judge_front.Goals as goal
 
-pub settle_front-answer-requires-clause-there : goal.settle_front-answer-requires-clause-there
-settle_front-answer-requires-clause-there c = with_front c.args.self.now _ c.requires.ready c.requires.staged (λ e here. get_within c.args.self.now.entries 0 e here)
+pub settle_front-requires-clause-there : goal.settle_front-requires-clause-there
+settle_front-requires-clause-there c = with_front c.args.self.now _ c.requires.ready c.requires.staged (λ e here. get_within c.args.self.now.entries 0 e here)
 
-pub settle_front-answer-requires-clause-due : goal.settle_front-answer-requires-clause-due
-settle_front-answer-requires-clause-due c = λ e here. claim_is c.args.self.now e (record { first = here; ready = c.requires.ready; staged = c.requires.staged; cycles = c.requires.cycles; on = c.requires.goes_on; running = c.requires.running })
+pub settle_front-requires-clause-due : goal.settle_front-requires-clause-due
+settle_front-requires-clause-due c = λ e here. claim_is c.args.self.now e (record { first = here; ready = c.requires.ready; staged = c.requires.staged; cycles = c.requires.cycles; on = c.requires.goes_on; running = c.requires.running })
 
-pub settle_front-answer-requires-clause-form : goal.settle_front-answer-requires-clause-form
-settle_front-answer-requires-clause-form c = λ e here. form_is c.args.self.now e (record { first = here; ready = c.requires.ready; staged = c.requires.staged; cycles = c.requires.cycles; on = c.requires.goes_on; running = c.requires.running })
+pub settle_front-requires-clause-form : goal.settle_front-requires-clause-form
+settle_front-requires-clause-form c = λ e here. form_is c.args.self.now e (record { first = here; ready = c.requires.ready; staged = c.requires.staged; cycles = c.requires.cycles; on = c.requires.goes_on; running = c.requires.running })
 
-pub returns-in-Differs-clause-judges : goal.returns-in-Differs-clause-judges
-returns-in-Differs-clause-judges c = λ next.
+pub at-requires : goal.at-requires
+at-requires c = rw (← c.self.view_is) at (with_front c.args.self.now _ c.requires.ready c.requires.staged (λ e here. get_within c.args.self.now.entries 0 e here))
+
+pub returns-in-Some-clause-judges : goal.returns-in-Some-clause-judges
+returns-in-Some-clause-judges c = λ next.
     let w = c.args.self.now in
-    let same : c.settle_front-answer.new.self ≡ w = c.settle_front-answer.ensures.stays (ap is_committed c.in-Differs.is) in
     with_front w _ c.requires.ready c.requires.staged (λ e here.
     let front : IsFront w e = record { first = here; ready = c.requires.ready; staged = c.requires.staged; cycles = c.requires.cycles; on = c.requires.goes_on; running = c.requires.running } in
-    let some = differs_by e.verdict e.claim _ c.in-Differs.diff (sym (c.settle_front-answer.ensures.answer e here) ∙ c.in-Differs.is) in
-    judged_differs w e front next c.in-Differs.diff some ∙ sym (ap (λ (z : Staged). z.timed) c.flush.ensures ∙ ap (λ (z : Staged). flushed z.timed (Differs c.in-Differs.diff)) same))
+    let at : slice_get w.entries 0 ≡ Some c.at.result.now = ap (λ (z : Staged). slice_get z.entries 0) (sym c.self.view_is) ∙ c.at.ensures.value in
+    let some : e.verdict ≡ Some c.in-Some.diff = ap (λ (x : Entry). x.verdict) (same_Some _ _ (sym here ∙ at)) ∙ c.in-Some.is in
+    judged_differs w e front next c.in-Some.diff some ∙ sym (ap (λ (z : Staged). z.timed) c.flush.ensures))
 
 pub returns-then-not-is_committed : goal.returns-then-not-is_committed
 returns-then-not-is_committed c =
     let w = c.args.self.now in
-    let stays : is_committed c.settle_front-answer.result ≡ false = sym c.is_committed.ensures ∙ c.if-not-is_committed.true in
-    let same : c.settle_front-answer.new.self ≡ w = c.settle_front-answer.ensures.stays stays in
+    let stays : is_committed c.settle_front.result ≡ false = sym c.is_committed.ensures ∙ c.if-not-is_committed.true in
+    let same : c.settle_front.new.self ≡ w = c.settle_front.ensures.stays stays in
     with_front w _ c.requires.ready c.requires.staged (λ e here.
     let front : IsFront w e = record { first = here; ready = c.requires.ready; staged = c.requires.staged; cycles = c.requires.cycles; on = c.requires.goes_on; running = c.requires.running } in
-    let is = c.settle_front-answer.ensures.answer e here in
-    let none = no_verdict e.verdict e.claim _ c.settle_front-answer.result is c.in_default.not-Differs in
+    let is = c.settle_front.ensures.answer e here in
+    let at : slice_get w.entries 0 ≡ Some c.at.result.now = ap (λ (z : Staged). slice_get z.entries 0) (sym c.self.view_is) ∙ c.at.ensures.value in
+    let none : e.verdict ≡ None = ap (λ (x : Entry). x.verdict) (same_Some _ _ (sym here ∙ at)) ∙ c.in_default.is in
     let held : is_committed (answer None e.claim (w.timed.owed == w.timed.sizes.stores)) ≡ false =
     ap (λ (v : Option Diff). is_committed (answer v e.claim (w.timed.owed == w.timed.sizes.stores))) (sym none) ∙ ap is_committed (sym is) ∙ stays in
     record {
@@ -58,21 +62,21 @@ returns-then-not-is_committed c =
 pub leave_front-requires : goal.leave_front-requires
 leave_front-requires c =
     let w = c.args.self.now in
-    let yes : is_committed c.settle_front-answer.result ≡ true = sym c.is_committed.ensures ∙ c.if-not-is_committed.false in
+    let yes : is_committed c.settle_front.result ≡ true = sym c.is_committed.ensures ∙ c.if-not-is_committed.false in
     with_front w _ c.requires.ready c.requires.staged (λ e here.
-    rw (c.settle_front-answer.ensures.commits e here yes) (record { there = get_within w.entries 0 e here; passed = c.requires.ready }))
+    rw (c.settle_front.ensures.commits e here yes) (record { there = get_within w.entries 0 e here; passed = c.requires.ready }))
 
 pub returns : goal.returns
 returns c =
     let w = c.args.self.now in
     let b = c.leave_front.result in
-    let yes : is_committed c.settle_front-answer.result ≡ true = sym c.is_committed.ensures ∙ c.if-not-is_committed.false in
+    let yes : is_committed c.settle_front.result ≡ true = sym c.is_committed.ensures ∙ c.if-not-is_committed.false in
     with_front w _ c.requires.ready c.requires.staged (λ e here.
     let front : IsFront w e = record { first = here; ready = c.requires.ready; staged = c.requires.staged; cycles = c.requires.cycles; on = c.requires.goes_on; running = c.requires.running } in
-    let done = ap is_committed (sym (c.settle_front-answer.ensures.answer e here)) ∙ yes in
+    let done = ap is_committed (sym (c.settle_front.ensures.answer e here)) ∙ yes in
     let none = committed_none e.verdict e.claim (w.timed.owed == w.timed.sizes.stores) done in
     let room = committed_room e.verdict e.claim (w.timed.owed == w.timed.sizes.stores) done in
-    let mid : c.settle_front-answer.new.self ≡ settled w e front = c.settle_front-answer.ensures.commits e here yes in
+    let mid : c.settle_front.new.self ≡ settled w e front = c.settle_front.ensures.commits e here yes in
     let goes : b ≡ goes_on (settled w e front).timed.arch = c.leave_front.ensures.goes_on ∙ ap (λ (z : Staged). goes_on z.timed.arch) mid in
     let new : c.leave_front.new.self ≡ left b (settled w e front) = c.leave_front.ensures.left ∙ ap (λ (z : Staged). left b z) mid in
     record {

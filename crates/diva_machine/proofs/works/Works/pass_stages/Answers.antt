@@ -13,7 +13,7 @@ loop-at-init c =
     record {
       rest = refl;
       waits = sym c.requires.staged.waits;
-      length = ap (λ (z : Staged). length z.entries) (sym c.self.view_is) ∙ sym c.len-at-end.ensures.len;
+      length = refl;
       below = omega arith;
       from = omega arith;
       early = λ h. sym at;
@@ -32,7 +32,8 @@ loop-at-preserved c =
     let inv = c.loop-at.invariant in
     let z = c.pass_stage.new.self in
     let same : c.loop-at.self.timed ≡ w.timed = ap (λ (x : Staged). x.timed) inv.rest in
-    let next = stage_next w c.loop-at.self z c.loop-at.at c.requires.cycles c.requires.staged same inv.waits inv.from (let l = inv.length in omega arith) c.pass_stage.ensures.passed inv.below inv.early inv.late in
+    let len : length c.self-in-loop-at.inside.pending.items ≡ length c.loop-at.self.entries = ap (λ (x : Staged). length x.entries) c.self-in-loop-at.view_is in
+    let next = stage_next w c.loop-at.self z c.loop-at.at c.requires.cycles c.requires.staged same inv.waits inv.from (omega arith) c.pass_stage.ensures.passed inv.below inv.early inv.late in
     record {
       rest = c.pass_stage.ensures.rest ∙ ap (λ (x : Staged). record x { entries = z.entries; passed = z.passed }) inv.rest;
       waits = c.pass_stage.ensures.waits ∙ inv.waits;
@@ -49,4 +50,5 @@ loop-at-preserved c =
 pub returns-clause-staged : goal.returns-clause-staged
 returns-clause-staged c =
     let inv = c.loop-at.invariant in
+    let len : length c.self-in-loop-at.inside.pending.items ≡ length c.loop-at.self.entries = ap (λ (x : Staged). length x.entries) c.self-in-loop-at.view_is in
     stages_end c.args.self.now c.loop-at.self c.loop-at.at c.requires.cycles inv.rest inv.waits c.requires.staged (omega arith) inv.advanced inv.late
