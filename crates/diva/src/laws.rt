@@ -6,7 +6,7 @@ ghost use Rattle.diva_args.specs.declared.job.CoreChoice.TheVariants.{Own};
 ghost use Rattle.diva_cli.specs.Runs.{HasRun};
 ghost use Rattle.diva_cli.specs.SoakTexts.{HasSoaked};
 ghost use Rattle.diva_cli.specs.Wanted.{FileBytes};
-ghost use Rattle.diva_ooo.specs.Ooo.{IsOooCall, Pipeline, new_pipeline};
+ghost use Rattle.diva_ooo.specs.Ooo.{IsOooCall, Ooo, new_pipeline};
 
 use diva_cli::laws::own_run_is_determined;
 use diva_ooo::Ooo;
@@ -14,12 +14,12 @@ use diva_ooo::Ooo;
 /// The text of a run under the program's own core, a new one, is determined by the words and the bytes of the files. Of a run
 /// with commit lines that is said where they were all written. The text of `soak` is determined by its words.
 pub fn text_is_determined()
-    ensures run { (options : RunOptions) (bytes : FileBytes) (after last : Pipeline) (status other : Option ℕ) (text same : Text)
+    ensures run { (options : RunOptions) (bytes : FileBytes) (after last : Ooo) (status other : Option ℕ) (text same : Text)
         → options.setup.core ≡ Own
         → HasRun IsOooCall options bytes new_pipeline after status text
         → HasRun IsOooCall options bytes new_pipeline last other same
         → (options.trace ≡ true → IsSome status × IsSome other) → text ≡ same }
-    ensures soak { (options : SoakOptions) (after last : Pipeline) (status other : Option ℕ) (text same : Text)
+    ensures soak { (options : SoakOptions) (after last : Ooo) (status other : Option ℕ) (text same : Text)
         → HasSoaked IsOooCall options new_pipeline after status text
         → HasSoaked IsOooCall options new_pipeline last other same → text ≡ same }
 {

@@ -8,7 +8,7 @@ use Rattle.diva_isa.specs.declared.record.Record.{Record}
 use Rattle.diva_isa.specs.declared.effect.Effect.{Effect}
 use Rattle.diva_isa.specs.declared.effect.Effect.TheVariants.{Nothing, Writes, Stores, Puts}
 use Rattle.diva_ahead.specs.Effects.{done_by}
-use Rattle.diva_ahead.specs.Lead.{Lead, handed, seen}
+use Rattle.diva_ahead.specs.Ahead.{Ahead, handed, seen}
 
 abbrev pub regs_after : List ℕ → Effect → List ℕ
 regs_after regs Nothing = regs
@@ -54,7 +54,7 @@ behind_out : (b : Bool) (t : State) (e : Effect) (next end n : ℕ) → n < 2 ^ 
 behind_out true t e next end n h l = effect_out t e n h l
 behind_out false t e next end n h l = out_kept t.output n h l
 
-pub handed_is : (lead : Lead) (s : State) (r : Record) → lead.out_len < 2 ^ 32
+pub handed_is : (lead : Ahead) (s : State) (r : Record) → lead.out_len < 2 ^ 32
     → handed lead s r ≡ record lead {
       regs = regs_after lead.regs (done_by r);
       pc = if r.end == 0 then r.next else lead.pc;

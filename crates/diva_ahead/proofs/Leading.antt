@@ -9,9 +9,9 @@ use Rattle.diva_decode.specs.Table.{row_of}
 use Rattle.diva_memory.specs.Bytes.{Bytes, low_bytes, put_all}
 use Rattle.diva_isa.specs.State.{State, goes_on, memory_of, word_of}
 use Rattle.diva_isa.specs.Kind.{kind, size}
-use Rattle.diva_isa.specs.Step.{apply, effect_of, fetched, outcome, record_of, said, source1, source2, address_of, step, steps, with_effect}
+use Rattle.diva_isa.specs.Step.{apply, effect_of, record_fetched, outcome, record_of, record_by, source1, source2, address_of, step, steps, with_effect}
 use Rattle.diva_isa.specs.declared.kind.Kind.{Kind}
-use Rattle.diva_isa.specs.declared.kind.Kind.TheVariants.{LoadUpper, AddUpper, Jump, JumpRegister, Branch, Load, Store, Immediate, Register, Fence, Call, Break}
+use Rattle.diva_isa.specs.declared.kind.Kind.TheVariants.{Lui, Auipc, Jal, Jalr, Branch, Load, Store, OpImm, OpReg, Fence, Ecall, Ebreak}
 use Rattle.diva_isa.specs.declared.record.Record.{Record}
 use Rattle.diva_isa.specs.declared.effect.Effect.{Effect}
 use Rattle.diva_isa.specs.declared.effect.Effect.TheVariants.{Nothing, Writes, Stores, Puts}
@@ -19,7 +19,7 @@ use Rattle.diva_isa.proofs.Steps.{apply_record_of, steps-step, steps_ended}
 use Rattle.diva_core.proofs.Calming.{AreDueFrom}
 use Rattle.diva_core.specs.Effects.{with_effects}
 use Rattle.diva_ahead.specs.Effects.{done_by}
-use Rattle.diva_ahead.specs.Lead.{Lead, handed, seen}
+use Rattle.diva_ahead.specs.Ahead.{Ahead, handed, seen}
 use Rattle.diva_ahead.proofs.Handing.{behind, behind_pc, behind_regs, regs_after}
 
 -- ---- a record depends on no end, and of the output on its length alone, up to where it is full
@@ -31,57 +31,57 @@ abbrev pub other : State → List ℕ → ℕ → State
 other s o e = record s { output = o; end = e }
 
 source1_other : (k : Kind) (s : State) (o : List ℕ) (e : ℕ) (i : Instr) → source1 k (other s o e) i ≡ source1 k s i
-source1_other LoadUpper s o e i = refl
-source1_other AddUpper s o e i = refl
-source1_other Jump s o e i = refl
-source1_other JumpRegister s o e i = refl
+source1_other Lui s o e i = refl
+source1_other Auipc s o e i = refl
+source1_other Jal s o e i = refl
+source1_other Jalr s o e i = refl
 source1_other Branch s o e i = refl
 source1_other (Load width) s o e i = refl
 source1_other (Store width) s o e i = refl
-source1_other Immediate s o e i = refl
-source1_other Register s o e i = refl
+source1_other OpImm s o e i = refl
+source1_other OpReg s o e i = refl
 source1_other Fence s o e i = refl
-source1_other Call s o e i = refl
-source1_other Break s o e i = refl
+source1_other Ecall s o e i = refl
+source1_other Ebreak s o e i = refl
 
 source2_other : (k : Kind) (s : State) (o : List ℕ) (e : ℕ) (i : Instr) → source2 k (other s o e) i ≡ source2 k s i
-source2_other LoadUpper s o e i = refl
-source2_other AddUpper s o e i = refl
-source2_other Jump s o e i = refl
-source2_other JumpRegister s o e i = refl
+source2_other Lui s o e i = refl
+source2_other Auipc s o e i = refl
+source2_other Jal s o e i = refl
+source2_other Jalr s o e i = refl
 source2_other Branch s o e i = refl
 source2_other (Load width) s o e i = refl
 source2_other (Store width) s o e i = refl
-source2_other Immediate s o e i = refl
-source2_other Register s o e i = refl
+source2_other OpImm s o e i = refl
+source2_other OpReg s o e i = refl
 source2_other Fence s o e i = refl
-source2_other Call s o e i = refl
-source2_other Break s o e i = refl
+source2_other Ecall s o e i = refl
+source2_other Ebreak s o e i = refl
 
 same_room : (m n : ℕ) → full m ≡ full n → nat_lt m 65536 ≡ nat_lt n 65536
 same_room m n h = grind (arith, nat_tests)
 
 outcome_other : (k : Kind) (s : State) (o : List ℕ) (e : ℕ) (i : Instr) (pc a b addr : ℕ) → full (length o) ≡ full (length s.output) → outcome k (other s o e) i pc a b addr ≡ outcome k s i pc a b addr
-outcome_other LoadUpper s o e i pc a b addr h = refl
-outcome_other AddUpper s o e i pc a b addr h = refl
-outcome_other Jump s o e i pc a b addr h = refl
-outcome_other JumpRegister s o e i pc a b addr h = refl
+outcome_other Lui s o e i pc a b addr h = refl
+outcome_other Auipc s o e i pc a b addr h = refl
+outcome_other Jal s o e i pc a b addr h = refl
+outcome_other Jalr s o e i pc a b addr h = refl
 outcome_other Branch s o e i pc a b addr h = refl
 outcome_other (Load width) s o e i pc a b addr h = refl
 outcome_other (Store width) s o e i pc a b addr h = refl
-outcome_other Immediate s o e i pc a b addr h = refl
-outcome_other Register s o e i pc a b addr h = refl
+outcome_other OpImm s o e i pc a b addr h = refl
+outcome_other OpReg s o e i pc a b addr h = refl
 outcome_other Fence s o e i pc a b addr h = refl
-outcome_other Call s o e i pc a b addr h = rw (same_room (length o) (length s.output) h) refl
-outcome_other Break s o e i pc a b addr h = refl
+outcome_other Ecall s o e i pc a b addr h = rw (same_room (length o) (length s.output) h) refl
+outcome_other Ebreak s o e i pc a b addr h = refl
 
-said_other : (s : State) (o : List ℕ) (e : ℕ) (there : Bool) (w : ℕ) (form : Option Instr) → full (length o) ≡ full (length s.output) → said (other s o e) there w form ≡ said s there w form
+said_other : (s : State) (o : List ℕ) (e : ℕ) (there : Bool) (w : ℕ) (decoded : Option Instr) → full (length o) ≡ full (length s.output) → record_by (other s o e) there w decoded ≡ record_by s there w decoded
 said_other s o e true w None h = refl
 said_other s o e false w None h = refl
 said_other s o e there w (Some i) h =
     rw (source1_other (kind i.op) s o e i, source2_other (kind i.op) s o e i, outcome_other (kind i.op) s o e i s.pc (source1 (kind i.op) s i) (source2 (kind i.op) s i) (address_of (Some i) (source1 (kind i.op) s i)) h) refl
 
-fetched_other : (s : State) (o : List ℕ) (e : ℕ) (w : Option ℕ) → full (length o) ≡ full (length s.output) → fetched (other s o e) w ≡ fetched s w
+fetched_other : (s : State) (o : List ℕ) (e : ℕ) (w : Option ℕ) → full (length o) ≡ full (length s.output) → record_fetched (other s o e) w ≡ record_fetched s w
 fetched_other s o e None h = said_other s o e false 0 None h
 fetched_other s o e (Some w) h = said_other s o e true w (row_of w) h
 
@@ -136,17 +136,17 @@ effects_due (p ∷ claims) s due on =
     effects_same (map done_by claims) (with_effect s (done_by p)) (step s) one ∙ effects_due claims (step s) due.1 (ap goes_on shift ∙ on) ∙ ap memory_of shift
 
 -- what the core keeps of a state
-pub record Shows (lead : Lead) (t : State) : Type 0 where
+pub record Shows (lead : Ahead) (t : State) : Type 0 where
   pub regs : lead.regs ≡ t.regs
   pub pc : lead.pc ≡ t.pc
   pub output : full lead.out_len ≡ full (length t.output)
 
 -- and it has stopped exactly where that ended
-pub record Follows (lead : Lead) (t : State) : Type 0 where
+pub record Follows (lead : Ahead) (t : State) : Type 0 where
   pub shows : Shows lead t
   pub stopped : lead.stopped ≡ not (goes_on t)
 
-seen_is : (lead : Lead) (s t : State) → memory_of (with_effects s lead.ring) ≡ memory_of t → Shows lead t → seen lead s ≡ other t (replicate lead.out_len 0) 0
+seen_is : (lead : Ahead) (s t : State) → memory_of (with_effects s lead.ring) ≡ memory_of t → Shows lead t → seen lead s ≡ other t (replicate lead.out_len 0) 0
 seen_is lead s t memory shows = λ i. record {
   regs = shows.regs i;
   pc = shows.pc i;
@@ -157,7 +157,7 @@ seen_is lead s t memory shows = λ i. record {
 }
 
 -- the record of what the core sees is the record that is due behind its pending claims
-pub seen_record : (lead : Lead) (s : State) (claims : List Record) → lead.ring ≡ map done_by claims → AreDueFrom s claims → goes_on (steps (length claims) s) ≡ true → Shows lead (steps (length claims) s)
+pub seen_record : (lead : Ahead) (s : State) (claims : List Record) → lead.ring ≡ map done_by claims → AreDueFrom s claims → goes_on (steps (length claims) s) ≡ true → Shows lead (steps (length claims) s)
     → record_of (seen lead s) ≡ record_of (steps (length claims) s)
 seen_record lead s claims ring due on shows =
     let t : State = steps (length claims) s in
@@ -203,7 +203,7 @@ behind_out b u t e next end h =
     ∙ full_after (length u.output) (length t.output) (puts (if b then e else Nothing)) h
     ∙ ap full (sym (behind_puts b t e next end))
 
-pub handed_shows : (lead : Lead) (s t : State) → goes_on t ≡ true → Shows lead t → Follows (handed lead s (record_of t)) (step t)
+pub handed_shows : (lead : Ahead) (s t : State) → goes_on t ≡ true → Shows lead t → Follows (handed lead s (record_of t)) (step t)
 unfolding handed step apply done_by
 handed_shows lead s t on shows =
     let r : Record = record_of t in

@@ -1,4 +1,4 @@
 -- What the contracts of this crate and of those above it cite.
 pub mod Effects
-pub mod Lead
+pub mod Ahead
 pub mod Within

@@ -2,12 +2,12 @@
 ghost use Rattle.std.specs.Prelude.{◌≡◌, ◌<◌, ◌≤◌, length, IfOk};
 ghost use Rattle.diva_isa.specs.State.{State};
 ghost use Rattle.diva_isa.specs.Step.{HasRegister, effect_of, record_of};
-ghost use Rattle.diva_ahead.specs.Lead.{begun, handed, is_epoch, new_lead, seen, synced, trimmed};
+ghost use Rattle.diva_ahead.specs.Ahead.{begun, handed, is_epoch, new_lead, seen, synced, trimmed};
 
 use crate::ring::Ring;
 use crate::stand::Stand;
 use diva_core::{Told, View};
-use diva_isa::{Effect, Record, Regs, effect_by, fetch, form_of, record_by};
+use diva_isa::{Effect, Record, Regs, decoded_of, effect_by, fetch, record_by};
 use std::alloc::{AllocError, Global};
 use std::marker::Model;
 
@@ -23,9 +23,9 @@ pub struct Ahead {
 }
 
 impl Model for Ahead {
-    ghost use Rattle.diva_ahead.specs.Lead.{Lead};
+    ghost use Rattle.diva_ahead.specs.Ahead.{Ahead};
 
-    ghost Value = { Lead };
+    ghost Value = { Ahead };
 
     ghost view = { λ a. record {
       epoch = a.epoch;
@@ -112,7 +112,7 @@ impl Ahead {
     }
 
     // Takes the machine's state.
-    #[tactic(auto, unfolding(crate::specs::Lead::begun))]
+    #[tactic(auto, unfolding(crate::specs::Ahead::begun))]
     fn begin(&mut self, told: &Told, view: &View<'_>)
         ensures { self.new ≡ begun told.now view.now }
     {
@@ -125,7 +125,7 @@ impl Ahead {
     }
 
     /// Drops what is no longer pending.
-    #[tactic(auto, unfolding(crate::specs::Lead::trimmed))]
+    #[tactic(auto, unfolding(crate::specs::Ahead::trimmed))]
     pub fn trim(&mut self, told: &Told)
         ensures trimmed { self.new ≡ trimmed self.old told.now }
         ensures few { length self.new.ring ≤ told.now.pending }
@@ -141,9 +141,9 @@ impl Ahead {
     {
         let stand = Stand { ahead: self, view };
         let fetched = fetch(&stand);
-        let form = form_of(fetched);
-        let record = record_by(&stand, fetched, form);
-        self.hand_over(&record, effect_by(form, &record));
+        let decoded = decoded_of(fetched);
+        let record = record_by(&stand, fetched, decoded);
+        self.hand_over(&record, effect_by(decoded, &record));
         record
     }
 

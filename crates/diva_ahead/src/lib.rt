@@ -5,7 +5,7 @@
 //! - `effects`: which effects change memory.
 //! - `stand`: the core's own state, to read.
 //!
-//! `specs/Effects.antt` says what records do one after the other, `specs/Lead.antt` what the core keeps and how it
+//! `specs/Effects.antt` says what records do one after the other, `specs/Ahead.antt` what the core keeps and how it
 //! changes. `proofs/` has what follows: that such a core sees the state to which its claims lead.
 #![tactic(auto)]
 

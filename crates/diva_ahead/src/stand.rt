@@ -13,7 +13,7 @@ pub struct Stand<'a> {
 }
 
 impl Look for Stand<'_> {
-    ghost use Rattle.diva_ahead.specs.Lead.{seen};
+    ghost use Rattle.diva_ahead.specs.Ahead.{seen};
 
     ghost shows = { λ x. seen x.ahead.now x.view.now };
 

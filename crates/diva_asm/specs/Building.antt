@@ -5,8 +5,8 @@ use Rattle.std.specs.List.{flat_map}
 use Rattle.std.specs.Option.{ok_or, option_map}
 use Rattle.byteorder.specs.Endian.{little_bytes}
 use Rattle.diva_decode.specs.Fields.{signed}
-use Rattle.diva_decode.specs.Table.{Shape, shape, word_of}
-use Rattle.diva_decode.specs.Table.Shape.{U, J, B}
+use Rattle.diva_decode.specs.Table.{Format, format, word_of}
+use Rattle.diva_decode.specs.Table.Format.{U, J, B}
 use Rattle.diva_decode.specs.declared.op.Op.{Op}
 use Rattle.diva_decode.specs.declared.op.Op.TheVariants.{Lui, Addi, Jal, Jalr}
 use Rattle.diva_decode.specs.declared.instr.Instr.{Instr}
@@ -42,22 +42,22 @@ offset_to address pc = (address + (2 ^ 32 - pc)) % 2 ^ 32
 -- ---- instructions of the table
 
 -- the immediate of an instruction: of a branch or a jump its offset, of LUI and AUIPC the number's 20 bits in their place
-abbrev pub imm_of : Shape → Operands → ℕ → ℤ
+abbrev pub imm_of : Format → Operands → ℕ → ℤ
 imm_of (B f3 o) v offset = cast_signed w32 offset
 imm_of (J o) v offset = cast_signed w32 offset
 imm_of (U o) v offset = cast_signed w32 (word_from v.number * 2 ^ 12 % 2 ^ 32)
 imm_of s v offset = cast_signed w32 (word_from v.number)
 
 -- the offset of a branch or a jump is even and within its range
-abbrev pub reaches : Shape → ℤ → Bool
+abbrev pub reaches : Format → ℤ → Bool
 reaches (B f3 o) z = (cast_unsigned w32 z % 2 == 0) && is_within (neg_ℤ (pos 4096)) (pos 4094) z
 reaches (J o) z = (cast_unsigned w32 z % 2 == 0) && is_within (neg_ℤ (pos 1048576)) (pos 1048574) z
 reaches s z = true
 
 unfoldable pub instruction : Op → Operands → ℕ → Result Instr Kind
 instruction op v offset =
-    let imm = imm_of (shape op) v offset in
-    if reaches (shape op) imm then Ok (record { op = op; rd = v.rd; rs1 = v.rs1; rs2 = v.rs2; imm = imm })
+    let imm = imm_of (format op) v offset in
+    if reaches (format op) imm then Ok (record { op = op; rd = v.rd; rs1 = v.rs1; rs2 = v.rs2; imm = imm })
     else Err BadOffset
 
 abbrev pub one_instruction : Op → Operands → ℕ → Result (List Instr) Kind

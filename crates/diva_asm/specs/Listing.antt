@@ -4,11 +4,11 @@ use Rattle.std.specs.Fmt.{decimal, signed_decimal, digits, digit_glyph}
 use Rattle.std.specs.Int.{cast_unsigned, div_ceil, w32}
 use Rattle.std.specs.List.{flat_map, range_with_len}
 use Rattle.byteorder.specs.Endian.{little_number}
-use Rattle.diva_decode.specs.Table.{shape, row_of}
+use Rattle.diva_decode.specs.Table.{format, row_of}
 use Rattle.diva_decode.specs.declared.instr.Instr.{Instr}
 use Rattle.diva_image.specs.Layout.{Layout}
 use Rattle.diva_outside.specs.Text.{Text, hex_word}
-use Rattle.diva_asm.specs.Mnemonics.{op_name, shape_operands}
+use Rattle.diva_asm.specs.Mnemonics.{op_name, format_operands}
 use Rattle.diva_asm.specs.declared.operand.Operand.{Operand}
 use Rattle.diva_asm.specs.declared.operand.Operand.TheVariants.{Rd, Rs1, Rs2, Number, Upper, Memory, Target}
 
@@ -40,7 +40,7 @@ operands_text addr i (operand ∷ operands) = (codes " " ++ operand_text addr i 
 -- a word outside the table, or the instruction that it is
 abbrev pub text_of : ℕ → ℕ → Option Instr → Text
 text_of addr word None = codes ".word 0x" ++ hex_word word
-text_of addr word (Some i) = op_name i.op ++ operands_text addr i (shape_operands (shape i.op))
+text_of addr word (Some i) = op_name i.op ++ operands_text addr i (format_operands (format i.op))
 
 unfoldable pub list_line : ℕ → ℕ → Text
 list_line addr word = hex_word addr ++ codes " " ++ hex_word word ++ codes " " ++ text_of addr word (row_of word) ++ codes "\n"

@@ -1,6 +1,6 @@
 // A source to its image, or to its first fault.
 ghost use Rattle.std.specs.Prelude.{◌≡◌, ◌≤◌, ◌+◌, ◌*◌, ◌/◌, Ok, max, unwrap_or, IfOk, IfErr};
-ghost use Rattle.diva_image.specs.View.{layout};
+ghost use Rattle.diva_image.specs.ImageLayout.{layout};
 ghost use Rattle.diva_outside.specs.Lines.{lines_of, over_lines};
 ghost use Rattle.diva_asm.specs.Laying.{nothing_laid, with_line};
 ghost use Rattle.diva_asm.specs.Building.{nothing_built, built_line};

@@ -1,7 +1,7 @@
 // The second pass: the bytes that statements lay.
 ghost use Rattle.std.specs.Prelude.{◌≡◌, ◌++◌, ◌+◌, ◌%◌, ◌^◌, ◌<◌, ◌∷◌, [], Some, Ok, length, IfOk, OnOk};
-ghost use Rattle.diva_decode.specs.Table.{shape, IsValid};
-ghost use Rattle.diva_asm.specs.Mnemonics.{shape_operands};
+ghost use Rattle.diva_decode.specs.Table.{format, IsValid};
+ghost use Rattle.diva_asm.specs.Mnemonics.{format_operands};
 ghost use Rattle.diva_asm.specs.Reads.{Keeps, uses, unused, IsRead};
 ghost use Rattle.diva_asm.specs.Building.{nothing_built, value_of, two_words, in_bytes, one_instruction, instructions, bytes_of_words, bytes_of, is_entry, built_at, built_by, built_text};
 ghost use Rattle.diva_asm.specs.Texts.{without_comment, labels_of};
@@ -166,7 +166,7 @@ fn push_instructions(
 }
 
 fn push_operation(bytes: &mut Bytes, op: Op, v: &Operands<'_>, offset: u32) -> Result<(), Stop>
-    requires { Keeps (uses (shape_operands (shape op)) unused) v.now }
+    requires { Keeps (uses (format_operands (format op)) unused) v.now }
     ensures { Appends (in_bytes (one_instruction op v.now offset)) bytes.old bytes.new result }
 {
     push(bytes, &instruction(op, v, offset)?)?;

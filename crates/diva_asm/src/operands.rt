@@ -4,7 +4,7 @@ ghost use Rattle.std.specs.Map.{lookup};
 ghost use Rattle.std.specs.Str.{bytes_eq};
 ghost use Rattle.std.specs.Option.{ok_or, option_map};
 ghost use Rattle.diva_asm.specs.declared.fault.Kind.TheVariants.{NoRegister, BadNumber};
-ghost use Rattle.diva_asm.specs.Operands.{Place as ThePlace, register_of, digits_of, unsigned_of, number_of, number_in, word_from, offset_of, place_at, place_of};
+ghost use Rattle.diva_asm.specs.Operands.{Place as Place, register_of, digits_of, unsigned_of, number_of, number_in, word_from, offset_of, place_at, place_of};
 
 use crate::fault::Kind;
 use crate::texts::{name_len, trim};
@@ -95,9 +95,9 @@ pub(crate) struct Place<'a> {
 
 impl<'a> Model for Place<'a> {
     ghost use Rattle.std.specs.Option.{option_map};
-    ghost use Rattle.diva_asm.specs.Operands.{Place as ThePlace};
+    ghost use Rattle.diva_asm.specs.Operands.{Place as Place};
 
-    ghost Value = { ThePlace };
+    ghost Value = { Place };
 
     ghost view = { λ p. record { label = option_map (λ name. name.now) p.label; offset = p.offset } };
 }

@@ -1,8 +1,8 @@
 // The instructions of a statement.
 ghost use Rattle.std.specs.Prelude.{◌≡◌, ◌<◌, ℤ, pos, [], ◌∷◌, IfOk};
 ghost use Rattle.std.specs.Int.{cast_signed, w32};
-ghost use Rattle.diva_decode.specs.Table.{shape, IsValid, FitsBits};
-ghost use Rattle.diva_asm.specs.Mnemonics.{shape_operands};
+ghost use Rattle.diva_decode.specs.Table.{format, IsValid, FitsBits};
+ghost use Rattle.diva_asm.specs.Mnemonics.{format_operands};
 ghost use Rattle.diva_asm.specs.Reads.{Keeps, uses, unused};
 ghost use Rattle.diva_asm.specs.Building.{imm_of, reaches, offset_to, addi, jalr, lui_of, addi_of, instruction};
 
@@ -20,7 +20,7 @@ pub(crate) fn offset_to(address: u32, pc: u32) -> u32
 /// An instruction of the table, a branch or a jump by its offset.
 #[tactic(auto, unfolding(crate::specs::Building::instruction))]
 pub(crate) fn instruction(op: Op, v: &Operands<'_>, offset: u32) -> Result<Instr, Kind>
-    requires { Keeps (uses (shape_operands (shape op)) unused) v.now }
+    requires { Keeps (uses (format_operands (format op)) unused) v.now }
     ensures value { result ≡ instruction op v.now offset }
     ensures valid { IfOk result (λ i. IsValid i) }
 {
@@ -38,7 +38,7 @@ pub(crate) fn instruction(op: Op, v: &Operands<'_>, offset: u32) -> Result<Instr
 }
 
 fn imm_of(op: Op, v: &Operands<'_>, offset: u32) -> i32
-    ensures { result ≡ imm_of (shape op) v.now offset }
+    ensures { result ≡ imm_of (format op) v.now offset }
 {
     match op {
         Op::Lui | Op::Auipc => (word_from(v.number) << 12).cast_signed(),
@@ -51,7 +51,7 @@ fn imm_of(op: Op, v: &Operands<'_>, offset: u32) -> i32
 
 /// Whether an offset is even and within its format's range.
 fn reaches(op: Op, imm: i32) -> bool
-    ensures { result ≡ reaches (shape op) imm }
+    ensures { result ≡ reaches (format op) imm }
 {
     match op {
         Op::Jal => imm.cast_unsigned() % 2 == 0 && -0x10_0000 <= imm && imm <= 0xf_fffe,

@@ -2,7 +2,7 @@
 use Rattle.std.proofs.Common.{ℕ, List, Option, Some, None, Ok, Err}
 use Rattle.diva_outside.specs.Sink.{Puts}
 use Rattle.diva_outside.specs.declared.sink.SinkFailed.{SinkFailed}
-use Rattle.diva_core.specs.Log.{Meaning}
+use Rattle.diva_core.specs.History.{Meaning}
 use Rattle.diva_args.specs.declared.job.Job.{Job}
 use Rattle.diva_cli.specs.declared.stop.Failure.TheVariants.{Cut}
 use Rattle.diva_cli.specs.Wanted.{FileBytes}

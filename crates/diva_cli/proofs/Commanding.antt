@@ -5,11 +5,11 @@ use Rattle.std.proofs.lemmas.Option.{same_Some, none-some}
 use Rattle.diva_isa.specs.Step.{steps}
 use Rattle.diva_isa.specs.declared.record.Record.{Record}
 use Rattle.diva_core.specs.Cycle.{cycle_of, run_of}
-use Rattle.diva_core.specs.Log.{Meaning, Turns, lists_of}
+use Rattle.diva_core.specs.History.{Meaning, Turns, lists_of}
 use Rattle.diva_core.specs.declared.flushes.FlushRow.{FlushRow}
-use Rattle.diva_core.proofs.Turning.{IsLog-run, length-lists_of}
+use Rattle.diva_core.proofs.Turning.{IsHistory-run, length-lists_of}
 use Rattle.diva_machine.specs.Counts.{StopsAtOnce}
-use Rattle.diva_machine.proofs.Counting.{IsLog-then}
+use Rattle.diva_machine.proofs.Counting.{IsHistory-then}
 use Rattle.diva_outside.specs.Sink.{Puts}
 use Rattle.diva_outside.specs.declared.sink.SinkFailed.{SinkFailed}
 use Rattle.diva_outside.proofs.Sinks.{puts_nothing, puts_then}
@@ -18,12 +18,12 @@ use Rattle.diva_debug.specs.Replies.{reply_of}
 use Rattle.diva_debug.specs.declared.command.Command.{Command}
 use Rattle.diva_cli.specs.Replies.{AreLed, IsReplied, cycles_of, joined, newest_after, replies_of}
 use Rattle.diva_core.specs.Timed.{Timed, new_timed}
-use Rattle.diva_core.specs.Machine.{IsSizes}
+use Rattle.diva_core.specs.Machine.{IsConfig}
 use Rattle.diva_args.specs.Options.{DebugOptions}
 use Rattle.diva_args.specs.declared.job.Job.TheVariants.{Debug}
 use Rattle.diva_cli.specs.declared.loading.SessionReady.{SessionReady}
 use Rattle.diva_cli.specs.Wanted.{FileBytes}
-use Rattle.diva_cli.specs.Runs.{IsRunOver, sizes_of, start_in}
+use Rattle.diva_cli.specs.Runs.{IsRunOver, config_of, start_in}
 use Rattle.diva_cli.specs.DebugTexts.{HasReplies}
 use Rattle.diva_cli.specs.Parts.{IsSession, WritesPart, WritesWhole}
 use Rattle.diva_cli.specs.Tasks.{Performs, PerformsBy}
@@ -35,9 +35,9 @@ run-both : (m : Timed) (here later : List (List Record)) → run_of m (here ++ l
 run-both m [] later = refl
 run-both m (list ∷ rest) later = run-both (cycle_of m list) rest later
 
-lists-both : {C : Type 0} (log more : List (List Record × C)) → lists_of (log ++ more) ≡ lists_of log ++ lists_of more
+lists-both : {C : Type 0} (history more : List (List Record × C)) → lists_of (history ++ more) ≡ lists_of history ++ lists_of more
 lists-both [] more = refl
-lists-both (turn ∷ log) more = ap (λ (l : List (List Record)). turn.0 ∷ l) (lists-both log more)
+lists-both (turn ∷ history) more = ap (λ (l : List (List Record)). turn.0 ∷ l) (lists-both history more)
 
 joined-more : (parts : List (List (List Record))) (part : List (List Record)) → joined (parts ++ part ∷ []) ≡ joined parts ++ part
 joined-more [] part = append-nil part
@@ -117,7 +117,7 @@ pub record RepliesSoFar {C : Type 0} (gives : Meaning C) (commands : List Comman
   pub in_order : commands ≡ done ++ left
   pub many : length done ≡ n
   pub parts : List (List (List Record))
-  pub together : lists_of turns.log ≡ joined parts
+  pub together : lists_of turns.history ≡ joined parts
   pub led : AreLed done m parts
   pub put : Puts (replies_of done m.count m.arch (newest_after m parts)) old new before now result
 
@@ -125,7 +125,7 @@ pub replies_none : {C : Type 0} (gives : Meaning C) (commands : List Command) (m
     → RepliesSoFar gives commands 0 m core m core old old before before (Ok tt)
 replies_none gives commands m core old before =
     record {
-      turns = record { log = []; good = (refl, refl); each = omega arith };
+      turns = record { history = []; good = (refl, refl); each = omega arith };
       done = [];
       left = commands;
       in_order = refl;
@@ -151,17 +151,17 @@ pub replies_more :
 replies_more gives commands n m core mid between old now new f g h c last after line piece result s at t moved once is piece_is puts =
     record {
       turns = record {
-        log = s.turns.log ++ t.log;
-        good = IsLog-then gives m core s.turns.log mid between t.log last after s.turns.good t.good;
+        history = s.turns.history ++ t.history;
+        good = IsHistory-then gives m core s.turns.history mid between t.history last after s.turns.good t.good;
         each = rw length-append (let e = s.turns.each in let k = t.each in omega arith);
       };
       done = s.done ++ c ∷ [];
       left = next.rest;
       in_order = s.in_order ∙ ap (λ (l : List Command). s.done ++ l) next.is ∙ sym (append_assoc s.done (c ∷ []) next.rest);
       many = rw length-append (let e = s.many in omega arith);
-      parts = s.parts ++ lists_of t.log ∷ [];
-      together = lists-both s.turns.log t.log ∙ ap (λ (l : List (List Record)). l ++ lists_of t.log) s.together ∙ sym (joined-more s.parts (lists_of t.log));
-      led = led-more s.done c m s.parts (lists_of t.log) mid here s.led (subst (Moves (steps_by c mid.arch) mid) there moved) (subst (StopsAtOnce mid) there once);
+      parts = s.parts ++ lists_of t.history ∷ [];
+      together = lists-both s.turns.history t.history ∙ ap (λ (l : List (List Record)). l ++ lists_of t.history) s.together ∙ sym (joined-more s.parts (lists_of t.history));
+      led = led-more s.done c m s.parts (lists_of t.history) mid here s.led (subst (Moves (steps_by c mid.arch) mid) there moved) (subst (StopsAtOnce mid) there once);
       put = subst (λ (x : List ℕ). Puts x old new f h result) (sym text)
           (puts_then (replies_of s.done m.count m.arch (newest_after m s.parts)) _ old now new f g h result s.put (subst (λ (x : List ℕ). Puts x now new g h result) (piece_is ∙ is) puts));
     }
@@ -170,21 +170,21 @@ replies_more gives commands n m core mid between old now new f g h c last after 
     next = next-left s.done s.left c (ap (λ (l : List Command). slice_get l (length s.done)) (sym s.in_order) ∙ ap (slice_get commands) s.many ∙ at)
 
     here : mid ≡ run_of m (joined s.parts)
-    here = IsLog-run gives m core s.turns.log mid between s.turns.good ∙ ap (run_of m) s.together
+    here = IsHistory-run gives m core s.turns.history mid between s.turns.good ∙ ap (run_of m) s.together
 
-    there : last ≡ run_of mid (lists_of t.log)
-    there = IsLog-run gives mid between t.log last after t.good
+    there : last ≡ run_of mid (lists_of t.history)
+    there = IsHistory-run gives mid between t.history last after t.good
 
-    text : replies_of (s.done ++ c ∷ []) m.count m.arch (newest_after m (s.parts ++ lists_of t.log ∷ [])) ≡ replies_of s.done m.count m.arch (newest_after m s.parts) ++ reply_of c mid.count mid.arch last.newest
+    text : replies_of (s.done ++ c ∷ []) m.count m.arch (newest_after m (s.parts ++ lists_of t.history ∷ [])) ≡ replies_of s.done m.count m.arch (newest_after m s.parts) ++ reply_of c mid.count mid.arch last.newest
     text =
-        ap (replies_of (s.done ++ c ∷ []) m.count m.arch) (newest-more m s.parts (lists_of t.log) mid here)
+        ap (replies_of (s.done ++ c ∷ []) m.count m.arch) (newest-more m s.parts (lists_of t.history) mid here)
         ∙ ap (λ (k : Timed). replies_of (s.done ++ c ∷ []) m.count m.arch (newest_after m s.parts ++ k.newest ∷ [])) (sym there)
         ∙ replies-more s.done c m s.parts last.newest mid here s.led
 
 pub replied :
     {C : Type 0} (gives : Meaning C) (commands : List Command) (n : ℕ) (m : Timed) (core : C) (last : Timed) (after : C) (old new : Option (List ℕ)) (f g : ℕ) (result : Result (Unit {0}) SinkFailed)
     → RepliesSoFar gives commands n m core last after old new f g result
-    → last.cycles ≤ m.cycles + cycles_of n m.sizes.limit
+    → last.cycles ≤ m.cycles + cycles_of n m.config.limit
     → OnOk result (n ≡ length commands)
     → Performs gives m core last after (λ lists. IsReplied commands m lists old new f g result)
 replied gives commands n m core last after old new f g result s within all =
@@ -198,7 +198,7 @@ replied gives commands n m core last after old new f g result s within all =
         parts = s.parts;
         together = s.together;
         led = s.led;
-        most = rw s.many (let e = s.turns.each in let l = length-lists_of s.turns.log in omega arith);
+        most = rw s.many (let e = s.turns.each in let l = length-lists_of s.turns.history in omega arith);
         put = s.put;
       };
     }
@@ -236,14 +236,14 @@ file-fits cycles n limit none few small =
 
 module _ {C : Type 0} (gives : Meaning C) (options : DebugOptions) (bytes : FileBytes) (session : SessionReady) (core : C) (last : Timed) (after : C)
     (old new : Option (List ℕ)) (before now : ℕ) (result : Result (Unit {0}) SinkFailed)
-    (fits : IsSizes (sizes_of options.setup)) (is : IsSession options bytes session) (commands : List Command) (same : commands ≡ session.commands.items)
+    (fits : IsConfig (config_of options.setup)) (is : IsSession options bytes session) (commands : List Command) (same : commands ≡ session.commands.items)
     (p : PerformsBy gives session.ready.core session.ready.script session.ready.machine.timed core last after
     (λ lists. IsReplied commands session.ready.machine.timed lists old new before now result)) where
   abbrev first : Timed
-  first = new_timed (sizes_of options.setup) (start_in bytes)
+  first = new_timed (config_of options.setup) (start_in bytes)
 
   few : length p.lists ≤ cycles_of (length p.done.done) options.setup.watchdog
-  few = subst (λ (m : Timed). length p.lists ≤ cycles_of (length p.done.done) m.sizes.limit) is.ready.begun p.done.most
+  few = subst (λ (m : Timed). length p.lists ≤ cycles_of (length p.done.done) m.config.limit) is.ready.begun p.done.most
 
   abbrev over : IsRunOver gives options.setup (cycles_of (length p.done.done) options.setup.watchdog) bytes core last after
   over = run_over gives options.setup (cycles_of (length p.done.done) options.setup.watchdog) bytes session.ready core last after fits is.ready p.lists p.ran p.each p.handed few

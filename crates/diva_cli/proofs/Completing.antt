@@ -3,10 +3,10 @@ use Rattle.std.proofs.Common.{◌≡◌, ◌⊎◌, ℕ, List, [], ◌∷◌, le
 use Rattle.std.proofs.lemmas.Bool.{true≢false}
 use Rattle.std.specs.Io.KnownBytes.{Appends}
 use Rattle.diva_outside.specs.Causes.{Rose}
-use Rattle.diva_outside.specs.Files.{ToldFiles}
+use Rattle.diva_outside.specs.Files.{Contents}
 use Rattle.diva_outside.specs.declared.files.What.{What}
 use Rattle.diva_outside.specs.declared.files.What.TheVariants.{Image, Script, Tape as TapeFile, Source, Commands}
-use Rattle.diva_core.specs.Log.{Meaning}
+use Rattle.diva_core.specs.History.{Meaning}
 use Rattle.diva_core.specs.Timed.{Timed}
 use Rattle.diva_args.specs.declared.job.Job.{Job}
 use Rattle.diva_args.specs.declared.job.Job.TheVariants.{Run, Tape, Debug, Asm, Dis, Soak}
@@ -48,7 +48,7 @@ faultless-fault Commands bytes kind place n f = true≢false (sym (subst IsOk f 
 pub some_same : {A : Type 0} (r : Option A) (x y : A) → r ≡ Some x → r ≡ Some y → x ≡ y
 some_same r x y a b = cc
 
-pub held-refused : (contents : ToldFiles) (text : List ℕ) (w : Wanted) → IsHeld contents w → IsRefused contents text w → ⊥
+pub held-refused : (contents : Contents) (text : List ℕ) (w : Wanted) → IsHeld contents w → IsRefused contents text w → ⊥
 held-refused None text w h r = h.held
 held-refused (Some bytes_of) text w h r = go r.cause
   where
@@ -60,7 +60,7 @@ held-refused (Some bytes_of) text w h r = go r.cause
         let same : h.bytes ≡ f.bytes = some_same (bytes_of w.name) h.bytes f.bytes h.held f.has in
         faultless-fault w.what f.bytes r.kind r.place (subst (λ (b : List ℕ). IsFaultless w.what b) same h.faultless) f.first
 
-held-unread : (contents : ToldFiles) (before now : What → ℕ) (text : List ℕ) (w : Wanted) → ((what : What) → Rose (before what) (now what) → ⊥) → IsHeld contents w → IsUnread contents before now text w → ⊥
+held-unread : (contents : Contents) (before now : What → ℕ) (text : List ℕ) (w : Wanted) → ((what : What) → Rose (before what) (now what) → ⊥) → IsHeld contents w → IsUnread contents before now text w → ⊥
 held-unread None before now text w none h r = h.held
 held-unread (Some bytes_of) before now text w none h r = go r.cause
   where
@@ -68,14 +68,14 @@ held-unread (Some bytes_of) before now text w none h r = go r.cause
     go (inl rose) = none w.what rose
     go (inr missing) = let e = sym h.held ∙ missing in cc
 
-held-stops : (contents : ToldFiles) (this : Wanted → Type 0) → ((w : Wanted) → IsHeld contents w → this w → ⊥) → (ws : List Wanted) → AreHeld contents ws → StopsAt contents this ws → ⊥
+held-stops : (contents : Contents) (this : Wanted → Type 0) → ((w : Wanted) → IsHeld contents w → this w → ⊥) → (ws : List Wanted) → AreHeld contents ws → StopsAt contents this ws → ⊥
 held-stops contents this never [] h s = s
 held-stops contents this never (w ∷ ws) h (inl here) = never w h.0 here
 held-stops contents this never (w ∷ ws) h (inr later) = held-stops contents this never ws h.1 later.1
 
 -- ---- so it is done
 
-module _ {C : Type 0} (gives : Meaning C) (command : Option Job) (contents : ToldFiles) (before now : What → ℕ) (core after : C) (old new : Option (List ℕ)) (faults faults' : ℕ)
+module _ {C : Type 0} (gives : Meaning C) (command : Option Job) (contents : Contents) (before now : What → ℕ) (core after : C) (old new : Option (List ℕ)) (faults faults' : ℕ)
     (can : CanWork command contents) (files_well : (what : What) → Rose (before what) (now what) → ⊥) (sink_well : Rose faults faults' → ⊥) where
   held_of : (job : Job) → command ≡ Some job → AreHeld contents (wanted job)
   held_of job named = subst (λ (j : Job). AreHeld contents (wanted j)) (some_same command can.job job can.named named) can.held

@@ -6,14 +6,14 @@ use Rattle.std.proofs.lemmas.List.Elements.{All-nil, All-push}
 use Rattle.std.specs.List.{All}
 use Rattle.diva_isa.specs.State.{goes_on}
 use Rattle.diva_isa.specs.declared.record.Record.{Record}
-use Rattle.diva_core.specs.Told.{notice_of}
+use Rattle.diva_core.specs.Told.{told_of}
 use Rattle.diva_core.specs.Timed.{Timed}
 use Rattle.diva_core.specs.Cycle.{cycle_of, run_of}
-use Rattle.diva_core.specs.Log.{Meaning, Turns, lists_of}
+use Rattle.diva_core.specs.History.{Meaning, Turns, lists_of}
 use Rattle.diva_core.specs.Machine.{IsMachine}
 use Rattle.diva_core.specs.Headline.{dues}
 use Rattle.diva_core.proofs.Outcomes.{cycle-cycles}
-use Rattle.diva_core.proofs.Turning.{IsLog-more, IsLog-run, length-lists_of}
+use Rattle.diva_core.proofs.Turning.{IsHistory-more, IsHistory-run, length-lists_of}
 use Rattle.diva_outside.specs.Sink.{Puts}
 use Rattle.diva_outside.specs.declared.sink.SinkFailed.{SinkFailed}
 use Rattle.diva_outside.proofs.Sinks.{puts_nothing, puts_then}
@@ -21,10 +21,10 @@ use Rattle.diva_cli.specs.Tasks.{CycleText, cycles_text, IsWritten, Performs}
 
 -- ---- one cycle more
 
-lists_more : {C : Type 0} (log : List (List Record × C)) (list : List Record) (after : C)
-    → lists_of (log ++ (list, after) ∷ []) ≡ lists_of log ++ list ∷ []
+lists_more : {C : Type 0} (history : List (List Record × C)) (list : List Record) (after : C)
+    → lists_of (history ++ (list, after) ∷ []) ≡ lists_of history ++ list ∷ []
 lists_more [] list after = refl
-lists_more (turn ∷ log) list after = ap (λ (lists : List (List Record)). turn.0 ∷ lists) (lists_more log list after)
+lists_more (turn ∷ history) list after = ap (λ (lists : List (List Record)). turn.0 ∷ lists) (lists_more history list after)
 
 text_more : (text : CycleText) (m : Timed) (lists : List (List Record)) (list : List Record)
     → cycles_text text m (lists ++ list ∷ [])
@@ -41,13 +41,13 @@ module _ {D : Type 0} (gives : Meaning D) (text : CycleText) (says : List Record
   pub record WritesSoFar (n : ℕ) (last : Timed) (after : D) (new : Option (List ℕ)) (now : ℕ) (result : Result (Unit {0}) SinkFailed) : Type 0 where
     pub turns : Turns gives m core last after
     pub many : last.cycles ≡ m.cycles + n
-    pub said : OnOk result (All says (lists_of turns.log))
-    pub put : Puts (cycles_text text m (lists_of turns.log)) old new before now result
+    pub said : OnOk result (All says (lists_of turns.history))
+    pub put : Puts (cycles_text text m (lists_of turns.history)) old new before now result
 
   pub writes_none : WritesSoFar 0 m core old before (Ok tt)
   writes_none =
       record {
-        turns = record { log = []; good = (refl, refl); each = omega arith };
+        turns = record { history = []; good = (refl, refl); each = omega arith };
         many = omega arith;
         said = All-nil says;
         put = puts_nothing old before;
@@ -58,15 +58,15 @@ module _ {D : Type 0} (gives : Meaning D) (text : CycleText) (says : List Record
     writes_more : (list : List Record) (after : D) (new : Option (List ℕ)) (h : ℕ) (result : Result (Unit {0}) SinkFailed)
         → IsMachine mid
         → goes_on mid.arch ≡ true
-        → gives between (notice_of mid) mid.arch list after
+        → gives between (told_of mid) mid.arch list after
         → Puts (text mid.count (dues ((cycle_of mid list).count - mid.count) mid.arch) list) now new g h result
         → OnOk result (says list)
         → WritesSoFar (n + 1) (cycle_of mid list) after new h result
     writes_more list after new h result sound on asked puts says_it =
         record {
           turns = record {
-            log = so_far.turns.log ++ (list, after) ∷ [];
-            good = IsLog-more gives m core so_far.turns.log mid between list after so_far.turns.good on asked;
+            history = so_far.turns.history ++ (list, after) ∷ [];
+            good = IsHistory-more gives m core so_far.turns.history mid between list after so_far.turns.good on asked;
             each = rw length-append (let e = so_far.turns.each in let c = next in omega arith);
           };
           many = (let e = so_far.many in let c = next in omega arith);
@@ -77,16 +77,16 @@ module _ {D : Type 0} (gives : Meaning D) (text : CycleText) (says : List Record
         next : (cycle_of mid list).cycles ≡ mid.cycles + 1
         next = cycle-cycles mid list sound on
 
-        told : (r : Result (Unit {0}) SinkFailed) → OnOk r (says list) → OnOk r (All says (lists_of (so_far.turns.log ++ (list, after) ∷ [])))
-        told (Ok u) s = subst (All says) (sym (lists_more so_far.turns.log list after)) (All-push says (lists_of so_far.turns.log) list so_far.said s)
+        told : (r : Result (Unit {0}) SinkFailed) → OnOk r (says list) → OnOk r (All says (lists_of (so_far.turns.history ++ (list, after) ∷ [])))
+        told (Ok u) s = subst (All says) (sym (lists_more so_far.turns.history list after)) (All-push says (lists_of so_far.turns.history) list so_far.said s)
         told (Err e) s = tt
 
-        more : cycles_text text m (lists_of (so_far.turns.log ++ (list, after) ∷ []))
-            ≡ cycles_text text m (lists_of so_far.turns.log) ++ text mid.count (dues ((cycle_of mid list).count - mid.count) mid.arch) list
+        more : cycles_text text m (lists_of (so_far.turns.history ++ (list, after) ∷ []))
+            ≡ cycles_text text m (lists_of so_far.turns.history) ++ text mid.count (dues ((cycle_of mid list).count - mid.count) mid.arch) list
         more =
-            ap (cycles_text text m) (lists_more so_far.turns.log list after)
-            ∙ text_more text m (lists_of so_far.turns.log) list
-            ∙ ap (λ (k : Timed). cycles_text text m (lists_of so_far.turns.log) ++ text k.count (dues ((cycle_of k list).count - k.count) k.arch) list) (sym (IsLog-run gives m core so_far.turns.log mid between so_far.turns.good))
+            ap (cycles_text text m) (lists_more so_far.turns.history list after)
+            ∙ text_more text m (lists_of so_far.turns.history) list
+            ∙ ap (λ (k : Timed). cycles_text text m (lists_of so_far.turns.history) ++ text k.count (dues ((cycle_of k list).count - k.count) k.arch) list) (sym (IsHistory-run gives m core so_far.turns.history mid between so_far.turns.good))
 
     -- the same, of a turn that is known by equations
     pub writes_turn : (list : List Record) (after : D) (new : Option (List ℕ)) (h : ℕ) (result : Result (Unit {0}) SinkFailed) (first : ℕ) (committed : List Record) (next : Timed)
@@ -95,7 +95,7 @@ module _ {D : Type 0} (gives : Meaning D) (text : CycleText) (says : List Record
         → next ≡ cycle_of mid list
         → IsMachine mid
         → goes_on mid.arch ≡ true
-        → gives between (notice_of mid) mid.arch list after
+        → gives between (told_of mid) mid.arch list after
         → Puts (text first committed list) now new g h result
         → OnOk result (says list)
         → WritesSoFar (n + 1) next after new h result
@@ -117,17 +117,17 @@ module _ {D : Type 0} (gives : Meaning D) (text : CycleText) (says : List Record
         done = record { most = (let l = long in omega arith); whole = go result whole; said = w.said; put = w.put };
       }
     where
-      long : length (lists_of w.turns.log) ≡ n
-      long = let e = w.turns.each in let l = length-lists_of w.turns.log in let k = w.many in omega arith
+      long : length (lists_of w.turns.history) ≡ n
+      long = let e = w.turns.each in let l = length-lists_of w.turns.history in let k = w.many in omega arith
 
-      go : (r : Result (Unit {0}) SinkFailed) → OnOk r (goes_on last.arch ≡ true → n ≡ budget) → OnOk r (goes_on last.arch ≡ true → length (lists_of w.turns.log) ≡ budget)
+      go : (r : Result (Unit {0}) SinkFailed) → OnOk r (goes_on last.arch ≡ true → n ≡ budget) → OnOk r (goes_on last.arch ≡ true → length (lists_of w.turns.history) ≡ budget)
       go (Ok u) all = λ on. (let x = all on in let l = long in omega arith)
       go (Err e) all = tt
 
 -- the number of an instruction has room in 64 bits
 pub numbers_fit : (m : Timed) → IsMachine m → m.cycles ≤ 2 ^ 60 → m.count < 2 ^ 64
 numbers_fit m inv c =
-    let w : m.sizes.width * m.cycles ≤ 4 * m.cycles = mul-le-mul_right m.cycles inv.sizes.width_high in
+    let w : m.config.width * m.cycles ≤ 4 * m.cycles = mul-le-mul_right m.cycles inv.config.width_high in
     let n = inv.count in omega arith
 
 pub ended : (last : Timed) (n budget : ℕ) → goes_on last.arch ≡ false → goes_on last.arch ≡ true → n ≡ budget

@@ -8,8 +8,8 @@ use Rattle.diva_isa.specs.State.{goes_on}
 use Rattle.diva_isa.specs.declared.record.Record.{Record}
 use Rattle.diva_core.specs.Timed.{Timed, new_timed}
 use Rattle.diva_core.specs.Cycle.{cycle_of}
-use Rattle.diva_core.specs.Told.{notice_of}
-use Rattle.diva_core.specs.Log.{Meaning, IsLog}
+use Rattle.diva_core.specs.Told.{told_of}
+use Rattle.diva_core.specs.History.{Meaning, IsHistory}
 use Rattle.diva_faults.specs.declared.rows.Row.{Row}
 use Rattle.diva_faults.specs.Spoiled.{spoiled}
 use Rattle.diva_faults.specs.Lists.{scripted}
@@ -23,29 +23,29 @@ use Rattle.diva_args.specs.declared.job.CoreChoice.TheVariants.{Own}
 use Rattle.diva_cli.specs.Wanted.{FileBytes}
 use Rattle.diva_cli.specs.Determined.{IsDetermined}
 use Rattle.diva_cli.specs.Driven.{AreHanded, ByTurns}
-use Rattle.diva_cli.specs.Runs.{AreRows, HasRun, asked_trace, shown_dump, sizes_of, start_in}
-use Rattle.diva_cli.specs.SoakTexts.{HasSoaked, soak_cycles, soak_sizes, soak_start}
+use Rattle.diva_cli.specs.Runs.{AreRows, HasRun, asked_trace, shown_dump, config_of, start_in}
+use Rattle.diva_cli.specs.SoakTexts.{HasSoaked, soak_cycles, soak_config, soak_start}
 
 module _ {C : Type 0} (gives : Meaning C) (determined : IsDetermined gives) where
   -- the turns of two logs that were not broken off
-  last_same : (n : ℕ) (m last last' : Timed) (core after after' : C) (log log' : List (List Record × C))
-      → IsLog gives m core log last after → IsLog gives m core log' last' after'
-      → length log ≤ n → length log' ≤ n
-      → (goes_on last.arch ≡ true → length log ≡ n) → (goes_on last'.arch ≡ true → length log' ≡ n)
+  last_same : (n : ℕ) (m last last' : Timed) (core after after' : C) (history history' : List (List Record × C))
+      → IsHistory gives m core history last after → IsHistory gives m core history' last' after'
+      → length history ≤ n → length history' ≤ n
+      → (goes_on last.arch ≡ true → length history ≡ n) → (goes_on last'.arch ≡ true → length history' ≡ n)
       → last ≡ last'
   last_same n m last last' core after after' [] [] i j most most' all all' = i.0 ∙ sym j.0
-  last_same n m last last' core after after' [] (t ∷ log') i j most most' all all' =
+  last_same n m last last' core after after' [] (t ∷ history') i j most most' all all' =
       let on : goes_on last.arch ≡ true = ap (λ (x : Timed). goes_on x.arch) i.0 ∙ j.0 in
       let none = all on in
       absurd (omega arith)
-  last_same n m last last' core after after' (t ∷ log) [] i j most most' all all' =
+  last_same n m last last' core after after' (t ∷ history) [] i j most most' all all' =
       let on : goes_on last'.arch ≡ true = ap (λ (x : Timed). goes_on x.arch) j.0 ∙ i.0 in
       let none = all' on in
       absurd (omega arith)
-  last_same n m last last' core after after' (t ∷ log) (t' ∷ log') i j most most' all all' =
-      let same = determined core (notice_of m) m.arch t.0 t'.0 t.1 t'.1 i.1.0 j.1.0 in
-      let next : IsLog gives (cycle_of m t.0) t.1 log' last' after' = subst (λ (x : List Record). IsLog gives (cycle_of m x) t.1 log' last' after') (sym same.0) (subst (λ (x : C). IsLog gives (cycle_of m t'.0) x log' last' after') (sym same.1) j.1.1) in
-      last_same (n - 1) (cycle_of m t.0) last last' t.1 after after' log log' i.1.1 next (omega arith) (omega arith) (λ on. let e = all on in omega arith) (λ on. let e = all' on in omega arith)
+  last_same n m last last' core after after' (t ∷ history) (t' ∷ history') i j most most' all all' =
+      let same = determined core (told_of m) m.arch t.0 t'.0 t.1 t'.1 i.1.0 j.1.0 in
+      let next : IsHistory gives (cycle_of m t.0) t.1 history' last' after' = subst (λ (x : List Record). IsHistory gives (cycle_of m x) t.1 history' last' after') (sym same.0) (subst (λ (x : C). IsHistory gives (cycle_of m t'.0) x history' last' after') (sym same.1) j.1.1) in
+      last_same (n - 1) (cycle_of m t.0) last last' t.1 after after' history history' i.1.1 next (omega arith) (omega arith) (λ on. let e = all on in omega arith) (λ on. let e = all' on in omega arith)
 
 -- the calls of a core under a script are determined, where its own are
 spoiled_determined : {C : Type 0} (gives : Meaning C) (rows : List Row) → IsDetermined gives → IsDetermined (spoiled rows gives)
@@ -63,22 +63,22 @@ own_turns gives choice tape rows m core lists last after own h = subst (λ (x : 
 
 -- the turns of a run
 record Ran {C : Type 0} (gives : Meaning C) (n : ℕ) (m : Timed) (core : C) (last : Timed) (after : C) : Type 0 where
-  log : List (List Record × C)
-  good : IsLog gives m core log last after
-  most : length log ≤ n
-  all : goes_on last.arch ≡ true → length log ≡ n
+  history : List (List Record × C)
+  good : IsHistory gives m core history last after
+  most : length history ≤ n
+  all : goes_on last.arch ≡ true → length history ≡ n
 
 ran : {C : Type 0} (gives : Meaning C) (options : RunOptions) (bytes : FileBytes) (core after : C) (status : Option ℕ) (text : Text) (rows : List Row)
     → options.setup.core ≡ Own → (h : HasRun gives options bytes core after status text) → (options.trace ≡ true → IsSome status) → h.over.script ≡ rows
-    → Ran (spoiled rows gives) options.cycles (new_timed (sizes_of options.setup) (start_in bytes)) core h.last after
+    → Ran (spoiled rows gives) options.cycles (new_timed (config_of options.setup) (start_in bytes)) core h.last after
 ran gives options bytes core after status text rows own h asked is =
     let driven = h.over.run.driven in
-    let turns = own_turns gives options.setup.core h.over.tape h.over.script (new_timed (sizes_of options.setup) (start_in bytes)) core driven.lists h.last after own driven.handed in
-    let long : length driven.lists ≡ length turns.log = ap length turns.in_order ∙ length-map turns.log (λ turn. turn.0) in
+    let turns = own_turns gives options.setup.core h.over.tape h.over.script (new_timed (config_of options.setup) (start_in bytes)) core driven.lists h.last after own driven.handed in
+    let long : length driven.lists ≡ length turns.history = ap length turns.in_order ∙ length-map turns.history (λ turn. turn.0) in
     let most = driven.most in
     let each = driven.each in
-    subst (λ (r : List Row). Ran (spoiled r gives) options.cycles (new_timed (sizes_of options.setup) (start_in bytes)) core h.last after) is
-    (record { log = turns.log; good = turns.good; most = omega arith; all = λ on. (let e = (h.whole asked).all on in omega arith) })
+    subst (λ (r : List Row). Ran (spoiled r gives) options.cycles (new_timed (config_of options.setup) (start_in bytes)) core h.last after) is
+    (record { history = turns.history; good = turns.good; most = omega arith; all = λ on. (let e = (h.whole asked).all on in omega arith) })
 
 pub text_same : {C : Type 0} (gives : Meaning C) → IsDetermined gives → (options : RunOptions) (bytes : FileBytes) (core after last : C) (status other : Option ℕ) (text same : Text)
     → options.setup.core ≡ Own → HasRun gives options bytes core after status text → HasRun gives options bytes core last other same
@@ -87,7 +87,7 @@ text_same gives determined options bytes core after last status other text same 
     let rows = k.over.script in
     let i = ran gives options bytes core after status text rows own h (λ on. (asked on).0) (rows_same options.setup.script (bytes Script) h.over.script rows h.over.rows k.over.rows) in
     let j = ran gives options bytes core last other same rows own k (λ on. (asked on).1) refl in
-    let ends : h.last ≡ k.last = last_same (spoiled rows gives) (spoiled_determined gives rows determined) options.cycles (new_timed (sizes_of options.setup) (start_in bytes)) h.last k.last core after last i.log j.log i.good j.good i.most j.most i.all j.all in
+    let ends : h.last ≡ k.last = last_same (spoiled rows gives) (spoiled_determined gives rows determined) options.cycles (new_timed (config_of options.setup) (start_in bytes)) h.last k.last core after last i.history j.history i.good j.good i.most j.most i.all j.all in
     h.lines ∙ ap (λ (m : Timed). asked_trace options.trace (start_in bytes) m.count ++ text_of m (shown_dump options.dump)) ends ∙ sym k.lines
 
 -- ---- the text of `soak`
@@ -95,14 +95,14 @@ text_same gives determined options bytes core after last status other text same 
 -- the turns of its second run, which has ended
 soak_ran : {C : Type 0} (gives : Meaning C) (options : SoakOptions) (core after : C) (status : Option ℕ) (text : Text)
     → (h : HasSoaked gives options core after status text)
-    → Ran (spoiled [] gives) (soak_cycles options.instructions) (new_timed soak_sizes (soak_start options)) core h.second after
+    → Ran (spoiled [] gives) (soak_cycles options.instructions) (new_timed soak_config (soak_start options)) core h.second after
 soak_ran gives options core after status text h =
     let driven = h.under_own.driven in
-    let turns : ByTurns (spoiled [] gives) (new_timed soak_sizes (soak_start options)) core driven.lists h.second after = driven.handed in
-    let long : length driven.lists ≡ length turns.log = ap length turns.in_order ∙ length-map turns.log (λ turn. turn.0) in
+    let turns : ByTurns (spoiled [] gives) (new_timed soak_config (soak_start options)) core driven.lists h.second after = driven.handed in
+    let long : length driven.lists ≡ length turns.history = ap length turns.in_order ∙ length-map turns.history (λ turn. turn.0) in
     let most = driven.most in
     let off : goes_on h.second.arch ≡ false = ap (λ end. end == 0) h.halts.1 in
-    record { log = turns.log; good = turns.good; most = omega arith; all = λ on. absurd (true≢false (sym on ∙ off)) }
+    record { history = turns.history; good = turns.good; most = omega arith; all = λ on. absurd (true≢false (sym on ∙ off)) }
 
 line_same : (core : SoakCore) (n n' y y' f f' : ℕ) → n ≡ n' → y ≡ y' → f ≡ f' → soak_line core n y f ≡ soak_line core n' y' f'
 line_same core n n' y y' f f' a b c = cc
@@ -112,7 +112,7 @@ pub soak_same : {C : Type 0} (gives : Meaning C) → IsDetermined gives → (opt
 soak_same gives determined options core after last status other text same h k =
     let i = soak_ran gives options core after status text h in
     let j = soak_ran gives options core last other same k in
-    let ends : h.second ≡ k.second = last_same (spoiled [] gives) (spoiled_determined gives [] determined) (soak_cycles options.instructions) (new_timed soak_sizes (soak_start options)) h.second k.second core after last i.log j.log i.good j.good i.most j.most i.all j.all in
+    let ends : h.second ≡ k.second = last_same (spoiled [] gives) (spoiled_determined gives [] determined) (soak_cycles options.instructions) (new_timed soak_config (soak_start options)) h.second k.second core after last i.history j.history i.good j.good i.most j.most i.all j.all in
     let counted : h.first.count ≡ k.first.count = sym h.same.1 ∙ ap (λ (m : Timed). m.count) ends ∙ k.same.1 in
     let cycles : h.first.cycles ≡ k.first.cycles = h.paced ∙ ap (λ n. n + 6) counted ∙ sym k.paced in
     let flushes : h.first.flushes ≡ k.first.flushes = h.unflushed ∙ sym k.unflushed in

@@ -4,14 +4,14 @@ use Rattle.std.proofs.lemmas.Bool.{true≢false}
 use Rattle.std.proofs.lemmas.Bool.Decides.{nat_tests}
 use Rattle.diva_isa.specs.State.{State, goes_on}
 use Rattle.diva_isa.specs.declared.record.Record.{Record}
-use Rattle.diva_core.specs.Told.{Notice, notice_of}
+use Rattle.diva_core.specs.Told.{Told, told_of}
 use Rattle.diva_core.specs.Timed.{Timed}
 use Rattle.diva_core.specs.Cycle.{cycle_of}
-use Rattle.diva_core.specs.Log.{Meaning, IsLog, Turns, lists_of, FollowRule}
+use Rattle.diva_core.specs.History.{Meaning, IsHistory, Turns, lists_of, FollowRule}
 use Rattle.diva_core.specs.Machine.{IsMachine}
 use Rattle.diva_core.proofs.Keeping.{stays}
 use Rattle.diva_core.proofs.Outcomes.{cycle-cycles}
-use Rattle.diva_core.proofs.Turning.{IsLog-run, IsLog-rule, length-lists_of}
+use Rattle.diva_core.proofs.Turning.{IsHistory-run, IsHistory-rule, length-lists_of}
 use Rattle.diva_faults.specs.declared.faulty.Faulty.{Faulty}
 use Rattle.diva_faults.specs.declared.rows.Row.{Row}
 use Rattle.diva_faults.specs.Lists.{scripted}
@@ -21,7 +21,7 @@ use Rattle.diva_machine.specs.declared.ends.Drive.{Drive}
 use Rattle.diva_machine.specs.declared.ends.Drive.TheVariants.{Ended, Budget}
 use Rattle.diva_tape.specs.Lists.{lockstep_call, lockstep_list, silent_list, zeros, flood_list, echo_call, echo_list}
 use Rattle.diva_tape.specs.Noise.{noise_call}
-use Rattle.diva_ahead.specs.Lead.{Lead}
+use Rattle.diva_ahead.specs.Ahead.{Ahead}
 use Rattle.diva_tape.specs.Scalar.{IsScalarCall}
 use Rattle.diva_tape.specs.TapeCalls.{tape_call}
 use Rattle.diva_cli.specs.declared.driving.CoreInUse.{CoreInUse}
@@ -85,7 +85,7 @@ pub performs_quiet :
     → Performs gives m core last after (λ lists. IsQuiet budget lists last contents contents faults faults (Ok tt))
 performs_quiet gives budget m core last after contents faults r t within ended ran =
     let far = went_far m last budget r within ended ran in
-    let l = length-lists_of t.log in
+    let l = length-lists_of t.history in
     record {
       turns = t;
       done = record {
@@ -100,87 +100,87 @@ performs_quiet gives budget m core last after contents faults r t within ended r
 -- ---- a line for each core
 
 module _ {C D : Type 0} (gives : Meaning C) (its : Meaning D) (script : List Row) (m last : Timed) (core : C) (first final : D) (this : List (List Record) → Type 0) (p : Performs (spoiled script its) m first last final this) where
-  by : (used : CoreInUse) (after : C) → AreHandedBy gives used script m core (lists_of p.turns.log) last after → PerformsBy gives used script m core last after this
+  by : (used : CoreInUse) (after : C) → AreHandedBy gives used script m core (lists_of p.turns.history) last after → PerformsBy gives used script m core last after this
   by used after handed =
       record {
-        lists = lists_of p.turns.log;
-        ran = IsLog-run (spoiled script its) m first p.turns.log last final p.turns.good;
-        each = (let e = p.turns.each in let l = length-lists_of p.turns.log in omega arith);
+        lists = lists_of p.turns.history;
+        ran = IsHistory-run (spoiled script its) m first p.turns.history last final p.turns.good;
+        each = (let e = p.turns.each in let l = length-lists_of p.turns.history in omega arith);
         handed = handed;
         done = p.done;
       }
 
   -- a core whose lists follow a rule
   by_rule : (rule : Timed → List Record)
-      → ((n : Timed) (before : D) (list : List Record) (after : D) → its before (notice_of n) n.arch list after → list ≡ rule n)
-      → FollowRule (scripted_rule script rule) m (lists_of p.turns.log)
+      → ((n : Timed) (before : D) (list : List Record) (after : D) → its before (told_of n) n.arch list after → list ≡ rule n)
+      → FollowRule (scripted_rule script rule) m (lists_of p.turns.history)
   by_rule rule is_rule =
-      IsLog-rule (spoiled script its) (scripted_rule script rule)
+      IsHistory-rule (spoiled script its) (scripted_rule script rule)
       (λ n before list after h. h.laid ∙ ap (scripted script (n.cycles + 1)) (is_rule n before h.inner after h.given))
-      m first p.turns.log last final p.turns.good
+      m first p.turns.history last final p.turns.good
 
   pub by_lockstep :
-      ((before : D) (told : Notice) (s : State) (list : List Record) (after : D) → its before told s list after → list ≡ lockstep_call told s)
+      ((before : D) (told : Told) (s : State) (list : List Record) (after : D) → its before told s list after → list ≡ lockstep_call told s)
       → PerformsBy gives Lockstep script m core last core this
   by_lockstep is_rule =
-      by Lockstep core (record { follows = by_rule lockstep_list (λ n before list after h. is_rule before (notice_of n) n.arch list after h); same = refl })
+      by Lockstep core (record { follows = by_rule lockstep_list (λ n before list after h. is_rule before (told_of n) n.arch list after h); same = refl })
 
   pub by_silent :
-      ((before : D) (told : Notice) (s : State) (list : List Record) (after : D) → its before told s list after → list ≡ [])
+      ((before : D) (told : Told) (s : State) (list : List Record) (after : D) → its before told s list after → list ≡ [])
       → PerformsBy gives Silent script m core last core this
   by_silent is_rule =
-      by Silent core (record { follows = by_rule silent_list (λ n before list after h. is_rule before (notice_of n) n.arch list after h); same = refl })
+      by Silent core (record { follows = by_rule silent_list (λ n before list after h. is_rule before (told_of n) n.arch list after h); same = refl })
 
   pub by_flood :
-      ((before : D) (told : Notice) (s : State) (list : List Record) (after : D) → its before told s list after → list ≡ replicate 8 zeros)
+      ((before : D) (told : Told) (s : State) (list : List Record) (after : D) → its before told s list after → list ≡ replicate 8 zeros)
       → PerformsBy gives Flood script m core last core this
   by_flood is_rule =
-      by Flood core (record { follows = by_rule flood_list (λ n before list after h. is_rule before (notice_of n) n.arch list after h); same = refl })
+      by Flood core (record { follows = by_rule flood_list (λ n before list after h. is_rule before (told_of n) n.arch list after h); same = refl })
 
   pub by_echo :
-      ((before : D) (told : Notice) (s : State) (list : List Record) (after : D) → its before told s list after → list ≡ echo_call told s)
+      ((before : D) (told : Told) (s : State) (list : List Record) (after : D) → its before told s list after → list ≡ echo_call told s)
       → PerformsBy gives Echo script m core last core this
   by_echo is_rule =
-      by Echo core (record { follows = by_rule echo_list (λ n before list after h. is_rule before (notice_of n) n.arch list after h); same = refl })
+      by Echo core (record { follows = by_rule echo_list (λ n before list after h. is_rule before (told_of n) n.arch list after h); same = refl })
 
 pub by_own :
     {C : Type 0} (gives : Meaning C) (script : List Row) (m last : Timed) (core after : C) (this : List (List Record) → Type 0)
     → Performs (spoiled script gives) m core last after this
     → PerformsBy gives Own script m core last after this
 by_own gives script m last core after this p =
-    by gives gives script m last core core after this p Own after (record { log = p.turns.log; good = p.turns.good; in_order = refl })
+    by gives gives script m last core core after this p Own after (record { history = p.turns.history; good = p.turns.good; in_order = refl })
 
 module _ {C : Type 0} (gives : Meaning C) (script : List Row) (m last : Timed) (core : C) (this : List (List Record) → Type 0) where
-  pub by_scalar : (first final : Lead) → Performs (spoiled script IsScalarCall) m first last final this → PerformsBy gives (Scalar first) script m core last core this
+  pub by_scalar : (first final : Ahead) → Performs (spoiled script IsScalarCall) m first last final this → PerformsBy gives (Scalar first) script m core last core this
   by_scalar first final p =
       by gives IsScalarCall script m last core first final this p (Scalar first) core
-      (record { final = final; turns = record { log = p.turns.log; good = p.turns.good; in_order = refl }; same = refl })
+      (record { final = final; turns = record { history = p.turns.history; good = p.turns.good; in_order = refl }; same = refl })
 
   pub by_noise : (first final : ℕ) → Performs (spoiled script noise_call) m first last final this → PerformsBy gives (Noise first) script m core last core this
   by_noise first final p =
       by gives noise_call script m last core first final this p (Noise first) core
-      (record { final = final; turns = record { log = p.turns.log; good = p.turns.good; in_order = refl }; same = refl })
+      (record { final = final; turns = record { history = p.turns.history; good = p.turns.good; in_order = refl }; same = refl })
 
   pub by_tape : (first final : List (List Record)) → Performs (spoiled script tape_call) m first last final this → PerformsBy gives (Tape first) script m core last core this
   by_tape first final p =
       by gives tape_call script m last core first final this p (Tape first) core
-      (record { final = final; turns = record { log = p.turns.log; good = p.turns.good; in_order = refl }; same = refl })
+      (record { final = final; turns = record { history = p.turns.history; good = p.turns.good; in_order = refl }; same = refl })
 
 -- the lists of a core that goes by its calls alone, as a script changes them
 pub calls_made :
     {D : Type 0} (its : Meaning D) (calls : ℕ → D → List (List Record))
     → ((before : D) → calls 0 before ≡ [])
-    → ((before after : D) (told : Notice) (s : State) (list : List Record) (n : ℕ) → its before told s list after → list ∷ calls n after ≡ calls (suc n) before)
-    → (script : List Row) (m : Timed) (before : D) (log : List (List Record × D)) (last : Timed) (after : D)
+    → ((before after : D) (told : Told) (s : State) (list : List Record) (n : ℕ) → its before told s list after → list ∷ calls n after ≡ calls (suc n) before)
+    → (script : List Row) (m : Timed) (before : D) (history : List (List Record × D)) (last : Timed) (after : D)
     → IsMachine m
-    → IsLog (spoiled script its) m before log last after
-    → lists_of log ≡ scripted_lists script (m.cycles + 1) (calls (length (lists_of log)) before)
+    → IsHistory (spoiled script its) m before history last after
+    → lists_of history ≡ scripted_lists script (m.cycles + 1) (calls (length (lists_of history)) before)
 calls_made its calls none more script m before [] last after inv h = ap (scripted_lists script (m.cycles + 1)) (sym (none before))
-calls_made its calls none more script m before (turn ∷ log) last after inv h =
+calls_made its calls none more script m before (turn ∷ history) last after inv h =
     let one = h.1.0 in
-    let rest = calls_made its calls none more script (cycle_of m turn.0) turn.1 log last after (stays m turn.0 inv) h.1.1 in
+    let rest = calls_made its calls none more script (cycle_of m turn.0) turn.1 history last after (stays m turn.0 inv) h.1.1 in
     let next : (cycle_of m turn.0).cycles ≡ m.cycles + 1 = cycle-cycles m turn.0 inv h.0 in
-    ap (λ (list : List Record). list ∷ lists_of log) one.laid
+    ap (λ (list : List Record). list ∷ lists_of history) one.laid
     ∙ ap (λ (lists : List (List Record)). scripted script (m.cycles + 1) one.inner ∷ lists)
-    (rest ∙ ap (λ n. scripted_lists script (n + 1) (calls (length (lists_of log)) turn.1)) next)
-    ∙ ap (scripted_lists script (m.cycles + 1)) (more before turn.1 (notice_of m) m.arch one.inner (length (lists_of log)) one.given)
+    (rest ∙ ap (λ n. scripted_lists script (n + 1) (calls (length (lists_of history)) turn.1)) next)
+    ∙ ap (scripted_lists script (m.cycles + 1)) (more before turn.1 (told_of m) m.arch one.inner (length (lists_of history)) one.given)

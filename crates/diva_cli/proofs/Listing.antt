@@ -3,7 +3,7 @@ use Rattle.std.proofs.Common.{◌≡◌, ◌<◌, ◌+◌, ◌*◌, ℕ, [], len
 use Rattle.std.specs.Int.{div_ceil}
 use Rattle.std.proofs.lemmas.List.FromFn.{length-map-range_with_len, get_or-map-range_with_len}
 use Rattle.diva_image.specs.Layout.{Layout}
-use Rattle.diva_image.specs.View.{layout}
+use Rattle.diva_image.specs.ImageLayout.{layout}
 use Rattle.diva_image.specs.declared.image.Image.{Image}
 use Rattle.diva_asm.specs.Listing.{list_line, listing_of, word_at}
 

@@ -1,6 +1,6 @@
 -- What was loaded, as the machine, the core and the script that a command needs.
 use Rattle.std.proofs.Common.{◌≡◌, ℕ, List, [], ◌∷◌, ◌++◌, Option, Some, None, Ok, sym, ap, ◌∙◌}
-use Rattle.diva_outside.specs.Files.{ToldFiles}
+use Rattle.diva_outside.specs.Files.{Contents}
 use Rattle.diva_outside.specs.declared.files.What.TheVariants.{Image, Script, Tape as TapeFile, Commands}
 use Rattle.diva_image.specs.Layout.{Layout}
 use Rattle.diva_image.specs.Images.{image_of}
@@ -11,7 +11,7 @@ use Rattle.diva_debug.specs.Reading.{commands_of}
 use Rattle.diva_cli.specs.declared.loading.Ready.{Ready}
 use Rattle.diva_cli.specs.declared.loading.SessionReady.{SessionReady}
 use Rattle.diva_cli.specs.Wanted.{AreSound, FileBytes, file, file_if, machine_files, tape_name}
-use Rattle.diva_cli.specs.Runs.{sizes_of}
+use Rattle.diva_cli.specs.Runs.{config_of}
 use Rattle.diva_cli.specs.Parts.{Holds, HoldsRows, HoldsCore, HoldsReady, HoldsSession}
 use Rattle.diva_cli.proofs.Stopping.{sound_both, sound_if}
 
@@ -22,11 +22,11 @@ all image script tape Script = script
 all image script tape TapeFile = tape
 all image script tape _ = []
 
-pub ready_held : (contents : ToldFiles) (setup : Setup) (i : Layout) (ready : Ready)
+pub ready_held : (contents : Contents) (setup : Setup) (i : Layout) (ready : Ready)
     → Holds contents (file Image setup.image) (λ bytes. image_of bytes ≡ i)
     → HoldsRows contents setup.script ready.script
     → HoldsCore contents setup.core ready.core
-    → ready.machine.timed ≡ new_timed (sizes_of setup) (start_of i)
+    → ready.machine.timed ≡ new_timed (config_of setup) (start_of i)
     → HoldsReady contents setup ready
 ready_held contents setup i ready image script core begun =
     record {
@@ -38,7 +38,7 @@ ready_held contents setup i ready image script core begun =
             (sound_if contents TapeFile (tape_name setup.core) (all image.bytes script.bytes core.bytes) core.sound),
       );
       is = record {
-        begun = begun ∙ ap (λ (l : Layout). new_timed (sizes_of setup) (start_of l)) (sym image.holds);
+        begun = begun ∙ ap (λ (l : Layout). new_timed (config_of setup) (start_of l)) (sym image.holds);
         rows = script.holds;
         core = core.holds;
       };
@@ -51,7 +51,7 @@ abbrev with_commands : FileBytes → List ℕ → FileBytes
 with_commands bytes commands Commands = commands
 with_commands bytes commands what = bytes what
 
-machine_sound : (contents : ToldFiles) (setup : Setup) (bytes : FileBytes) (commands : List ℕ) → AreSound contents (machine_files setup) bytes
+machine_sound : (contents : Contents) (setup : Setup) (bytes : FileBytes) (commands : List ℕ) → AreSound contents (machine_files setup) bytes
     → AreSound contents (machine_files setup) (with_commands bytes commands)
 machine_sound contents setup bytes commands s = (s.0, go setup.script (tape_name setup.core) s.1)
   where
@@ -62,7 +62,7 @@ machine_sound contents setup bytes commands s = (s.0, go setup.script (tape_name
     go (Some x) None s = (s.0, tt)
     go (Some x) (Some t) s = (s.0, (s.1.0, tt))
 
-pub session_held : (contents : ToldFiles) (options : DebugOptions) (session : SessionReady)
+pub session_held : (contents : Contents) (options : DebugOptions) (session : SessionReady)
     → HoldsReady contents options.setup session.ready
     → Holds contents (file Commands options.commands) (λ bytes. commands_of bytes ≡ Ok session.commands.items)
     → HoldsSession contents options session

@@ -2,7 +2,7 @@
 use Rattle.std.proofs.Common.{◌≡◌, ◌⊎◌, ℕ, List, [], ◌∷◌, length, Option, Some, None, Result, Ok, Err, IsSome, inl, inr, sym, ◌∙◌, refl, ap, arith, subst}
 use Rattle.std.proofs.lemmas.Bool.{true≢false}
 use Rattle.std.specs.Io.KnownBytes.{Appends}
-use Rattle.diva_outside.specs.Files.{ToldFiles, IsMissing}
+use Rattle.diva_outside.specs.Files.{Contents, IsMissing}
 use Rattle.diva_outside.specs.Lines.{LineFault}
 use Rattle.diva_outside.specs.declared.files.What.{What}
 use Rattle.diva_outside.specs.declared.files.What.TheVariants.{Image, Script, Tape as TapeFile, Source, Commands}
@@ -11,7 +11,7 @@ use Rattle.diva_faults.specs.Reading.{script_of}
 use Rattle.diva_tape.specs.Tapes.{tape_of}
 use Rattle.diva_asm.specs.Sources.{source_of}
 use Rattle.diva_debug.specs.Reading.{commands_of}
-use Rattle.diva_core.specs.Log.{Meaning}
+use Rattle.diva_core.specs.History.{Meaning}
 use Rattle.diva_args.specs.declared.job.Job.{Job}
 use Rattle.diva_cli.specs.declared.stop.Failure.{Failure}
 use Rattle.diva_cli.specs.declared.stop.Failure.TheVariants.{Cut, Memory}
@@ -149,12 +149,12 @@ nothing-stops [] s = s
 nothing-stops (w ∷ ws) (inl here) = here
 nothing-stops (w ∷ ws) (inr later) = nothing-stops ws later.1
 
-module _ {C : Type 0} (gives : Meaning C) (command : Option Job) (contents : ToldFiles) (before now : What → ℕ) (core after : C) (old new : Option (List ℕ)) (faults faults' : ℕ)
+module _ {C : Type 0} (gives : Meaning C) (command : Option Job) (contents : Contents) (before now : What → ℕ) (core after : C) (old new : Option (List ℕ)) (faults faults' : ℕ)
     (result : Result ℕ Failure) (answers : Answers gives command contents before now core after old new faults faults' result) where
   pub refuses : (text : List ℕ) → MustRefuse command contents text → ((status_of result ≡ 5) × Appends old new text) ⊎ IsHindered (status_of result)
   refuses text must = go contents must.known must.refused.first answers
     where
-      go : (told : ToldFiles) → IsSome told → StopsAt told (IsRefused told text) (wanted must.refused.job)
+      go : (told : Contents) → IsSome told → StopsAt told (IsRefused told text) (wanted must.refused.job)
           → Answers gives command told before now core after old new faults faults' result → ((status_of result ≡ 5) × Appends old new text) ⊎ IsHindered (status_of result)
       go None known first a = absurd (true≢false (sym known))
       go (Some bytes_of) known first a =
@@ -163,7 +163,7 @@ module _ {C : Type 0} (gives : Meaning C) (command : Option Job) (contents : Tol
   pub misses : HasMissing command contents → IsHindered (status_of result)
   misses missing = go contents missing.first answers
     where
-      go : (told : ToldFiles) → StopsAt told (λ w. IsMissing told w.name) (wanted missing.job)
+      go : (told : Contents) → StopsAt told (λ w. IsMissing told w.name) (wanted missing.job)
           → Answers gives command told before now core after old new faults faults' result → IsHindered (status_of result)
       go None first a = absurd (nothing-stops (wanted missing.job) first)
       go (Some bytes_of) first a =

@@ -3,12 +3,12 @@ use Rattle.std.proofs.Common.{◌≡◌, ◌⊎◌, ℕ, suc, ◌+◌, ◌-◌, 
 use Rattle.diva_isa.specs.State.{State, goes_on}
 use Rattle.diva_isa.specs.Step.{steps}
 use Rattle.diva_isa.specs.declared.record.Record.{Record}
-use Rattle.diva_core.specs.Timed.{Timed, Sizes, new_timed}
+use Rattle.diva_core.specs.Timed.{Timed, Config, new_timed}
 use Rattle.diva_core.specs.Cycle.{cycle_of, run_of}
-use Rattle.diva_core.specs.Log.{Meaning, IsLog, FollowRule}
+use Rattle.diva_core.specs.History.{Meaning, IsHistory, FollowRule}
 use Rattle.std.proofs.lemmas.Bool.{cases_Bool, true≢false}
-use Rattle.diva_core.specs.Machine.{IsMachine, IsSizes}
-use Rattle.diva_core.specs.Told.{Notice}
+use Rattle.diva_core.specs.Machine.{IsMachine, IsConfig}
+use Rattle.diva_core.specs.Told.{Told}
 use Rattle.diva_core.specs.Right.{AreRight}
 use Rattle.diva_core.specs.Headline.{AddsRows, dues}
 use Rattle.diva_core.proofs.Listing.{run_calm, new_calm}
@@ -21,7 +21,7 @@ use Rattle.diva_core.proofs.Progressing.{run-rises}
 use Rattle.diva_machine.proofs.Fronts.{dues-add, length-dues}
 use Rattle.diva_core.proofs.Ending.{same_end}
 use Rattle.diva_faults.specs.declared.rows.Row.{Row}
-use Rattle.diva_faults.proofs.Spoiling.{scripted-none, log-none}
+use Rattle.diva_faults.proofs.Spoiling.{scripted-none, history-none}
 use Rattle.diva_tape.specs.Lists.{lockstep_list}
 use Rattle.diva_tape.specs.Scalar.{IsScalarCall, MayLead, new_scalar, scalar_list}
 use Rattle.diva_tape.specs.Noise.{noise_call, noise_claim, noise_lists}
@@ -43,7 +43,7 @@ use Rattle.diva_cli.specs.declared.loading.Ready.{Ready}
 use Rattle.diva_cli.specs.Wanted.{FileBytes}
 use Rattle.diva_cli.specs.Driven.{IsDriven, AreHanded, ByCalls, ByOther, scripted_lists, scripted_rule}
 use Rattle.diva_cli.proofs.Handing.{calls_made}
-use Rattle.diva_cli.specs.Runs.{IsRunFrom, IsRunOver, IsUnflushed, IsWhole, EndsWith, halted, trapped, unfinished, asked_trace, shown_dump, sizes_of, start_in}
+use Rattle.diva_cli.specs.Runs.{IsRunFrom, IsRunOver, IsUnflushed, IsWhole, EndsWith, halted, trapped, unfinished, asked_trace, shown_dump, config_of, start_in}
 use Rattle.diva_cli.specs.declared.tasks.Task.{Task}
 use Rattle.diva_cli.specs.Tasks.{AreHandedBy, Does, PerformsBy, cycles_text, run_task, trace_lines}
 use Rattle.diva_cli.specs.Parts.{IsReady, WritesWhole, WritesPart, core_for}
@@ -51,7 +51,7 @@ use Rattle.diva_cli.specs.Parts.{IsReady, WritesWhole, WritesPart, core_for}
 -- ---- right lists
 
 -- where each list is right nothing is flushed
-no_flush : (z : Sizes) (s : State) (lists : List (List Record)) (last : Timed) → IsSizes z → last ≡ run_of (new_timed z s) lists → AreRight (new_timed z s) lists → IsUnflushed last
+no_flush : (z : Config) (s : State) (lists : List (List Record)) (last : Timed) → IsConfig z → last ≡ run_of (new_timed z s) lists → AreRight (new_timed z s) lists → IsUnflushed last
 no_flush z s lists last ok led right =
     let c = run_calm (new_timed z s) lists (new-machine z s ok) (new_calm z s ok) right in
     subst IsUnflushed (sym led) (record { flushes = c.flushes; silent = c.silent })
@@ -67,14 +67,14 @@ module _ {C : Type 0} (script : List Row) (m : Timed) (core : C) (lists : List (
   unscripted : ByOther IsScalarCall new_scalar [] m core lists last after
   unscripted = subst (λ (rows : List Row). ByOther IsScalarCall new_scalar rows m core lists last after) none by
 
-  good : IsLog IsScalarCall m new_scalar unscripted.turns.log last unscripted.final
-  good = log-none IsScalarCall m new_scalar unscripted.turns.log last unscripted.final unscripted.turns.good
+  good : IsHistory IsScalarCall m new_scalar unscripted.turns.history last unscripted.final
+  good = history-none IsScalarCall m new_scalar unscripted.turns.history last unscripted.final unscripted.turns.good
 
   scalar_follows : FollowRule scalar_list m lists
-  scalar_follows = subst (FollowRule scalar_list m) (sym unscripted.turns.in_order) (scalar_history m last new_scalar unscripted.final unscripted.turns.log leads good)
+  scalar_follows = subst (FollowRule scalar_list m) (sym unscripted.turns.in_order) (scalar_history m last new_scalar unscripted.final unscripted.turns.history leads good)
 
   scalar_right : AreRight m lists
-  scalar_right = subst (AreRight m) (sym unscripted.turns.in_order) (scalar_history_right m last new_scalar unscripted.final unscripted.turns.log leads good)
+  scalar_right = subst (AreRight m) (sym unscripted.turns.in_order) (scalar_history_right m last new_scalar unscripted.final unscripted.turns.history leads good)
 
 -- the lists of a core that is always right, where no row changes them
 right_handed :
@@ -95,7 +95,7 @@ right_handed gives choice tape script m core lists last after leads (inr is) non
 by_calls :
     {C D : Type 0} (its : Meaning D) (calls : ℕ → D → List (List Record))
     → ((before : D) → calls 0 before ≡ [])
-    → ((before after : D) (told : Notice) (s : State) (list : List Record) (n : ℕ) → its before told s list after → list ∷ calls n after ≡ calls (suc n) before)
+    → ((before after : D) (told : Told) (s : State) (list : List Record) (n : ℕ) → its before told s list after → list ∷ calls n after ≡ calls (suc n) before)
     → (first : D) (script : List Row) (m : Timed) (core : C) (lists : List (List Record)) (last : Timed) (after : C)
     → IsMachine m
     → ByOther its first script m core lists last after
@@ -103,15 +103,15 @@ by_calls :
 by_calls its calls none more first script m core lists last after inv by =
     record {
       in_order = subst (λ (l : List (List Record)). l ≡ scripted_lists script (m.cycles + 1) (calls (length l) first)) (sym by.turns.in_order)
-          (calls_made its calls none more script m first by.turns.log last by.final inv by.turns.good);
+          (calls_made its calls none more script m first by.turns.history last by.final inv by.turns.good);
       same = by.same;
     }
 
-noise_goes_on : (before after : ℕ) (told : Notice) (s : State) (list : List Record) (n : ℕ) → noise_call before told s list after → list ∷ noise_lists n after ≡ noise_lists (suc n) before
+noise_goes_on : (before after : ℕ) (told : Told) (s : State) (list : List Record) (n : ℕ) → noise_call before told s list after → list ∷ noise_lists n after ≡ noise_lists (suc n) before
 noise_goes_on before after told s list n h =
     ap (λ (l : List Record). l ∷ noise_lists n after) h.lists ∙ ap (λ x. (noise_claim before ∷ []) ∷ noise_lists n x) h.keeps
 
-tape_goes_on : (before after : List (List Record)) (told : Notice) (s : State) (list : List Record) (n : ℕ) → tape_call before told s list after → list ∷ played n after ≡ played (suc n) before
+tape_goes_on : (before after : List (List Record)) (told : Told) (s : State) (list : List Record) (n : ℕ) → tape_call before told s list after → list ∷ played n after ≡ played (suc n) before
 tape_goes_on before after told s list n h =
     ap (λ (l : List Record). l ∷ played n after) h.next ∙ ap (λ (t : List (List Record)). next_list before ∷ played n t) h.later ∙ played-next n before
 
@@ -133,29 +133,29 @@ handed_for gives (Tape name) tape script m core lists last after leads h =
 
 pub run_from_start :
     {C : Type 0} (gives : Meaning C) (setup : Setup) (cycles : ℕ) (tape : List (List Record)) (script : List Row) (start : State) (core : C) (last : Timed) (after : C)
-    → IsSizes (sizes_of setup)
-    → IsDriven gives setup.core tape script cycles (new_timed (sizes_of setup) start) core last after
+    → IsConfig (config_of setup)
+    → IsDriven gives setup.core tape script cycles (new_timed (config_of setup) start) core last after
     → IsRunFrom gives setup cycles tape script start core last after
 run_from_start gives setup cycles tape script start core last after ok d =
     record {
       driven = d;
-      stepped = subst (λ (n : Timed). n.arch ≡ steps n.count start) (sym d.ran) (headline (sizes_of setup) start d.lists ok);
-      committed = are_committed (new_timed (sizes_of setup) start) d.lists (new-machine (sizes_of setup) start ok);
-      rows = subst (AddsRows (new_timed (sizes_of setup) start) d.lists) (sym d.ran) (run-adds d.lists (new_timed (sizes_of setup) start) (new-machine (sizes_of setup) start ok));
-      paced = subst (λ (n : Timed). n.cycles / (setup.watchdog + 6) ≤ n.count) (sym d.ran) (pace_of_run (sizes_of setup) start d.lists ok);
-      calm = no_flush (sizes_of setup) start d.lists last ok d.ran;
-      unflushed = λ is none. no_flush (sizes_of setup) start d.lists last ok d.ran (right_handed gives setup.core tape script (new_timed (sizes_of setup) start) core d.lists last after (new_leads (sizes_of setup) start ok) is none d.handed);
+      stepped = subst (λ (n : Timed). n.arch ≡ steps n.count start) (sym d.ran) (headline (config_of setup) start d.lists ok);
+      committed = are_committed (new_timed (config_of setup) start) d.lists (new-machine (config_of setup) start ok);
+      rows = subst (AddsRows (new_timed (config_of setup) start) d.lists) (sym d.ran) (run-adds d.lists (new_timed (config_of setup) start) (new-machine (config_of setup) start ok));
+      paced = subst (λ (n : Timed). n.cycles / (setup.watchdog + 6) ≤ n.count) (sym d.ran) (pace_of_run (config_of setup) start d.lists ok);
+      calm = no_flush (config_of setup) start d.lists last ok d.ran;
+      unflushed = λ is none. no_flush (config_of setup) start d.lists last ok d.ran (right_handed gives setup.core tape script (new_timed (config_of setup) start) core d.lists last after (new_leads (config_of setup) start ok) is none d.handed);
     }
 
 -- ---- a run over files
 
 module _ {C : Type 0} (gives : Meaning C) (setup : Setup) (cycles : ℕ) (bytes : FileBytes) (ready : Ready) (core : C) (last : Timed) (after : C)
-    (fits : IsSizes (sizes_of setup)) (is : IsReady setup bytes ready) (lists : List (List Record))
+    (fits : IsConfig (config_of setup)) (is : IsReady setup bytes ready) (lists : List (List Record))
     (ran : last ≡ run_of ready.machine.timed lists)
     (each : last.cycles ≡ ready.machine.timed.cycles + length lists)
     (handed : AreHandedBy gives ready.core ready.script ready.machine.timed core lists last after) where
   abbrev first : Timed
-  first = new_timed (sizes_of setup) (start_in bytes)
+  first = new_timed (config_of setup) (start_in bytes)
 
   ran_new : last ≡ run_of first lists
   ran_new = ran ∙ ap (λ (m : Timed). run_of m lists) is.begun
@@ -165,7 +165,7 @@ module _ {C : Type 0} (gives : Meaning C) (setup : Setup) (cycles : ℕ) (bytes 
 
   handed_new : AreHanded gives setup.core is.core.tape ready.script first core lists last after
   handed_new =
-      handed_for gives setup.core is.core.tape ready.script first core lists last after (new_leads (sizes_of setup) (start_in bytes) fits)
+      handed_for gives setup.core is.core.tape ready.script first core lists last after (new_leads (config_of setup) (start_in bytes) fits)
       (subst (λ (m : Timed). AreHandedBy gives (core_for setup.core is.core.tape) ready.script m core lists last after) is.begun
       (subst (λ (used : CoreInUse). AreHandedBy gives used ready.script ready.machine.timed core lists last after) is.core.is handed))
 
@@ -189,7 +189,7 @@ module _ {C : Type 0} (gives : Meaning C) (setup : Setup) (cycles : ℕ) (bytes 
       record {
         all = λ on. each_new ∙ all on;
         same = λ n ends long. subst (λ (m : Timed). (m.arch ≡ steps n (start_in bytes)) × (m.count ≡ n)) (sym ran_new)
-            (same_end (sizes_of setup) (start_in bytes) lists n cycles fits (λ on. all (ap (λ (m : Timed). goes_on m.arch) ran_new ∙ on)) ends long);
+            (same_end (config_of setup) (start_in bytes) lists n cycles fits (λ on. all (ap (λ (m : Timed). goes_on m.arch) ran_new ∙ on)) ends long);
       }
 
 -- ---- how it ended
@@ -237,7 +237,7 @@ trace-cycles (list ∷ rest) m inv =
     ∙ ap (λ (s : State). commits_text m.count (dues k m.arch) ++ commits_text n.count (dues j s)) (sym r.stepped))
 
 -- those of a run from a state
-trace-run : (z : Sizes) (s : State) (lists : List (List Record)) (last : Timed) (trace : Bool) → IsSizes z → last ≡ run_of (new_timed z s) lists → commits_if trace (new_timed z s) lists ≡ asked_trace trace s last.count
+trace-run : (z : Config) (s : State) (lists : List (List Record)) (last : Timed) (trace : Bool) → IsConfig z → last ≡ run_of (new_timed z s) lists → commits_if trace (new_timed z s) lists ≡ asked_trace trace s last.count
 trace-run z s lists last false ok ran = refl
 trace-run z s lists last true ok ran =
     trace-cycles lists (new_timed z s) (new-machine z s ok)
@@ -267,7 +267,7 @@ went true cycles m lists last old new before now result w =
 
 module _ {C : Type 0} (gives : Meaning C) (options : RunOptions) (bytes : FileBytes) (ready : Ready) (core : C) (last : Timed) (after : C)
     (trace : Bool) (cycles : ℕ) (dump : Option DumpRange) (old mid new : Option (List ℕ)) (before between now : ℕ) (result : Result (Unit {0}) SinkFailed)
-    (t : trace ≡ options.trace) (y : cycles ≡ options.cycles) (d : dump ≡ options.dump) (fits : IsSizes (sizes_of options.setup))
+    (t : trace ≡ options.trace) (y : cycles ≡ options.cycles) (d : dump ≡ options.dump) (fits : IsConfig (config_of options.setup))
     (is : IsReady options.setup bytes ready) (task : Task) (task_is : task ≡ run_task trace cycles)
     (p : PerformsBy gives ready.core ready.script ready.machine.timed core last after (λ lists. Does task ready.machine.timed lists last old mid before between result)) where
   abbrev run_text : List ℕ
@@ -276,14 +276,14 @@ module _ {C : Type 0} (gives : Meaning C) (options : RunOptions) (bytes : FileBy
   w : Went trace cycles ready.machine.timed p.lists last old mid before between result
   w = went trace cycles ready.machine.timed p.lists last old mid before between result (subst (λ (k : Task). Does k ready.machine.timed p.lists last old mid before between result) task_is p.done)
 
-  run_from_new : last ≡ run_of (new_timed (sizes_of options.setup) (start_in bytes)) p.lists
+  run_from_new : last ≡ run_of (new_timed (config_of options.setup) (start_in bytes)) p.lists
   run_from_new = p.ran ∙ ap (λ (m : Timed). run_of m p.lists) is.begun
 
   puts_trace : Puts (asked_trace options.trace (start_in bytes) last.count) old mid before between result
   puts_trace =
       subst (λ (b : Bool). Puts (asked_trace b (start_in bytes) last.count) old mid before between result) t
       (subst (λ (x : List ℕ). Puts x old mid before between result)
-      (ap (λ (m : Timed). commits_if trace m p.lists) is.begun ∙ trace-run (sizes_of options.setup) (start_in bytes) p.lists last trace fits run_from_new) w.put)
+      (ap (λ (m : Timed). commits_if trace m p.lists) is.begun ∙ trace-run (config_of options.setup) (start_in bytes) p.lists last trace fits run_from_new) w.put)
 
   over : IsRunOver gives options.setup options.cycles bytes core last after
   over = run_over gives options.setup options.cycles bytes ready core last after fits is p.lists p.ran p.each p.handed (let m = w.most in omega arith)

@@ -7,14 +7,14 @@ use Rattle.diva_isa.specs.Step.{halt, steps}
 use Rattle.diva_isa.specs.declared.record.Record.{Record}
 use Rattle.diva_core.specs.Timed.{Timed, new_timed}
 use Rattle.diva_core.specs.Cycle.{run_of}
-use Rattle.diva_core.specs.Log.{Meaning, Turns, lists_of}
-use Rattle.diva_core.specs.Machine.{IsSizes}
+use Rattle.diva_core.specs.History.{Meaning, Turns, lists_of}
+use Rattle.diva_core.specs.Machine.{IsConfig}
 use Rattle.diva_core.proofs.Ending.{same_end}
-use Rattle.diva_core.proofs.Turning.{IsLog-run, length-lists_of}
+use Rattle.diva_core.proofs.Turning.{IsHistory-run, length-lists_of}
 use Rattle.diva_machine.specs.declared.ends.Drive.{Drive}
 use Rattle.diva_machine.specs.declared.ends.Drive.TheVariants.{Ended, Budget}
 use Rattle.diva_faults.proofs.Spoiling.{Turns-none}
-use Rattle.diva_ahead.specs.Lead.{Lead}
+use Rattle.diva_ahead.specs.Ahead.{Ahead}
 use Rattle.diva_tape.specs.Scalar.{IsScalarCall, new_scalar}
 use Rattle.diva_tape.proofs.Following.{new_leads}
 use Rattle.diva_tape.proofs.Pacing.{scalar_ends, scalar_unflushed}
@@ -25,12 +25,12 @@ use Rattle.diva_args.specs.Options.{SoakOptions}
 use Rattle.diva_args.specs.declared.job.CoreChoice.TheVariants.{Own, Scalar}
 use Rattle.diva_args.specs.declared.job.Job.TheVariants.{Soak}
 use Rattle.diva_cli.specs.Wanted.{FileBytes}
-use Rattle.diva_cli.specs.SoakTexts.{HasSoaked, IsSoakRun, soak_cycles, soak_setup, soak_sizes, soak_start}
+use Rattle.diva_cli.specs.SoakTexts.{HasSoaked, IsSoakRun, soak_cycles, soak_setup, soak_config, soak_start}
 use Rattle.diva_cli.specs.Parts.{WritesPart, WritesWhole}
 use Rattle.diva_cli.proofs.Handing.{went_far}
 use Rattle.diva_cli.proofs.Running.{handed_for, run_from_start}
 
-sizes_fit : IsSizes soak_sizes
+sizes_fit : IsConfig soak_config
 sizes_fit = record {
   width_low = omega arith;
   width_high = omega arith;
@@ -44,19 +44,19 @@ sizes_fit = record {
 
 -- the machine with which both runs begin
 abbrev soak_new : SoakOptions → Timed
-soak_new options = new_timed soak_sizes (soak_start options)
+soak_new options = new_timed soak_config (soak_start options)
 
 -- ---- a drive from there
 
 -- it led to a machine that has ended, or that has run all the cycles
 pub record Soaks {D : Type 0} (gives : Meaning D) (options : SoakOptions) (core : D) (last : Timed) (after : D) : Type 0 where
-  pub turns : Turns gives (new_timed soak_sizes (soak_start options)) core last after
+  pub turns : Turns gives (new_timed soak_config (soak_start options)) core last after
   pub most : last.cycles ≤ soak_cycles options.instructions
   pub whole : goes_on last.arch ≡ true → last.cycles ≡ soak_cycles options.instructions
 
 pub drove :
     {D : Type 0} (gives : Meaning D) (options : SoakOptions) (m : Timed) (core begun : D) (last : Timed) (after : D) (budget : ℕ) (r : Drive)
-    → m ≡ new_timed soak_sizes (soak_start options)
+    → m ≡ new_timed soak_config (soak_start options)
     → core ≡ begun
     → budget ≡ soak_cycles options.instructions
     → Turns gives m core last after
@@ -76,13 +76,13 @@ drove gives options m core begun last after budget r is first all t within ended
 module _ {D : Type 0} (gives : Meaning D) (options : SoakOptions) (core : D) (last : Timed) (after : D)
     (few : options.instructions ≤ 65536) (s : Soaks gives options core last after) where
   abbrev lists : List (List Record)
-  lists = lists_of s.turns.log
+  lists = lists_of s.turns.history
 
   led : last ≡ run_of (soak_new options) lists
-  led = IsLog-run gives (soak_new options) core s.turns.log last after s.turns.good
+  led = IsHistory-run gives (soak_new options) core s.turns.history last after s.turns.good
 
   each : last.cycles ≡ length lists
-  each = let e = s.turns.each in let l = length-lists_of s.turns.log in omega arith
+  each = let e = s.turns.each in let l = length-lists_of s.turns.history in omega arith
 
   within : length lists ≤ soak_cycles options.instructions
   within = let e = each in let m = s.most in omega arith
@@ -95,7 +95,7 @@ module _ {D : Type 0} (gives : Meaning D) (options : SoakOptions) (core : D) (la
   at_end =
       let h = halts.few in
       subst (λ (m : Timed). (m.arch ≡ steps halts.after (soak_start options)) × (m.count ≡ halts.after)) (sym led)
-      (same_end soak_sizes (soak_start options) lists halts.after (soak_cycles options.instructions) sizes_fit
+      (same_end soak_config (soak_start options) lists halts.after (soak_cycles options.instructions) sizes_fit
       (λ on. sym each ∙ s.whole (ap (λ (m : Timed). goes_on m.arch) led ∙ on)) halts.ends (omega arith))
 
   halted : last.arch.end ≡ halt 0
@@ -115,11 +115,11 @@ own_run gives options core last after few s =
       ran = led gives options core last after few s;
       each = (let e = each gives options core last after few s in omega arith);
       most = within gives options core last after few s;
-      handed = record { log = t.turns.log; good = t.turns.good; in_order = sym t.same };
+      handed = record { history = t.turns.history; good = t.turns.good; in_order = sym t.same };
     })
 
 pub scalar_run :
-    {C : Type 0} (gives : Meaning C) (options : SoakOptions) (core : C) (last : Timed) (lead : Lead)
+    {C : Type 0} (gives : Meaning C) (options : SoakOptions) (core : C) (last : Timed) (lead : Ahead)
     → options.instructions ≤ 65536 → Soaks IsScalarCall options new_scalar last lead
     → IsSoakRun gives options Scalar core last core
 scalar_run gives options core last lead few s =
@@ -131,13 +131,13 @@ scalar_run gives options core last lead few s =
       each = (let e = each IsScalarCall options new_scalar last lead few s in omega arith);
       most = within IsScalarCall options new_scalar last lead few s;
       handed = handed_for gives Scalar [] [] (soak_new options) core (lists IsScalarCall options new_scalar last lead few s) last core
-          (new_leads soak_sizes (soak_start options) sizes_fit)
-          (record { final = lead; turns = record { log = t.turns.log; good = t.turns.good; in_order = sym t.same }; same = refl });
+          (new_leads soak_config (soak_start options) sizes_fit)
+          (record { final = lead; turns = record { history = t.turns.history; good = t.turns.good; in_order = sym t.same }; same = refl });
     })
 
 -- ---- what is written of them
 
-module _ {C : Type 0} (gives : Meaning C) (options : SoakOptions) (bytes : FileBytes) (core : C) (lead : Lead) (first second : Timed) (after : C)
+module _ {C : Type 0} (gives : Meaning C) (options : SoakOptions) (bytes : FileBytes) (core : C) (lead : Ahead) (first second : Timed) (after : C)
     (few : options.instructions ≤ 65536) (one : Soaks IsScalarCall options new_scalar first lead) (two : Soaks gives options core second after)
     (old new : Option (List ℕ)) (before now : ℕ) where
   abbrev first_end : (first.arch ≡ steps (soak_halts options.seed options.instructions few).after (soak_start options)) × (first.count ≡ (soak_halts options.seed options.instructions few).after)
@@ -158,8 +158,8 @@ module _ {C : Type 0} (gives : Meaning C) (options : SoakOptions) (bytes : FileB
     halts = (first_halts, halted gives options core second after few two);
     few = (let e = first_end.1 in let h = (soak_halts options.seed options.instructions few).few in omega arith);
     same = (second_end.0 ∙ sym first_end.0, second_end.1 ∙ sym first_end.1);
-    paced = scalar_ends soak_sizes (soak_start options) first lead one.turns.log sizes_fit refl one.turns.good (ap (λ end. end == 0) first_halts);
-    unflushed = scalar_unflushed soak_sizes (soak_start options) first lead one.turns.log sizes_fit one.turns.good;
+    paced = scalar_ends soak_config (soak_start options) first lead one.turns.history sizes_fit refl one.turns.good (ap (λ end. end == 0) first_halts);
+    unflushed = scalar_unflushed soak_config (soak_start options) first lead one.turns.history sizes_fit one.turns.good;
     lines = refl;
     ended = ended;
   }

@@ -1,7 +1,7 @@
 -- Where the loading of files stops, and groups of files that are sound.
 use Rattle.std.proofs.Common.{◌≡◌, ◌≤◌, ◌⊎◌, ℕ, List, [], ◌∷◌, ◌++◌, Option, Some, None, inl, inr, arith, subst}
 use Rattle.diva_outside.specs.Causes.{Rose}
-use Rattle.diva_outside.specs.Files.{ToldFiles, IsMissing}
+use Rattle.diva_outside.specs.Files.{Contents, IsMissing}
 use Rattle.diva_outside.specs.declared.files.What.{What}
 use Rattle.diva_outside.specs.declared.files.What.TheVariants.{Image, Script, Tape as TapeFile, Commands}
 use Rattle.diva_image.specs.Layout.{Layout}
@@ -17,44 +17,44 @@ use Rattle.diva_cli.specs.Parts.{Stops, Holds, HoldsRows}
 
 -- ---- files that are sound
 
-pub sound_both : (contents : ToldFiles) (ws vs : List Wanted) (bytes : FileBytes) → AreSound contents ws bytes → AreSound contents vs bytes → AreSound contents (ws ++ vs) bytes
+pub sound_both : (contents : Contents) (ws vs : List Wanted) (bytes : FileBytes) → AreSound contents ws bytes → AreSound contents vs bytes → AreSound contents (ws ++ vs) bytes
 sound_both contents [] vs bytes a b = b
 sound_both contents (w ∷ ws) vs bytes a b = (a.0, sound_both contents ws vs bytes a.1 b)
 
-pub sound_if : (contents : ToldFiles) (what : What) (name : Option (List ℕ)) (bytes : FileBytes) → AreSound contents (file_if what name) (λ _. bytes what) → AreSound contents (file_if what name) bytes
+pub sound_if : (contents : Contents) (what : What) (name : Option (List ℕ)) (bytes : FileBytes) → AreSound contents (file_if what name) (λ _. bytes what) → AreSound contents (file_if what name) bytes
 sound_if contents what None bytes s = tt
 sound_if contents what (Some name) bytes s = s
 
 -- ---- where the loading stops
 
-at_front : (contents : ToldFiles) (this : Wanted → Type 0) (ws vs : List Wanted) → StopsAt contents this ws → StopsAt contents this (ws ++ vs)
+at_front : (contents : Contents) (this : Wanted → Type 0) (ws vs : List Wanted) → StopsAt contents this ws → StopsAt contents this (ws ++ vs)
 at_front contents this [] vs s = absurd s
 at_front contents this (w ∷ ws) vs (inl here) = inl here
 at_front contents this (w ∷ ws) vs (inr later) = inr (later.0, at_front contents this ws vs later.1)
 
-at_later : (contents : ToldFiles) (this : Wanted → Type 0) (ws vs : List Wanted) (bytes : FileBytes) → AreSound contents ws bytes → StopsAt contents this vs → StopsAt contents this (ws ++ vs)
+at_later : (contents : Contents) (this : Wanted → Type 0) (ws vs : List Wanted) (bytes : FileBytes) → AreSound contents ws bytes → StopsAt contents this vs → StopsAt contents this (ws ++ vs)
 at_later contents this [] vs bytes sound s = s
 at_later contents this (w ∷ ws) vs bytes sound s = inr (record { bytes = bytes w.what; sound = sound.0 }, at_later contents this ws vs bytes sound.1 s)
 
-at_weaker : (contents : ToldFiles) (this that : Wanted → Type 0) (ws : List Wanted) → ((w : Wanted) → this w → that w) → StopsAt contents this ws → StopsAt contents that ws
+at_weaker : (contents : Contents) (this that : Wanted → Type 0) (ws : List Wanted) → ((w : Wanted) → this w → that w) → StopsAt contents this ws → StopsAt contents that ws
 at_weaker contents this that [] f s = s
 at_weaker contents this that (w ∷ ws) f (inl here) = inl (f w here)
 at_weaker contents this that (w ∷ ws) f (inr later) = inr (later.0, at_weaker contents this that ws f later.1)
 
 -- it stops at one of the first files
-stops_front : (contents : ToldFiles) (before now : What → ℕ) (ws vs : List Wanted) (stop : Stop) → Stops contents before now ws stop → Stops contents before now (ws ++ vs) stop
+stops_front : (contents : Contents) (before now : What → ℕ) (ws vs : List Wanted) (stop : Stop) → Stops contents before now ws stop → Stops contents before now (ws ++ vs) stop
 stops_front contents before now ws vs Memory s = s
 stops_front contents before now ws vs (Unread what) s = at_front contents (IsUnread contents before now (unreadable_line what)) ws vs s
 stops_front contents before now ws vs (Refused what kind place) s = at_front contents (IsRefused contents (refused_line what kind place)) ws vs s
 
 -- the first are sound, and it stops at one of the others
-stops_later : (contents : ToldFiles) (before now : What → ℕ) (ws vs : List Wanted) (stop : Stop) (bytes : FileBytes) → AreSound contents ws bytes → Stops contents before now vs stop → Stops contents before now (ws ++ vs) stop
+stops_later : (contents : Contents) (before now : What → ℕ) (ws vs : List Wanted) (stop : Stop) (bytes : FileBytes) → AreSound contents ws bytes → Stops contents before now vs stop → Stops contents before now (ws ++ vs) stop
 stops_later contents before now ws vs Memory bytes sound s = s
 stops_later contents before now ws vs (Unread what) bytes sound s = at_later contents (IsUnread contents before now (unreadable_line what)) ws vs bytes sound s
 stops_later contents before now ws vs (Refused what kind place) bytes sound s = at_later contents (IsRefused contents (refused_line what kind place)) ws vs bytes sound s
 
 -- the counts of faults are told from earlier on
-stops_since : (contents : ToldFiles) (b0 b1 now : What → ℕ) (ws : List Wanted) (stop : Stop) → ((w : What) → b0 w ≤ b1 w) → Stops contents b1 now ws stop → Stops contents b0 now ws stop
+stops_since : (contents : Contents) (b0 b1 now : What → ℕ) (ws : List Wanted) (stop : Stop) → ((w : What) → b0 w ≤ b1 w) → Stops contents b1 now ws stop → Stops contents b0 now ws stop
 stops_since contents b0 b1 now ws Memory f s = s
 stops_since contents b0 b1 now ws (Unread what) f s =
     at_weaker contents (IsUnread contents b1 now (unreadable_line what)) (IsUnread contents b0 now (unreadable_line what)) ws (λ w u. record { cause = go w u.cause; line = u.line }) s
@@ -66,35 +66,35 @@ stops_since contents b0 b1 now ws (Refused what kind place) f s = s
 
 -- ---- the files of a machine
 
-module _ (contents : ToldFiles) (setup : Setup) (image : Layout) (h : Holds contents (file Image setup.image) (λ bytes. image_of bytes ≡ image)) where
+module _ (contents : Contents) (setup : Setup) (image : Layout) (h : Holds contents (file Image setup.image) (λ bytes. image_of bytes ≡ image)) where
   -- it stops at the script
-  pub at_script : (contents1 : ToldFiles) (f0 f1 f2 : What → ℕ) (stop : Stop) → contents1 ≡ contents → ((w : What) → f0 w ≤ f1 w)
+  pub at_script : (contents1 : Contents) (f0 f1 f2 : What → ℕ) (stop : Stop) → contents1 ≡ contents → ((w : What) → f0 w ≤ f1 w)
       → Stops contents1 f1 f2 (file_if Script setup.script) stop
       → Stops contents f0 f2 (machine_files setup) stop
   at_script contents1 f0 f1 f2 stop same le s =
       stops_later contents f0 f2 (file Image setup.image ∷ []) (file_if Script setup.script ++ file_if TapeFile (tape_name setup.core)) stop (λ _. h.bytes) (h.sound, tt)
       (stops_front contents f0 f2 (file_if Script setup.script) (file_if TapeFile (tape_name setup.core)) stop
       (stops_since contents f0 f1 f2 (file_if Script setup.script) stop le
-      (subst (λ (t : ToldFiles). Stops t f1 f2 (file_if Script setup.script) stop) same s)))
+      (subst (λ (t : Contents). Stops t f1 f2 (file_if Script setup.script) stop) same s)))
 
   -- it stops at the tape
-  pub at_tape : (contents1 contents2 : ToldFiles) (f0 f1 f2 : What → ℕ) (stop : Stop) (rows : List Row) → contents1 ≡ contents → contents2 ≡ contents → ((w : What) → f0 w ≤ f1 w)
+  pub at_tape : (contents1 contents2 : Contents) (f0 f1 f2 : What → ℕ) (stop : Stop) (rows : List Row) → contents1 ≡ contents → contents2 ≡ contents → ((w : What) → f0 w ≤ f1 w)
       → HoldsRows contents1 setup.script rows
       → Stops contents2 f1 f2 (file_if TapeFile (tape_name setup.core)) stop
       → Stops contents f0 f2 (machine_files setup) stop
   at_tape contents1 contents2 f0 f1 f2 stop rows same1 same2 le r s =
-      let k : HoldsRows contents setup.script rows = subst (λ (t : ToldFiles). HoldsRows t setup.script rows) same1 r in
+      let k : HoldsRows contents setup.script rows = subst (λ (t : Contents). HoldsRows t setup.script rows) same1 r in
       stops_later contents f0 f2 (file Image setup.image ∷ []) (file_if Script setup.script ++ file_if TapeFile (tape_name setup.core)) stop (λ _. h.bytes) (h.sound, tt)
       (stops_later contents f0 f2 (file_if Script setup.script) (file_if TapeFile (tape_name setup.core)) stop (λ _. k.bytes) k.sound
       (stops_since contents f0 f1 f2 (file_if TapeFile (tape_name setup.core)) stop le
-      (subst (λ (t : ToldFiles). Stops t f1 f2 (file_if TapeFile (tape_name setup.core)) stop) same2 s)))
+      (subst (λ (t : Contents). Stops t f1 f2 (file_if TapeFile (tape_name setup.core)) stop) same2 s)))
 
 -- the files of a machine can be used, and it stops at the commands
-pub at_commands : (contents contents1 : ToldFiles) (options : DebugOptions) (bytes : FileBytes) (f0 f1 f2 : What → ℕ) (stop : Stop) → AreSound contents (machine_files options.setup) bytes
+pub at_commands : (contents contents1 : Contents) (options : DebugOptions) (bytes : FileBytes) (f0 f1 f2 : What → ℕ) (stop : Stop) → AreSound contents (machine_files options.setup) bytes
     → contents1 ≡ contents → ((w : What) → f0 w ≤ f1 w)
     → Stops contents1 f1 f2 (file Commands options.commands ∷ []) stop
     → Stops contents f0 f2 (session_files options) stop
 at_commands contents contents1 options bytes f0 f1 f2 stop sound same le s =
     stops_later contents f0 f2 (machine_files options.setup) (file Commands options.commands ∷ []) stop bytes sound
     (stops_since contents f0 f1 f2 (file Commands options.commands ∷ []) stop le
-    (subst (λ (t : ToldFiles). Stops t f1 f2 (file Commands options.commands ∷ []) stop) same s))
+    (subst (λ (t : Contents). Stops t f1 f2 (file Commands options.commands ∷ []) stop) same s))

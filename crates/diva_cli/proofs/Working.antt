@@ -1,8 +1,8 @@
 -- What a command answers, from what was loaded for it and what was written of it.
 use Rattle.std.proofs.Common.{ℕ, List, Option, Some, Result, Ok, Err, refl}
-use Rattle.diva_outside.specs.Files.{ToldFiles}
+use Rattle.diva_outside.specs.Files.{Contents}
 use Rattle.diva_outside.specs.declared.files.What.{What}
-use Rattle.diva_core.specs.Log.{Meaning}
+use Rattle.diva_core.specs.History.{Meaning}
 use Rattle.diva_args.specs.declared.job.Job.{Job}
 use Rattle.diva_cli.specs.declared.stop.Stop.{Stop}
 use Rattle.diva_cli.specs.declared.stop.Stop.TheVariants.{Memory, Unread, Refused}
@@ -12,7 +12,7 @@ use Rattle.diva_cli.specs.Wanted.{FileBytes, AreSound, wanted}
 use Rattle.diva_cli.specs.Answers.{unread, refused, done}
 use Rattle.diva_cli.specs.Parts.{Stops, WritesStop, WritesText, Answers}
 
-module _ {C : Type 0} (gives : Meaning C) (contents : ToldFiles) (before now : What → ℕ) (core : C) (old new : Option (List ℕ)) (faults faults' : ℕ) where
+module _ {C : Type 0} (gives : Meaning C) (contents : Contents) (before now : What → ℕ) (core : C) (old new : Option (List ℕ)) (faults faults' : ℕ) where
   -- the files are sound, and the job's text was written
   pub done_answers : (job : Job) (bytes : FileBytes) (after : C) (result : Result ℕ Failure)
       → AreSound contents (wanted job) bytes

@@ -1,10 +1,10 @@
 -- What the program answers, and why: its text, with the status that goes with it where the text was written whole.
 -- `command` is the job that the words ask for, if any; `before` and `now` are the files' counts of faults.
 use Rattle.std.specs.Prelude.{◌≡◌, ℕ, Option, Some, None, IfSome}
-use Rattle.diva_outside.specs.Files.{ToldFiles}
+use Rattle.diva_outside.specs.Files.{Contents}
 use Rattle.diva_outside.specs.Text.{Text}
 use Rattle.diva_outside.specs.declared.files.What.{What}
-use Rattle.diva_core.specs.Log.{Meaning}
+use Rattle.diva_core.specs.History.{Meaning}
 use Rattle.diva_args.specs.declared.job.Job.{Job}
 use Rattle.diva_cli.specs.Lines.{usage_line}
 use Rattle.diva_cli.specs.Wanted.{Wanted, FileBytes, AreSound, wanted}
@@ -17,21 +17,21 @@ pub record IsMisused (command : Option Job) (text : Text) : Type 0 where
   pub line : text ≡ usage_line
 
 -- the loading of the job's files stopped at one, of which this holds
-pub record HasStopped (command : Option Job) (contents : ToldFiles) (this : Wanted → Type 0) : Type 0 where
+pub record HasStopped (command : Option Job) (contents : Contents) (this : Wanted → Type 0) : Type 0 where
   pub job : Job
   pub named : command ≡ Some job
   pub first : StopsAt contents this (wanted job)
 
 -- the first file that can't be used can't be read
-abbrev pub HasUnread : Option Job → ToldFiles → (before now : What → ℕ) → Text → Type 0
+abbrev pub HasUnread : Option Job → Contents → (before now : What → ℕ) → Text → Type 0
 HasUnread command contents before now text = HasStopped command contents (IsUnread contents before now text)
 
 -- the first file that can't be used is refused
-abbrev pub HasRefused : Option Job → ToldFiles → Text → Type 0
+abbrev pub HasRefused : Option Job → Contents → Text → Type 0
 HasRefused command contents text = HasStopped command contents (IsRefused contents text)
 
 -- all files are sound, and the text is that of the job
-pub record HasDone {C : Type 0} (gives : Meaning C) (command : Option Job) (contents : ToldFiles) (core after : C)
+pub record HasDone {C : Type 0} (gives : Meaning C) (command : Option Job) (contents : Contents) (core after : C)
     (status : Option ℕ) (text : Text) : Type 0 where
   pub job : Job
   pub named : command ≡ Some job
@@ -40,7 +40,7 @@ pub record HasDone {C : Type 0} (gives : Meaning C) (command : Option Job) (cont
   pub means : HasText gives job bytes core after status text
 
 -- ---- one of these is the answer; no core was asked but where a job is done
-pub data IsAnswer {C : Type 0} (gives : Meaning C) (command : Option Job) (contents : ToldFiles) (before now : What → ℕ)
+pub data IsAnswer {C : Type 0} (gives : Meaning C) (command : Option Job) (contents : Contents) (before now : What → ℕ)
     (core after : C) (status : Option ℕ) (text : Text) : Type 0 where
   misused : IsMisused command text → after ≡ core → IfSome status (λ s. s ≡ 2)
       → IsAnswer gives command contents before now core after status text

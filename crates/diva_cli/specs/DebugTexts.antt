@@ -4,12 +4,12 @@ use Rattle.diva_outside.specs.Text.{Text}
 use Rattle.diva_outside.specs.declared.files.What.TheVariants.{Commands}
 use Rattle.diva_isa.specs.declared.record.Record.{Record}
 use Rattle.diva_core.specs.Timed.{Timed, new_timed}
-use Rattle.diva_core.specs.Log.{Meaning}
+use Rattle.diva_core.specs.History.{Meaning}
 use Rattle.diva_args.specs.Options.{DebugOptions}
 use Rattle.diva_debug.specs.Reading.{commands_of}
 use Rattle.diva_debug.specs.declared.command.Command.{Command}
 use Rattle.diva_cli.specs.Wanted.{FileBytes}
-use Rattle.diva_cli.specs.Runs.{IsRunOver, sizes_of, start_in}
+use Rattle.diva_cli.specs.Runs.{IsRunOver, config_of, start_in}
 use Rattle.diva_cli.specs.Replies.{AreLed, cycles_of, joined, newest_after, replies_of}
 
 -- the text of `debug` over files with these bytes, and the status that goes with it where it was written whole. Each reply is
@@ -24,6 +24,6 @@ pub record HasReplies {C : Type 0} (gives : Meaning C) (options : DebugOptions) 
   pub over : IsRunOver gives options.setup (cycles_of (length done) options.setup.watchdog) bytes core last after
   pub parts : List (List (List Record))
   pub together : over.run.driven.lists ≡ joined parts
-  pub led : AreLed done (new_timed (sizes_of options.setup) (start_in bytes)) parts
+  pub led : AreLed done (new_timed (config_of options.setup) (start_in bytes)) parts
   pub lines : text
-      ≡ replies_of done 0 (start_in bytes) (newest_after (new_timed (sizes_of options.setup) (start_in bytes)) parts)
+      ≡ replies_of done 0 (start_in bytes) (newest_after (new_timed (config_of options.setup) (start_in bytes)) parts)

@@ -3,7 +3,7 @@ use Rattle.std.specs.Prelude.{ℕ, ◌≡◌, ◌≤◌, ◌+◌, List, [], ◌�
 use Rattle.diva_isa.specs.declared.record.Record.{Record}
 use Rattle.diva_core.specs.Timed.{Timed}
 use Rattle.diva_core.specs.Cycle.{run_of}
-use Rattle.diva_core.specs.Log.{Meaning, IsLog, lists_of, FollowRule}
+use Rattle.diva_core.specs.History.{Meaning, IsHistory, lists_of, FollowRule}
 use Rattle.diva_faults.specs.declared.rows.Row.{Row}
 use Rattle.diva_faults.specs.Lists.{scripted}
 use Rattle.diva_faults.specs.Spoiled.{spoiled}
@@ -17,9 +17,9 @@ use Rattle.diva_args.specs.declared.job.CoreChoice.TheVariants.{Own, Lockstep, S
 -- the lists are those of turns that lead from a machine and a core to others
 pub record ByTurns {C : Type 0} (gives : Meaning C) (m : Timed) (core : C) (lists : List (List Record))
     (last : Timed) (after : C) : Type 0 where
-  pub log : List (List Record × C)
-  pub good : IsLog gives m core log last after
-  pub in_order : lists ≡ lists_of log
+  pub history : List (List Record × C)
+  pub good : IsHistory gives m core history last after
+  pub in_order : lists ≡ lists_of history
 
 -- each list is what a rule gives at its machine, and the core handed in stays as it was
 pub record ByRule {C : Type 0} (rule : Timed → List Record) (m : Timed) (core : C) (lists : List (List Record))

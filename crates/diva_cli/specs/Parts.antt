@@ -2,14 +2,14 @@
 use Rattle.std.specs.Prelude.{◌≡◌, ℕ, List, Option, Some, None, Result, Ok, Err}
 use Rattle.std.specs.Io.KnownBytes.{Appends}
 use Rattle.diva_outside.specs.Causes.{Rose}
-use Rattle.diva_outside.specs.Files.{ToldFiles}
+use Rattle.diva_outside.specs.Files.{Contents}
 use Rattle.diva_outside.specs.Sink.{AppendsPart}
 use Rattle.diva_outside.specs.Text.{Text}
 use Rattle.diva_outside.specs.declared.files.What.{What}
 use Rattle.diva_outside.specs.declared.files.What.TheVariants.{Script, Tape as TapeFile, Commands}
 use Rattle.diva_isa.specs.declared.record.Record.{Record}
 use Rattle.diva_core.specs.Timed.{new_timed}
-use Rattle.diva_core.specs.Log.{Meaning}
+use Rattle.diva_core.specs.History.{Meaning}
 use Rattle.diva_faults.specs.declared.rows.Row.{Row}
 use Rattle.diva_tape.specs.Scalar.{new_scalar}
 use Rattle.diva_args.specs.Options.{DebugOptions, Setup, SoakOptions}
@@ -28,8 +28,8 @@ use Rattle.diva_cli.specs.declared.stop.Failure.{Failure}
 use Rattle.diva_cli.specs.declared.stop.Failure.TheVariants.{Cut, Memory as NoMemory}
 use Rattle.diva_cli.specs.Lines.{unreadable_line, refused_line}
 use Rattle.diva_cli.specs.Wanted.{Wanted, FileBytes, IsSound, AreSound, file_if, machine_files, session_files, tape_name}
-use Rattle.diva_cli.specs.Runs.{AreRows, AreLists, start_in, sizes_of}
-use Rattle.diva_cli.specs.SoakTexts.{soak_sizes, soak_start}
+use Rattle.diva_cli.specs.Runs.{AreRows, AreLists, start_in, config_of}
+use Rattle.diva_cli.specs.SoakTexts.{soak_config, soak_start}
 use Rattle.diva_cli.specs.Stops.{StopsAt, IsUnread, IsRefused}
 use Rattle.diva_cli.specs.Texts.{HasText}
 use Rattle.diva_cli.specs.Answers.{IsAnswer}
@@ -38,25 +38,25 @@ use Rattle.diva_cli.specs.Statuses.{IsCut}
 -- ---- loading
 
 -- why the loading of these files stopped
-abbrev pub Stops : ToldFiles → (before now : What → ℕ) → List Wanted → Stop → Type 0
+abbrev pub Stops : Contents → (before now : What → ℕ) → List Wanted → Stop → Type 0
 Stops contents before now ws Memory = Unit {0}
 Stops contents before now ws (Unread what) = StopsAt contents (IsUnread contents before now (unreadable_line what)) ws
 Stops contents before now ws (Refused what kind place) = StopsAt contents (IsRefused contents (refused_line what kind place)) ws
 
 -- the file is sound, and this holds of its bytes
-pub record Holds (contents : ToldFiles) (w : Wanted) (this : List ℕ → Type 0) : Type 0 where
+pub record Holds (contents : Contents) (w : Wanted) (this : List ℕ → Type 0) : Type 0 where
   pub bytes : List ℕ
   pub sound : IsSound contents w bytes
   pub holds : this bytes
 
 -- the same of a file that may not be named: then nothing is said of the file
-pub record HoldsIf (contents : ToldFiles) (what : What) (name : Option (List ℕ)) (this : List ℕ → Type 0) : Type 0 where
+pub record HoldsIf (contents : Contents) (what : What) (name : Option (List ℕ)) (this : List ℕ → Type 0) : Type 0 where
   pub bytes : List ℕ
   pub sound : AreSound contents (file_if what name) (λ _. bytes)
   pub holds : this bytes
 
 -- the rows are those of the script of this name, and none where there is no name
-abbrev pub HoldsRows : ToldFiles → Option (List ℕ) → List Row → Type 0
+abbrev pub HoldsRows : Contents → Option (List ℕ) → List Row → Type 0
 HoldsRows contents name script = HoldsIf contents Script name (λ bytes. AreRows name bytes script)
 
 -- the core that a choice asks for, with the lists of its tape
@@ -77,17 +77,17 @@ pub record IsCore (asked : CoreChoice) (bytes : List ℕ) (core : CoreInUse) : T
   pub is : core ≡ core_for asked tape
 
 -- the same, of the bytes of a sound file with the tape's name
-abbrev pub HoldsCore : ToldFiles → CoreChoice → CoreInUse → Type 0
+abbrev pub HoldsCore : Contents → CoreChoice → CoreInUse → Type 0
 HoldsCore contents asked core = HoldsIf contents TapeFile (tape_name asked) (λ bytes. IsCore asked bytes core)
 
 -- the machine is new and begins with the image of these bytes, the script has their rows, and the core is the one asked for
 pub record IsReady (setup : Setup) (bytes : FileBytes) (ready : Ready) : Type 0 where
-  pub begun : ready.machine.timed ≡ new_timed (sizes_of setup) (start_in bytes)
+  pub begun : ready.machine.timed ≡ new_timed (config_of setup) (start_in bytes)
   pub rows : AreRows setup.script (bytes Script) ready.script
   pub core : IsCore setup.core (bytes TapeFile) ready.core
 
 -- the same, of the bytes of sound files with these names
-pub record HoldsReady (contents : ToldFiles) (setup : Setup) (ready : Ready) : Type 0 where
+pub record HoldsReady (contents : Contents) (setup : Setup) (ready : Ready) : Type 0 where
   pub bytes : FileBytes
   pub sound : AreSound contents (machine_files setup) bytes
   pub is : IsReady setup bytes ready
@@ -98,15 +98,15 @@ pub record IsSession (options : DebugOptions) (bytes : FileBytes) (session : Ses
   pub read : commands_of (bytes Commands) ≡ Ok session.commands.items
 
 -- the same, of the bytes of sound files with these names
-pub record HoldsSession (contents : ToldFiles) (options : DebugOptions) (session : SessionReady) : Type 0 where
+pub record HoldsSession (contents : Contents) (options : DebugOptions) (session : SessionReady) : Type 0 where
   pub bytes : FileBytes
   pub sound : AreSound contents (session_files options) bytes
   pub is : IsSession options bytes session
 
 -- both machines are new and begin with the image of the seed, and so is the core of the first
 pub record IsSoakReady (options : SoakOptions) (ready : SoakReady) : Type 0 where
-  pub first : ready.first.timed ≡ new_timed soak_sizes (soak_start options)
-  pub second : ready.second.timed ≡ new_timed soak_sizes (soak_start options)
+  pub first : ready.first.timed ≡ new_timed soak_config (soak_start options)
+  pub second : ready.second.timed ≡ new_timed soak_config (soak_start options)
   pub scalar : ready.scalar ≡ new_scalar
 
 -- ---- writing
@@ -146,14 +146,14 @@ WritesText gives job bytes core after old new faults faults' (Err NoMemory) = �
 
 -- ---- the answer
 
-pub record WritesAnswer {C : Type 0} (gives : Meaning C) (command : Option Job) (contents : ToldFiles) (before now : What → ℕ)
+pub record WritesAnswer {C : Type 0} (gives : Meaning C) (command : Option Job) (contents : Contents) (before now : What → ℕ)
     (core after : C) (old new : Option Text) (status : ℕ) : Type 0 where
   pub text : Text
   pub answer : IsAnswer gives command contents before now core after (Some status) text
   pub written : Appends old new text
 
 -- the answer was written, with its status; or a prefix of it; or memory ran out, and no core was asked
-abbrev pub Answers : {C : Type 0} → Meaning C → Option Job → ToldFiles → (before now : What → ℕ) → (core after : C)
+abbrev pub Answers : {C : Type 0} → Meaning C → Option Job → Contents → (before now : What → ℕ) → (core after : C)
     → (old new : Option Text) → (faults faults' : ℕ) → Result ℕ Failure → Type 0
 Answers gives command contents before now core after old new faults faults' (Ok status) =
     WritesAnswer gives command contents before now core after old new status

@@ -46,9 +46,9 @@ cycles_of n limit = n * (1000000 * (limit + depth))
 
 -- the machine stops at any count, and has cycles for all commands
 pub record CanReply (commands : List Command) (m : Timed) : Type 0 where
-  pub narrow : m.sizes.width ≡ 1
+  pub narrow : m.config.width ≡ 1
   pub short : All IsShort commands
-  pub cycles : m.cycles + cycles_of (length commands) m.sizes.limit ≤ 2 ^ 60
+  pub cycles : m.cycles + cycles_of (length commands) m.config.limit ≤ 2 ^ 60
 
 -- the first of the commands were replied to: all of them, or those up to one whose reply could not be put
 pub record IsReplied (commands : List Command) (m : Timed) (lists : List (List Record)) (old new : Option Text) (before now : ℕ)
@@ -60,5 +60,5 @@ pub record IsReplied (commands : List Command) (m : Timed) (lists : List (List R
   pub parts : List (List (List Record))
   pub together : lists ≡ joined parts
   pub led : AreLed done m parts
-  pub most : length lists ≤ cycles_of (length done) m.sizes.limit
+  pub most : length lists ≤ cycles_of (length done) m.config.limit
   pub put : Puts (replies_of done m.count m.arch (newest_after m parts)) old new before now result

@@ -4,15 +4,15 @@ use Rattle.std.specs.Prelude.{◌≡◌, ◌≤◌, ◌+◌, ◌*◌, ℕ, [], O
 use Rattle.diva_outside.specs.Text.{Text}
 use Rattle.diva_isa.specs.State.{State}
 use Rattle.diva_isa.specs.Step.{halt}
-use Rattle.diva_core.specs.Timed.{Timed, Sizes, depth}
-use Rattle.diva_core.specs.Log.{Meaning}
+use Rattle.diva_core.specs.Timed.{Timed, Config, depth}
+use Rattle.diva_core.specs.History.{Meaning}
 use Rattle.diva_machine.specs.Start.{start_of}
 use Rattle.diva_soak.specs.Soak.{soak_of}
 use Rattle.diva_trace.specs.Text.{soak_text}
 use Rattle.diva_args.specs.Options.{Setup, SoakOptions}
 use Rattle.diva_args.specs.declared.job.CoreChoice.{CoreChoice}
 use Rattle.diva_args.specs.declared.job.CoreChoice.TheVariants.{Own, Scalar}
-use Rattle.diva_cli.specs.Runs.{IsRunFrom, sizes_of}
+use Rattle.diva_cli.specs.Runs.{IsRunFrom, config_of}
 
 -- ---- one run
 
@@ -20,8 +20,8 @@ use Rattle.diva_cli.specs.Runs.{IsRunFrom, sizes_of}
 abbrev pub soak_setup : CoreChoice → Setup
 soak_setup core = record { image = []; core = core; script = None; width = 2; window = 16; stores = 4; watchdog = 64 }
 
-abbrev pub soak_sizes : Sizes
-soak_sizes = sizes_of (soak_setup Own)
+abbrev pub soak_config : Config
+soak_config = config_of (soak_setup Own)
 
 -- W + 6 cycles for each of n drawn instructions and the three behind them, W being the watchdog's limit
 abbrev pub soak_cycles : (n : ℕ) → ℕ

@@ -2,11 +2,11 @@
 use Rattle.std.specs.Prelude.{◌≡◌, ◌⊎◌, ◌≤◌, ℕ, List, [], ◌∷◌, length, Option, Some, None, IsSome}
 use Rattle.std.specs.Io.KnownBytes.{Appends}
 use Rattle.diva_outside.specs.Causes.{Rose}
-use Rattle.diva_outside.specs.Files.{ToldFiles, IsMissing, IsTold}
+use Rattle.diva_outside.specs.Files.{Contents, IsMissing, IsKnown}
 use Rattle.diva_outside.specs.Sink.{AppendsPart}
 use Rattle.diva_outside.specs.Text.{Text}
 use Rattle.diva_outside.specs.declared.files.What.{What}
-use Rattle.diva_core.specs.Log.{Meaning}
+use Rattle.diva_core.specs.History.{Meaning}
 use Rattle.diva_args.specs.declared.job.Job.{Job}
 use Rattle.diva_cli.specs.Wanted.{Wanted, wanted, IsFaultless, file_limit}
 use Rattle.diva_cli.specs.Texts.{CanEnd}
@@ -18,7 +18,7 @@ IsStatus status =
     (status ≡ 0) ⊎ (status ≡ 2) ⊎ (status ≡ 3) ⊎ (status ≡ 4) ⊎ (status ≡ 5) ⊎ (status ≡ 8) ⊎ (status ≡ 9) ⊎ (status ≡ 10)
 
 -- statuses 0, 3 and 4: all files are sound, and the job's whole text was written, with the status that goes with it
-pub record HasWorked {C : Type 0} (gives : Meaning C) (command : Option Job) (contents : ToldFiles) (core after : C)
+pub record HasWorked {C : Type 0} (gives : Meaning C) (command : Option Job) (contents : Contents) (core after : C)
     (old new : Option Text) (status : ℕ) : Type 0 where
   pub text : Text
   pub done : HasDone gives command contents core after (Some status) text
@@ -32,7 +32,7 @@ pub record HasLine {C : Type 0} (cause : Text → Type 0) (core after : C) (old 
   pub written : Appends old new text
 
 -- status 9: the sink's count of faults rose, and a prefix of the answer's text was written
-pub record IsCut {C : Type 0} (gives : Meaning C) (command : Option Job) (contents : ToldFiles) (before now : What → ℕ)
+pub record IsCut {C : Type 0} (gives : Meaning C) (command : Option Job) (contents : Contents) (before now : What → ℕ)
     (core after : C) (old new : Option Text) (faults faults' : ℕ) : Type 0 where
   pub rose : Rose faults faults'
   pub text : Text
@@ -51,35 +51,35 @@ abbrev pub IsHindered : ℕ → Type 0
 IsHindered status = (status ≡ 8) ⊎ ((status ≡ 9) ⊎ (status ≡ 10))
 
 -- the contents are known, and the first file that can't be used is refused by this line
-pub record MustRefuse (command : Option Job) (contents : ToldFiles) (text : Text) : Type 0 where
+pub record MustRefuse (command : Option Job) (contents : Contents) (text : Text) : Type 0 where
   pub known : IsSome contents
   pub refused : HasRefused command contents text
 
 -- it is known that there is no file of the name of the first one that can't be used
-abbrev pub HasMissing : Option Job → ToldFiles → Type 0
+abbrev pub HasMissing : Option Job → Contents → Type 0
 HasMissing command contents = HasStopped command contents (λ w. IsMissing contents w.name)
 
 -- ---- completeness
 
 -- the file's contents are known, no more than a file may have and with no fault
-pub record IsHeld (contents : ToldFiles) (w : Wanted) : Type 0 where
+pub record IsHeld (contents : Contents) (w : Wanted) : Type 0 where
   pub bytes : List ℕ
-  pub held : IsTold contents w.name bytes
+  pub held : IsKnown contents w.name bytes
   pub short : length bytes ≤ file_limit
   pub faultless : IsFaultless w.what bytes
 
-abbrev pub AreHeld : ToldFiles → List Wanted → Type 0
+abbrev pub AreHeld : Contents → List Wanted → Type 0
 AreHeld contents [] = Unit {0}
 AreHeld contents (w ∷ ws) = IsHeld contents w × AreHeld contents ws
 
 -- the words ask for a job all of whose files are held
-pub record CanWork (command : Option Job) (contents : ToldFiles) : Type 0 where
+pub record CanWork (command : Option Job) (contents : Contents) : Type 0 where
   pub job : Job
   pub named : command ≡ Some job
   pub held : AreHeld contents (wanted job)
 
 -- the whole text of the job was written, and the status is the one that goes with it
-pub record HasEnded {C : Type 0} (gives : Meaning C) (command : Option Job) (contents : ToldFiles) (core after : C)
+pub record HasEnded {C : Type 0} (gives : Meaning C) (command : Option Job) (contents : Contents) (core after : C)
     (old new : Option Text) (status : ℕ) : Type 0 where
   pub job : Job
   pub named : command ≡ Some job

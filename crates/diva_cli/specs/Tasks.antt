@@ -8,7 +8,7 @@ use Rattle.diva_isa.specs.State.{goes_on}
 use Rattle.diva_isa.specs.declared.record.Record.{Record}
 use Rattle.diva_core.specs.Timed.{Timed}
 use Rattle.diva_core.specs.Cycle.{cycle_of, run_of}
-use Rattle.diva_core.specs.Log.{Meaning, Turns, lists_of}
+use Rattle.diva_core.specs.History.{Meaning, Turns, lists_of}
 use Rattle.diva_core.specs.Headline.{dues}
 use Rattle.diva_faults.specs.declared.rows.Row.{Row}
 use Rattle.diva_faults.specs.Spoiled.{spoiled}
@@ -93,7 +93,7 @@ run_task true cycles = Trace cycles
 pub record Performs {D : Type 0} (gives : Meaning D) (m : Timed) (core : D) (last : Timed) (after : D)
     (this : List (List Record) → Type 0) : Type 0 where
   pub turns : Turns gives m core last after
-  pub done : this (lists_of turns.log)
+  pub done : this (lists_of turns.history)
 
 -- where the lists come from, by the core in use
 abbrev pub AreHandedBy : {C : Type 0} → Meaning C → CoreInUse → (script : List Row) → Timed → C → List (List Record) → Timed → C → Type 0

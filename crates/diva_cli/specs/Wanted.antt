@@ -1,6 +1,6 @@
 -- The files that a job wants, in the order in which they are loaded, and what is wrong with their bytes.
 use Rattle.std.specs.Prelude.{◌≡◌, ◌≤◌, ℕ, List, [], ◌∷◌, ◌++◌, length, Option, Some, None, Err, IsOk}
-use Rattle.diva_outside.specs.Files.{ToldFiles, Has}
+use Rattle.diva_outside.specs.Files.{Contents, Has}
 use Rattle.diva_outside.specs.declared.files.What.{What}
 use Rattle.diva_outside.specs.declared.files.What.TheVariants.{Image, Script, Tape as TapeFile, Source, Commands}
 use Rattle.diva_image.specs.Images.{fault, fault_of}
@@ -78,7 +78,7 @@ HasFault Commands bytes kind line = commands_of bytes ≡ Err (record { line = l
 -- ---- files that can be used
 
 -- the file has these bytes, where its contents are known; they are no more than a file may have, and have no fault
-pub record IsSound (contents : ToldFiles) (w : Wanted) (bytes : List ℕ) : Type 0 where
+pub record IsSound (contents : Contents) (w : Wanted) (bytes : List ℕ) : Type 0 where
   pub has : Has contents w.name bytes
   pub short : length bytes ≤ file_limit
   pub faultless : IsFaultless w.what bytes
@@ -88,6 +88,6 @@ abbrev pub FileBytes : Type 0
 FileBytes = What → List ℕ
 
 -- each of these files is sound, and has these bytes
-abbrev pub AreSound : ToldFiles → List Wanted → FileBytes → Type 0
+abbrev pub AreSound : Contents → List Wanted → FileBytes → Type 0
 AreSound contents [] bytes = Unit {0}
 AreSound contents (w ∷ ws) bytes = IsSound contents w (bytes w.what) × AreSound contents ws bytes

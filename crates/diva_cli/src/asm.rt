@@ -21,7 +21,7 @@ pub(crate) fn asm<F: Files, S: Sink, C: Core>(
     sink: &mut S,
     _core: &C,
 ) -> Result<u8, Failure>
-    ensures answers { Answers C.gives (Some (Asm source)) (F.told files.old) (F.faults files.old)
+    ensures answers { Answers C.gives (Some (Asm source)) (F.contents files.old) (F.faults files.old)
         (F.faults files.new) _core.now _core.now (S.contents sink.old) (S.contents sink.new)
         (S.faults sink.old) (S.faults sink.new) result }
     ensures unput { IsErrOf result Failure.Memory → sink.new ≡ sink.old }

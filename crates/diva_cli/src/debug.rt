@@ -2,10 +2,10 @@
 ghost use Rattle.std.specs.Prelude.{◌≡◌, ◌≤◌, length, Some, IsErrOf};
 ghost use Rattle.std.specs.List.{All};
 ghost use Rattle.diva_args.specs.declared.job.Job.TheVariants.{Debug};
-ghost use Rattle.diva_core.specs.Machine.{IsSizes};
+ghost use Rattle.diva_core.specs.Machine.{IsConfig};
 ghost use Rattle.diva_debug.specs.Moves.{IsShort};
 ghost use Rattle.diva_cli.specs.Wanted.{FileBytes, file_limit};
-ghost use Rattle.diva_cli.specs.Runs.{sizes_of};
+ghost use Rattle.diva_cli.specs.Runs.{config_of};
 ghost use Rattle.diva_cli.specs.Parts.{Answers, IsSession, WritesText};
 
 use crate::driving::perform_by;
@@ -27,7 +27,7 @@ pub(crate) fn debug<F: Files, S: Sink, C: Core>(
     sink: &mut S,
     core: &mut C,
 ) -> Result<u8, Failure>
-    ensures answers { Answers C.gives (Some (Debug options)) (F.told files.old) (F.faults files.old)
+    ensures answers { Answers C.gives (Some (Debug options)) (F.contents files.old) (F.faults files.old)
         (F.faults files.new) core.old core.new (S.contents sink.old) (S.contents sink.new)
         (S.faults sink.old) (S.faults sink.new) result }
     ensures unput { IsErrOf result Failure.Memory → sink.new ≡ sink.old }
@@ -45,9 +45,9 @@ fn debug_ready<S: Sink, C: Core>(
     sink: &mut S,
     core: &mut C,
 ) -> Result<u8, Failure>
-    requires fits { IsSizes (sizes_of options.setup) }
+    requires fits { IsConfig (config_of options.setup) }
     requires new { session.ready.machine.timed.cycles ≡ 0 }
-    requires narrow { session.ready.machine.timed.sizes.width ≡ 1 }
+    requires narrow { session.ready.machine.timed.config.width ≡ 1 }
     requires few { length session.commands.items ≤ file_limit }
     requires short { All IsShort session.commands.items }
     ensures writes { (bytes : FileBytes) → IsSession options bytes session

@@ -23,7 +23,7 @@ pub(crate) fn dis<F: Files, S: Sink, C: Core>(
     sink: &mut S,
     _core: &C,
 ) -> Result<u8, Failure>
-    ensures answers { Answers C.gives (Some (Dis image)) (F.told files.old) (F.faults files.old)
+    ensures answers { Answers C.gives (Some (Dis image)) (F.contents files.old) (F.faults files.old)
         (F.faults files.new) _core.now _core.now (S.contents sink.old) (S.contents sink.new)
         (S.faults sink.old) (S.faults sink.new) result }
     ensures unput { IsErrOf result Failure.Memory → sink.new ≡ sink.old }
@@ -45,7 +45,7 @@ struct ListingLines<'a> {
 }
 
 impl LineList for ListingLines<'_> {
-    ghost use Rattle.diva_image.specs.View.{layout};
+    ghost use Rattle.diva_image.specs.ImageLayout.{layout};
     ghost use Rattle.diva_asm.specs.Listing.{listing_of};
 
     ghost lines = { λ s. listing_of (layout s.image.now) };

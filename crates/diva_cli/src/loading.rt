@@ -3,15 +3,15 @@ ghost use Rattle.std.specs.Prelude.{◌≡◌, ◌≤◌, ◌∷◌, [], length,
 ghost use Rattle.std.specs.List.{All};
 ghost use Rattle.diva_outside.specs.Files.{Has};
 ghost use Rattle.diva_image.specs.Images.{image_of};
-ghost use Rattle.diva_image.specs.View.{layout};
+ghost use Rattle.diva_image.specs.ImageLayout.{layout};
 ghost use Rattle.diva_asm.specs.Sources.{source_of};
-ghost use Rattle.diva_core.specs.Machine.{IsSizes};
+ghost use Rattle.diva_core.specs.Machine.{IsConfig};
 ghost use Rattle.diva_faults.specs.Reading.{script_of};
 ghost use Rattle.diva_tape.specs.Tapes.{tape_of};
 ghost use Rattle.diva_debug.specs.Moves.{IsShort};
 ghost use Rattle.diva_debug.specs.Reading.{commands_of};
 ghost use Rattle.diva_cli.specs.Wanted.{file, file_if, file_limit, machine_files, session_files, tape_name};
-ghost use Rattle.diva_cli.specs.Runs.{sizes_of};
+ghost use Rattle.diva_cli.specs.Runs.{config_of};
 ghost use Rattle.diva_cli.specs.Parts.{Stops, Holds, HoldsCore, HoldsReady, HoldsRows, HoldsSession};
 
 use crate::driving::CoreInUse;
@@ -47,11 +47,11 @@ pub(crate) fn make_ready<F: Files>(
     files: &mut F,
     setup: &Setup,
 ) -> Result<Ready, Stop>
-    ensures stays { F.told files.new ≡ F.told files.old }
+    ensures stays { F.contents files.new ≡ F.contents files.old }
     ensures later { (w : What) → F.faults files.old w ≤ F.faults files.new w }
-    ensures ready { IfOk result (HoldsReady (F.told files.old) setup.now) }
-    ensures sizes { IsSizes (sizes_of setup.now) }
-    ensures stopped { IfErr result (λ stop. Stops (F.told files.old) (F.faults files.old)
+    ensures ready { IfOk result (HoldsReady (F.contents files.old) setup.now) }
+    ensures config { IsConfig (config_of setup.now) }
+    ensures stopped { IfErr result (λ stop. Stops (F.contents files.old) (F.faults files.old)
         (F.faults files.new) (machine_files setup.now) stop) }
 {
     let config = config_of(setup);
@@ -88,14 +88,14 @@ pub(crate) fn make_session<F: Files>(
     files: &mut F,
     options: &DebugOptions,
 ) -> Result<SessionReady, Stop>
-    ensures stays { F.told files.new ≡ F.told files.old }
+    ensures stays { F.contents files.new ≡ F.contents files.old }
     ensures later { (w : What) → F.faults files.old w ≤ F.faults files.new w }
-    ensures session { IfOk result (HoldsSession (F.told files.old) options.now) }
-    ensures sizes { IsSizes (sizes_of options.now.setup) }
-    ensures narrow { IfOk result (λ session. session.ready.machine.timed.sizes.width ≡ 1) }
+    ensures session { IfOk result (HoldsSession (F.contents files.old) options.now) }
+    ensures config { IsConfig (config_of options.now.setup) }
+    ensures narrow { IfOk result (λ session. session.ready.machine.timed.config.width ≡ 1) }
     ensures few { IfOk result (λ session. length session.commands.items ≤ file_limit) }
     ensures short { IfOk result (λ session. All IsShort session.commands.items) }
-    ensures stopped { IfErr result (λ stop. Stops (F.told files.old) (F.faults files.old)
+    ensures stopped { IfErr result (λ stop. Stops (F.contents files.old) (F.faults files.old)
         (F.faults files.new) (session_files options.now) stop) }
 {
     let ready = match make_ready(alloc, files, &options.setup) {
@@ -110,8 +110,8 @@ pub(crate) fn make_session<F: Files>(
 
 /// The machine's numbers, as the command line asks for them.
 fn config_of(setup: &Setup) -> Config
-    ensures value { result ≡ sizes_of setup.now }
-    ensures fits { IsSizes (sizes_of setup.now) }
+    ensures value { result ≡ config_of setup.now }
+    ensures fits { IsConfig (config_of setup.now) }
 {
     Config::new(setup.width, setup.window, setup.stores, setup.watchdog).unwrap()
 }
@@ -126,13 +126,13 @@ struct Loaded {
 
 /// The image of a setup, then the script, if there is one, and then the tape, if that is the core.
 fn load_machine_files<F: Files>(alloc: Global, files: &mut F, setup: &Setup) -> Result<Loaded, Stop>
-    ensures stays { F.told files.new ≡ F.told files.old }
+    ensures stays { F.contents files.new ≡ F.contents files.old }
     ensures later { (w : What) → F.faults files.old w ≤ F.faults files.new w }
-    ensures image { IfOk result (λ loaded. Holds (F.told files.old)
+    ensures image { IfOk result (λ loaded. Holds (F.contents files.old)
         (file What.Image setup.now.image) (λ bytes. image_of bytes ≡ layout loaded.image)) }
-    ensures script { IfOk result (λ loaded. HoldsRows (F.told files.old) setup.now.script loaded.script) }
-    ensures core { IfOk result (λ loaded. HoldsCore (F.told files.old) setup.now.core loaded.core) }
-    ensures stopped { IfErr result (λ stop. Stops (F.told files.old) (F.faults files.old)
+    ensures script { IfOk result (λ loaded. HoldsRows (F.contents files.old) setup.now.script loaded.script) }
+    ensures core { IfOk result (λ loaded. HoldsCore (F.contents files.old) setup.now.core loaded.core) }
+    ensures stopped { IfErr result (λ stop. Stops (F.contents files.old) (F.faults files.old)
         (F.faults files.new) (machine_files setup.now) stop) }
 {
     let image = match load_image(alloc, files, &setup.image) {
@@ -160,11 +160,11 @@ pub(crate) fn load_image<F: Files>(
     files: &mut F,
     name: &FileName,
 ) -> Result<Image, Stop>
-    ensures stays { F.told files.new ≡ F.told files.old }
+    ensures stays { F.contents files.new ≡ F.contents files.old }
     ensures later { (w : What) → F.faults files.old w ≤ F.faults files.new w }
-    ensures holds { IfOk result (λ image. Holds (F.told files.old)
+    ensures holds { IfOk result (λ image. Holds (F.contents files.old)
         (file What.Image name.now) (λ bytes. image_of bytes ≡ layout image)) }
-    ensures stopped { IfErr result (λ stop. Stops (F.told files.old) (F.faults files.old)
+    ensures stopped { IfErr result (λ stop. Stops (F.contents files.old) (F.faults files.old)
         (F.faults files.new) (file What.Image name.now ∷ []) stop) }
 {
     let bytes = match load(alloc, files, What::Image, name) {
@@ -188,11 +188,11 @@ pub(crate) fn load_source<F: Files>(
     files: &mut F,
     name: &FileName,
 ) -> Result<Image, Stop>
-    ensures stays { F.told files.new ≡ F.told files.old }
+    ensures stays { F.contents files.new ≡ F.contents files.old }
     ensures later { (w : What) → F.faults files.old w ≤ F.faults files.new w }
-    ensures holds { IfOk result (λ image. Holds (F.told files.old)
+    ensures holds { IfOk result (λ image. Holds (F.contents files.old)
         (file What.Source name.now) (λ bytes. source_of bytes ≡ Ok (layout image))) }
-    ensures stopped { IfErr result (λ stop. Stops (F.told files.old) (F.faults files.old)
+    ensures stopped { IfErr result (λ stop. Stops (F.contents files.old) (F.faults files.old)
         (F.faults files.new) (file What.Source name.now ∷ []) stop) }
 {
     let bytes = match load(alloc, files, What::Source, name) {
@@ -216,10 +216,10 @@ fn load_script_if<F: Files>(
     files: &mut F,
     name: &Option<FileName>,
 ) -> Result<Script, Stop>
-    ensures stays { F.told files.new ≡ F.told files.old }
+    ensures stays { F.contents files.new ≡ F.contents files.old }
     ensures later { (w : What) → F.faults files.old w ≤ F.faults files.new w }
-    ensures holds { IfOk result (HoldsRows (F.told files.old) name.now) }
-    ensures stopped { IfErr result (λ stop. Stops (F.told files.old) (F.faults files.old)
+    ensures holds { IfOk result (HoldsRows (F.contents files.old) name.now) }
+    ensures stopped { IfErr result (λ stop. Stops (F.contents files.old) (F.faults files.old)
         (F.faults files.new) (file_if What.Script name.now) stop) }
 {
     match name {
@@ -230,11 +230,11 @@ fn load_script_if<F: Files>(
 
 /// The script of this name.
 fn load_script<F: Files>(alloc: Global, files: &mut F, name: &FileName) -> Result<Script, Stop>
-    ensures stays { F.told files.new ≡ F.told files.old }
+    ensures stays { F.contents files.new ≡ F.contents files.old }
     ensures later { (w : What) → F.faults files.old w ≤ F.faults files.new w }
-    ensures holds { IfOk result (λ script. Holds (F.told files.old)
+    ensures holds { IfOk result (λ script. Holds (F.contents files.old)
         (file What.Script name.now) (λ bytes. script_of bytes ≡ Ok script)) }
-    ensures stopped { IfErr result (λ stop. Stops (F.told files.old) (F.faults files.old)
+    ensures stopped { IfErr result (λ stop. Stops (F.contents files.old) (F.faults files.old)
         (F.faults files.new) (file What.Script name.now ∷ []) stop) }
 {
     let bytes = match load(alloc, files, What::Script, name) {
@@ -254,10 +254,10 @@ fn load_script<F: Files>(alloc: Global, files: &mut F, name: &FileName) -> Resul
 
 /// The core of a choice. The one that is handed in is there already, and a tape is loaded.
 fn load_core<F: Files>(alloc: Global, files: &mut F, choice: &CoreChoice) -> Result<CoreInUse, Stop>
-    ensures stays { F.told files.new ≡ F.told files.old }
+    ensures stays { F.contents files.new ≡ F.contents files.old }
     ensures later { (w : What) → F.faults files.old w ≤ F.faults files.new w }
-    ensures holds { IfOk result (HoldsCore (F.told files.old) choice.now) }
-    ensures stopped { IfErr result (λ stop. Stops (F.told files.old) (F.faults files.old)
+    ensures holds { IfOk result (HoldsCore (F.contents files.old) choice.now) }
+    ensures stopped { IfErr result (λ stop. Stops (F.contents files.old) (F.faults files.old)
         (F.faults files.new) (file_if What.Tape (tape_name choice.now)) stop) }
 {
     match choice {
@@ -280,11 +280,11 @@ fn load_core<F: Files>(alloc: Global, files: &mut F, choice: &CoreChoice) -> Res
 
 /// The tape of this name.
 fn load_tape<F: Files>(alloc: Global, files: &mut F, name: &FileName) -> Result<Tape, Stop>
-    ensures stays { F.told files.new ≡ F.told files.old }
+    ensures stays { F.contents files.new ≡ F.contents files.old }
     ensures later { (w : What) → F.faults files.old w ≤ F.faults files.new w }
-    ensures holds { IfOk result (λ tape. Holds (F.told files.old)
+    ensures holds { IfOk result (λ tape. Holds (F.contents files.old)
         (file What.Tape name.now) (λ bytes. tape_of bytes ≡ Ok tape)) }
-    ensures stopped { IfErr result (λ stop. Stops (F.told files.old) (F.faults files.old)
+    ensures stopped { IfErr result (λ stop. Stops (F.contents files.old) (F.faults files.old)
         (F.faults files.new) (file What.Tape name.now ∷ []) stop) }
 {
     let bytes = match load(alloc, files, What::Tape, name) {
@@ -308,13 +308,13 @@ fn load_commands<F: Files>(
     files: &mut F,
     name: &FileName,
 ) -> Result<Vec<Command>, Stop>
-    ensures stays { F.told files.new ≡ F.told files.old }
+    ensures stays { F.contents files.new ≡ F.contents files.old }
     ensures later { (w : What) → F.faults files.old w ≤ F.faults files.new w }
-    ensures holds { IfOk result (λ commands. Holds (F.told files.old)
+    ensures holds { IfOk result (λ commands. Holds (F.contents files.old)
         (file What.Commands name.now) (λ bytes. commands_of bytes ≡ Ok commands.items)) }
     ensures few { IfOk result (λ commands. length commands.items ≤ file_limit) }
     ensures short { IfOk result (λ commands. All IsShort commands.items) }
-    ensures stopped { IfErr result (λ stop. Stops (F.told files.old) (F.faults files.old)
+    ensures stopped { IfErr result (λ stop. Stops (F.contents files.old) (F.faults files.old)
         (F.faults files.new) (file What.Commands name.now ∷ []) stop) }
 {
     let bytes = match load(alloc, files, What::Commands, name) {
@@ -339,11 +339,11 @@ fn load<F: Files>(
     what: What,
     name: &FileName,
 ) -> Result<Vec<u8>, Stop>
-    ensures stays { F.told files.new ≡ F.told files.old }
+    ensures stays { F.contents files.new ≡ F.contents files.old }
     ensures later { (w : What) → F.faults files.old w ≤ F.faults files.new w }
-    ensures has { IfOk result (λ bytes. Has (F.told files.old) name.now bytes.items) }
+    ensures has { IfOk result (λ bytes. Has (F.contents files.old) name.now bytes.items) }
     ensures short { IfOk result (λ bytes. length bytes.items ≤ file_limit) }
-    ensures stopped { IfErr result (λ stop. Stops (F.told files.old) (F.faults files.old)
+    ensures stopped { IfErr result (λ stop. Stops (F.contents files.old) (F.faults files.old)
         (F.faults files.new) (file what name.now ∷ []) stop) }
 {
     match files.load(alloc, what, name.as_str(), FILE_LIMIT) {

@@ -54,7 +54,7 @@ pub fn top<F: Files, S: Sink, C: Core>(
     // The replies of a session show the table's states, and the flushes of such a machine. Both runs of
     // a seed's image halt, in the same state.
     ensures worked { IsDone result
-        → HasWorked C.gives (command_of (map (λ w. w.now) words.now)) (F.told files.old)
+        → HasWorked C.gives (command_of (map (λ w. w.now) words.now)) (F.contents files.old)
         core.old core.new (S.contents sink.old) (S.contents sink.new) result }
 
     // Nothing is run: the words, the first file's fault, or the files' count of faults says why.
@@ -62,16 +62,16 @@ pub fn top<F: Files, S: Sink, C: Core>(
         → HasLine (IsMisused (command_of (map (λ w. w.now) words.now))) core.old core.new
         (S.contents sink.old) (S.contents sink.new) }
     ensures refused { result ≡ 5
-        → HasLine (HasRefused (command_of (map (λ w. w.now) words.now)) (F.told files.old))
+        → HasLine (HasRefused (command_of (map (λ w. w.now) words.now)) (F.contents files.old))
         core.old core.new (S.contents sink.old) (S.contents sink.new) }
     ensures unread { result ≡ 8
-        → HasLine (HasUnread (command_of (map (λ w. w.now) words.now)) (F.told files.old)
+        → HasLine (HasUnread (command_of (map (λ w. w.now) words.now)) (F.contents files.old)
         (F.faults files.old) (F.faults files.new))
         core.old core.new (S.contents sink.old) (S.contents sink.new) }
 
     // The sink's count of faults rose; memory ran out.
     ensures cut { result ≡ 9
-        → IsCut C.gives (command_of (map (λ w. w.now) words.now)) (F.told files.old)
+        → IsCut C.gives (command_of (map (λ w. w.now) words.now)) (F.contents files.old)
         (F.faults files.old) (F.faults files.new) core.old core.new
         (S.contents sink.old) (S.contents sink.new) (S.faults sink.old) (S.faults sink.new) }
     ensures memory { result ≡ 10 → HasNoMemory core.old core.new sink.old sink.new }
@@ -82,16 +82,16 @@ pub fn top<F: Files, S: Sink, C: Core>(
 
     // Of known files, the first that can't be used is refused by its line, or is not there.
     ensures refuses { (text : Text)
-        → MustRefuse (command_of (map (λ w. w.now) words.now)) (F.told files.old) text
+        → MustRefuse (command_of (map (λ w. w.now) words.now)) (F.contents files.old) text
         → ((result ≡ 5) × Appends (S.contents sink.old) (S.contents sink.new) text) ⊎ IsHindered result }
-    ensures misses { HasMissing (command_of (map (λ w. w.now) words.now)) (F.told files.old)
+    ensures misses { HasMissing (command_of (map (λ w. w.now) words.now)) (F.contents files.old)
         → IsHindered result }
 
     // A job whose files are known and sound is done, where neither they nor the sink fail.
-    ensures complete { CanWork (command_of (map (λ w. w.now) words.now)) (F.told files.old)
+    ensures complete { CanWork (command_of (map (λ w. w.now) words.now)) (F.contents files.old)
         → ((what : What) → Rose (F.faults files.old what) (F.faults files.new what) → ⊥)
         → (Rose (S.faults sink.old) (S.faults sink.new) → ⊥)
-        → HasEnded C.gives (command_of (map (λ w. w.now) words.now)) (F.told files.old)
+        → HasEnded C.gives (command_of (map (λ w. w.now) words.now)) (F.contents files.old)
         core.old core.new (S.contents sink.old) (S.contents sink.new) result ⊎ (result ≡ 10) }
 {
     status_of(answer(alloc, words, files, sink, core))
@@ -116,7 +116,7 @@ fn answer<F: Files, S: Sink, C: Core>(
     sink: &mut S,
     core: &mut C,
 ) -> Result<u8, Failure>
-    ensures answers { Answers C.gives (command_of (map (λ w. w.now) words.now)) (F.told files.old)
+    ensures answers { Answers C.gives (command_of (map (λ w. w.now) words.now)) (F.contents files.old)
         (F.faults files.old) (F.faults files.new) core.old core.new
         (S.contents sink.old) (S.contents sink.new) (S.faults sink.old) (S.faults sink.new) result }
     ensures unput { IsErrOf result Failure.Memory → sink.new ≡ sink.old }
@@ -136,7 +136,7 @@ fn work<F: Files, S: Sink, C: Core>(
     sink: &mut S,
     core: &mut C,
 ) -> Result<u8, Failure>
-    ensures answers { Answers C.gives (Some job) (F.told files.old) (F.faults files.old)
+    ensures answers { Answers C.gives (Some job) (F.contents files.old) (F.faults files.old)
         (F.faults files.new) core.old core.new (S.contents sink.old) (S.contents sink.new)
         (S.faults sink.old) (S.faults sink.new) result }
     ensures unput { IsErrOf result Failure.Memory → sink.new ≡ sink.old }

@@ -2,7 +2,7 @@
 // under the core that is handed in.
 ghost use Rattle.std.specs.Prelude.{◌≡◌, IfOk, IsErrOf, Some};
 ghost use Rattle.diva_args.specs.declared.job.Job.TheVariants.{Soak};
-ghost use Rattle.diva_cli.specs.SoakTexts.{soak_cycles, soak_sizes};
+ghost use Rattle.diva_cli.specs.SoakTexts.{soak_cycles, soak_config};
 ghost use Rattle.diva_cli.specs.Wanted.{FileBytes};
 ghost use Rattle.diva_cli.specs.Parts.{Answers, IsSoakReady, WritesText};
 
@@ -28,7 +28,7 @@ pub(crate) fn soak<F: Files, S: Sink, C: Core>(
     sink: &mut S,
     core: &mut C,
 ) -> Result<u8, Failure>
-    ensures answers { Answers C.gives (Some (Soak options)) (F.told _files.now) (F.faults _files.now)
+    ensures answers { Answers C.gives (Some (Soak options)) (F.contents _files.now) (F.faults _files.now)
         (F.faults _files.now) core.old core.new (S.contents sink.old) (S.contents sink.new)
         (S.faults sink.old) (S.faults sink.new) result }
     ensures unput { IsErrOf result Failure.Memory → sink.new ≡ sink.old }
@@ -64,7 +64,7 @@ fn make_soak(alloc: Global, options: &SoakOptions) -> Result<SoakReady, AllocErr
 
 /// The numbers that a machine has where no option asks for others.
 fn soak_config() -> Config
-    ensures { result ≡ soak_sizes }
+    ensures { result ≡ soak_config }
 {
     Config::new(2, 16, 4, WATCHDOG).unwrap()
 }

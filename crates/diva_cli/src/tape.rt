@@ -1,9 +1,9 @@
 // The command `tape`: it reads its files as `run` does, and writes what is handed over to the machine.
 ghost use Rattle.std.specs.Prelude.{◌≡◌, Some, IsErrOf};
 ghost use Rattle.diva_args.specs.declared.job.Job.TheVariants.{Tape};
-ghost use Rattle.diva_core.specs.Machine.{IsSizes};
+ghost use Rattle.diva_core.specs.Machine.{IsConfig};
 ghost use Rattle.diva_cli.specs.Wanted.{FileBytes};
-ghost use Rattle.diva_cli.specs.Runs.{sizes_of};
+ghost use Rattle.diva_cli.specs.Runs.{config_of};
 ghost use Rattle.diva_cli.specs.Parts.{Answers, IsReady, WritesText};
 
 use crate::driving::perform_by;
@@ -25,7 +25,7 @@ pub(crate) fn tape<F: Files, S: Sink, C: Core>(
     sink: &mut S,
     core: &mut C,
 ) -> Result<u8, Failure>
-    ensures answers { Answers C.gives (Some (Tape options)) (F.told files.old) (F.faults files.old)
+    ensures answers { Answers C.gives (Some (Tape options)) (F.contents files.old) (F.faults files.old)
         (F.faults files.new) core.old core.new (S.contents sink.old) (S.contents sink.new)
         (S.faults sink.old) (S.faults sink.new) result }
     ensures unput { IsErrOf result Failure.Memory → sink.new ≡ sink.old }
@@ -44,7 +44,7 @@ fn tape_ready<S: Sink, C: Core>(
     core: &mut C,
 ) -> Result<u8, Failure>
     requires new { ready.machine.timed.cycles ≡ 0 }
-    requires fits { IsSizes (sizes_of options.setup) }
+    requires fits { IsConfig (config_of options.setup) }
     ensures writes { (bytes : FileBytes) → IsReady options.setup bytes ready
         → WritesText C.gives (Tape options) bytes core.old core.new
         (S.contents sink.old) (S.contents sink.new) (S.faults sink.old) (S.faults sink.new) result }

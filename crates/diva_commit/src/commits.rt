@@ -69,7 +69,7 @@ pub fn commit(
     commit_by(regs, pc, memory, queue, output, decode(r.word), r, verdict)
 }
 
-/// The same of a record whose word was decoded already: `form` is what it says.
+/// The same of a record whose word was decoded already: `decoded` is what it says.
 #[inline(always)]
 #[tactic(auto, unfolding(diva_core::specs::Cycle::puts_store, diva_isa::specs::Step::apply))]
 pub fn commit_by(
@@ -78,14 +78,14 @@ pub fn commit_by(
     memory: &Memory,
     queue: &mut StoreQueue,
     output: &mut Output,
-    form: Option<Instr>,
+    decoded: Option<Instr>,
     r: &Record,
     verdict: Option<Diff>,
 ) -> Committed
     requires due { verdict ≡ None
         → r.now ≡ record_of (state_of regs.old pc.old (laid memory.now queue.old.items) output.old 0) }
-    requires form { form ≡ row_of r.now.word }
-    requires registers { IfSome form HasRegisters }
+    requires decoded { decoded ≡ row_of r.now.word }
+    requires registers { IfSome decoded HasRegisters }
     ensures answer { result ≡ answer verdict r.now (length queue.old.items == queue.old.capacity) }
     ensures stays { is_committed result ≡ false
         → (regs.new ≡ regs.old) × (pc.new ≡ pc.old) × (queue.new ≡ queue.old) × (output.new ≡ output.old) }
@@ -102,7 +102,7 @@ pub fn commit_by(
     if r.end != 0 {
         return ended(r.end);
     }
-    match effect_by(form, r) {
+    match effect_by(decoded, r) {
         Effect::Nothing => {}
         Effect::Writes { rd, value } => regs.set(rd, value),
         Effect::Stores { width, addr, value } => {

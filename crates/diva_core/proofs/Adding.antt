@@ -20,7 +20,7 @@ use Rattle.diva_core.specs.Headline.{Rises, SameLog, AddsRow, AddsRows, HasRows,
 use Rattle.diva_core.proofs.Steps.{steps-add}
 use Rattle.diva_core.proofs.Outcomes.{logs, rises}
 use Rattle.diva_core.proofs.Keeping.{stays}
-use Rattle.diva_core.proofs.Progressing.{same-sizes}
+use Rattle.diva_core.proofs.Progressing.{same-config}
 
 all-one : (P : FlushRow → Type 0) (row : FlushRow) → P row → (k : ℕ) (d : FlushRow) → k < 1 → P (get_or (row ∷ []) k d)
 all-one P row p zero d h = p
@@ -47,7 +47,7 @@ kept-take rows row few =
     (λ t. let l = ltb-true (length rows) 1024 t in sym (take_all 1024 (rows ++ row ∷ []) (rw length-append (omega arith))))
     (λ f. let l = ltb-false (length rows) 1024 f in sym (take-append-le 1024 rows (row ∷ []) (omega arith) ∙ take_all 1024 rows few))
 
-cause-since : (m last : Timed) (at : ℕ) (cause : Cause) → at ≡ last.count → IsCause m last cause → HasCause m.arch m.sizes.limit (at - m.count) cause
+cause-since : (m last : Timed) (at : ℕ) (cause : Cause) → at ≡ last.count → IsCause m last cause → HasCause m.arch m.config.limit (at - m.count) cause
 cause-since m last at (Differs d) e c =
     let s = difference-some c.p.claim (record_of (steps (last.count - m.count) m.arch)) d c.differs in
     (s.differ, s.dues ∙ ap (λ k. field_of d.field (record_of (steps (k - m.count) m.arch))) (sym e))
@@ -94,18 +94,18 @@ HasRows-trans m mid last first more a b =
 
 -- ---- told from an earlier machine
 
-cause-before : (m mid : Timed) (at : ℕ) (cause : Cause) → Rises m mid → mid.sizes.limit ≡ m.sizes.limit → mid.count ≤ at → HasCause mid.arch mid.sizes.limit (at - mid.count) cause → HasCause m.arch m.sizes.limit (at - m.count) cause
+cause-before : (m mid : Timed) (at : ℕ) (cause : Cause) → Rises m mid → mid.config.limit ≡ m.config.limit → mid.count ≤ at → HasCause mid.arch mid.config.limit (at - mid.count) cause → HasCause m.arch m.config.limit (at - m.count) cause
 cause-before m mid at (Differs d) r l h c =
     let far : steps (at - mid.count) mid.arch ≡ steps (at - m.count) m.arch =
     ap (steps (at - mid.count)) r.stepped ∙ sym (steps-add (mid.count - m.count) (at - mid.count) m.arch) ∙ ap (λ k. steps k m.arch) (let e = r.counted in omega arith) in
     (c.0, c.1 ∙ ap (λ s. field_of d.field (record_of s)) far)
 cause-before m mid at (Silent idle) r l h c = c ∙ l
 
-row-before : (m mid : Timed) (row : FlushRow) → Rises m mid → mid.sizes.limit ≡ m.sizes.limit → IsRowSince mid row → IsRowSince m row
+row-before : (m mid : Timed) (row : FlushRow) → Rises m mid → mid.config.limit ≡ m.config.limit → IsRowSince mid row → IsRowSince m row
 row-before m mid row r l s =
     record { later = (let a = s.later in let b = r.counted in omega arith); caused = cause-before m mid row.at row.cause r l s.later s.caused }
 
-all-before : (m mid : Timed) (rows : List FlushRow) → Rises m mid → mid.sizes.limit ≡ m.sizes.limit → All (IsRowSince mid) rows → All (IsRowSince m) rows
+all-before : (m mid : Timed) (rows : List FlushRow) → Rises m mid → mid.config.limit ≡ m.config.limit → All (IsRowSince mid) rows → All (IsRowSince m) rows
 all-before m mid rows r l a = λ k d h. row-before m mid (get_or rows k d) r l (a k d h)
 
 -- ---- the rows of a run
@@ -125,7 +125,7 @@ run-more m list rest last inv (inl s) later =
     record {
       added = later.added;
       each = rows-same m list rest later.added s later.each;
-      since = all-before m (cycle_of m list) later.added (rises m list inv) (ap (λ z. z.limit) (same-sizes m list inv)) later.since;
+      since = all-before m (cycle_of m list) later.added (rises m list inv) (ap (λ z. z.limit) (same-config m list inv)) later.since;
       has = HasRows-trans m (cycle_of m list) last [] later.added (same-has m (cycle_of m list) inv.rows s) later.has;
     }
 run-more m list rest last inv (inr a) later =
@@ -134,7 +134,7 @@ run-more m list rest last inv (inr a) later =
       each = inr (a.is, later.each);
       since = All-append (IsRowSince m) (a.row ∷ []) later.added
           (all-one (IsRowSince m) a.row (row-since m (cycle_of m list) a.row (rises m list inv) a.is))
-          (all-before m (cycle_of m list) later.added (rises m list inv) (ap (λ z. z.limit) (same-sizes m list inv)) later.since);
+          (all-before m (cycle_of m list) later.added (rises m list inv) (ap (λ z. z.limit) (same-config m list inv)) later.since);
       has = HasRows-trans m (cycle_of m list) last (a.row ∷ []) later.added (one-has m (cycle_of m list) a.row inv.rows a.is) later.has;
     }
 

@@ -4,7 +4,7 @@ use Rattle.std.specs.Option.{is_some, unwrap_or}
 use Rattle.diva_decode.specs.declared.instr.Instr.{Instr}
 use Rattle.diva_decode.specs.Table.{row_of}
 use Rattle.diva_isa.specs.State.{State, word_of}
-use Rattle.diva_isa.specs.Step.{record_of, source1_of, source2_of, address_of, outcome_of, whole}
+use Rattle.diva_isa.specs.Step.{record_of, source1_of, source2_of, address_of, outcome_of, record_with}
 use Rattle.diva_isa.specs.declared.record.Record.{Record}
 use Rattle.diva_isa.proofs.Parts.{parts, word_is}
 use Rattle.std.proofs.lemmas.Bool.{eq-eqb, ne_eqb}
@@ -22,16 +22,16 @@ with_operands r a b = record r { src1 = a; src2 = b }
 abbrev pub with_addr : Record → ℕ → Record
 with_addr r a = record r { addr = a }
 
-form_is : (r : Record) (s : State) → r.word ≡ (record_of s).word → row_of (unwrap_or (word_of s s.pc) 0) ≡ row_of r.word
-form_is r s e = ap row_of (sym (e ∙ word_is s))
+decoded_is : (r : Record) (s : State) → r.word ≡ (record_of s).word → row_of (unwrap_or (word_of s s.pc) 0) ≡ row_of r.word
+decoded_is r s e = ap row_of (sym (e ∙ word_is s))
 
 pub operands_filled : (r : Record) (s : State) → difference_in fetch_fields r (record_of s) ≡ None
     → with_operands r (source1_of (row_of r.word) s) (source2_of (row_of r.word) s) ≡ with_operands r (record_of s).src1 (record_of s).src2
 operands_filled r s h =
     let same = in-none fetch_fields r (record_of s) h in
-    let form = form_is r s same.1.0 in
-    let a = (parts s).src1 ∙ ap (λ (o : Option Instr). source1_of o s) form in
-    let b = (parts s).src2 ∙ ap (λ (o : Option Instr). source2_of o s) form in
+    let decoded = decoded_is r s same.1.0 in
+    let a = (parts s).src1 ∙ ap (λ (o : Option Instr). source1_of o s) decoded in
+    let b = (parts s).src2 ∙ ap (λ (o : Option Instr). source2_of o s) decoded in
     λ i. record r { src1 = sym a i; src2 = sym b i }
 
 -- the operands of a claim whose pc and word are due
@@ -43,7 +43,7 @@ pub address_filled : (r : Record) (s : State) → difference_in read_fields r (r
     → with_addr r (address_of (row_of r.word) r.src1) ≡ with_addr r (record_of s).addr
 address_filled r s h =
     let same = in-none read_fields r (record_of s) h in
-    let a = (parts s).addr ∙ ap (λ (o : Option Instr). address_of o (record_of s).src1) (form_is r s same.1.0) ∙ ap (address_of (row_of r.word)) (sym same.1.1.0) in
+    let a = (parts s).addr ∙ ap (λ (o : Option Instr). address_of o (record_of s).src1) (decoded_is r s same.1.0) ∙ ap (address_of (row_of r.word)) (sym same.1.1.0) in
     ap (with_addr r) (sym a)
 
 -- the address of a claim whose operands are due
@@ -52,17 +52,17 @@ pub address_due : (r : Record) (s : State) → difference_in read_fields r (reco
 address_due r s h = ap (λ (x : Record). x.addr) (address_filled r s h)
 
 -- whether the word is there is asked only where it says nothing
-any_there : (b c : Bool) (form : Option Instr) (s : State) (pc x y z : ℕ) → (form ≡ None → b ≡ c) → outcome_of b form s pc x y z ≡ outcome_of c form s pc x y z
+any_there : (b c : Bool) (decoded : Option Instr) (s : State) (pc x y z : ℕ) → (decoded ≡ None → b ≡ c) → outcome_of b decoded s pc x y z ≡ outcome_of c decoded s pc x y z
 any_there b c None s pc x y z h = rw (h refl) refl
 any_there b c (Some i) s pc x y z h = refl
 
-pub outcome_filled : (r : Record) (s : State) (there : Bool) (form : Option Instr) → form ≡ row_of r.word → (form ≡ None → there ≡ is_some (word_of s s.pc)) → difference_in address_fields r (record_of s) ≡ None
-    → whole r.pc r.word r.src1 r.src2 r.addr (outcome_of there form s r.pc r.src1 r.src2 r.addr) ≡ record_of s
-outcome_filled r s there form e t h =
+pub outcome_filled : (r : Record) (s : State) (there : Bool) (decoded : Option Instr) → decoded ≡ row_of r.word → (decoded ≡ None → there ≡ is_some (word_of s s.pc)) → difference_in address_fields r (record_of s) ≡ None
+    → record_with r.pc r.word r.src1 r.src2 r.addr (outcome_of there decoded s r.pc r.src1 r.src2 r.addr) ≡ record_of s
+outcome_filled r s there decoded e t h =
     let same = in-none address_fields r (record_of s) h in
     let x = record_of s in
-    let is : form ≡ row_of (unwrap_or (word_of s s.pc) 0) = e ∙ sym (form_is r s same.1.0) in
-    ap (whole r.pc r.word r.src1 r.src2 r.addr) (any_there there (is_some (word_of s s.pc)) form s r.pc r.src1 r.src2 r.addr t)
+    let is : decoded ≡ row_of (unwrap_or (word_of s s.pc) 0) = e ∙ sym (decoded_is r s same.1.0) in
+    ap (record_with r.pc r.word r.src1 r.src2 r.addr) (any_there there (is_some (word_of s s.pc)) decoded s r.pc r.src1 r.src2 r.addr t)
     ∙ rw (same.0, same.1.0, same.1.1.0, same.1.1.1.0, same.1.1.1.1.0, is) (sym (parts s).outcome)
 
 pub outcome_due : (r x : Record) (v n e : ℕ) → record r { value = v; next = n; end = e } ≡ x → (v ≡ x.value) × (n ≡ x.next) × (e ≡ x.end)
@@ -94,10 +94,10 @@ executed_addr claim due a b n e = addr_first b (ne_eqb claim.addr a n)
     addr_first false other = rw (← e, other) refl
 
 -- of a load or a store nothing else is compared
-pub executed_memory : (claim due : Record) (form : Option Instr) → form ≡ row_of claim.word → is_memory_by form ≡ true
+pub executed_memory : (claim due : Record) (decoded : Option Instr) → decoded ≡ row_of claim.word → is_memory_by decoded ≡ true
     → difference_in read_fields claim due ≡ None → claim.addr ≡ due.addr
     → None ≡ difference_in (execute_fields (is_memory due)) claim due
-executed_memory claim due form f m h a =
+executed_memory claim due decoded f m h a =
     rw (same_memory claim due true h (ap is_memory_by (sym f) ∙ m), eq-eqb claim.addr due.addr a) refl
 
 agrees_addr : (claim due : Record) → difference_in read_fields claim due ≡ None → claim.addr ≡ due.addr → difference_in address_fields claim due ≡ None
@@ -105,10 +105,10 @@ agrees_addr claim due h a =
     let same = in-none read_fields claim due h in
     none-in address_fields claim due (same.0, (same.1.0, (same.1.1.0, (same.1.1.1.0, (a, tt)))))
 
-pub executed_other : (claim due : Record) (answer : Option Diff) (form : Option Instr) → form ≡ row_of claim.word → is_memory_by form ≡ false
+pub executed_other : (claim due : Record) (answer : Option Diff) (decoded : Option Instr) → decoded ≡ row_of claim.word → is_memory_by decoded ≡ false
     → difference_in read_fields claim due ≡ None → claim.addr ≡ due.addr
     → (difference_in address_fields claim due ≡ None → answer ≡ difference_in outcome_fields claim due)
     → answer ≡ difference_in (execute_fields (is_memory due)) claim due
-executed_other claim due answer form f m h a o =
+executed_other claim due answer decoded f m h a o =
     o (agrees_addr claim due h a)
     ∙ rw (same_memory claim due false h (ap is_memory_by (sym f) ∙ m), eq-eqb claim.addr due.addr a) refl

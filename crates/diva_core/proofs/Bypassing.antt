@@ -9,7 +9,7 @@ use Rattle.diva_isa.specs.State.{State, byte_of, memory_of, number_of, reg_of, w
 use Rattle.diva_isa.specs.Regs.{with_reg}
 use Rattle.diva_isa.specs.Kind.{kind}
 use Rattle.diva_isa.specs.declared.kind.Kind.{Kind}
-use Rattle.diva_isa.specs.declared.kind.Kind.TheVariants.{LoadUpper, AddUpper, Jump, JumpRegister, Branch, Load, Store, Immediate, Register, Fence, Call, Break}
+use Rattle.diva_isa.specs.declared.kind.Kind.TheVariants.{Lui, Auipc, Jal, Jalr, Branch, Load, Store, OpImm, OpReg, Fence, Ecall, Ebreak}
 use Rattle.diva_decode.specs.Table.{row_of}
 use Rattle.diva_decode.specs.declared.instr.Instr.{Instr}
 use Rattle.diva_isa.specs.Step.{apply, effect, effect_of, with_effect}
@@ -93,18 +93,18 @@ other_put false r s n = refl
 
 -- an instruction that has another register for its result leaves this one, and all leave x0
 other_register : (k : Kind) (i : Instr) (r : Record) (s : State) (n : ℕ) → n < length s.regs → (i.rd ≢ n) ⊎ (n ≡ 0) → reg_of (with_effect s (effect k i r)) n ≡ reg_of s n
-other_register LoadUpper i r s n h d = other_written s i.rd r.value n h d
-other_register AddUpper i r s n h d = other_written s i.rd r.value n h d
-other_register Jump i r s n h d = other_written s i.rd r.value n h d
-other_register JumpRegister i r s n h d = other_written s i.rd r.value n h d
+other_register Lui i r s n h d = other_written s i.rd r.value n h d
+other_register Auipc i r s n h d = other_written s i.rd r.value n h d
+other_register Jal i r s n h d = other_written s i.rd r.value n h d
+other_register Jalr i r s n h d = other_written s i.rd r.value n h d
 other_register Branch i r s n h d = refl
 other_register (Load width) i r s n h d = other_written s i.rd r.value n h d
 other_register (Store width) i r s n h d = refl
-other_register Immediate i r s n h d = other_written s i.rd r.value n h d
-other_register Register i r s n h d = other_written s i.rd r.value n h d
+other_register OpImm i r s n h d = other_written s i.rd r.value n h d
+other_register OpReg i r s n h d = other_written s i.rd r.value n h d
 other_register Fence i r s n h d = refl
-other_register Call i r s n h d = other_put (r.src1 == 1) r s n
-other_register Break i r s n h d = refl
+other_register Ecall i r s n h d = other_put (r.src1 == 1) r s n
+other_register Ebreak i r s n h d = refl
 
 -- a claim whose instruction names the register d for its result, 0 where it has none, or is none
 pub target_reads : (s : State) (i : Instr) (r : Record) (n : ℕ) → row_of r.word ≡ Some i → n < length s.regs

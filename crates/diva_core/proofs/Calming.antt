@@ -7,7 +7,7 @@ use Rattle.diva_isa.specs.State.{State, goes_on}
 use Rattle.diva_isa.specs.declared.record.Record.{Record}
 use Rattle.diva_isa.specs.Step.{record_of, step, steps}
 use Rattle.diva_core.specs.Difference.{field_of}
-use Rattle.diva_core.specs.Timed.{Timed, Waiting, room_of, is_due}
+use Rattle.diva_core.specs.Timed.{Timed, PendingClaim, room_of, is_due}
 use Rattle.diva_core.specs.Cycle.{cycle_of, accepted_in}
 use Rattle.diva_core.specs.Machine.{IsMachine, ArePast}
 use Rattle.diva_core.specs.Right.{AreDue, IsRight, wait_by, claim_of, IsCalmRunning, IsCalm, StaysCalm}
@@ -39,7 +39,7 @@ AreDueFrom-append s [] ys a b = b
 AreDueFrom-append s (p ∷ xs) ys a b = (a.0, AreDueFrom-append (step s) xs ys a.1 (subst (λ t. AreDueFrom t ys) (sym (steps-shift (length xs) s)) b))
 
 -- what is left after commits is due
-AreDueFrom-commits : (k : ℕ) (s : State) (c : ℕ) (xs rest : List Waiting) → Commits k s c xs rest → AreDueFrom s (map claim_of xs) → AreDueFrom (steps k s) (map claim_of rest)
+AreDueFrom-commits : (k : ℕ) (s : State) (c : ℕ) (xs rest : List PendingClaim) → Commits k s c xs rest → AreDueFrom s (map claim_of xs) → AreDueFrom (steps k s) (map claim_of rest)
 AreDueFrom-commits zero s c xs rest h a = subst (λ r. AreDueFrom s (map claim_of r)) (sym h) a
 AreDueFrom-commits (suc k) s c [] rest h a = absurd h
 AreDueFrom-commits (suc k) s c (p ∷ xs) rest h a = subst (λ t. AreDueFrom t (map claim_of rest)) (steps-shift k s) (AreDueFrom-commits k (step s) c xs rest h.2 a.1)
@@ -50,7 +50,7 @@ claims-taken c (p ∷ xs) = ap (λ r. p ∷ r) (claims-taken c xs)
 
 -- what waits after a cycle is due
 AreDueFrom-more :
-    (b : Timed) (list : List Record) (k : ℕ) (rest : List Waiting)
+    (b : Timed) (list : List Record) (k : ℕ) (rest : List PendingClaim)
     → Commits k b.arch (b.cycles + 1) b.pending rest
     → AreDueFrom b.arch (map claim_of b.pending)
     → AreDueFrom (steps (length b.pending) b.arch) (take (room_of b) list)
@@ -58,11 +58,11 @@ AreDueFrom-more :
 AreDueFrom-more b list k rest h a r =
     rw (map-append, claims-taken) (AreDueFrom-append (steps k b.arch) (map claim_of rest) (take (room_of b) list) (AreDueFrom-commits k b.arch (b.cycles + 1) b.pending rest h a) (subst (λ t. AreDueFrom t (take (room_of b) list)) (ap (λ n. steps n b.arch) (lengths k rest h) ∙ steps-add k (length rest) b.arch ∙ ap (λ n. steps n (steps k b.arch)) (sym (length-map rest claim_of))) r))
   where
-    lengths : (k : ℕ) (rest : List Waiting) → Commits k b.arch (b.cycles + 1) b.pending rest → length b.pending ≡ k + length rest
+    lengths : (k : ℕ) (rest : List PendingClaim) → Commits k b.arch (b.cycles + 1) b.pending rest → length b.pending ≡ k + length rest
     lengths k rest h = let e = length-commits k b.arch (b.cycles + 1) b.pending rest h in omega arith
 
 -- the wait of a machine in which the front claim was accepted in the past
-wait-most : (m : Timed) (xs : List Waiting) → ArePast m.cycles xs → wait_by m xs ≤ 7
+wait-most : (m : Timed) (xs : List PendingClaim) → ArePast m.cycles xs → wait_by m xs ≤ 7
 wait-most m [] a = omega arith
 wait-most m (p ∷ xs) a = let e = a.0 in omega arith
 
@@ -74,18 +74,18 @@ no-difference b n r a =
     let differs = difference-some r.p.claim (record_of n.arch) r.d r.first in
     differs.differ (differs.claims ∙ ap (field_of r.d.field) (same ∙ ap record_of (sym r.base.stepped)) ∙ sym differs.dues)
 
-AreDueFrom-at : (s t : State) (xs ys : List Waiting) → s ≡ t → xs ≡ ys → AreDueFrom t (map claim_of ys) → AreDueFrom s (map claim_of xs)
+AreDueFrom-at : (s t : State) (xs ys : List PendingClaim) → s ≡ t → xs ≡ ys → AreDueFrom t (map claim_of ys) → AreDueFrom s (map claim_of xs)
 AreDueFrom-at s t xs ys e f a = rw (e, f) a
 
-pub wait-least : (b : Timed) (xs : List Waiting) → ((p : Waiting) (rest : List Waiting) → xs ≡ p ∷ rest → b.cycles + 1 < p.cycle + 6) → 2 ≤ wait_by b xs
+pub wait-least : (b : Timed) (xs : List PendingClaim) → ((p : PendingClaim) (rest : List PendingClaim) → xs ≡ p ∷ rest → b.cycles + 1 < p.cycle + 6) → 2 ≤ wait_by b xs
 wait-least b [] young = omega arith
 wait-least b (p ∷ rest) young = let y = young p rest refl in omega arith
 
 -- one cycle less is to wait
 wait-after :
-    (b n : Timed) (xs : List Waiting) (zs : List Record) (limit : ℕ)
+    (b n : Timed) (xs : List PendingClaim) (zs : List Record) (limit : ℕ)
     → n.cycles ≡ b.cycles + 1
-    → ((p : Waiting) (rest : List Waiting) → xs ≡ p ∷ rest → b.cycles + 1 < p.cycle + 6)
+    → ((p : PendingClaim) (rest : List PendingClaim) → xs ≡ p ∷ rest → b.cycles + 1 < p.cycle + 6)
     → (xs ≡ [] → zs ≡ [] → b.idle + 7 < limit)
     → b.idle + wait_by b xs ≤ limit
     → b.idle + 1 + wait_by n (xs ++ map (accepted_in (b.cycles + 1)) zs) ≤ limit
@@ -94,38 +94,38 @@ wait-after b n [] (z ∷ zs) limit c young empty w = omega arith
 wait-after b n (p ∷ xs) zs limit c young empty w = let y = young p xs refl in omega arith
 
 pub room-some : (b : Timed) → IsMachine b → b.solo ≡ None → goes_on b.arch ≡ true → b.pending ≡ [] → 1 ≤ room_of b
-room-some b inv none on e = rw (none, on, e) (let w = inv.sizes.width_low in let q = inv.sizes.window_low in omega arith)
+room-some b inv none on e = rw (none, on, e) (let w = inv.config.width_low in let q = inv.config.window_low in omega arith)
 
 pub take-none : (r : ℕ) (list : List Record) → 1 ≤ r → take r list ≡ [] → list ≡ []
 take-none zero list h e = absurd (omega arith)
 take-none (suc r) [] h e = refl
 take-none (suc r) (p ∷ list) h e = absurd (grind arith)
 
-due-is : (b : Timed) → IsMachine b → b.solo ≡ None → goes_on b.arch ≡ true → b.pending ≡ [] → b.sizes.limit ≤ b.idle + 7 → is_due b ≡ true
-due-is b inv none on e h = rw (le-leb b.sizes.limit (b.idle + 7) h, lt-ltb 0 (room_of b) (room-some b inv none on e), e) refl
+due-is : (b : Timed) → IsMachine b → b.solo ≡ None → goes_on b.arch ≡ true → b.pending ≡ [] → b.config.limit ≤ b.idle + 7 → is_due b ≡ true
+due-is b inv none on e h = rw (le-leb b.config.limit (b.idle + 7) h, lt-ltb 0 (room_of b) (room-some b inv none on e), e) refl
 
-not-due : (b : Timed) (list : List Record) → IsMachine b → goes_on b.arch ≡ true → b.solo ≡ None → IsRight b list → b.pending ≡ [] → take (room_of b) list ≡ [] → b.idle + 7 < b.sizes.limit
+not-due : (b : Timed) (list : List Record) → IsMachine b → goes_on b.arch ≡ true → b.solo ≡ None → IsRight b list → b.pending ≡ [] → take (room_of b) list ≡ [] → b.idle + 7 < b.config.limit
 not-due b list inv on none right e t =
-    elim (cases_lt (b.idle + 7) b.sizes.limit) [
+    elim (cases_lt (b.idle + 7) b.config.limit) [
       | inl h ↦ h
       | inr h ↦ absurd (right.prompt (due-is b inv none on e h) (take-none (room_of b) list (room-some b inv none on e) t))
     ]
 
 calm-cases : (b : Timed) (list : List Record) (n : Timed) → IsMachine b → IsMachine n → goes_on b.arch ≡ true → IsCalmRunning b → IsRight b list → Cycled b list n → StaysCalm b n
 calm-cases b list n inv after on quiet right (idled r) =
-    let l : n.sizes.limit ≡ b.sizes.limit = ap (λ z. z.limit) r.base.sizes in
+    let l : n.config.limit ≡ b.config.limit = ap (λ z. z.limit) r.base.config in
     record {
       calm = λ still. record {
         running = r.solo;
         claims = due_at _ _ (AreDueFrom-at n.arch b.arch n.pending (b.pending ++ taken b list) r.base.stepped r.pending (AreDueFrom-more b list 0 b.pending refl (due_from _ _ quiet.claims) (due_from _ _ right.claims)));
-        waits = rw (r.idle, r.pending, l) (wait-after b n b.pending (take (room_of b) list) b.sizes.limit r.base.cycles r.young (not-due b list inv on r.was right) quiet.waits);
+        waits = rw (r.idle, r.pending, l) (wait-after b n b.pending (take (room_of b) list) b.config.limit r.base.cycles r.young (not-due b list inv on r.was right) quiet.waits);
       };
       flushes = r.log.flushes;
       silent = r.log.silent;
     }
 calm-cases b list n inv after on quiet right (ran r) =
     let most = wait-most n n.pending after.past in
-    let low = after.sizes.limit_low in
+    let low = after.config.limit_low in
     record {
       calm = λ still. record {
         running = r.solo;
@@ -146,7 +146,7 @@ pub stays_calm : (m : Timed) (list : List Record) → IsMachine m → IsCalm m �
 stays_calm m list inv calm right =
     by-cases (StaysCalm m) m list inv (λ on c. calm-cases m list _ inv (stays m list inv) on (calm on) right c) (λ off. record { calm = calm; flushes = refl; silent = refl })
 
--- what is left when the instruction that ran alone commits
+-- what is left when the instruction that ran solo commits
 pub record Fresh (n : Timed) : Type 0 where
   pub calm : IsCalm n
   pub pending : n.pending ≡ []
@@ -159,7 +159,7 @@ fresh-cases b list n start after some sixth (differed r) = absurd (none-some _ (
 fresh-cases b list n start after some sixth (ended r) = absurd (none-some _ (sym r.was ∙ some))
 fresh-cases b list n start after some sixth (finished r) =
     let most = wait-most n n.pending after.past in
-    let low = after.sizes.limit_low in
+    let low = after.config.limit_low in
     record {
       calm = λ still. record { running = r.solo; claims = due_at _ _ (subst (λ xs. AreDueFrom n.arch (map claim_of xs)) (sym r.pending) tt); waits = (let i = r.idle in omega arith) };
       pending = r.pending;

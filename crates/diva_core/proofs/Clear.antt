@@ -16,7 +16,7 @@ use Rattle.diva_isa.specs.Step.{effect, effect_by, effect_of}
 use Rattle.diva_isa.specs.declared.effect.Effect.{Effect}
 use Rattle.diva_isa.specs.declared.effect.Effect.TheVariants.{Nothing, Writes, Stores, Puts}
 use Rattle.diva_isa.specs.declared.kind.Kind.{Kind}
-use Rattle.diva_isa.specs.declared.kind.Kind.TheVariants.{LoadUpper, AddUpper, Jump, JumpRegister, Branch, Load, Store, Immediate, Register, Fence, Call, Break}
+use Rattle.diva_isa.specs.declared.kind.Kind.TheVariants.{Lui, Auipc, Jal, Jalr, Branch, Load, Store, OpImm, OpReg, Fence, Ecall, Ebreak}
 use Rattle.diva_isa.specs.declared.record.Record.{Record}
 use Rattle.diva_core.specs.declared.pending.Entry.{Entry}
 use Rattle.diva_core.specs.Cycle.{is_store}
@@ -52,20 +52,20 @@ put_lies true byte at a n k = refl
 put_lies false byte at a n k = refl
 
 effect_lies : (k : Kind) (i : Instr) (r : Record) → LiesAt r.addr (effect k i r)
-effect_lies LoadUpper i r a n k = refl
-effect_lies AddUpper i r a n k = refl
-effect_lies Jump i r a n k = refl
-effect_lies JumpRegister i r a n k = refl
+effect_lies Lui i r a n k = refl
+effect_lies Auipc i r a n k = refl
+effect_lies Jal i r a n k = refl
+effect_lies Jalr i r a n k = refl
 effect_lies Branch i r a n k = refl
 effect_lies (Load width) i r a n k = refl
 effect_lies (Store width) i r a n k = store_lies width r.addr r.value a n k
-effect_lies Immediate i r a n k = refl
-effect_lies Register i r a n k = refl
+effect_lies OpImm i r a n k = refl
+effect_lies OpReg i r a n k = refl
 effect_lies Fence i r a n k = refl
-effect_lies Call i r a n k = put_lies (r.src1 == 1) (r.value % 2 ^ 8) r.addr a n k
-effect_lies Break i r a n k = refl
+effect_lies Ecall i r a n k = put_lies (r.src1 == 1) (r.value % 2 ^ 8) r.addr a n k
+effect_lies Ebreak i r a n k = refl
 
-claim_lies : (form : Option Instr) (r : Record) → LiesAt r.addr (effect_by form r)
+claim_lies : (decoded : Option Instr) (r : Record) → LiesAt r.addr (effect_by decoded r)
 claim_lies None r a n k = refl
 claim_lies (Some i) r a n k = effect_lies (kind i.op) i r a n k
 
@@ -139,7 +139,7 @@ pub popped_other : (n : ℕ) (entries : List Entry) (e : Entry) → n ≡ count_
 popped_other n entries e m h t = let all : n ≡ 0 + count_by may_store (drop 1 entries) = popped n false entries e m h t in omega arith
 
 -- what the table says of a word is its decoded form
-pub decoded_by : (word : ℕ) (form : Option Instr) → form ≡ row_of word → IfSome form (λ i. row_of word ≡ Some i)
+pub decoded_by : (word : ℕ) (decoded : Option Instr) → decoded ≡ row_of word → IfSome decoded (λ i. row_of word ≡ Some i)
 decoded_by word None h = tt
 decoded_by word (Some i) h = sym h
 

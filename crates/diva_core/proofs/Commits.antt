@@ -3,19 +3,19 @@ use Rattle.std.proofs.Common.{◌≡◌, ℕ, zero, suc, ◌+◌, ◌-◌, ◌�
 use Rattle.diva_isa.specs.State.{State}
 use Rattle.diva_isa.specs.declared.record.Record.{Record}
 use Rattle.diva_isa.specs.Step.{record_of, step, steps}
-use Rattle.diva_core.specs.Timed.{Timed, Waiting}
-use Rattle.diva_core.specs.Headline.{dues, AreClaims, ByClaims, ByItself}
+use Rattle.diva_core.specs.Timed.{Timed, PendingClaim}
+use Rattle.diva_core.specs.Headline.{dues, AreClaims, ByClaims, BySolo}
 use Rattle.diva_core.proofs.Steps.{steps-shift}
 
 -- k claims, each the record of its state and accepted six or more cycles before, lead from those that waited to the rest
-abbrev pub Commits : ℕ → State → ℕ → List Waiting → List Waiting → Type 0
+abbrev pub Commits : ℕ → State → ℕ → List PendingClaim → List PendingClaim → Type 0
 Commits zero s cycle waiting rest = rest ≡ waiting
 Commits (suc k) s cycle [] rest = ⊥
 Commits (suc k) s cycle (p ∷ waiting) rest = (p.claim ≡ record_of s) × (p.cycle + 6 ≤ cycle) × Commits k (step s) cycle waiting rest
 
--- what commits between two machines are claims, or one instruction that ran alone
+-- what commits between two machines are claims, or one instruction that ran solo
 pub record CommitsClaims (m last : Timed) : Type 0 where
-  pub rest : List Waiting
+  pub rest : List PendingClaim
   pub commits : Commits (last.count - m.count) m.arch (m.cycles + 1) m.pending rest
 
 pub record CommitsItself (m last : Timed) : Type 0 where
@@ -33,11 +33,11 @@ pub length-dues : (k : ℕ) (s : State) → length (dues k s) ≡ k
 length-dues zero s = refl
 length-dues (suc k) s = let e = length-dues k (step s) in omega arith
 
-Commits-dues : (k : ℕ) (s : State) (c : ℕ) (xs rest : List Waiting) → Commits k s c xs rest → AreClaims (dues k s) c xs rest
+Commits-dues : (k : ℕ) (s : State) (c : ℕ) (xs rest : List PendingClaim) → Commits k s c xs rest → AreClaims (dues k s) c xs rest
 Commits-dues zero s c xs rest h = h
 Commits-dues (suc k) s c [] rest h = h
 Commits-dues (suc k) s c (p ∷ xs) rest h = (h.0, h.1, Commits-dues k (step s) c xs rest h.2)
 
-pub commits-records : (m last : Timed) → CommitsClaims m last ⊎ CommitsItself m last → ByClaims m (dues (last.count - m.count) m.arch) ⊎ ByItself m (dues (last.count - m.count) m.arch)
+pub commits-records : (m last : Timed) → CommitsClaims m last ⊎ CommitsItself m last → ByClaims m (dues (last.count - m.count) m.arch) ⊎ BySolo m (dues (last.count - m.count) m.arch)
 commits-records m last (inl c) = inl (record { rest = c.rest; claims = Commits-dues (last.count - m.count) m.arch (m.cycles + 1) m.pending c.rest c.commits })
 commits-records m last (inr i) = inr (record { start = i.start; since = i.since; passed = i.sixth; one = length-dues (last.count - m.count) m.arch ∙ (let e = i.one in omega arith) })

@@ -10,9 +10,9 @@ use Rattle.diva_core.specs.declared.flushes.Cause.{Cause}
 use Rattle.diva_core.specs.declared.flushes.Cause.TheVariants.{Differs, Silent}
 use Rattle.diva_core.specs.Difference.{first_difference}
 use Rattle.diva_isa.specs.State.{goes_on}
-use Rattle.diva_core.specs.Timed.{Timed, Waiting, room_of}
+use Rattle.diva_core.specs.Timed.{Timed, PendingClaim, room_of}
 use Rattle.diva_core.specs.Cycle.{commits, judged, by_solo, flushed, drained, begun, accepts, accepted, accepted_in, barked, counted, watched, cycle_of}
-use Rattle.diva_core.specs.Machine.{IsMachine, Lives, IsAlone}
+use Rattle.diva_core.specs.Machine.{IsMachine, Lives, IsSolo}
 use Rattle.diva_core.specs.Headline.{SameLog, HasRow}
 use Rattle.diva_core.proofs.Commits.{Commits}
 use Rattle.diva_core.proofs.Judging.{Moved, Outcome, front-judged, Still, Flushing, Ending, still, flushing, ending}
@@ -20,18 +20,18 @@ use Rattle.diva_core.proofs.Phases.{Second, Alone, Waits, judging, alone, waits,
 
 -- what each way has in common, after k commits
 pub record Base (b n : Timed) (k : ℕ) : Type 0 where
-  pub sizes : n.sizes ≡ b.sizes
+  pub config : n.config ≡ b.config
   pub cycles : n.cycles ≡ b.cycles + 1
   pub counted : n.count ≡ b.count + k
   pub stepped : n.arch ≡ steps k b.arch
-  pub owed : n.owed ≤ b.sizes.stores
-  pub few : k ≤ b.sizes.width
+  pub owed : n.owed ≤ b.config.stores
+  pub few : k ≤ b.config.width
 
 -- the front claim is not ready in the coming cycle
 abbrev pub IsYoung : Timed → Type 0
-IsYoung b = (p : Waiting) (rest : List Waiting) → b.pending ≡ p ∷ rest → b.cycles + 1 < p.cycle + 6
+IsYoung b = (p : PendingClaim) (rest : List PendingClaim) → b.pending ≡ p ∷ rest → b.cycles + 1 < p.cycle + 6
 
-abbrev pub taken : Timed → List Record → List Waiting
+abbrev pub taken : Timed → List Record → List PendingClaim
 taken b list = map (accepted_in (b.cycles + 1)) (take (room_of b) list)
 
 -- nothing commits, and the watchdog is silent
@@ -41,7 +41,7 @@ pub record Idled (b : Timed) (list : List Record) (n : Timed) : Type 0 where
   pub was : b.solo ≡ None
   pub solo : n.solo ≡ None
   pub idle : n.idle ≡ b.idle + 1
-  pub early : n.idle < b.sizes.limit
+  pub early : n.idle < b.config.limit
   pub young : IsYoung b
   pub pending : n.pending ≡ b.pending ++ taken b list
 
@@ -53,7 +53,7 @@ pub record Ran (b : Timed) (list : List Record) (n : Timed) : Type 0 where
   pub was : b.solo ≡ None
   pub solo : n.solo ≡ None
   pub idle : n.idle ≡ 0
-  pub rest : List Waiting
+  pub rest : List PendingClaim
   pub claims : Commits (suc k) b.arch (b.cycles + 1) b.pending rest
   pub pending : n.pending ≡ rest ++ taken b list
   pub on : goes_on n.arch ≡ true
@@ -61,11 +61,11 @@ pub record Ran (b : Timed) (list : List Record) (n : Timed) : Type 0 where
 -- nothing commits, and the watchdog flushes
 pub record Barked (b n : Timed) : Type 0 where
   pub base : Base b n 0
-  pub log : HasRow b n (record { cycle = b.cycles + 1; at = n.count; cause = Silent b.sizes.limit })
+  pub log : HasRow b n (record { cycle = b.cycles + 1; at = n.count; cause = Silent b.config.limit })
   pub was : b.solo ≡ None
   pub solo : n.solo ≡ Some (b.cycles + 1)
   pub idle : n.idle ≡ b.idle + 1
-  pub late : b.sizes.limit ≤ n.idle
+  pub late : b.config.limit ≤ n.idle
   pub young : IsYoung b
   pub pending : n.pending ≡ []
 
@@ -73,8 +73,8 @@ pub record Barked (b n : Timed) : Type 0 where
 pub record Differed (b n : Timed) : Type 0 where
   pub k : ℕ
   pub base : Base b n k
-  pub p : Waiting
-  pub rest : List Waiting
+  pub p : PendingClaim
+  pub rest : List PendingClaim
   pub d : Diff
   pub log : HasRow b n (record { cycle = b.cycles + 1; at = n.count; cause = Differs d })
   pub first : first_difference p.claim (record_of n.arch) ≡ Some d
@@ -91,7 +91,7 @@ pub record Ended (b n : Timed) : Type 0 where
   pub k : ℕ
   pub base : Base b n (suc k)
   pub log : SameLog b n
-  pub rest : List Waiting
+  pub rest : List PendingClaim
   pub claims : Commits (suc k) b.arch (b.cycles + 1) b.pending rest
   pub was : b.solo ≡ None
   pub solo : n.solo ≡ None
@@ -100,7 +100,7 @@ pub record Ended (b n : Timed) : Type 0 where
   pub went : goes_on (steps k b.arch) ≡ true
   pub off : goes_on n.arch ≡ false
 
--- the instruction that ran alone commits
+-- the instruction that ran solo commits
 pub record Finished (b n : Timed) : Type 0 where
   pub start : ℕ
   pub since : b.solo ≡ Some start
@@ -111,7 +111,7 @@ pub record Finished (b n : Timed) : Type 0 where
   pub idle : n.idle ≡ 0
   pub pending : n.pending ≡ []
 
--- an instruction runs on alone
+-- an instruction runs on solo
 pub record Waited (b n : Timed) : Type 0 where
   pub start : ℕ
   pub since : b.solo ≡ Some start
@@ -151,7 +151,7 @@ all-accepted b m list on same c = rw (on, eq-eqb m.flushes b.flushes same, c) re
 
 base-mid : (b : Timed) (list : List Record) (k : ℕ) → Moved (drained (begun b)) (commits (drained (begun b))) k → Base b (mid b list) k
 unfolding drained accepts
-base-mid b list k v = record { sizes = v.sizes; cycles = v.cycles; counted = v.counted; stepped = v.stepped; owed = v.owed; few = v.few }
+base-mid b list k v = record { config = v.config; cycles = v.cycles; counted = v.counted; stepped = v.stepped; owed = v.owed; few = v.few }
 
 log-mid : (b : Timed) (list : List Record) → SameLog (drained (begun b)) (commits (drained (begun b))) → SameLog b (mid b list)
 unfolding drained accepts
@@ -168,14 +168,14 @@ Barked-mid :
     → Base b (mid b list) 0
     → SameLog b (mid b list)
     → (mid b list).idle ≡ b.idle + 1
-    → b.sizes.limit ≤ (mid b list).idle
+    → b.config.limit ≤ (mid b list).idle
     → IsYoung b
-    → Barked b (flushed (mid b list) (Silent b.sizes.limit))
+    → Barked b (flushed (mid b list) (Silent b.config.limit))
 unfolding flushed
 Barked-mid b list was v log i late young =
-    let h = HasRow-flushed b (mid b list) (b.cycles + 1) (Silent b.sizes.limit) log v.cycles in
+    let h = HasRow-flushed b (mid b list) (b.cycles + 1) (Silent b.config.limit) log v.cycles in
     record {
-      base = record { sizes = v.sizes; cycles = v.cycles; counted = v.counted; stepped = v.stepped; owed = v.owed; few = v.few };
+      base = record { config = v.config; cycles = v.cycles; counted = v.counted; stepped = v.stepped; owed = v.owed; few = v.few };
       log = record { rows = h.rows; newest = h.newest; flushes = h.flushes; silent = h.silent };
       was = was;
       solo = ap Some v.cycles;
@@ -186,28 +186,28 @@ Barked-mid b list was v log i late young =
     }
 
 -- after phase 1 a store is never held up at the front
-pub owed-drained : (b : Timed) → IsMachine b → (drained (begun b)).owed < b.sizes.stores
+pub owed-drained : (b : Timed) → IsMachine b → (drained (begun b)).owed < b.config.stores
 unfolding drained
-owed-drained b inv = let o = inv.owed in let low = inv.sizes.stores_low in omega arith
+owed-drained b inv = let o = inv.owed in let low = inv.config.stores_low in omega arith
 
 -- where nothing is judged, the front claim is not ready
 young : (b : Timed) → IsMachine b → b.solo ≡ None → (commits (drained (begun b))).count ≡ b.count + 0 → (commits (drained (begun b))).flushes ≡ b.flushes → IsYoung b
 unfolding commits drained
 young b inv none c f p rest e =
-    let one : b.sizes.width ≡ suc (b.sizes.width - 1) = (let low = inv.sizes.width_low in omega arith) in
-    let o : b.owed - 1 < b.sizes.stores = owed-drained b inv in
-    let same : commits (drained (begun b)) ≡ judged (suc (b.sizes.width - 1)) (drained (begun b)) = ap (by_solo (drained (begun b))) none ∙ ap (λ n. judged n (drained (begun b))) one in
+    let one : b.config.width ≡ suc (b.config.width - 1) = (let low = inv.config.width_low in omega arith) in
+    let o : b.owed - 1 < b.config.stores = owed-drained b inv in
+    let same : commits (drained (begun b)) ≡ judged (suc (b.config.width - 1)) (drained (begun b)) = ap (by_solo (drained (begun b))) none ∙ ap (λ n. judged n (drained (begun b))) one in
     young-by (nat_le (p.cycle + 6) (b.cycles + 1)) refl
-    (λ t. front-judged (b.sizes.width - 1) (drained (begun b)) p rest e t o)
+    (λ t. front-judged (b.config.width - 1) (drained (begun b)) p rest e t o)
     (ap (λ z. z.count) (sym same) ∙ c)
     (ap (λ z. z.flushes) (sym same) ∙ f)
   where
     young-by :
         (t : Bool)
         → nat_le (p.cycle + 6) (b.cycles + 1) ≡ t
-        → (nat_le (p.cycle + 6) (b.cycles + 1) ≡ true → (b.count < (judged (suc (b.sizes.width - 1)) (drained (begun b))).count) ⊎ (b.flushes < (judged (suc (b.sizes.width - 1)) (drained (begun b))).flushes))
-        → (judged (suc (b.sizes.width - 1)) (drained (begun b))).count ≡ b.count + 0
-        → (judged (suc (b.sizes.width - 1)) (drained (begun b))).flushes ≡ b.flushes
+        → (nat_le (p.cycle + 6) (b.cycles + 1) ≡ true → (b.count < (judged (suc (b.config.width - 1)) (drained (begun b))).count) ⊎ (b.flushes < (judged (suc (b.config.width - 1)) (drained (begun b))).flushes))
+        → (judged (suc (b.config.width - 1)) (drained (begun b))).count ≡ b.count + 0
+        → (judged (suc (b.config.width - 1)) (drained (begun b))).flushes ≡ b.flushes
         → b.cycles + 1 < p.cycle + 6
     young-by false is rises c2 f2 = leb-false _ _ is
     young-by true is rises c2 f2 = absurd (elim (rises is) [ inl h ↦ omega arith | inr h ↦ omega arith ])
@@ -223,7 +223,7 @@ unfolding drained accepts
 Cycled-idle b list inv was r none =
     let v : Base b (mid b list) 0 = base-mid b list 0 (subst (Moved (drained (begun b)) (commits (drained (begun b)))) none r.moved) in
     let i : (mid b list).idle ≡ b.idle + 1 = more-idle _ b.count _ v.counted ∙ ap (λ z. z + 1) r.moved.idle in
-    let limit : (mid b list).sizes.limit ≡ b.sizes.limit = ap (λ z. z.limit) v.sizes in
+    let limit : (mid b list).config.limit ≡ b.config.limit = ap (λ z. z.limit) v.config in
     let y : IsYoung b = young b inv was v.counted r.log.flushes in
     elim (bark (mid b list)) [
       | inl q ↦ subst (Cycled b list) (sym q.same) (idled (record {
@@ -250,8 +250,8 @@ unfolding drained accepts
 Cycled-ran b list k inv was r more =
     let v : Base b (mid b list) (suc k) = base-mid b list (suc k) (subst (Moved (drained (begun b)) (commits (drained (begun b)))) more r.moved) in
     let i : (mid b list).idle ≡ 0 = zero-idle _ b.count k _ v.counted in
-    let low : 16 ≤ b.sizes.limit = inv.sizes.limit_low in
-    let limit : (mid b list).sizes.limit ≡ b.sizes.limit = ap (λ z. z.limit) v.sizes in
+    let low : 16 ≤ b.config.limit = inv.config.limit_low in
+    let limit : (mid b list).config.limit ≡ b.config.limit = ap (λ z. z.limit) v.config in
     subst (Cycled b list) (sym (bark-quiet (mid b list) (λ none on. rw (limit, i) (omega arith)))) (ran (record {
       k = k;
       base = v;
@@ -320,9 +320,9 @@ no-room b start e = rw e refl
 
 -- nothing is accepted where there is no room
 none-taken : (b m : Timed) (list : List Record) → room_of b ≡ 0 → m.pending ≡ [] → accepted b list m ≡ []
-none-taken b m list r e = rw (e, r) (cond_both {A = List Waiting} (goes_on m.arch && (m.flushes == b.flushes)) _ _ (λ x. x ≡ []) (λ t. refl) (λ f. refl))
+none-taken b m list r e = rw (e, r) (cond_both {A = List PendingClaim} (goes_on m.arch && (m.flushes == b.flushes)) _ _ (λ x. x ≡ []) (λ t. refl) (λ f. refl))
 
-alone-lives : (b : Timed) (start : ℕ) → IsMachine b → b.solo ≡ Some start → IsAlone b start
+alone-lives : (b : Timed) (start : ℕ) → IsMachine b → b.solo ≡ Some start → IsSolo b start
 alone-lives b start inv e = subst (Lives b) e inv.lives
 
 Cycled-alone : (b : Timed) (list : List Record) → IsMachine b → Alone (drained (begun b)) (commits (drained (begun b))) → Cycled b list (barked (mid b list))
@@ -331,8 +331,8 @@ Cycled-alone b list inv r =
     let v : Base b (mid b list) 1 = base-mid b list 1 r.moved in
     let m : Timed = commits (drained (begun b)) in
     let i : (mid b list).idle ≡ 0 = zero-idle _ b.count 0 _ v.counted in
-    let low : 16 ≤ b.sizes.limit = inv.sizes.limit_low in
-    let limit : (mid b list).sizes.limit ≡ b.sizes.limit = ap (λ z. z.limit) v.sizes in
+    let low : 16 ≤ b.config.limit = inv.config.limit_low in
+    let limit : (mid b list).config.limit ≡ b.config.limit = ap (λ z. z.limit) v.config in
     subst (Cycled b list) (sym (bark-quiet (mid b list) (λ none on. rw (limit, i) (omega arith)))) (finished (record {
       start = r.start;
       since = r.since;
@@ -344,8 +344,8 @@ Cycled-alone b list inv r =
       pending = none-taken b m list (no-room b r.start r.since) (r.pending ∙ (alone-lives b r.start inv r.since).empty);
     }))
 
-Moved-same : (e m : Timed) → m ≡ e → e.owed ≤ e.sizes.stores → Moved e m 0
-Moved-same e m same owed = subst (λ z. Moved e z 0) (sym same) (record { sizes = refl; cycles = refl; idle = refl; counted = omega arith; stepped = refl; owed = owed; few = omega arith })
+Moved-same : (e m : Timed) → m ≡ e → e.owed ≤ e.config.stores → Moved e m 0
+Moved-same e m same owed = subst (λ z. Moved e z 0) (sym same) (record { config = refl; cycles = refl; idle = refl; counted = omega arith; stepped = refl; owed = owed; few = omega arith })
 
 SameLog-same : (e m : Timed) → m ≡ e → SameLog e m
 SameLog-same e m same = subst (SameLog e) (sym same) (record { rows = refl; newest = refl; flushes = refl; silent = refl })
@@ -381,4 +381,4 @@ Cycled-second b list inv (waits r) = Cycled-waits b list inv r
 
 pub cycled : (b : Timed) (list : List Record) → IsMachine b → goes_on b.arch ≡ true → Cycled b list (cycle_of b list)
 unfolding cycle_of watched drained
-cycled b list inv on = rw on (Cycled-second b list inv (second (drained (begun b)) on (owed-drained b inv) inv.sizes.width_low))
+cycled b list inv on = rw on (Cycled-second b list inv (second (drained (begun b)) on (owed-drained b inv) inv.config.width_low))

@@ -4,9 +4,9 @@ use Rattle.std.proofs.lemmas.Bool.{cases_Bool, cases_lt, true≢false}
 use Rattle.diva_isa.specs.State.{State, goes_on}
 use Rattle.diva_isa.specs.declared.record.Record.{Record}
 use Rattle.diva_isa.specs.Step.{steps}
-use Rattle.diva_core.specs.Timed.{Timed, Sizes, new_timed}
+use Rattle.diva_core.specs.Timed.{Timed, Config, new_timed}
 use Rattle.diva_core.specs.Cycle.{cycle_of, run_of}
-use Rattle.diva_core.specs.Machine.{IsMachine, IsSizes}
+use Rattle.diva_core.specs.Machine.{IsMachine, IsConfig}
 use Rattle.diva_core.specs.Headline.{Rises, EndsAfter}
 use Rattle.diva_core.proofs.Steps.{steps-add, steps-off}
 use Rattle.diva_core.proofs.Cycling.{Cycled, cycled, idled, ran, barks, differed, ended, finished, waited}
@@ -64,7 +64,7 @@ run-follows : (start : State) (lists : List (List Record)) (m : Timed) → IsMac
 run-follows start [] m inv f = f
 run-follows start (list ∷ rest) m inv f = run-follows start rest (cycle_of m list) (stays m list inv) (Follows-cycle start m list inv f)
 
-pub follows : (z : Sizes) (s : State) (lists : List (List Record)) → IsSizes z → Follows s (run_of (new_timed z s) lists)
+pub follows : (z : Config) (s : State) (lists : List (List Record)) → IsConfig z → Follows s (run_of (new_timed z s) lists)
 follows z s lists ok = run-follows s lists (new_timed z s) (new-machine z s ok) (record { at = refl; went = λ j h. absurd (omega arith) })
 
 -- a machine that has ended has counted exactly the instructions after which the table ends
@@ -77,8 +77,8 @@ ended_exactly s m n f off ends =
 
 -- where the table ends after n instructions, n times W + 6 cycles lead to just that end, whatever is handed over
 pub same_end :
-    (z : Sizes) (s : State) (lists : List (List Record)) (n budget : ℕ)
-    → IsSizes z
+    (z : Config) (s : State) (lists : List (List Record)) (n budget : ℕ)
+    → IsConfig z
     → (goes_on (run_of (new_timed z s) lists).arch ≡ true → length lists ≡ budget)
     → EndsAfter n s
     → n * (z.limit + 6) ≤ budget

@@ -7,7 +7,7 @@ use Rattle.diva_isa.specs.Step.{record_of, step, steps}
 use Rattle.diva_core.specs.declared.differences.Diff.{Diff}
 use Rattle.diva_core.specs.declared.flushes.Cause.TheVariants.{Differs}
 use Rattle.diva_core.specs.Difference.{first_difference}
-use Rattle.diva_core.specs.Timed.{Timed, Waiting}
+use Rattle.diva_core.specs.Timed.{Timed, PendingClaim}
 use Rattle.diva_core.specs.Cycle.{judged, by_front, by_difference, followed, committed, flushed, puts_store, number}
 use Rattle.diva_core.specs.Headline.{SameLog, HasRow}
 use Rattle.diva_core.proofs.Commits.{Commits}
@@ -17,13 +17,13 @@ use Rattle.diva_core.proofs.Differing.{difference-none}
 -- R holds while at most so many claims more are judged, and Q where the judging stops
 pub record Judges (R : ℕ → Timed → Type 0) (Q : Timed → Type 0) : Type 0 where
   pub stop : (n : ℕ) (m : Timed) → R n m → Q m
-  pub flush : (n : ℕ) (m : Timed) (p : Waiting) (rest : List Waiting) (d : Diff) → m.pending ≡ p ∷ rest → nat_le (p.cycle + 6) m.cycles ≡ true → first_difference p.claim (record_of m.arch) ≡ Some d → R n m → Q (flushed m (Differs d))
+  pub flush : (n : ℕ) (m : Timed) (p : PendingClaim) (rest : List PendingClaim) (d : Diff) → m.pending ≡ p ∷ rest → nat_le (p.cycle + 6) m.cycles ≡ true → first_difference p.claim (record_of m.arch) ≡ Some d → R n m → Q (flushed m (Differs d))
   pub commit :
-      (n : ℕ) (m : Timed) (p : Waiting) (rest : List Waiting)
+      (n : ℕ) (m : Timed) (p : PendingClaim) (rest : List PendingClaim)
       → m.pending ≡ p ∷ rest
       → nat_le (p.cycle + 6) m.cycles ≡ true
       → first_difference p.claim (record_of m.arch) ≡ None
-      → (puts_store (record_of m.arch) && (m.owed == m.sizes.stores)) ≡ false
+      → (puts_store (record_of m.arch) && (m.owed == m.config.stores)) ≡ false
       → R (suc n) m
       → (goes_on (committed (record m { pending = rest }) (record_of m.arch)).arch ≡ true → R n (committed (record m { pending = rest }) (record_of m.arch)))
       × (goes_on (committed (record m { pending = rest }) (record_of m.arch)).arch ≡ false → Q (record (committed (record m { pending = rest }) (record_of m.arch)) { pending = [] }))
@@ -31,7 +31,7 @@ pub record Judges (R : ℕ → Timed → Type 0) (Q : Timed → Type 0) : Type 0
 Judges-first_difference :
     (R : ℕ → Timed → Type 0) (Q : Timed → Type 0) (j : Judges R Q) (n : ℕ) (next : Timed → Timed)
     → ((m : Timed) → R n m → Q (next m))
-    → (m : Timed) (p : Waiting) (rest : List Waiting) (o : Option Diff)
+    → (m : Timed) (p : PendingClaim) (rest : List PendingClaim) (o : Option Diff)
     → first_difference p.claim (record_of m.arch) ≡ o
     → m.pending ≡ p ∷ rest
     → nat_le (p.cycle + 6) m.cycles ≡ true
@@ -39,14 +39,14 @@ Judges-first_difference :
     → Q (by_difference next m rest o)
 Judges-first_difference R Q j n next ih m p rest (Some d) same e ready r = j.flush (suc n) m p rest d e ready same r
 Judges-first_difference R Q j n next ih m p rest None same e ready r =
-    cond_both (puts_store (record_of m.arch) && (m.owed == m.sizes.stores)) _ _ Q
+    cond_both (puts_store (record_of m.arch) && (m.owed == m.config.stores)) _ _ Q
     (λ held. j.stop (suc n) m r)
     (λ free. let both = j.commit n m p rest e ready same free r in cond_both (goes_on (committed (record m { pending = rest }) (record_of m.arch)).arch) _ _ Q (λ on. ih _ (both.0 on)) (λ off. both.1 off))
 
 Judges-front :
     (R : ℕ → Timed → Type 0) (Q : Timed → Type 0) (j : Judges R Q) (n : ℕ) (next : Timed → Timed)
     → ((m : Timed) → R n m → Q (next m))
-    → (m : Timed) (pending : List Waiting)
+    → (m : Timed) (pending : List PendingClaim)
     → m.pending ≡ pending
     → R (suc n) m
     → Q (by_front next m pending)
@@ -60,13 +60,13 @@ Judges-judged R Q j (suc n) m r = Judges-front R Q j n (judged n) (Judges-judged
 
 -- what every part of phase 2 does, after k commits
 pub record Moved (b m : Timed) (k : ℕ) : Type 0 where
-  pub sizes : m.sizes ≡ b.sizes
+  pub config : m.config ≡ b.config
   pub cycles : m.cycles ≡ b.cycles
   pub idle : m.idle ≡ b.idle
   pub counted : m.count ≡ b.count + k
   pub stepped : m.arch ≡ steps k b.arch
-  pub owed : m.owed ≤ b.sizes.stores
-  pub few : k ≤ b.sizes.width
+  pub owed : m.owed ≤ b.config.stores
+  pub few : k ≤ b.config.width
 
 pub record Still (b m : Timed) : Type 0 where
   pub k : ℕ
@@ -79,13 +79,13 @@ pub record Still (b m : Timed) : Type 0 where
 -- at most n claims more are judged
 pub record Judging (b : Timed) (n : ℕ) (m : Timed) : Type 0 where
   pub now : Still b m
-  pub few : now.k + n ≤ b.sizes.width
+  pub few : now.k + n ≤ b.config.width
 
 pub record Flushing (b m : Timed) : Type 0 where
   pub k : ℕ
   pub moved : Moved b m k
-  pub p : Waiting
-  pub rest : List Waiting
+  pub p : PendingClaim
+  pub rest : List PendingClaim
   pub d : Diff
   pub log : HasRow b m (record { cycle = b.cycles; at = m.count; cause = Differs d })
   pub first : first_difference p.claim (record_of m.arch) ≡ Some d
@@ -99,7 +99,7 @@ pub record Ending (b m : Timed) : Type 0 where
   pub k : ℕ
   pub moved : Moved b m (suc k)
   pub log : SameLog b m
-  pub rest : List Waiting
+  pub rest : List PendingClaim
   pub claims : Commits (suc k) b.arch b.cycles b.pending rest
   pub solo : m.solo ≡ None
   pub pending : m.pending ≡ []
@@ -111,7 +111,7 @@ pub data Outcome (b m : Timed) : Type 0 where
   flushing : Flushing b m → Outcome b m
   ending : Ending b m → Outcome b m
 
-Commits-more : (k : ℕ) (s : State) (c : ℕ) (waiting : List Waiting) (p : Waiting) (rest : List Waiting) → Commits k s c waiting (p ∷ rest) → p.claim ≡ record_of (steps k s) → p.cycle + 6 ≤ c → Commits (suc k) s c waiting rest
+Commits-more : (k : ℕ) (s : State) (c : ℕ) (waiting : List PendingClaim) (p : PendingClaim) (rest : List PendingClaim) → Commits k s c waiting (p ∷ rest) → p.claim ≡ record_of (steps k s) → p.cycle + 6 ≤ c → Commits (suc k) s c waiting rest
 Commits-more zero s c [] p rest h e ready = absurd (grind arith)
 Commits-more zero s c (q ∷ waiting) p rest h e ready =
     let same : p ≡ q = ap (λ xs. get_or xs 0 p) h in
@@ -124,41 +124,41 @@ owed-fits true owed stores e h = let n = eqb-false owed stores e in omega arith
 owed-fits false owed stores e h = omega arith
 
 Moved-commit :
-    (b m : Timed) (k : ℕ) (rest : List Waiting)
+    (b m : Timed) (k : ℕ) (rest : List PendingClaim)
     → Moved b m k
-    → (puts_store (record_of m.arch) && (m.owed == m.sizes.stores)) ≡ false
+    → (puts_store (record_of m.arch) && (m.owed == m.config.stores)) ≡ false
     → goes_on m.arch ≡ true
-    → suc k ≤ b.sizes.width
+    → suc k ≤ b.config.width
     → Moved b (committed (record m { pending = rest }) (record_of m.arch)) (suc k)
 unfolding committed
 Moved-commit b m k rest v free on few =
     record {
-      sizes = v.sizes;
+      config = v.config;
       cycles = v.cycles;
       idle = v.idle;
       counted = let e = v.counted in omega arith;
       stepped = sym (step-on m.arch) ∙ ap step v.stepped;
-      owed = rw (ap (λ z. z.stores) (sym v.sizes)) (owed-fits (puts_store (record_of m.arch)) m.owed m.sizes.stores free (rw (ap (λ z. z.stores) v.sizes) v.owed));
+      owed = rw (ap (λ z. z.stores) (sym v.config)) (owed-fits (puts_store (record_of m.arch)) m.owed m.config.stores free (rw (ap (λ z. z.stores) v.config) v.owed));
       few = few;
     }
 
-Still-start : (b : Timed) → b.solo ≡ None → goes_on b.arch ≡ true → b.owed ≤ b.sizes.stores → Still b b
+Still-start : (b : Timed) → b.solo ≡ None → goes_on b.arch ≡ true → b.owed ≤ b.config.stores → Still b b
 Still-start b none on owed =
     record {
       k = 0;
-      moved = record { sizes = refl; cycles = refl; idle = refl; counted = omega arith; stepped = refl; owed = owed; few = omega arith };
+      moved = record { config = refl; cycles = refl; idle = refl; counted = omega arith; stepped = refl; owed = owed; few = omega arith };
       log = record { rows = refl; newest = refl; flushes = refl; silent = refl };
       solo = none;
       claims = refl;
       on = on;
     }
 
-Flushing-from : (b m : Timed) (p : Waiting) (rest : List Waiting) (d : Diff) → m.pending ≡ p ∷ rest → nat_le (p.cycle + 6) m.cycles ≡ true → first_difference p.claim (record_of m.arch) ≡ Some d → Still b m → Flushing b (flushed m (Differs d))
+Flushing-from : (b m : Timed) (p : PendingClaim) (rest : List PendingClaim) (d : Diff) → m.pending ≡ p ∷ rest → nat_le (p.cycle + 6) m.cycles ≡ true → first_difference p.claim (record_of m.arch) ≡ Some d → Still b m → Flushing b (flushed m (Differs d))
 unfolding flushed
 Flushing-from b m p rest d e ready differs r =
     record {
       k = r.k;
-      moved = record { sizes = r.moved.sizes; cycles = r.moved.cycles; idle = r.moved.idle; counted = r.moved.counted; stepped = r.moved.stepped; owed = r.moved.owed; few = r.moved.few };
+      moved = record { config = r.moved.config; cycles = r.moved.cycles; idle = r.moved.idle; counted = r.moved.counted; stepped = r.moved.stepped; owed = r.moved.owed; few = r.moved.few };
       p = p;
       rest = rest;
       d = d;
@@ -176,7 +176,7 @@ Flushing-from b m p rest d e ready differs r =
       on = r.on;
     }
 
-claims-commit : (b m : Timed) (p : Waiting) (rest : List Waiting) → m.pending ≡ p ∷ rest → nat_le (p.cycle + 6) m.cycles ≡ true → first_difference p.claim (record_of m.arch) ≡ None → (r : Still b m) → Commits (suc r.k) b.arch b.cycles b.pending rest
+claims-commit : (b m : Timed) (p : PendingClaim) (rest : List PendingClaim) → m.pending ≡ p ∷ rest → nat_le (p.cycle + 6) m.cycles ≡ true → first_difference p.claim (record_of m.arch) ≡ None → (r : Still b m) → Commits (suc r.k) b.arch b.cycles b.pending rest
 claims-commit b m p rest e ready same r =
     Commits-more r.k b.arch b.cycles b.pending p rest
     (rw e at r.claims)
@@ -184,13 +184,13 @@ claims-commit b m p rest e ready same r =
     (rw r.moved.cycles at (leb-true _ _ ready))
 
 Still-commit :
-    (b m : Timed) (p : Waiting) (rest : List Waiting)
+    (b m : Timed) (p : PendingClaim) (rest : List PendingClaim)
     → m.pending ≡ p ∷ rest
     → nat_le (p.cycle + 6) m.cycles ≡ true
     → first_difference p.claim (record_of m.arch) ≡ None
-    → (puts_store (record_of m.arch) && (m.owed == m.sizes.stores)) ≡ false
+    → (puts_store (record_of m.arch) && (m.owed == m.config.stores)) ≡ false
     → (r : Still b m)
-    → suc r.k ≤ b.sizes.width
+    → suc r.k ≤ b.config.width
     → goes_on (committed (record m { pending = rest }) (record_of m.arch)).arch ≡ true
     → Still b (committed (record m { pending = rest }) (record_of m.arch))
 unfolding committed
@@ -205,13 +205,13 @@ Still-commit b m p rest e ready same free r few on =
     }
 
 Ending-commit :
-    (b m : Timed) (p : Waiting) (rest : List Waiting)
+    (b m : Timed) (p : PendingClaim) (rest : List PendingClaim)
     → m.pending ≡ p ∷ rest
     → nat_le (p.cycle + 6) m.cycles ≡ true
     → first_difference p.claim (record_of m.arch) ≡ None
-    → (puts_store (record_of m.arch) && (m.owed == m.sizes.stores)) ≡ false
+    → (puts_store (record_of m.arch) && (m.owed == m.config.stores)) ≡ false
     → (r : Still b m)
-    → suc r.k ≤ b.sizes.width
+    → suc r.k ≤ b.config.width
     → goes_on (committed (record m { pending = rest }) (record_of m.arch)).arch ≡ false
     → Ending b (record (committed (record m { pending = rest }) (record_of m.arch)) { pending = [] })
 unfolding committed
@@ -219,7 +219,7 @@ Ending-commit b m p rest e ready same free r few off =
     let v = Moved-commit b m r.k rest r.moved free r.on few in
     record {
       k = r.k;
-      moved = record { sizes = v.sizes; cycles = v.cycles; idle = v.idle; counted = v.counted; stepped = v.stepped; owed = v.owed; few = v.few };
+      moved = record { config = v.config; cycles = v.cycles; idle = v.idle; counted = v.counted; stepped = v.stepped; owed = v.owed; few = v.few };
       log = record { rows = r.log.rows; newest = r.log.newest; flushes = r.log.flushes; silent = r.log.silent };
       rest = rest;
       claims = claims-commit b m p rest e ready same r;
@@ -236,14 +236,14 @@ judges b =
       stop = λ n m r. still r.now;
       flush = λ n m p rest d e ready differs r. flushing (Flushing-from b m p rest d e ready differs r.now);
       commit = λ n m p rest e ready same free r.
-          let few : suc r.now.k ≤ b.sizes.width = (let f = r.few in omega arith) in
+          let few : suc r.now.k ≤ b.config.width = (let f = r.few in omega arith) in
           (λ on. record { now = Still-commit b m p rest e ready same free r.now few on; few = (let f = r.few in omega arith) }, λ off. ending (Ending-commit b m p rest e ready same free r.now few off));
     }
 
 -- what judging leads to
-pub judged-outcome : (b : Timed) → b.solo ≡ None → goes_on b.arch ≡ true → b.owed ≤ b.sizes.stores → Outcome b (judged b.sizes.width b)
+pub judged-outcome : (b : Timed) → b.solo ≡ None → goes_on b.arch ≡ true → b.owed ≤ b.config.stores → Outcome b (judged b.config.width b)
 unfolding Still-start
-judged-outcome b none on owed = Judges-judged (Judging b) (Outcome b) (judges b) b.sizes.width b (record { now = Still-start b none on owed; few = omega arith })
+judged-outcome b none on owed = Judges-judged (Judging b) (Outcome b) (judges b) b.config.width b (record { now = Still-start b none on owed; few = omega arith })
 
 counts : (c : ℕ) → Judges (λ n x. c < x.count) (λ x. c < x.count)
 unfolding committed flushed
@@ -255,27 +255,27 @@ followed-counts n c m h =
 
 -- a ready front claim is judged, where a store is not held up
 by_difference-judged :
-    (n : ℕ) (m : Timed) (rest : List Waiting) (o : Option Diff)
-    → m.owed < m.sizes.stores
+    (n : ℕ) (m : Timed) (rest : List PendingClaim) (o : Option Diff)
+    → m.owed < m.config.stores
     → (m.count < (by_difference (judged n) m rest o).count) ⊎ (m.flushes < (by_difference (judged n) m rest o).flushes)
 unfolding committed flushed
 by_difference-judged n m rest (Some d) free = inr (omega arith)
 by_difference-judged n m rest None free =
-    let open_ : (puts_store (record_of m.arch) && (m.owed == m.sizes.stores)) ≡ false = and_right (puts_store (record_of m.arch)) _ (ne_eqb m.owed m.sizes.stores (λ e. omega arith)) in
+    let open_ : (puts_store (record_of m.arch) && (m.owed == m.config.stores)) ≡ false = and_right (puts_store (record_of m.arch)) _ (ne_eqb m.owed m.config.stores (λ e. omega arith)) in
     rw open_ (inl (followed-counts n m.count (committed (record m { pending = rest }) (record_of m.arch)) (omega arith)))
 
 by_front-judged :
-    (n : ℕ) (m : Timed) (pending : List Waiting) (p : Waiting) (rest : List Waiting)
+    (n : ℕ) (m : Timed) (pending : List PendingClaim) (p : PendingClaim) (rest : List PendingClaim)
     → pending ≡ p ∷ rest
     → nat_le (p.cycle + 6) m.cycles ≡ true
-    → m.owed < m.sizes.stores
+    → m.owed < m.config.stores
     → (m.count < (by_front (judged n) m pending).count) ⊎ (m.flushes < (by_front (judged n) m pending).flushes)
 by_front-judged n m pending p rest e ready free = rw (e, ready) (by_difference-judged n m rest (first_difference p.claim (record_of m.arch)) free)
 
 pub front-judged :
-    (n : ℕ) (m : Timed) (p : Waiting) (rest : List Waiting)
+    (n : ℕ) (m : Timed) (p : PendingClaim) (rest : List PendingClaim)
     → m.pending ≡ p ∷ rest
     → nat_le (p.cycle + 6) m.cycles ≡ true
-    → m.owed < m.sizes.stores
+    → m.owed < m.config.stores
     → (m.count < (judged (suc n) m).count) ⊎ (m.flushes < (judged (suc n) m).flushes)
 front-judged n m p rest e ready free = by_front-judged n m m.pending p rest e ready free

@@ -7,21 +7,21 @@ use Rattle.diva_isa.specs.State.{State, goes_on}
 use Rattle.diva_isa.specs.declared.record.Record.{Record}
 use Rattle.diva_isa.specs.Step.{step}
 use Rattle.diva_core.specs.declared.flushes.FlushRow.{FlushRow}
-use Rattle.diva_core.specs.Timed.{Timed, Waiting, room_of}
+use Rattle.diva_core.specs.Timed.{Timed, PendingClaim, room_of}
 use Rattle.diva_core.specs.Cycle.{cycle_of, kept, accepted_in, is_silent}
 use Rattle.diva_core.proofs.Phases.{number-least}
-use Rattle.diva_core.specs.Machine.{IsMachine, Lives, IsAlone, ArePast}
+use Rattle.diva_core.specs.Machine.{IsMachine, Lives, IsSolo, ArePast}
 use Rattle.diva_core.specs.Headline.{SameLog, AddsRow}
 use Rattle.diva_core.proofs.Commits.{Commits}
 use Rattle.diva_core.proofs.Cycling.{Cycled, Base, idled, ran, barks, differed, ended, finished, waited, taken}
 use Rattle.diva_core.proofs.Outcomes.{any-base, by-cases, log-cases}
 use Rattle.diva_core.proofs.Stalling.{Paces, paces, stall-cases}
 
-pub ArePast-later : (c d : ℕ) (xs : List Waiting) → c ≤ d → ArePast c xs → ArePast d xs
+pub ArePast-later : (c d : ℕ) (xs : List PendingClaim) → c ≤ d → ArePast c xs → ArePast d xs
 ArePast-later c d [] h a = tt
 ArePast-later c d (p ∷ xs) h a = (let e = a.0 in omega arith, ArePast-later c d xs h a.1)
 
-ArePast-append : (c : ℕ) (xs ys : List Waiting) → ArePast c xs → ArePast c ys → ArePast c (xs ++ ys)
+ArePast-append : (c : ℕ) (xs ys : List PendingClaim) → ArePast c xs → ArePast c ys → ArePast c (xs ++ ys)
 ArePast-append c [] ys a b = b
 ArePast-append c (p ∷ xs) ys a b = (a.0, ArePast-append c xs ys a.1 b)
 
@@ -29,21 +29,21 @@ ArePast-taken : (c : ℕ) (xs : List Record) → ArePast c (map (accepted_in c) 
 ArePast-taken c [] = tt
 ArePast-taken c (p ∷ xs) = (omega arith, ArePast-taken c xs)
 
-pub ArePast-commits : (k : ℕ) (s : State) (c d : ℕ) (xs rest : List Waiting) → Commits k s c xs rest → ArePast d xs → ArePast d rest
+pub ArePast-commits : (k : ℕ) (s : State) (c d : ℕ) (xs rest : List PendingClaim) → Commits k s c xs rest → ArePast d xs → ArePast d rest
 ArePast-commits zero s c d xs rest h a = subst (ArePast d) (sym h) a
 ArePast-commits (suc k) s c d [] rest h a = absurd h
 ArePast-commits (suc k) s c d (p ∷ xs) rest h a = ArePast-commits k (step s) c d xs rest h.2 a.1
 
-pub length-commits : (k : ℕ) (s : State) (c : ℕ) (xs rest : List Waiting) → Commits k s c xs rest → length rest + k ≡ length xs
+pub length-commits : (k : ℕ) (s : State) (c : ℕ) (xs rest : List PendingClaim) → Commits k s c xs rest → length rest + k ≡ length xs
 length-commits zero s c xs rest h = rw h (omega arith)
 length-commits (suc k) s c [] rest h = absurd h
 length-commits (suc k) s c (p ∷ xs) rest h = let e = length-commits k (step s) c xs rest h.2 in omega arith
 
 -- what is accepted has room
-room-fits : (b : Timed) → room_of b ≤ b.sizes.window - length b.pending
-room-fits b = cond_both (is_none b.solo && goes_on b.arch) _ _ (λ r. r ≤ b.sizes.window - length b.pending) (λ t. omega arith) (λ f. omega arith)
+room-fits : (b : Timed) → room_of b ≤ b.config.window - length b.pending
+room-fits b = cond_both (is_none b.solo && goes_on b.arch) _ _ (λ r. r ≤ b.config.window - length b.pending) (λ t. omega arith) (λ f. omega arith)
 
-taken-fits : (b : Timed) (list : List Record) → length (taken b list) ≤ b.sizes.window - length b.pending
+taken-fits : (b : Timed) (list : List Record) → length (taken b list) ≤ b.config.window - length b.pending
 taken-fits b list = rw (length-map, length-take) (let h = room-fits b in omega arith)
 
 kept-fits : (rows : List FlushRow) (row : FlushRow) → length rows ≤ 1024 → length (kept rows row) ≤ 1024
@@ -61,8 +61,8 @@ silent-fits : (b n : Timed) → b.silent ≤ b.flushes → SameLog b n ⊎ AddsR
 silent-fits b n h (inl s) = let f = s.flushes in let x = s.silent in omega arith
 silent-fits b n h (inr a) = let f = a.is.has.flushes in let x = a.is.has.silent in let one = number-least (is_silent a.row.cause) in omega arith
 
-count-fits : (b n : Timed) (k : ℕ) → b.count ≤ b.sizes.width * b.cycles → Base b n k → n.count ≤ n.sizes.width * n.cycles
-count-fits b n k h v = rw (v.sizes, v.cycles, v.counted) (let f = v.few in omega arith)
+count-fits : (b n : Timed) (k : ℕ) → b.count ≤ b.config.width * b.cycles → Base b n k → n.count ≤ n.config.width * n.cycles
+count-fits b n k h v = rw (v.config, v.cycles, v.counted) (let f = v.few in omega arith)
 
 IsMachine-from :
     (b n : Timed) (k : ℕ)
@@ -71,14 +71,14 @@ IsMachine-from :
     → SameLog b n ⊎ AddsRow b n
     → Lives n n.solo
     → ArePast n.cycles n.pending
-    → length n.pending ≤ n.sizes.window
+    → length n.pending ≤ n.config.window
     → Paces n
     → IsMachine n
 IsMachine-from b n k inv v log lives past window pace =
     record {
-      sizes = rw v.sizes inv.sizes;
+      config = rw v.config inv.config;
       lives = lives;
-      owed = rw v.sizes v.owed;
+      owed = rw v.config v.owed;
       rows = rows-fit b n inv.rows log;
       past = past;
       window = window;
@@ -92,12 +92,12 @@ IsMachine-from b n k inv v log lives past window pace =
 IsMachine-empty : (b n : Timed) (k : ℕ) → IsMachine b → Base b n k → SameLog b n ⊎ AddsRow b n → Lives n n.solo → n.pending ≡ [] → Paces n → IsMachine n
 IsMachine-empty b n k inv v log lives e pace = IsMachine-from b n k inv v log lives (subst (ArePast n.cycles) (sym e) tt) (rw e (omega arith)) pace
 
-limit-is : (b n : Timed) (k : ℕ) → Base b n k → n.sizes.limit ≡ b.sizes.limit
-limit-is b n k v = ap (λ z. z.limit) v.sizes
+limit-is : (b n : Timed) (k : ℕ) → Base b n k → n.config.limit ≡ b.config.limit
+limit-is b n k v = ap (λ z. z.limit) v.config
 
 -- a machine that goes on with the rest and what was accepted
 IsMachine-more :
-    (b n : Timed) (k : ℕ) (list : List Record) (rest : List Waiting)
+    (b n : Timed) (k : ℕ) (list : List Record) (rest : List PendingClaim)
     → IsMachine b
     → Base b n k
     → SameLog b n
@@ -110,13 +110,13 @@ IsMachine-more :
 IsMachine-more b n k list rest inv v log lives e past short pace =
     IsMachine-from b n k inv v (inl log) lives
     (rw (e, v.cycles) (ArePast-append (b.cycles + 1) rest (taken b list) (ArePast-later b.cycles (b.cycles + 1) rest (omega arith) past) (ArePast-taken (b.cycles + 1) (take (room_of b) list))))
-    (rw (e, length-append, v.sizes) (let t = taken-fits b list in let w = inv.window in omega arith))
+    (rw (e, length-append, v.config) (let t = taken-fits b list in let w = inv.window in omega arith))
     pace
 
-lives-none : (b n : Timed) (k : ℕ) → Base b n k → n.solo ≡ None → n.idle + 1 ≤ b.sizes.limit → Lives n n.solo
+lives-none : (b n : Timed) (k : ℕ) → Base b n k → n.solo ≡ None → n.idle + 1 ≤ b.config.limit → Lives n n.solo
 lives-none b n k v none h = subst (Lives n) (sym none) (rw (limit-is b n k v) h)
 
-lives-flushed : (b n : Timed) (k : ℕ) → Base b n k → n.solo ≡ Some (b.cycles + 1) → n.pending ≡ [] → n.idle ≤ b.sizes.limit → Lives n n.solo
+lives-flushed : (b n : Timed) (k : ℕ) → Base b n k → n.solo ≡ Some (b.cycles + 1) → n.pending ≡ [] → n.idle ≤ b.config.limit → Lives n n.solo
 lives-flushed b n k v some e h =
     let c = v.cycles in
     let l = limit-is b n k v in
@@ -126,30 +126,30 @@ machine-cases : (b : Timed) (list : List Record) (n : Timed) → IsMachine b →
 machine-cases b list n inv (idled r) pace =
     IsMachine-more b n 0 list b.pending inv r.base r.log (lives-none b n 0 r.base r.solo (let e = r.early in omega arith)) r.pending inv.past (omega arith) pace
 machine-cases b list n inv (ran r) pace =
-    let low = inv.sizes.limit_low in
+    let low = inv.config.limit_low in
     let i = r.idle in
     IsMachine-more b n (suc r.k) list r.rest inv r.base r.log (lives-none b n (suc r.k) r.base r.solo (omega arith)) r.pending
     (ArePast-commits (suc r.k) b.arch (b.cycles + 1) b.cycles b.pending r.rest r.claims inv.past)
     (let l = length-commits (suc r.k) b.arch (b.cycles + 1) b.pending r.rest r.claims in omega arith)
     pace
 machine-cases b list n inv (barks r) pace =
-    let lives : b.idle + 1 ≤ b.sizes.limit = subst (Lives b) r.was inv.lives in
+    let lives : b.idle + 1 ≤ b.config.limit = subst (Lives b) r.was inv.lives in
     let i = r.idle in
     IsMachine-empty b n 0 inv r.base (log-cases b list n inv (barks r)) (lives-flushed b n 0 r.base r.solo r.pending (omega arith)) r.pending pace
 machine-cases b list n inv (differed r) pace =
-    let lives : b.idle + 1 ≤ b.sizes.limit = subst (Lives b) r.was inv.lives in
+    let lives : b.idle + 1 ≤ b.config.limit = subst (Lives b) r.was inv.lives in
     let i = r.idle in
     IsMachine-empty b n r.k inv r.base (log-cases b list n inv (differed r)) (lives-flushed b n r.k r.base r.solo r.pending (omega arith)) r.pending pace
 machine-cases b list n inv (ended r) pace =
-    let low = inv.sizes.limit_low in
+    let low = inv.config.limit_low in
     let i = r.idle in
     IsMachine-empty b n (suc r.k) inv r.base (inl r.log) (lives-none b n (suc r.k) r.base r.solo (omega arith)) r.pending pace
 machine-cases b list n inv (finished r) pace =
-    let low = inv.sizes.limit_low in
+    let low = inv.config.limit_low in
     let i = r.idle in
     IsMachine-empty b n 1 inv r.base (inl r.log) (lives-none b n 1 r.base r.solo (omega arith)) r.pending pace
 machine-cases b list n inv (waited r) pace =
-    let a : IsAlone b r.start = subst (Lives b) r.since inv.lives in
+    let a : IsSolo b r.start = subst (Lives b) r.since inv.lives in
     let c = r.base.cycles in
     let l = limit-is b n 0 r.base in
     let i = r.idle in
@@ -165,10 +165,10 @@ paces-cases b list n inv on c = paces b n (any-base b list n c).k inv (any-base 
 pub stays : (m : Timed) (list : List Record) → IsMachine m → IsMachine (cycle_of m list)
 stays m list inv = by-cases IsMachine m list inv (λ on c. machine-cases m list _ inv c (paces-cases m list _ inv on c)) (λ off. inv)
 
-idle-at : (m : Timed) (o : Option ℕ) → Lives m o → m.idle ≤ m.sizes.limit + 5
+idle-at : (m : Timed) (o : Option ℕ) → Lives m o → m.idle ≤ m.config.limit + 5
 idle-at m None h = omega arith
 idle-at m (Some start) h = let s = h.soon in let i = h.idled in omega arith
 
 -- the watchdog's number is never more than W + 5
-pub idle_most : (m : Timed) → IsMachine m → m.idle ≤ m.sizes.limit + 5
+pub idle_most : (m : Timed) → IsMachine m → m.idle ≤ m.config.limit + 5
 idle_most m inv = idle-at m m.solo inv.lives

@@ -5,11 +5,11 @@ use Rattle.diva_isa.specs.declared.record.Record.{Record}
 use Rattle.diva_isa.specs.Step.{record_of, step, steps}
 use Rattle.diva_core.specs.Difference.{first_difference}
 use Rattle.diva_isa.specs.State.{State, goes_on}
-use Rattle.diva_core.specs.Timed.{Timed, Waiting}
+use Rattle.diva_core.specs.Timed.{Timed, PendingClaim}
 use Rattle.diva_core.specs.Cycle.{cycle_of}
 use Rattle.diva_core.specs.Machine.{IsMachine, Lives}
 use Rattle.diva_core.specs.Headline.{SameLog, Rises, AddsRow, IsRefuted}
-use Rattle.diva_core.specs.Headline.{dues, ByClaims, ByItself}
+use Rattle.diva_core.specs.Headline.{dues, ByClaims, BySolo}
 use Rattle.diva_core.proofs.Commits.{Commits, CommitsClaims, CommitsItself, commits-records}
 use Rattle.diva_core.proofs.Cycling.{Cycled, cycled, Base, Differed, idled, ran, barks, differed, ended, finished, waited}
 
@@ -55,7 +55,7 @@ rises m list inv = by-cases (Rises m) m list inv (λ on c. Rises-any m _ (any-ba
 -- ---- the log
 
 -- the claim behind those that committed
-at-place : (k : ℕ) (s : State) (c : ℕ) (xs : List Waiting) (p : Waiting) (rest : List Waiting) → Commits k s c xs (p ∷ rest) → slice_get xs k ≡ Some p
+at-place : (k : ℕ) (s : State) (c : ℕ) (xs : List PendingClaim) (p : PendingClaim) (rest : List PendingClaim) → Commits k s c xs (p ∷ rest) → slice_get xs k ≡ Some p
 at-place zero s c xs p rest h = rw (← h) refl
 at-place (suc k) s c [] p rest h = absurd h
 at-place (suc k) s c (q ∷ xs) p rest h = at-place k (step s) c xs p rest h.2
@@ -74,7 +74,7 @@ pub log-cases : (b : Timed) (list : List Record) (n : Timed) → IsMachine b →
 log-cases b list n inv (idled r) = inl r.log
 log-cases b list n inv (ran r) = inl r.log
 log-cases b list n inv (barks r) =
-    let lives : b.idle + 1 ≤ b.sizes.limit = subst (Lives b) r.was inv.lives in
+    let lives : b.idle + 1 ≤ b.config.limit = subst (Lives b) r.was inv.lives in
     inr (record { row = _; is = record { has = r.log; cycle = refl; at = refl; caused = (refl, (let i = r.idle in let l = r.late in omega arith)) } })
 log-cases b list n inv (differed r) =
     inr (record { row = _; is = record { has = r.log; cycle = refl; at = refl; caused = refuted b n r } })
@@ -87,7 +87,7 @@ logs m list inv = by-cases (λ n. SameLog m n ⊎ AddsRow m n) m list inv (λ on
 
 -- ---- what commits
 
-Commits-base : (b n : Timed) (k : ℕ) (rest : List Waiting) → Base b n k → Commits k b.arch (b.cycles + 1) b.pending rest → CommitsClaims b n
+Commits-base : (b n : Timed) (k : ℕ) (rest : List PendingClaim) → Base b n k → Commits k b.arch (b.cycles + 1) b.pending rest → CommitsClaims b n
 Commits-base b n k rest v h = record { rest = rest; commits = rw (k-is b n k v) h }
 
 commit-cases : (b : Timed) (list : List Record) (n : Timed) → Cycled b list n → CommitsClaims b n ⊎ CommitsItself b n
@@ -109,7 +109,7 @@ pub none_commits : (m : Timed) → CommitsClaims m m ⊎ CommitsItself m m
 none_commits m = inl (record { rest = m.pending; commits = (let e : m.count - m.count ≡ 0 = omega arith in rw e refl) })
 
 -- the records of a cycle's commits
-pub records_by : (m : Timed) (list : List Record) → IsMachine m → ByClaims m (dues ((cycle_of m list).count - m.count) m.arch) ⊎ ByItself m (dues ((cycle_of m list).count - m.count) m.arch)
+pub records_by : (m : Timed) (list : List Record) → IsMachine m → ByClaims m (dues ((cycle_of m list).count - m.count) m.arch) ⊎ BySolo m (dues ((cycle_of m list).count - m.count) m.arch)
 records_by m list inv = commits-records m (cycle_of m list) (commit_by m list inv)
 
 pub cycle-cycles : (m : Timed) (list : List Record) → IsMachine m → goes_on m.arch ≡ true → (cycle_of m list).cycles ≡ m.cycles + 1

@@ -11,7 +11,7 @@ use Rattle.diva_core.specs.Headline.{SameLog}
 use Rattle.diva_core.proofs.Steps.{step-on}
 use Rattle.diva_core.proofs.Judging.{Moved, Outcome, judged-outcome}
 
--- the instruction that ran alone commits
+-- the instruction that ran solo commits
 pub record Alone (b m : Timed) : Type 0 where
   pub start : ℕ
   pub since : b.solo ≡ Some start
@@ -37,40 +37,40 @@ pub number-least : (b : Bool) → number b ≤ 1
 number-least true = omega arith
 number-least false = omega arith
 
-Alone-commit : (b : Timed) (start : ℕ) → b.solo ≡ Some start → b.cycles ≡ start + 6 → goes_on b.arch ≡ true → b.owed < b.sizes.stores → 1 ≤ b.sizes.width → Alone b (committed (record b { solo = None }) (record_of b.arch))
+Alone-commit : (b : Timed) (start : ℕ) → b.solo ≡ Some start → b.cycles ≡ start + 6 → goes_on b.arch ≡ true → b.owed < b.config.stores → 1 ≤ b.config.width → Alone b (committed (record b { solo = None }) (record_of b.arch))
 unfolding committed
 Alone-commit b start since sixth on free few =
     record {
       start = start;
       since = since;
       sixth = sixth;
-      moved = record { sizes = refl; cycles = refl; idle = refl; counted = refl; stepped = sym (step-on b.arch); owed = omega (arith, number-least (puts_store (record_of b.arch))); few = few };
+      moved = record { config = refl; cycles = refl; idle = refl; counted = refl; stepped = sym (step-on b.arch); owed = omega (arith, number-least (puts_store (record_of b.arch))); few = few };
       log = record { rows = refl; newest = refl; flushes = refl; silent = refl };
       solo = refl;
       pending = refl;
     }
 
-by_solo-second : (b : Timed) (o : Option ℕ) → b.solo ≡ o → goes_on b.arch ≡ true → b.owed < b.sizes.stores → 1 ≤ b.sizes.width → Second b (by_solo b o)
+by_solo-second : (b : Timed) (o : Option ℕ) → b.solo ≡ o → goes_on b.arch ≡ true → b.owed < b.config.stores → 1 ≤ b.config.width → Second b (by_solo b o)
 by_solo-second b None e on free few = judging e (judged-outcome b e on (omega arith))
 by_solo-second b (Some start) e on free few =
     cond_both (b.cycles == start + 6) _ _ (Second b)
     (λ t. alone (Alone-commit b start e (eqb-true _ _ t) on free few))
     (λ f. waits (record { start = start; since = e; early = eqb-false _ _ f; same = refl }))
 
-pub second : (b : Timed) → goes_on b.arch ≡ true → b.owed < b.sizes.stores → 1 ≤ b.sizes.width → Second b (commits b)
+pub second : (b : Timed) → goes_on b.arch ≡ true → b.owed < b.config.stores → 1 ≤ b.config.width → Second b (commits b)
 unfolding commits
 second b on free few = by_solo-second b b.solo refl on free few
 
 -- the watchdog is silent, or it fires
 pub record Quiet (m n : Timed) : Type 0 where
   pub same : n ≡ m
-  pub early : m.solo ≡ None → goes_on m.arch ≡ true → m.idle < m.sizes.limit
+  pub early : m.solo ≡ None → goes_on m.arch ≡ true → m.idle < m.config.limit
 
 pub record Barks (m n : Timed) : Type 0 where
   pub solo : m.solo ≡ None
   pub on : goes_on m.arch ≡ true
-  pub late : m.sizes.limit ≤ m.idle
-  pub flushes : n ≡ flushed m (Silent m.sizes.limit)
+  pub late : m.config.limit ≤ m.idle
+  pub flushes : n ≡ flushed m (Silent m.config.limit)
 
 pub is_none-none : {A : Type 0} (o : Option A) → is_none o ≡ true → o ≡ None
 is_none-none None e = refl
@@ -80,15 +80,15 @@ and-true : (b : Bool) → (b && true) ≡ false → b ≡ false
 and-true true f = f
 and-true false f = f
 
-test-early : (m : Timed) → (nat_le m.sizes.limit m.idle && is_none m.solo && goes_on m.arch) ≡ false → m.solo ≡ None → goes_on m.arch ≡ true → m.idle < m.sizes.limit
-test-early m f none on = leb-false _ _ (and-true (nat_le m.sizes.limit m.idle) (and-true (nat_le m.sizes.limit m.idle && true) (rw (none, on) at f)))
+test-early : (m : Timed) → (nat_le m.config.limit m.idle && is_none m.solo && goes_on m.arch) ≡ false → m.solo ≡ None → goes_on m.arch ≡ true → m.idle < m.config.limit
+test-early m f none on = leb-false _ _ (and-true (nat_le m.config.limit m.idle) (and-true (nat_le m.config.limit m.idle && true) (rw (none, on) at f)))
 
 pub bark : (m : Timed) → Quiet m (barked m) ⊎ Barks m (barked m)
 bark m =
-    cond_both (nat_le m.sizes.limit m.idle && is_none m.solo && goes_on m.arch) _ _ (λ n. Quiet m n ⊎ Barks m n)
+    cond_both (nat_le m.config.limit m.idle && is_none m.solo && goes_on m.arch) _ _ (λ n. Quiet m n ⊎ Barks m n)
     (λ t. let p = and_parts _ _ t in let q = and_parts _ _ p.0 in inr (record { solo = is_none-none _ q.1; on = p.1; late = leb-true _ _ q.0; flushes = refl }))
     (λ f. inl (record { same = refl; early = test-early m f }))
 
-pub bark-quiet : (m : Timed) → (m.solo ≡ None → goes_on m.arch ≡ true → m.idle < m.sizes.limit) → barked m ≡ m
+pub bark-quiet : (m : Timed) → (m.solo ≡ None → goes_on m.arch ≡ true → m.idle < m.config.limit) → barked m ≡ m
 bark-quiet m early =
-    elim (bark m) [ inl q ↦ q.same | inr w ↦ absurd (let a : m.idle < m.sizes.limit = early w.solo w.on in let c = w.late in omega arith) ]
+    elim (bark m) [ inl q ↦ q.same | inr w ↦ absurd (let a : m.idle < m.config.limit = early w.solo w.on in let c = w.late in omega arith) ]

@@ -15,16 +15,16 @@ use Rattle.diva_core.proofs.Keeping.{stays}
 
 -- ---- runs
 
-pub same-sizes : (m : Timed) (list : List Record) → IsMachine m → (cycle_of m list).sizes ≡ m.sizes
-same-sizes m list inv = by-cases (λ n. n.sizes ≡ m.sizes) m list inv (λ on c. (any-base m list _ c).base.sizes) (λ off. refl)
+pub same-config : (m : Timed) (list : List Record) → IsMachine m → (cycle_of m list).config ≡ m.config
+same-config m list inv = by-cases (λ n. n.config ≡ m.config) m list inv (λ on c. (any-base m list _ c).base.config) (λ off. refl)
 
 pub run-stays : (m : Timed) (lists : List (List Record)) → IsMachine m → IsMachine (run_of m lists)
 run-stays m [] inv = inv
 run-stays m (list ∷ rest) inv = run-stays (cycle_of m list) rest (stays m list inv)
 
-pub run-sizes : (m : Timed) (lists : List (List Record)) → IsMachine m → (run_of m lists).sizes ≡ m.sizes
-run-sizes m [] inv = refl
-run-sizes m (list ∷ rest) inv = run-sizes (cycle_of m list) rest (stays m list inv) ∙ same-sizes m list inv
+pub run-config : (m : Timed) (lists : List (List Record)) → IsMachine m → (run_of m lists).config ≡ m.config
+run-config m [] inv = refl
+run-config m (list ∷ rest) inv = run-config (cycle_of m list) rest (stays m list inv) ∙ same-config m list inv
 
 pub Rises-trans : (m mid last : Timed) → Rises m mid → Rises mid last → Rises m last
 Rises-trans m mid last a b =
@@ -38,33 +38,33 @@ run-rises m (list ∷ rest) inv = Rises-trans m (cycle_of m list) _ (rises m lis
 
 within-stall :
     (m n last : Timed) (k : ℕ)
-    → n.sizes ≡ m.sizes
+    → n.config ≡ m.config
     → Stalls m n
-    → (n.count < last.count) ⊎ (stalled n + k ≤ n.sizes.limit + 5)
-    → (m.count < last.count) ⊎ (stalled m + suc k ≤ m.sizes.limit + 5)
+    → (n.count < last.count) ⊎ (stalled n + k ≤ n.config.limit + 5)
+    → (m.count < last.count) ⊎ (stalled m + suc k ≤ m.config.limit + 5)
 within-stall m n last k z s (inl h) = inl (let c = s.same in omega arith)
-within-stall m n last k z s (inr h) = inr (let c = s.longer in let l : n.sizes.limit ≡ m.sizes.limit = ap (λ x. x.limit) z in omega arith)
+within-stall m n last k z s (inr h) = inr (let c = s.longer in let l : n.config.limit ≡ m.config.limit = ap (λ x. x.limit) z in omega arith)
 
 within-cases :
     (m n last : Timed) (k : ℕ)
-    → n.sizes ≡ m.sizes
+    → n.config ≡ m.config
     → n.count ≤ last.count
-    → (goes_on n.arch ≡ true → (n.count < last.count) ⊎ (stalled n + k ≤ n.sizes.limit + 5))
+    → (goes_on n.arch ≡ true → (n.count < last.count) ⊎ (stalled n + k ≤ n.config.limit + 5))
     → (m.count < n.count) ⊎ Stalls m n
-    → (m.count < last.count) ⊎ (stalled m + suc k ≤ m.sizes.limit + 5)
+    → (m.count < last.count) ⊎ (stalled m + suc k ≤ m.config.limit + 5)
 within-cases m n last k z more ih (inl h) = inl (omega arith)
 within-cases m n last k z more ih (inr s) = within-stall m n last k z s (ih s.on)
 
-within : (lists : List (List Record)) (m : Timed) → IsMachine m → goes_on m.arch ≡ true → (m.count < (run_of m lists).count) ⊎ (stalled m + length lists ≤ m.sizes.limit + 5)
+within : (lists : List (List Record)) (m : Timed) → IsMachine m → goes_on m.arch ≡ true → (m.count < (run_of m lists).count) ⊎ (stalled m + length lists ≤ m.config.limit + 5)
 within [] m inv on = inr (let h = most m inv in omega arith)
 within (list ∷ rest) m inv on =
-    within-cases m (cycle_of m list) (run_of (cycle_of m list) rest) (length rest) (same-sizes m list inv)
+    within-cases m (cycle_of m list) (run_of (cycle_of m list) rest) (length rest) (same-config m list inv)
     (run-rises (cycle_of m list) rest (stays m list inv)).counted
     (within rest (cycle_of m list) (stays m list inv))
     (stalls m list inv on)
 
 -- every W + 6 cycles from a machine that goes on raise the count
-pub progress : (m : Timed) (lists : List (List Record)) → IsMachine m → goes_on m.arch ≡ true → m.sizes.limit + 6 ≤ length lists → m.count < (run_of m lists).count
+pub progress : (m : Timed) (lists : List (List Record)) → IsMachine m → goes_on m.arch ≡ true → m.config.limit + 6 ≤ length lists → m.count < (run_of m lists).count
 progress m lists inv on long = elim (within lists m inv on) [ inl h ↦ h | inr h ↦ absurd (omega arith) ]
 
 -- ---- the pace
@@ -74,5 +74,5 @@ pub has_pace : (m : Timed) → IsMachine m → HasPace m
 has_pace m inv =
     let top = most m inv in
     let p = inv.pace in
-    let low : m.cycles / (m.sizes.limit + 6) < m.count + 1 = (div-lt_iff_lt-mul {k = m.sizes.limit + 6} (omega arith)).1 (omega arith) in
+    let low : m.cycles / (m.config.limit + 6) < m.count + 1 = (div-lt_iff_lt-mul {k = m.config.limit + 6} (omega arith)).1 (omega arith) in
     omega arith

@@ -5,16 +5,16 @@ use Rattle.diva_isa.specs.declared.record.Record.{Record}
 use Rattle.diva_isa.specs.State.{goes_on}
 use Rattle.diva_core.specs.Timed.{Timed}
 use Rattle.diva_core.specs.Cycle.{cycle_of}
-use Rattle.diva_core.specs.Machine.{IsMachine, Lives, IsAlone, stalled, stalled_since}
+use Rattle.diva_core.specs.Machine.{IsMachine, Lives, IsSolo, stalled, stalled_since}
 use Rattle.diva_core.proofs.Cycling.{Cycled, cycled, Base, idled, ran, barks, differed, ended, finished, waited}
 
 stalled-none : (m : Timed) → m.solo ≡ None → stalled m ≡ m.idle
 stalled-none m e = ap (stalled_since m) e
 
-stalled-some : (m : Timed) (start : ℕ) → m.solo ≡ Some start → stalled m ≡ m.sizes.limit + (m.cycles - start)
+stalled-some : (m : Timed) (start : ℕ) → m.solo ≡ Some start → stalled m ≡ m.config.limit + (m.cycles - start)
 stalled-some m start e = ap (stalled_since m) e
 
-stalled-most : (m : Timed) (o : Option ℕ) → Lives m o → 16 ≤ m.sizes.limit → stalled_since m o ≤ m.sizes.limit + 5
+stalled-most : (m : Timed) (o : Option ℕ) → Lives m o → 16 ≤ m.config.limit → stalled_since m o ≤ m.config.limit + 5
 stalled-most m None h low = omega arith
 stalled-most m (Some start) h low = let s = h.soon in omega arith
 
@@ -27,54 +27,54 @@ pub record Stalls (b n : Timed) : Type 0 where
 Stalls-base : (b n : Timed) → goes_on b.arch ≡ true → Base b n 0 → stalled b < stalled n → Stalls b n
 Stalls-base b n on v h = record { same = (let c = v.counted in omega arith); on = ap goes_on v.stepped ∙ on; longer = h }
 
-flushed-longer : (b n : Timed) → IsMachine b → n.sizes ≡ b.sizes → b.solo ≡ None → n.solo ≡ Some (b.cycles + 1) → stalled b < stalled n
+flushed-longer : (b n : Timed) → IsMachine b → n.config ≡ b.config → b.solo ≡ None → n.solo ≡ Some (b.cycles + 1) → stalled b < stalled n
 flushed-longer b n inv z was some =
-    let lives : b.idle + 1 ≤ b.sizes.limit = subst (Lives b) was inv.lives in
-    let l : n.sizes.limit ≡ b.sizes.limit = ap (λ x. x.limit) z in
+    let lives : b.idle + 1 ≤ b.config.limit = subst (Lives b) was inv.lives in
+    let l : n.config.limit ≡ b.config.limit = ap (λ x. x.limit) z in
     rw (stalled-none b was, stalled-some n (b.cycles + 1) some) (omega arith)
 
 differed-stalls : (b n : Timed) (k : ℕ) → IsMachine b → goes_on b.arch ≡ true → Base b n k → b.solo ≡ None → n.solo ≡ Some (b.cycles + 1) → (b.count < n.count) ⊎ Stalls b n
-differed-stalls b n zero inv on v was some = inr (Stalls-base b n on v (flushed-longer b n inv v.sizes was some))
+differed-stalls b n zero inv on v was some = inr (Stalls-base b n on v (flushed-longer b n inv v.config was some))
 differed-stalls b n (suc k) inv on v was some = inl (let c = v.counted in omega arith)
 
 pub stall-cases : (b : Timed) (list : List Record) (n : Timed) → IsMachine b → goes_on b.arch ≡ true → Cycled b list n → (b.count < n.count) ⊎ Stalls b n
 stall-cases b list n inv on (idled r) = inr (Stalls-base b n on r.base (rw (stalled-none b r.was, stalled-none n r.solo) (let i = r.idle in omega arith)))
 stall-cases b list n inv on (ran r) = inl (let c = r.base.counted in omega arith)
-stall-cases b list n inv on (barks r) = inr (Stalls-base b n on r.base (flushed-longer b n inv r.base.sizes r.was r.solo))
+stall-cases b list n inv on (barks r) = inr (Stalls-base b n on r.base (flushed-longer b n inv r.base.config r.was r.solo))
 stall-cases b list n inv on (differed r) = differed-stalls b n r.k inv on r.base r.was r.solo
 stall-cases b list n inv on (ended r) = inl (let c = r.base.counted in omega arith)
 stall-cases b list n inv on (finished r) = inl (let c = r.base.counted in omega arith)
 stall-cases b list n inv on (waited r) =
-    let a : IsAlone b r.start = subst (Lives b) r.since inv.lives in
+    let a : IsSolo b r.start = subst (Lives b) r.since inv.lives in
     let started = a.started in
     let c = r.base.cycles in
-    let l : n.sizes.limit ≡ b.sizes.limit = ap (λ x. x.limit) r.base.sizes in
+    let l : n.config.limit ≡ b.config.limit = ap (λ x. x.limit) r.base.config in
     inr (Stalls-base b n on r.base (rw (stalled-some b r.start r.since, stalled-some n r.start r.solo) (omega arith)))
 
 pub stalls : (m : Timed) (list : List Record) → IsMachine m → goes_on m.arch ≡ true → (m.count < (cycle_of m list).count) ⊎ Stalls m (cycle_of m list)
 stalls m list inv on = stall-cases m list _ inv on (cycled m list inv on)
 
-pub most : (m : Timed) → IsMachine m → stalled m ≤ m.sizes.limit + 5
-most m inv = stalled-most m m.solo inv.lives inv.sizes.limit_low
+pub most : (m : Timed) → IsMachine m → stalled m ≤ m.config.limit + 5
+most m inv = stalled-most m m.solo inv.lives inv.config.limit_low
 
 -- ---- the pace
 
 abbrev pub Paces : Timed → Type 0
-Paces m = m.cycles ≤ m.count * (m.sizes.limit + 6) + stalled m
+Paces m = m.cycles ≤ m.count * (m.config.limit + 6) + stalled m
 
-pace-rise : (b n : Timed) → IsMachine b → n.sizes ≡ b.sizes → n.cycles ≡ b.cycles + 1 → b.count < n.count → Paces b → Paces n
+pace-rise : (b n : Timed) → IsMachine b → n.config ≡ b.config → n.cycles ≡ b.cycles + 1 → b.count < n.count → Paces b → Paces n
 pace-rise b n inv z c rise h =
-    let l : n.sizes.limit ≡ b.sizes.limit = ap (λ x. x.limit) z in
+    let l : n.config.limit ≡ b.config.limit = ap (λ x. x.limit) z in
     let top = most b inv in
-    let p : (b.count + 1) * (b.sizes.limit + 6) ≤ n.count * (b.sizes.limit + 6) = mul-le-mul_right (b.sizes.limit + 6) (let r = rise in omega arith) in
+    let p : (b.count + 1) * (b.config.limit + 6) ≤ n.count * (b.config.limit + 6) = mul-le-mul_right (b.config.limit + 6) (let r = rise in omega arith) in
     rw (l, c) (omega arith)
 
 pace_numbers : (cycles count limit stalled cycles' count' limit' stalled' : ℕ) → limit' ≡ limit → cycles' ≡ cycles + 1 → count' ≡ count → stalled < stalled' → cycles ≤ count * (limit + 6) + stalled → cycles' ≤ count' * (limit' + 6) + stalled'
 pace_numbers cycles count limit stalled cycles' count' limit' stalled' l c n s h = rw (l, c, n) (omega arith)
 
-pace-stall : (b n : Timed) → n.sizes ≡ b.sizes → n.cycles ≡ b.cycles + 1 → Stalls b n → Paces b → Paces n
-pace-stall b n z c s h = pace_numbers b.cycles b.count b.sizes.limit (stalled b) n.cycles n.count n.sizes.limit (stalled n) (ap (λ x. x.limit) z) c s.same s.longer h
+pace-stall : (b n : Timed) → n.config ≡ b.config → n.cycles ≡ b.cycles + 1 → Stalls b n → Paces b → Paces n
+pace-stall b n z c s h = pace_numbers b.cycles b.count b.config.limit (stalled b) n.cycles n.count n.config.limit (stalled n) (ap (λ x. x.limit) z) c s.same s.longer h
 
 pub paces : (b n : Timed) (k : ℕ) → IsMachine b → Base b n k → (b.count < n.count) ⊎ Stalls b n → Paces n
-paces b n k inv v (inl rise) = pace-rise b n inv v.sizes v.cycles rise inv.pace
-paces b n k inv v (inr s) = pace-stall b n v.sizes v.cycles s inv.pace
+paces b n k inv v (inl rise) = pace-rise b n inv v.config v.cycles rise inv.pace
+paces b n k inv v (inr s) = pace-stall b n v.config v.cycles s inv.pace

@@ -3,22 +3,22 @@ use Rattle.std.proofs.Common.{◌≡◌, ◌+◌, ◌/◌, ◌≤◌, List, ap, 
 use Rattle.diva_isa.specs.State.{State}
 use Rattle.diva_isa.specs.declared.record.Record.{Record}
 use Rattle.diva_isa.specs.Step.{steps}
-use Rattle.diva_core.specs.Timed.{Sizes, new_timed}
+use Rattle.diva_core.specs.Timed.{Config, new_timed}
 use Rattle.diva_core.specs.Cycle.{run_of}
-use Rattle.diva_core.specs.Machine.{IsMachine, IsSizes}
+use Rattle.diva_core.specs.Machine.{IsMachine, IsConfig}
 use Rattle.diva_core.specs.Headline.{Rises, HasPace}
-use Rattle.diva_core.proofs.Progressing.{run-stays, run-rises, run-sizes, has_pace}
+use Rattle.diva_core.proofs.Progressing.{run-stays, run-rises, run-config, has_pace}
 
-pub new-machine : (z : Sizes) (s : State) → IsSizes z → IsMachine (new_timed z s)
+pub new-machine : (z : Config) (s : State) → IsConfig z → IsMachine (new_timed z s)
 new-machine z s ok =
-    record { sizes = ok; lives = (let l = ok.limit_low in omega arith); owed = omega arith; rows = omega arith; past = tt; window = omega arith; flushes = omega arith; silent = omega arith; count = omega arith; pace = omega arith }
+    record { config = ok; lives = (let l = ok.limit_low in omega arith); owed = omega arith; rows = omega arith; past = tt; window = omega arith; flushes = omega arith; silent = omega arith; count = omega arith; pace = omega arith }
 
-pub headline : (z : Sizes) (s : State) (lists : List (List Record)) → IsSizes z → (run_of (new_timed z s) lists).arch ≡ steps (run_of (new_timed z s) lists).count s
+pub headline : (z : Config) (s : State) (lists : List (List Record)) → IsConfig z → (run_of (new_timed z s) lists).arch ≡ steps (run_of (new_timed z s) lists).count s
 headline z s lists ok =
     let r : Rises (new_timed z s) (run_of (new_timed z s) lists) = run-rises (new_timed z s) lists (new-machine z s ok) in
     r.stepped ∙ ap (λ k. steps k s) (omega arith)
 
-pub pace_of_run : (z : Sizes) (s : State) (lists : List (List Record)) → IsSizes z → (run_of (new_timed z s) lists).cycles / (z.limit + 6) ≤ (run_of (new_timed z s) lists).count
+pub pace_of_run : (z : Config) (s : State) (lists : List (List Record)) → IsConfig z → (run_of (new_timed z s) lists).cycles / (z.limit + 6) ≤ (run_of (new_timed z s) lists).count
 pace_of_run z s lists ok =
     let p : HasPace (run_of (new_timed z s) lists) = has_pace _ (run-stays (new_timed z s) lists (new-machine z s ok)) in
-    rw (run-sizes (new_timed z s) lists (new-machine z s ok)) at p
+    rw (run-config (new_timed z s) lists (new-machine z s ok)) at p

@@ -11,7 +11,7 @@ use Rattle.diva_core.specs.declared.flushes.FlushRow.{FlushRow}
 use Rattle.diva_core.specs.declared.flushes.Cause.{Cause}
 use Rattle.diva_core.specs.declared.flushes.Cause.TheVariants.{Differs, Silent}
 use Rattle.diva_core.specs.Difference.{first_difference}
-use Rattle.diva_core.specs.Timed.{Timed, Waiting, room_of, depth, rows_kept}
+use Rattle.diva_core.specs.Timed.{Timed, PendingClaim, room_of, depth, rows_kept}
 
 -- ---- what the phases are made of
 
@@ -40,7 +40,7 @@ kept rows row = if nat_lt (length rows) rows_kept then rows ++ row ∷ [] else r
 abbrev pub flush_row : Timed → Cause → FlushRow
 flush_row m cause = record { cycle = m.cycles; at = m.count; cause = cause }
 
--- the machine flushes: nothing is pending, and the next instruction starts on the checker alone
+-- the machine flushes: nothing is pending, and the next instruction starts solo
 unfoldable pub flushed : Timed → Cause → Timed
 flushed m cause =
     record m {
@@ -70,14 +70,14 @@ abbrev pub followed : (Timed → Timed) → Timed → Timed
 followed next m = if goes_on m.arch then next m else record m { pending = [] }
 
 -- a claim that differs flushes; an equal one commits, unless it is a store and all stores are owed
-abbrev pub by_difference : (Timed → Timed) → Timed → List Waiting → Option Diff → Timed
+abbrev pub by_difference : (Timed → Timed) → Timed → List PendingClaim → Option Diff → Timed
 by_difference next m rest (Some d) = flushed m (Differs d)
 by_difference next m rest None =
-    if puts_store (record_of m.arch) && (m.owed == m.sizes.stores) then m
+    if puts_store (record_of m.arch) && (m.owed == m.config.stores) then m
     else followed next (committed (record m { pending = rest }) (record_of m.arch))
 
 -- the front claim is judged once it has passed through the checker's stages
-abbrev pub by_front : (Timed → Timed) → Timed → List Waiting → Timed
+abbrev pub by_front : (Timed → Timed) → Timed → List PendingClaim → Timed
 by_front next m [] = m
 by_front next m (p ∷ rest) =
     if nat_le (p.cycle + depth) m.cycles then by_difference next m rest (first_difference p.claim (record_of m.arch)) else m
@@ -87,9 +87,9 @@ abbrev pub judged : ℕ → Timed → Timed
 judged zero m = m
 judged (suc n) m = by_front (judged n) m m.pending
 
--- an instruction that is alone commits once it has passed through the stages; else the claims are judged
+-- an instruction that runs solo commits once it has passed through the stages; else the claims are judged
 abbrev pub by_solo : Timed → Option ℕ → Timed
-by_solo m None = judged m.sizes.width m
+by_solo m None = judged m.config.width m
 by_solo m (Some start) = if m.cycles == start + depth then committed (record m { solo = None }) (record_of m.arch) else m
 
 unfoldable pub commits : Timed → Timed
@@ -98,10 +98,10 @@ commits m = by_solo m m.solo
 -- phase 3, advance, changes nothing that is seen here
 
 -- phase 4, accept: the first claims of the list become pending, where phase 2 neither flushed nor ended
-abbrev pub accepted_in : ℕ → Record → Waiting
+abbrev pub accepted_in : ℕ → Record → PendingClaim
 accepted_in cycle claim = record { claim = claim; cycle = cycle }
 
-abbrev pub accepted : Timed → List Record → Timed → List Waiting
+abbrev pub accepted : Timed → List Record → Timed → List PendingClaim
 accepted before list m =
     if goes_on m.arch && (m.flushes == before.flushes)
     then m.pending ++ map (accepted_in m.cycles) (take (room_of before) list) else m.pending
@@ -114,7 +114,7 @@ abbrev pub counted : Timed → Timed → Timed
 counted before m = record m { idle = if m.count == before.count then m.idle + 1 else 0 }
 
 abbrev pub barked : Timed → Timed
-barked m = if nat_le m.sizes.limit m.idle && is_none m.solo && goes_on m.arch then flushed m (Silent m.sizes.limit) else m
+barked m = if nat_le m.config.limit m.idle && is_none m.solo && goes_on m.arch then flushed m (Silent m.config.limit) else m
 
 unfoldable pub watched : Timed → Timed → Timed
 watched before m = barked (counted before m)

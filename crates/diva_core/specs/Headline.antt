@@ -9,9 +9,9 @@ use Rattle.diva_core.specs.declared.flushes.Cause.{Cause}
 use Rattle.diva_core.specs.declared.flushes.Cause.TheVariants.{Differs, Silent}
 use Rattle.diva_core.specs.declared.differences.Diff.{Diff}
 use Rattle.diva_core.specs.Difference.{field_of, first_difference}
-use Rattle.diva_core.specs.Timed.{Timed, Waiting, depth, rows_kept}
+use Rattle.diva_core.specs.Timed.{Timed, PendingClaim, depth, rows_kept}
 use Rattle.diva_core.specs.Cycle.{cycle_of, kept, number, is_silent, run_of}
-use Rattle.diva_core.specs.Log.{Meaning, Turns, lists_of}
+use Rattle.diva_core.specs.History.{Meaning, Turns, lists_of}
 use Rattle.diva_core.specs.Right.{AreRight, IsCalm, StaysCalm}
 
 -- ---- counted: the count rises, and the state has moved by as many steps
@@ -24,7 +24,7 @@ pub record EndsAfter (n : ℕ) (s : State) : Type 0 where
   pub ended : goes_on (steps n s) ≡ false
   pub before : (k : ℕ) → k < n → goes_on (steps k s) ≡ true
 
--- ---- committed by: each committed record is a claim that was ready, or the one instruction that ran alone
+-- ---- committed by: each committed record is a claim that was ready, or the one instruction that ran solo
 
 -- the due records of k instructions, from a state on
 abbrev pub dues : ℕ → State → List Record
@@ -33,7 +33,7 @@ dues (suc k) s = record_of s ∷ dues k (step s)
 
 -- the records are the claims at the front of those that waited, each accepted six or more cycles before this one; the rest
 -- waits on
-abbrev pub AreClaims : List Record → ℕ → List Waiting → List Waiting → Type 0
+abbrev pub AreClaims : List Record → ℕ → List PendingClaim → List PendingClaim → Type 0
 AreClaims [] cycle waiting rest = rest ≡ waiting
 AreClaims (r ∷ records) cycle [] rest = ⊥
 AreClaims (r ∷ records) cycle (p ∷ waiting) rest =
@@ -41,11 +41,11 @@ AreClaims (r ∷ records) cycle (p ∷ waiting) rest =
 
 -- what a cycle committed are claims that waited
 pub record ByClaims (m : Timed) (records : List Record) : Type 0 where
-  pub rest : List Waiting
+  pub rest : List PendingClaim
   pub claims : AreClaims records (m.cycles + 1) m.pending rest
 
 -- what a cycle committed is the one instruction that ran solo for six cycles
-pub record ByItself (m : Timed) (records : List Record) : Type 0 where
+pub record BySolo (m : Timed) (records : List Record) : Type 0 where
   pub start : ℕ
   pub since : m.solo ≡ Some start
   pub passed : m.cycles + 1 ≡ start + depth
@@ -56,10 +56,10 @@ abbrev pub AreCommitted : Timed → List (List Record) → Type 0
 AreCommitted m [] = Unit {0}
 AreCommitted m (list ∷ rest) =
     let records = dues ((cycle_of m list).count - m.count) m.arch in
-    (ByClaims m records ⊎ ByItself m records) × AreCommitted (cycle_of m list) rest
+    (ByClaims m records ⊎ BySolo m records) × AreCommitted (cycle_of m list) rest
 
 -- the front claim p is judged: an equal one commits, another flushes
-pub record IsJudged (m last : Timed) (p : Waiting) : Type 0 where
+pub record IsJudged (m last : Timed) (p : PendingClaim) : Type 0 where
   pub equal : p.claim ≡ record_of m.arch → m.count < last.count
   pub unequal : p.claim ≢ record_of m.arch
       → (last.count ≡ m.count) × (last.flushes ≡ m.flushes + 1) × (last.silent ≡ m.silent)
@@ -83,7 +83,7 @@ pub record HasRow (m last : Timed) (row : FlushRow) : Type 0 where
 -- of the claims that waited, the first that a cycle did not commit was ready, and d is the first field in which it differs
 -- from the record that was then due
 pub record IsRefuted (m last : Timed) (d : Diff) : Type 0 where
-  pub p : Waiting
+  pub p : PendingClaim
   pub waited : slice_get m.pending (last.count - m.count) ≡ Some p
   pub ready : p.cycle + depth ≤ m.cycles + 1
   pub differs : first_difference p.claim (record_of (steps (last.count - m.count) m.arch)) ≡ Some d
@@ -91,7 +91,7 @@ pub record IsRefuted (m last : Timed) (d : Diff) : Type 0 where
 -- why a cycle flushed: a claim differed from the record that was due, or idle stood at the limit
 abbrev pub IsCause : Timed → Timed → Cause → Type 0
 IsCause m last (Differs d) = IsRefuted m last d
-IsCause m last (Silent limit) = (limit ≡ m.sizes.limit) × (last.idle ≡ limit)
+IsCause m last (Silent limit) = (limit ≡ m.config.limit) × (last.idle ≡ limit)
 
 -- the row is the one that the cycle from m to `last` added to the log
 pub record IsRowOf (m last : Timed) (row : FlushRow) : Type 0 where
@@ -122,7 +122,7 @@ HasCause start limit at (Silent idle) = idle ≡ limit
 -- a row that came after the machine m is true, told from m on
 pub record IsRowSince (m : Timed) (row : FlushRow) : Type 0 where
   pub later : m.count ≤ row.at
-  pub caused : HasCause m.arch m.sizes.limit (row.at - m.count) row.cause
+  pub caused : HasCause m.arch m.config.limit (row.at - m.count) row.cause
 
 -- the last of some rows, or the one before them
 abbrev pub newest_of : Option FlushRow → List FlushRow → Option FlushRow
@@ -152,16 +152,16 @@ pub record AddsRows (m : Timed) (lists : List (List Record)) (last : Timed) : Ty
 -- from this machine on, whatever is handed over
 abbrev pub WillCount : Timed → Type 0
 WillCount m =
-    goes_on m.arch ≡ true → (lists : List (List Record)) → m.sizes.limit + depth ≤ length lists
+    goes_on m.arch ≡ true → (lists : List (List Record)) → m.config.limit + depth ≤ length lists
     → m.count < (run_of m lists).count
 
 -- from one machine to another: in d times as many cycles d instructions at least
 abbrev pub KeepsPace : Timed → Timed → Type 0
-KeepsPace m last = (d : ℕ) → m.cycles + d * (m.sizes.limit + depth) ≤ last.cycles → m.count + d ≤ last.count
+KeepsPace m last = (d : ℕ) → m.cycles + d * (m.config.limit + depth) ≤ last.cycles → m.count + d ≤ last.count
 
 -- since a machine was new
 abbrev pub HasPace : Timed → Type 0
-HasPace m = m.cycles / (m.sizes.limit + depth) ≤ m.count
+HasPace m = m.cycles / (m.config.limit + depth) ≤ m.count
 
 -- ---- a drive
 
@@ -169,6 +169,6 @@ HasPace m = m.cycles / (m.sizes.limit + depth) ≤ m.count
 -- rows it added; where each is right for its machine, a calm machine is not flushed
 pub record Drives {C : Type 0} (gives : Meaning C) (m : Timed) (core : C) (last : Timed) (final : C) : Type 0 where
   pub turns : Turns gives m core last final
-  pub commits : AreCommitted m (lists_of turns.log)
-  pub rows : AddsRows m (lists_of turns.log) last
-  pub calm : IsCalm m → AreRight m (lists_of turns.log) → StaysCalm m last
+  pub commits : AreCommitted m (lists_of turns.history)
+  pub rows : AddsRows m (lists_of turns.history) last
+  pub calm : IsCalm m → AreRight m (lists_of turns.history) → StaysCalm m last

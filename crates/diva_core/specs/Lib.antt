@@ -3,7 +3,7 @@ pub mod Difference
 pub mod Effects
 pub mod Entries
 pub mod Headline
-pub mod Log
+pub mod History
 pub mod Machine
 pub mod Older
 pub mod Right

@@ -3,7 +3,7 @@ use Rattle.std.specs.Prelude.{ℕ, ◌≡◌, ◌≢◌, ◌<◌, ◌≤◌, ◌
 use Rattle.diva_isa.specs.State.{State, goes_on}
 use Rattle.diva_isa.specs.declared.record.Record.{Record}
 use Rattle.diva_isa.specs.Step.{record_of, steps}
-use Rattle.diva_core.specs.Timed.{Timed, Waiting, depth, room_of, is_due}
+use Rattle.diva_core.specs.Timed.{Timed, PendingClaim, depth, room_of, is_due}
 use Rattle.diva_core.specs.Cycle.{cycle_of}
 
 -- claim by claim, a list is what the table gives from a state on: the claim at place j is the record that is due after j
@@ -25,21 +25,21 @@ AreRight m (list ∷ rest) = IsRight m list × AreRight (cycle_of m list) rest
 
 -- how many cycles it takes at most until a claim can commit: those until the oldest pending claim is ready, one at least;
 -- where nothing is pending a claim is accepted in the next cycle, and is ready six cycles later
-abbrev pub wait_by : Timed → List Waiting → ℕ
+abbrev pub wait_by : Timed → List PendingClaim → ℕ
 wait_by m [] = depth + 1
 wait_by m (p ∷ rest) = max 1 ((p.cycle + depth) - m.cycles)
 
 abbrev pub wait_of : Timed → ℕ
 wait_of m = wait_by m m.pending
 
-abbrev pub claim_of : Waiting → Record
+abbrev pub claim_of : PendingClaim → Record
 claim_of p = p.claim
 
 -- no instruction runs solo, what is pending is due, and a commit can come before the watchdog barks
 pub record IsCalmRunning (m : Timed) : Type 0 where
   pub running : m.solo ≡ None
   pub claims : AreDue m.arch (map claim_of m.pending)
-  pub waits : m.idle + wait_of m ≤ m.sizes.limit
+  pub waits : m.idle + wait_of m ≤ m.config.limit
 
 -- a machine is calm: it has ended, or it runs as above
 abbrev pub IsCalm : Timed → Type 0

@@ -15,27 +15,27 @@ rows_kept = 1024
 
 -- the claims that are accepted and judged in a cycle at most, those that are pending at most, the stores that are owed at
 -- most, and the watchdog's limit in cycles
-pub record Sizes : Type 0 where
+pub record Config : Type 0 where
   pub width : ℕ
   pub window : ℕ
   pub stores : ℕ
   pub limit : ℕ
 
 -- a pending claim, and the cycle in which it was accepted
-pub record Waiting : Type 0 where
+pub record PendingClaim : Type 0 where
   pub claim : Record
   pub cycle : ℕ
 
 pub record Timed : Type 0 where
-  pub sizes : Sizes
+  pub config : Config
   -- the committed state
   pub arch : State
   -- the instructions committed, and the cycles run
   pub count : ℕ
   pub cycles : ℕ
   -- oldest first
-  pub pending : List Waiting
-  -- the cycle in which an instruction was started on the checker alone
+  pub pending : List PendingClaim
+  -- the cycle in which an instruction was started solo
   pub solo : Option ℕ
   -- the committed stores that are not in memory yet
   pub owed : ℕ
@@ -49,20 +49,20 @@ pub record Timed : Type 0 where
 
 -- how many claims the coming cycle accepts at most
 abbrev pub room_of : Timed → ℕ
-room_of m = if is_none m.solo && goes_on m.arch then min m.sizes.width (m.sizes.window - length m.pending) else 0
+room_of m = if is_none m.solo && goes_on m.arch then min m.config.width (m.config.window - length m.pending) else 0
 
 abbrev pub is_empty : {A : Type 0} → List A → Bool
 is_empty xs = length xs == 0
 
 -- a claim has to be handed over in the coming cycle, or the watchdog will bark
 abbrev pub is_due : Timed → Bool
-is_due m = is_empty m.pending && nat_lt 0 (room_of m) && nat_le m.sizes.limit (m.idle + (depth + 1))
+is_due m = is_empty m.pending && nat_lt 0 (room_of m) && nat_le m.config.limit (m.idle + (depth + 1))
 
 -- the machine that begins with a state
-abbrev pub new_timed : Sizes → State → Timed
-new_timed sizes s =
+abbrev pub new_timed : Config → State → Timed
+new_timed config s =
     record {
-      sizes = sizes;
+      config = config;
       arch = s;
       count = 0;
       cycles = 0;

@@ -3,7 +3,7 @@ use Rattle.std.specs.Prelude.{ℕ, ◌+◌, ◌≤◌, length, Bool, not}
 use Rattle.diva_isa.specs.State.{goes_on}
 use Rattle.diva_core.specs.Timed.{Timed, room_of, is_due}
 
-pub record Notice : Type 0 where
+pub record Told : Type 0 where
   -- the number of the coming cycle
   pub cycle : ℕ
   -- the instructions committed, and the committed pc
@@ -25,8 +25,8 @@ pub record IsRoom (pending room : ℕ) : Type 0 where
   pub width : room ≤ 4
   pub total : pending + room ≤ 64
 
-abbrev pub notice_of : Timed → Notice
-notice_of m =
+abbrev pub told_of : Timed → Told
+told_of m =
     record {
       cycle = m.cycles + 1;
       count = m.count;

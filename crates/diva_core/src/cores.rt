@@ -14,11 +14,11 @@ pub trait Core {
     ghost use Rattle.std.specs.Prelude.{List};
     ghost use Rattle.diva_isa.specs.State.{State};
     ghost use Rattle.diva_isa.specs.declared.record.Record.{Record};
-    ghost use Rattle.diva_core.specs.Told.{Notice};
+    ghost use Rattle.diva_core.specs.Told.{Told};
 
     /// Relates the core before a call, what it is told, the state that it is shown, the list that
     /// it leaves, and the core after.
-    ghost gives: { Self → Notice → State → List Record → Self → Type 0 };
+    ghost gives: { Self → Told → State → List Record → Self → Type 0 };
 
     /// Puts the claims of one cycle into `out`, in program order.
     fn cycle(&mut self, told: &Told, view: &View<'_>, out: &mut Claims)

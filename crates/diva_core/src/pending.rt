@@ -37,13 +37,13 @@ impl Entry {
     /// What the claim's word says, `None` where it says nothing. It is decoded here only where that was not noted.
     #[inline(always)]
     #[tactic(auto, using(diva_decode::proofs::Unique::registers_by))]
-    pub fn form(&self) -> Option<Instr>
+    pub fn decoded(&self) -> Option<Instr>
         requires { IsDecoded self.now }
         ensures row { result ≡ row_of self.now.claim.word }
         ensures registers { IfSome result HasRegisters }
     {
         match self.decoded {
-            Some(form) => Some(form),
+            Some(decoded) => Some(decoded),
             None => decode(self.claim.word),
         }
     }
@@ -58,7 +58,7 @@ impl Entry {
     {
         // An instruction that writes no register has x0 for it.
         match self.decoded {
-            Some(form) if form.rd == n && n != 0 => self.claim.value,
+            Some(decoded) if decoded.rd == n && n != 0 => self.claim.value,
             Some(_) => word,
             None => self.written_anew(n, word),
         }
@@ -73,7 +73,7 @@ impl Entry {
             → reg_of (with_effect s (effect_of self.now.claim)) n ≡ result }
     {
         match decode(self.claim.word) {
-            Some(form) if form.rd == n && n != 0 => self.claim.value,
+            Some(decoded) if decoded.rd == n && n != 0 => self.claim.value,
             Some(_) | None => word,
         }
     }
@@ -84,7 +84,7 @@ impl Entry {
         requires { IsDecoded self.now }
         ensures { result ≡ effect_of self.now.claim }
     {
-        effect_by(self.form(), &self.claim)
+        effect_by(self.decoded(), &self.claim)
     }
 }
 
@@ -200,7 +200,7 @@ impl Pending {
 
     /// Notes of the claim at a place (the oldest is at 0) what its word says.
     #[inline(always)]
-    pub fn note_form(&mut self, at: usize)
+    pub fn note_decoded(&mut self, at: usize)
         requires { at < length self.old.items }
         ensures items { (e : Entry) → slice_get self.old.items at ≡ Some e
             → self.new.items ≡ slice_set self.old.items at (record e { decoded = row_of e.claim.word }) }

@@ -25,9 +25,9 @@ pub struct Told {
 }
 
 impl Model for Told {
-    ghost use Rattle.diva_core.specs.Told.{Notice, IsRoom};
+    ghost use Rattle.diva_core.specs.Told.{Told, IsRoom};
 
-    ghost Value = { Notice };
+    ghost Value = { Told };
 
     ghost view = { λ t. record { cycle = t.cycle; count = t.count; pc = t.pc; epoch = t.epoch; pending = t.pending; room = t.room; idle = t.idle; due = t.due; ended = t.ended } };
 

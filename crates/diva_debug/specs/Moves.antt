@@ -44,7 +44,7 @@ IsShort command = most_steps command ≤ 1000000
 
 -- the most cycles of a command: W + 6 for each step, W being the watchdog's limit
 abbrev pub most_cycles : Command → Timed → ℕ
-most_cycles command m = most_steps command * (m.sizes.limit + depth)
+most_cycles command m = most_steps command * (m.config.limit + depth)
 
 -- how many steps a command takes
 unfoldable pub steps_by : Command → State → ℕ

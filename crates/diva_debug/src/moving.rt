@@ -1,6 +1,6 @@
 // A machine of width 1 and a core, moved by instructions.
 ghost use Rattle.std.specs.Prelude.{◌≡◌, ◌+◌, ◌*◌, ◌≤◌, ◌^◌};
-ghost use Rattle.diva_core.specs.Log.{Turns};
+ghost use Rattle.diva_core.specs.History.{Turns};
 ghost use Rattle.diva_core.specs.Machine.{IsMachine};
 ghost use Rattle.diva_core.specs.Timed.{depth};
 ghost use Rattle.diva_machine.specs.Counts.{StopsAtOnce};
@@ -16,14 +16,14 @@ const FAR: u32 = 100_000;
 /// Moves a machine as a command says, and not at all where it has ended.
 #[tactic(auto, unfolding(crate::specs::Moves::steps_by))]
 pub(crate) fn move_by<C: Core>(m: &mut Machine, core: &mut C, command: &Command)
-    requires width { m.old.timed.sizes.width ≡ 1 }
+    requires width { m.old.timed.config.width ≡ 1 }
     requires cycles { m.old.timed.cycles + most_cycles command.now m.old.timed ≤ 2 ^ 60 }
     ensures began { IsMachine m.old.timed }
     ensures turns { Turns C.gives m.old.timed core.old m.new.timed core.new }
     ensures within { m.new.timed.cycles ≤ m.old.timed.cycles + most_cycles command.now m.old.timed }
     ensures million { m.new.timed.cycles
-        ≤ m.old.timed.cycles + 1000000 * (m.old.timed.sizes.limit + depth) }
-    ensures sizes { m.new.timed.sizes ≡ m.old.timed.sizes }
+        ≤ m.old.timed.cycles + 1000000 * (m.old.timed.config.limit + depth) }
+    ensures config { m.new.timed.config ≡ m.old.timed.config }
     ensures moved { Moves (steps_by command.now m.old.timed.arch) m.old.timed m.new.timed }
     ensures at_once { StopsAtOnce m.old.timed m.new.timed }
 {
@@ -42,12 +42,12 @@ pub(crate) fn move_by<C: Core>(m: &mut Machine, core: &mut C, command: &Command)
 /// So many instructions more, or as many as there are.
 fn advance<C: Core>(m: &mut Machine, core: &mut C, count: u32)
     requires sound { IsMachine m.old.timed }
-    requires width { m.old.timed.sizes.width ≡ 1 }
+    requires width { m.old.timed.config.width ≡ 1 }
     requires few { count ≤ 1000000 }
-    requires cycles { m.old.timed.cycles + count * (m.old.timed.sizes.limit + depth) ≤ 2 ^ 60 }
+    requires cycles { m.old.timed.cycles + count * (m.old.timed.config.limit + depth) ≤ 2 ^ 60 }
     ensures turns { Turns C.gives m.old.timed core.old m.new.timed core.new }
-    ensures within { m.new.timed.cycles ≤ m.old.timed.cycles + count * (m.old.timed.sizes.limit + depth) }
-    ensures sizes { m.new.timed.sizes ≡ m.old.timed.sizes }
+    ensures within { m.new.timed.cycles ≤ m.old.timed.cycles + count * (m.old.timed.config.limit + depth) }
+    ensures config { m.new.timed.config ≡ m.old.timed.config }
     ensures moved { Moves (steps_in count m.old.timed.arch) m.old.timed m.new.timed }
     ensures at_once { StopsAtOnce m.old.timed m.new.timed }
 {
@@ -58,12 +58,12 @@ fn advance<C: Core>(m: &mut Machine, core: &mut C, count: u32)
 
 /// One instruction at least, until the machine stands at a pc: at most so many, or as many as there are.
 fn seek<C: Core>(m: &mut Machine, core: &mut C, pc: u32, most: u32)
-    requires width { m.old.timed.sizes.width ≡ 1 }
+    requires width { m.old.timed.config.width ≡ 1 }
     requires few { most ≤ 1000000 }
-    requires cycles { m.old.timed.cycles + most * (m.old.timed.sizes.limit + depth) ≤ 2 ^ 60 }
+    requires cycles { m.old.timed.cycles + most * (m.old.timed.config.limit + depth) ≤ 2 ^ 60 }
     ensures turns { Turns C.gives m.old.timed core.old m.new.timed core.new }
-    ensures within { m.new.timed.cycles ≤ m.old.timed.cycles + most * (m.old.timed.sizes.limit + depth) }
-    ensures sizes { m.new.timed.sizes ≡ m.old.timed.sizes }
+    ensures within { m.new.timed.cycles ≤ m.old.timed.cycles + most * (m.old.timed.config.limit + depth) }
+    ensures config { m.new.timed.config ≡ m.old.timed.config }
     ensures moved { Moves (steps_until most pc m.old.timed.arch) m.old.timed m.new.timed }
     ensures at_once { StopsAtOnce m.old.timed m.new.timed }
 {

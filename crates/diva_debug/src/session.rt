@@ -21,7 +21,7 @@ use diva_outside::Line;
 /// The place is the number of committed instructions. `step` and `until` move it along the table's steps, `reg` and `mem` show
 /// the state there, and `why` shows the newest flush. So every reply but that to `why` is the same for all cores.
 pub fn reply_to<C: Core>(m: &mut Machine, core: &mut C, command: &Command) -> Line
-    requires width { m.old.timed.sizes.width ≡ 1 }
+    requires width { m.old.timed.config.width ≡ 1 }
     requires cycles { m.old.timed.cycles + most_cycles command.now m.old.timed ≤ 2 ^ 60 }
     // The reply is that of the place before the command and of the state there; the core has a part in
     // the newest flush alone.
@@ -36,11 +36,11 @@ pub fn reply_to<C: Core>(m: &mut Machine, core: &mut C, command: &Command) -> Li
     ensures at_once { StopsAtOnce m.old.timed m.new.timed }
     ensures within { m.new.timed.cycles ≤ m.old.timed.cycles + most_cycles command.now m.old.timed }
     ensures million { m.new.timed.cycles
-        ≤ m.old.timed.cycles + 1000000 * (m.old.timed.sizes.limit + depth) }
+        ≤ m.old.timed.cycles + 1000000 * (m.old.timed.config.limit + depth) }
 
     // Machine and core are reached by turns, one for each cycle, of which the same holds as in a drive.
     ensures drives { Drives C.gives m.old.timed core.old m.new.timed core.new }
-    ensures sizes { m.new.timed.sizes ≡ m.old.timed.sizes }
+    ensures config { m.new.timed.config ≡ m.old.timed.config }
     ensures sound { IsMachine m.new.timed }
 {
     move_by(m, core, command);
@@ -52,7 +52,7 @@ pub fn reply_to<C: Core>(m: &mut Machine, core: &mut C, command: &Command) -> Li
 pub struct Session<'a, C> {
     machine: Machine,
     core: &'a mut C,
-    ghost narrow: { machine.timed.sizes.width ≡ 1 },
+    ghost narrow: { machine.timed.config.width ≡ 1 },
 }
 
 impl<'a, C: Core> Session<'a, C> {
@@ -60,7 +60,7 @@ impl<'a, C: Core> Session<'a, C> {
 
     /// A session of a machine of width 1.
     pub fn new(machine: Machine, core: &'a mut C) -> Session<'a, C>
-        requires { machine.timed.sizes.width ≡ 1 }
+        requires { machine.timed.config.width ≡ 1 }
         ensures machine { machine_of result ≡ machine.timed }
         ensures core { core_of result ≡ core.old }
         ensures same_core { lent_name result ≡ core.entry.ghost_name }
@@ -84,10 +84,10 @@ impl<'a, C: Core> Session<'a, C> {
         ensures within { (machine_of self.new).cycles
             ≤ (machine_of self.old).cycles + most_cycles command.now (machine_of self.old) }
         ensures million { (machine_of self.new).cycles
-            ≤ (machine_of self.old).cycles + 1000000 * ((machine_of self.old).sizes.limit + depth) }
+            ≤ (machine_of self.old).cycles + 1000000 * ((machine_of self.old).config.limit + depth) }
         ensures drives { Drives C.gives (machine_of self.old) (core_of self.old)
             (machine_of self.new) (core_of self.new) }
-        ensures sizes { (machine_of self.new).sizes ≡ (machine_of self.old).sizes }
+        ensures config { (machine_of self.new).config ≡ (machine_of self.old).config }
         ensures sound { IsMachine (machine_of self.new) }
         ensures same_core { lent_name self.new ≡ lent_name self.old }
     {

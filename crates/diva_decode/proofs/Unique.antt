@@ -5,7 +5,7 @@ use Rattle.std.specs.Option.{option_map, IfSome}
 use Rattle.std.proofs.lemmas.Bool.Decides.{nat_tests}
 use Rattle.std.proofs.lemmas.Int.{ints}
 use Rattle.diva_decode.specs.Fields.{opcode, funct3, funct7, rd, rs1, rs2, field, imm_i, imm_s, imm_b, imm_u, imm_j}
-use Rattle.diva_decode.specs.Table.{row_of, word_of, word_in, op_of, table, shape, Shape, fits, instr_of, U, J, I, Shift, B, S, R, Open, Exact, Holds, IsValid, HasRegisters}
+use Rattle.diva_decode.specs.Table.{row_of, word_of, word_in, op_of, table, format, Format, fits, instr_of, U, J, I, Shift, B, S, R, Open, Exact, Holds, IsValid, HasRegisters}
 use Rattle.diva_decode.specs.declared.op.Op.{Op}
 use Rattle.diva_decode.specs.declared.op.Op.TheVariants.{Fence}
 use Rattle.diva_decode.specs.declared.instr.Instr.{Instr}
@@ -24,7 +24,7 @@ map_parts f None y e = absurd (cc)
 map_parts f (Some x) y e = (x, refl, cc)
 
 -- what a word says has the operation that was asked for
-op-instr_of : (s : Shape) (op : Op) (w : ℕ) → (instr_of s op w).op ≡ op
+op-instr_of : (s : Format) (op : Op) (w : ℕ) → (instr_of s op w).op ≡ op
 op-instr_of (U o) op w = refl
 op-instr_of (J o) op w = refl
 op-instr_of (I f3 o) op w = refl
@@ -35,21 +35,21 @@ op-instr_of (Shift f7 f3 o) op w = refl
 op-instr_of (Open f3 o) op w = refl
 op-instr_of (Exact x) op w = refl
 
-pub row_parts : (w : ℕ) (i : Instr) → row_of w ≡ Some i → (fits w (shape i.op) ≡ true) × (instr_of (shape i.op) i.op w ≡ i)
+pub row_parts : (w : ℕ) (i : Instr) → row_of w ≡ Some i → (fits w (format i.op) ≡ true) × (instr_of (format i.op) i.op w ≡ i)
 unfolding row_of
 row_parts w i e =
-    let found = map_parts (λ op. instr_of (shape op) op w) (op_of w) i e in
-    let same : found.0 ≡ i.op = sym (op-instr_of (shape found.0) found.0 w) ∙ ap (λ j. j.op) found.2 in
-    let fitting = find_passes (λ op. fits w (shape op)) table found.0 found.1 in
-    (subst (λ op. fits w (shape op) ≡ true) same fitting, subst (λ op. instr_of (shape op) op w ≡ i) same found.2)
+    let found = map_parts (λ op. instr_of (format op) op w) (op_of w) i e in
+    let same : found.0 ≡ i.op = sym (op-instr_of (format found.0) found.0 w) ∙ ap (λ j. j.op) found.2 in
+    let fitting = find_passes (λ op. fits w (format op)) table found.0 found.1 in
+    (subst (λ op. fits w (format op) ≡ true) same fitting, subst (λ op. instr_of (format op) op w ≡ i) same found.2)
 
--- one word for each instruction of the shape
-abbrev IsClosed : Shape → Type 0
+-- one word for each instruction of the format
+abbrev IsClosed : Format → Type 0
 IsClosed (Open f3 o) = ⊥
 IsClosed s = Unit {0}
 
 module _ (op : Op) (v w : ℕ) (hv : v < 2 ^ 32) (hw : w < 2 ^ 32) where
-  same_words : (s : Shape) → IsClosed s → fits v s ≡ true → fits w s ≡ true → instr_of s op v ≡ instr_of s op w → v ≡ w
+  same_words : (s : Format) → IsClosed s → fits v s ≡ true → fits w s ≡ true → instr_of s op v ≡ instr_of s op w → v ≡ w
   same_words (U o) c p q e =
       let d : rd v ≡ rd w = ap (λ i. i.rd) e in
       let z : imm_u v ≡ imm_u w = ap (λ i. i.imm) e in
@@ -106,7 +106,7 @@ module _ (op : Op) (v w : ℕ) (hv : v < 2 ^ 32) (hw : w < 2 ^ 32) where
   same_words (Open f3 o) c p q e = absurd c
   same_words (Exact x) c p q e = grind (arith, nat_tests)
 
-closed : (op : Op) → op ≢ Fence → IsClosed (shape op)
+closed : (op : Op) → op ≢ Fence → IsClosed (format op)
 closed Fence d = absurd (d refl)
 closed op d = tt
 
@@ -115,10 +115,10 @@ pub one_word : (v w : ℕ) (i : Instr) → v < 2 ^ 32 → w < 2 ^ 32 → i.op �
 one_word v w i hv hw d ev ew =
     let a = row_parts v i ev in
     let b = row_parts w i ew in
-    same_words i.op v w hv hw (shape i.op) (closed i.op d) a.0 b.0 (a.1 ∙ sym b.1)
+    same_words i.op v w hv hw (format i.op) (closed i.op d) a.0 b.0 (a.1 ∙ sym b.1)
 
 -- what a word says is valid
-valid_by : (s : Shape) (op : Op) (w : ℕ) → w < 2 ^ 32 → Holds s (instr_of s op w)
+valid_by : (s : Format) (op : Op) (w : ℕ) → w < 2 ^ 32 → Holds s (instr_of s op w)
 valid_by (U o) op w h = grind (arith, ints, nat_tests)
 valid_by (J o) op w h = grind (arith, ints, nat_tests)
 valid_by (I f3 o) op w h = grind (arith, ints, nat_tests)
@@ -132,9 +132,9 @@ valid_by (Exact x) op w h = (refl, refl, refl, refl)
 pub row_valid : (w : ℕ) (i : Instr) → w < 2 ^ 32 → row_of w ≡ Some i → IsValid i
 row_valid w i h e =
     let a = row_parts w i e in
-    subst (λ j. Holds (shape i.op) j) a.1 (valid_by (shape i.op) i.op w h)
+    subst (λ j. Holds (format i.op) j) a.1 (valid_by (format i.op) i.op w h)
 
-registers_below : (s : Shape) (op : Op) (w : ℕ) → HasRegisters (instr_of s op w)
+registers_below : (s : Format) (op : Op) (w : ℕ) → HasRegisters (instr_of s op w)
 registers_below (U o) op w = (omega arith, omega arith, omega arith)
 registers_below (J o) op w = (omega arith, omega arith, omega arith)
 registers_below (I f3 o) op w = (omega arith, omega arith, omega arith)
@@ -150,7 +150,7 @@ pub registers_by : (r : Option Instr) (w : ℕ) → r ≡ row_of w → IfSome r 
 registers_by None w e = tt
 registers_by (Some i) w e =
     let a = row_parts w i (sym e) in
-    subst HasRegisters a.1 (registers_below (shape i.op) i.op w)
+    subst HasRegisters a.1 (registers_below (format i.op) i.op w)
 
 pub valid_if : (r : Option Instr) (w : ℕ) → w < 2 ^ 32 → r ≡ row_of w → IfSome r IsValid
 valid_if None w h e = tt
@@ -158,7 +158,7 @@ valid_if (Some i) w h e = row_valid w i h (sym e)
 
 -- ---- the word of what a word says
 
-word_in-below : (op : Op) (i : Instr) → Holds (shape op) i → word_in (shape op) i < 2 ^ 32
+word_in-below : (op : Op) (i : Instr) → Holds (format op) i → word_in (format op) i < 2 ^ 32
 word_in-below Fence i h = omega arith
 word_in-below op i h = omega arith
 

@@ -4,7 +4,7 @@ use Rattle.std.specs.Int.{cast_unsigned, w32}
 use Rattle.std.proofs.lemmas.Int.{ints}
 use Rattle.std.proofs.lemmas.Bool.Decides.{nat_tests}
 use Rattle.diva_decode.specs.Fields.{opcode, funct3, funct7, rd, rs1, rs2, field, signed, imm_i, imm_s, imm_b, imm_u, imm_j}
-use Rattle.diva_decode.specs.Table.{row_of, word_of, word_in, op_at, shape, FitsBits, Holds, IsValid, instr_of, R, B, I, S, J, U, Shift, Exact}
+use Rattle.diva_decode.specs.Table.{row_of, word_of, word_in, op_at, format, FitsBits, Holds, IsValid, instr_of, R, B, I, S, J, U, Shift, Exact}
 use Rattle.diva_decode.specs.declared.instr.Instr.{Instr}
 use Rattle.diva_decode.specs.declared.op.Op.{Op}
 use Rattle.diva_decode.specs.declared.op.Op.TheVariants.{Lui, Auipc, Jal, Jalr, Beq, Bne, Blt, Bge, Bltu, Bgeu, Lb, Lh, Lw, Lbu, Lhu, Sb, Sh, Sw, Addi, Slti, Sltiu, Xori, Ori, Andi, Slli, Srli, Srai, Add, Sub, Sll, Slt, Sltu, Xor, Srl, Sra, Or, And, Fence, Ecall, Ebreak, Mul, Mulh, Mulhsu, Mulhu, Div, Divu, Rem, Remu}
@@ -135,7 +135,7 @@ module _ (w : ℕ) (i : Instr) where
   bare_says e h = e ∙ same_instr i 0 0 0 (pos 0) (sym h.0) (sym h.1) (sym h.2) (sym h.3)
 
 -- the word of a valid instruction, by its operation, says the instruction
-says : (op : Op) (i : Instr) → i.op ≡ op → Holds (shape op) i → row_of (word_in (shape op) i) ≡ Some i
+says : (op : Op) (i : Instr) → i.op ≡ op → Holds (format op) i → row_of (word_in (format op) i) ≡ Some i
 unfolding row_of
 says Lui i e h = upper_says (word_in (U 0x37) i) i 0x37 refl (omega arith) h (λ o. rw (row_lui (word_in (U 0x37) i) o, e) refl)
 says Auipc i e h = upper_says (word_in (U 0x17) i) i 0x17 refl (omega arith) h (λ o. rw (row_auipc (word_in (U 0x17) i) o, e) refl)

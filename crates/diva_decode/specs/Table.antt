@@ -11,77 +11,77 @@ use Rattle.diva_decode.specs.declared.instr.Instr.{Instr}
 
 -- What the words of an operation have in common: their format and, where the format has them, funct7, funct3 and the
 -- opcode, in this order, as the manual lists them.
-pub data Shape : Type 0 where
-  U : ℕ → Shape
-  J : ℕ → Shape
-  I : ℕ → ℕ → Shape
-  B : ℕ → ℕ → Shape
-  S : ℕ → ℕ → Shape
-  R : ℕ → ℕ → ℕ → Shape
+pub data Format : Type 0 where
+  U : ℕ → Format
+  J : ℕ → Format
+  I : ℕ → ℕ → Format
+  B : ℕ → ℕ → Format
+  S : ℕ → ℕ → Format
+  R : ℕ → ℕ → ℕ → Format
   -- a shift by an immediate, which stands in the place of rs2
-  Shift : ℕ → ℕ → ℕ → Shape
+  Shift : ℕ → ℕ → ℕ → Format
   -- FENCE: the word's other fields are ignored
-  Open : ℕ → ℕ → Shape
+  Open : ℕ → ℕ → Format
   -- ECALL and EBREAK: this one word
-  Exact : ℕ → Shape
+  Exact : ℕ → Format
 
-abbrev pub shape : Op → Shape
+abbrev pub format : Op → Format
 -- RV32I 2.1
-shape Lui = U 0b0110111
-shape Auipc = U 0b0010111
-shape Jal = J 0b1101111
-shape Jalr = I 0b000 0b1100111
+format Lui = U 0b0110111
+format Auipc = U 0b0010111
+format Jal = J 0b1101111
+format Jalr = I 0b000 0b1100111
 -- branches
-shape Beq = B 0b000 0b1100011
-shape Bne = B 0b001 0b1100011
-shape Blt = B 0b100 0b1100011
-shape Bge = B 0b101 0b1100011
-shape Bltu = B 0b110 0b1100011
-shape Bgeu = B 0b111 0b1100011
+format Beq = B 0b000 0b1100011
+format Bne = B 0b001 0b1100011
+format Blt = B 0b100 0b1100011
+format Bge = B 0b101 0b1100011
+format Bltu = B 0b110 0b1100011
+format Bgeu = B 0b111 0b1100011
 -- loads
-shape Lb = I 0b000 0b0000011
-shape Lh = I 0b001 0b0000011
-shape Lw = I 0b010 0b0000011
-shape Lbu = I 0b100 0b0000011
-shape Lhu = I 0b101 0b0000011
+format Lb = I 0b000 0b0000011
+format Lh = I 0b001 0b0000011
+format Lw = I 0b010 0b0000011
+format Lbu = I 0b100 0b0000011
+format Lhu = I 0b101 0b0000011
 -- stores
-shape Sb = S 0b000 0b0100011
-shape Sh = S 0b001 0b0100011
-shape Sw = S 0b010 0b0100011
+format Sb = S 0b000 0b0100011
+format Sh = S 0b001 0b0100011
+format Sw = S 0b010 0b0100011
 -- computing with an immediate
-shape Addi = I 0b000 0b0010011
-shape Slti = I 0b010 0b0010011
-shape Sltiu = I 0b011 0b0010011
-shape Xori = I 0b100 0b0010011
-shape Ori = I 0b110 0b0010011
-shape Andi = I 0b111 0b0010011
-shape Slli = Shift 0b0000000 0b001 0b0010011
-shape Srli = Shift 0b0000000 0b101 0b0010011
-shape Srai = Shift 0b0100000 0b101 0b0010011
+format Addi = I 0b000 0b0010011
+format Slti = I 0b010 0b0010011
+format Sltiu = I 0b011 0b0010011
+format Xori = I 0b100 0b0010011
+format Ori = I 0b110 0b0010011
+format Andi = I 0b111 0b0010011
+format Slli = Shift 0b0000000 0b001 0b0010011
+format Srli = Shift 0b0000000 0b101 0b0010011
+format Srai = Shift 0b0100000 0b101 0b0010011
 -- computing with two registers
-shape Add = R 0b0000000 0b000 0b0110011
-shape Sub = R 0b0100000 0b000 0b0110011
-shape Sll = R 0b0000000 0b001 0b0110011
-shape Slt = R 0b0000000 0b010 0b0110011
-shape Sltu = R 0b0000000 0b011 0b0110011
-shape Xor = R 0b0000000 0b100 0b0110011
-shape Srl = R 0b0000000 0b101 0b0110011
-shape Sra = R 0b0100000 0b101 0b0110011
-shape Or = R 0b0000000 0b110 0b0110011
-shape And = R 0b0000000 0b111 0b0110011
+format Add = R 0b0000000 0b000 0b0110011
+format Sub = R 0b0100000 0b000 0b0110011
+format Sll = R 0b0000000 0b001 0b0110011
+format Slt = R 0b0000000 0b010 0b0110011
+format Sltu = R 0b0000000 0b011 0b0110011
+format Xor = R 0b0000000 0b100 0b0110011
+format Srl = R 0b0000000 0b101 0b0110011
+format Sra = R 0b0100000 0b101 0b0110011
+format Or = R 0b0000000 0b110 0b0110011
+format And = R 0b0000000 0b111 0b0110011
 -- memory order, and the environment
-shape Fence = Open 0b000 0b0001111
-shape Ecall = Exact 0x00000073
-shape Ebreak = Exact 0x00100073
+format Fence = Open 0b000 0b0001111
+format Ecall = Exact 0x00000073
+format Ebreak = Exact 0x00100073
 -- M 2.0
-shape Mul = R 0b0000001 0b000 0b0110011
-shape Mulh = R 0b0000001 0b001 0b0110011
-shape Mulhsu = R 0b0000001 0b010 0b0110011
-shape Mulhu = R 0b0000001 0b011 0b0110011
-shape Div = R 0b0000001 0b100 0b0110011
-shape Divu = R 0b0000001 0b101 0b0110011
-shape Rem = R 0b0000001 0b110 0b0110011
-shape Remu = R 0b0000001 0b111 0b0110011
+format Mul = R 0b0000001 0b000 0b0110011
+format Mulh = R 0b0000001 0b001 0b0110011
+format Mulhsu = R 0b0000001 0b010 0b0110011
+format Mulhu = R 0b0000001 0b011 0b0110011
+format Div = R 0b0000001 0b100 0b0110011
+format Divu = R 0b0000001 0b101 0b0110011
+format Rem = R 0b0000001 0b110 0b0110011
+format Remu = R 0b0000001 0b111 0b0110011
 
 -- every operation, in the same order
 abbrev pub table : List Op
@@ -97,8 +97,8 @@ table =
 
 -- ---- what a word says
 
--- the three codes are those of the shape; no codes are enough for one exact word
-abbrev pub has_codes : Shape → ℕ → ℕ → ℕ → Bool
+-- the three codes are those of the format; no codes are enough for one exact word
+abbrev pub has_codes : Format → ℕ → ℕ → ℕ → Bool
 has_codes (U o) opcode funct3 funct7 = opcode == o
 has_codes (J o) opcode funct3 funct7 = opcode == o
 has_codes (I f3 o) opcode funct3 funct7 = (opcode == o) && (funct3 == f3)
@@ -109,13 +109,13 @@ has_codes (Shift f7 f3 o) opcode funct3 funct7 = (opcode == o) && (funct3 == f3)
 has_codes (Open f3 o) opcode funct3 funct7 = (opcode == o) && (funct3 == f3)
 has_codes (Exact word) opcode funct3 funct7 = false
 
--- w is a word of the shape
-abbrev pub fits : ℕ → Shape → Bool
+-- w is a word of the format
+abbrev pub fits : ℕ → Format → Bool
 fits w (Exact word) = w == word
 fits w s = has_codes s (opcode w) (funct3 w) (funct7 w)
 
--- what a word of the shape says; a field that the format lacks is 0
-abbrev pub instr_of : Shape → Op → ℕ → Instr
+-- what a word of the format says; a field that the format lacks is 0
+abbrev pub instr_of : Format → Op → ℕ → Instr
 instr_of (U o) op w = record { op = op; rd = rd w; rs1 = 0; rs2 = 0; imm = imm_u w }
 instr_of (J o) op w = record { op = op; rd = rd w; rs1 = 0; rs2 = 0; imm = imm_j w }
 instr_of (I f3 o) op w = record { op = op; rd = rd w; rs1 = rs1 w; rs2 = 0; imm = imm_i w }
@@ -128,11 +128,11 @@ instr_of (Exact word) op w = record { op = op; rd = 0; rs1 = 0; rs2 = 0; imm = p
 
 -- the operation that w is a word of
 abbrev pub op_of : ℕ → Option Op
-op_of w = find (λ op. fits w (shape op)) table
+op_of w = find (λ op. fits w (format op)) table
 
 -- what the word w says by the table, if it stands there
 unfoldable pub row_of : ℕ → Option Instr
-row_of w = option_map (λ op. instr_of (shape op) op w) (op_of w)
+row_of w = option_map (λ op. instr_of (format op) op w) (op_of w)
 
 -- no other word of 32 bits says the instruction
 abbrev pub IsOnlyWordOf : Instr → ℕ → Type 0
@@ -140,8 +140,8 @@ IsOnlyWordOf i word = (w : ℕ) → w < 2 ^ 32 → row_of w ≡ Some i → w ≡
 
 -- ---- the word of an instruction
 
--- the word of the shape with the fields of i in their places, from bit 31 down as the manual draws its formats
-abbrev pub word_in : Shape → Instr → ℕ
+-- the word of the format with the fields of i in their places, from bit 31 down as the manual draws its formats
+abbrev pub word_in : Format → Instr → ℕ
 -- imm[31:12] rd opcode
 word_in (U o) i = imm_bits 12 20 i.imm * 2 ^ 12 + i.rd * 2 ^ 7 + o
 -- imm[20|10:1|11|19:12] rd opcode
@@ -167,7 +167,7 @@ word_in (Exact word) i = word
 
 -- the word of an instruction that has one
 unfoldable pub word_of : Instr → ℕ
-word_of i = word_in (shape i.op) i
+word_of i = word_in (format i.op) i
 
 -- ---- valid instructions
 
@@ -180,7 +180,7 @@ abbrev pub LowBitsZero : ℕ → ℤ → Type 0
 LowBitsZero n z = cast_unsigned w32 z % 2 ^ n ≡ 0
 
 -- the registers are below 32, what is not used is 0, and the format can hold the immediate
-abbrev pub Holds : Shape → Instr → Type 0
+abbrev pub Holds : Format → Instr → Type 0
 Holds (U o) i = (i.rd < 32) × (i.rs1 ≡ 0) × (i.rs2 ≡ 0) × FitsBits 32 i.imm × LowBitsZero 12 i.imm
 Holds (J o) i = (i.rd < 32) × (i.rs1 ≡ 0) × (i.rs2 ≡ 0) × FitsBits 21 i.imm × LowBitsZero 1 i.imm
 Holds (I f3 o) i = (i.rd < 32) × (i.rs1 < 32) × (i.rs2 ≡ 0) × FitsBits 12 i.imm
@@ -193,7 +193,7 @@ Holds (Exact word) i = (i.rd ≡ 0) × (i.rs1 ≡ 0) × (i.rs2 ≡ 0) × (i.imm 
 
 -- the instruction has a word
 abbrev pub IsValid : Instr → Type 0
-IsValid i = Holds (shape i.op) i
+IsValid i = Holds (format i.op) i
 
 -- the registers are below 32
 abbrev pub HasRegisters : Instr → Type 0
@@ -203,10 +203,10 @@ HasRegisters i = (i.rd < 32) × (i.rs1 < 32) × (i.rs2 < 32)
 
 -- the operation with these codes
 abbrev pub op_at : ℕ → ℕ → ℕ → Option Op
-op_at opcode funct3 funct7 = find (λ op. has_codes (shape op) opcode funct3 funct7) table
+op_at opcode funct3 funct7 = find (λ op. has_codes (format op) opcode funct3 funct7) table
 
--- the shape is of format R
-abbrev pub is_r : Shape → Bool
+-- it is of format R
+abbrev pub is_r : Format → Bool
 is_r (R f7 f3 o) = true
 is_r s = false
 

@@ -2,7 +2,7 @@
 
 ghost use Rattle.std.specs.Prelude.{IsTrue, Some, ◌≡◌, ◌≢◌, ◌+◌, ◌*◌, ◌^◌, ◌<◌};
 ghost use Rattle.diva_decode.specs.Fields.{field};
-ghost use Rattle.diva_decode.specs.Table.{row_of, word_of, word_in, IsOnlyWordOf, IsValid, Holds, shape, is_r, U, J, I, B, S, R, Shift};
+ghost use Rattle.diva_decode.specs.Table.{row_of, word_of, word_in, IsOnlyWordOf, IsValid, Holds, format, is_r, U, J, I, B, S, R, Shift};
 
 use crate::instr::Instr;
 use crate::op::Op;
@@ -72,7 +72,7 @@ fn by_operation(i: &Instr) -> u32
 /// The word of an operation on two registers.
 #[tactic(auto, unfolding(crate::specs::Table::word_of))]
 fn two_register_word(i: &Instr) -> u32
-    requires two_registers { IsTrue (is_r (shape i.now.op)) }
+    requires two_registers { IsTrue (is_r (format i.now.op)) }
     requires valid { IsValid i.now }
     ensures { result ≡ word_of i.now }
 {

@@ -30,7 +30,7 @@ pub fn check(pending: &Pending, at: usize, view: &View<'_>) -> Option<Diff>
     let entry = pending.at(at);
     let state = Bypass::new(pending, at, view);
     match entry.decoded {
-        Some(form) => compare(&entry.claim, Some(form), &state),
+        Some(decoded) => compare(&entry.claim, Some(decoded), &state),
         None => check_anew(pending, at, &view.copied()),
     }
 }
@@ -46,8 +46,8 @@ pub fn check_memory(pending: &Pending, at: usize, view: &View<'_>) -> Option<Dif
 {
     let entry = pending.at(at);
     match entry.decoded {
-        Some(form) if is_memory(Some(form)) => {
-            compare_outcome(&entry.claim, Some(form), &Bypass::new(pending, at, view))
+        Some(decoded) if is_memory(Some(decoded)) => {
+            compare_outcome(&entry.claim, Some(decoded), &Bypass::new(pending, at, view))
         }
         Some(_) => None,
         None => check_memory_anew(pending, at, view),
@@ -63,30 +63,30 @@ fn check_memory_anew(pending: &Pending, at: usize, view: &View<'_>) -> Option<Di
         → Answers address_fields memory_fields (before_entry view.now pending.now.items at) e.claim result }
 {
     let entry = pending.at(at);
-    let form = decode(entry.claim.word);
-    if is_memory(form) {
-        return compare_outcome(&entry.claim, form, &Bypass::new(pending, at, view));
+    let decoded = decode(entry.claim.word);
+    if is_memory(decoded) {
+        return compare_outcome(&entry.claim, decoded, &Bypass::new(pending, at, view));
     }
     None
 }
 
 /// The first difference in addr and, but for loads and stores, in value, next and end between a claim and the record that is
-/// due in a state. `form` is what the claim's word says.
+/// due in a state. `decoded` is what the claim's word says.
 #[inline(always)]
 #[tactic(auto, using(diva_core::proofs::Agreeing::address_due))]
-fn compare<L: Look>(claim: &Claim, form: Option<Instr>, state: &L) -> Option<Diff>
-    requires { form ≡ row_of claim.now.word }
+fn compare<L: Look>(claim: &Claim, decoded: Option<Instr>, state: &L) -> Option<Diff>
+    requires { decoded ≡ row_of claim.now.word }
     ensures { let due = record_of (L.shows state.now) in
         difference_in read_fields claim.now due ≡ None → result ≡ difference_in (execute_fields (is_memory due)) claim.now due }
 {
-    let addr = address(form, claim.src1);
+    let addr = address(decoded, claim.src1);
     if claim.addr != addr {
         return Some(Diff::new(Field::Addr, claim.addr, addr));
     }
-    if is_memory(form) {
+    if is_memory(decoded) {
         return None;
     }
-    let due = outcome_apart(claim, form, state);
+    let due = outcome_apart(claim, decoded, state);
     if agrees(claim, &due) {
         return None;
     }
@@ -107,12 +107,12 @@ fn check_anew(pending: &Pending, at: usize, view: &View<'_>) -> Option<Diff>
 
 /// The first difference in value, next and end between a claim and the record that is due in a state.
 #[inline(always)]
-fn compare_outcome<L: Look>(claim: &Claim, form: Option<Instr>, state: &L) -> Option<Diff>
-    requires { form ≡ row_of claim.now.word }
+fn compare_outcome<L: Look>(claim: &Claim, decoded: Option<Instr>, state: &L) -> Option<Diff>
+    requires { decoded ≡ row_of claim.now.word }
     ensures { let due = record_of (L.shows state.now) in
         difference_in address_fields claim.now due ≡ None → result ≡ difference_in outcome_fields claim.now due }
 {
-    let due = outcome(claim, form, state);
+    let due = outcome(claim, decoded, state);
     if agrees(claim, &due) {
         return None;
     }
@@ -154,17 +154,17 @@ pub fn solo(r: &mut Record, view: &View<'_>)
     ensures rest { r.new
         ≡ record r.new { pc = r.old.pc; word = r.old.word; src1 = r.old.src1; src2 = r.old.src2 } }
 {
-    let form = decode(r.word);
-    let placed = placed(*r, form);
-    *r = placed.ending_in(outcome(&placed, form, view));
+    let decoded = decode(r.word);
+    let placed = placed(*r, decoded);
+    *r = placed.ending_in(outcome(&placed, decoded, view));
 }
 
 /// Whether what a word says is a load or a store.
 #[inline(always)]
-pub fn is_memory(form: Option<Instr>) -> bool
-    ensures { result ≡ is_memory_by form }
+pub fn is_memory(decoded: Option<Instr>) -> bool
+    ensures { result ≡ is_memory_by decoded }
 {
-    match form {
+    match decoded {
         Some(i) => kind_of(i.op).moves_memory(),
         None => false,
     }
@@ -172,43 +172,43 @@ pub fn is_memory(form: Option<Instr>) -> bool
 
 /// The record with the address that its instruction has.
 #[tactic(auto, using(diva_core::proofs::Agreeing::address_filled, diva_core::proofs::Agreeing::placed_agrees))]
-fn placed(r: Record, form: Option<Instr>) -> Record
-    requires { form ≡ row_of r.word }
+fn placed(r: Record, decoded: Option<Instr>) -> Record
+    requires { decoded ≡ row_of r.word }
     ensures due { (s : State) → difference_in read_fields r (record_of s) ≡ None
         → difference_in address_fields result (record_of s) ≡ None }
     ensures rest { result ≡ record r { addr = result.addr } }
 {
     Record {
-        addr: address(form, r.src1),
+        addr: address(decoded, r.src1),
         ..r
     }
 }
 
 /// What an instruction comes to in a state that is no load and no store, by the first five fields of its record.
 #[inline(always)]
-fn outcome_apart<L: Look>(r: &Record, form: Option<Instr>, state: &L) -> Outcome
-    requires row { form ≡ row_of r.now.word }
-    requires apart { is_memory_by form ≡ false }
+fn outcome_apart<L: Look>(r: &Record, decoded: Option<Instr>, state: &L) -> Outcome
+    requires row { decoded ≡ row_of r.now.word }
+    requires apart { is_memory_by decoded ≡ false }
     ensures { let due = record_of (L.shows state.now) in
         difference_in address_fields r.now due ≡ None
         → record r.now { value = result.value; next = result.next; end = result.end } ≡ due }
 {
-    match form {
+    match decoded {
         Some(i) => execute(state, &i, r),
-        None => outcome(r, form, state),
+        None => outcome(r, decoded, state),
     }
 }
 
 /// What an instruction comes to in a state, by the first five fields of its record.
 #[inline(always)]
 #[tactic(auto, using(diva_core::proofs::Agreeing::outcome_filled))]
-fn outcome<L: Look>(r: &Record, form: Option<Instr>, state: &L) -> Outcome
-    requires { form ≡ row_of r.now.word }
+fn outcome<L: Look>(r: &Record, decoded: Option<Instr>, state: &L) -> Outcome
+    requires { decoded ≡ row_of r.now.word }
     ensures { let due = record_of (L.shows state.now) in
         difference_in address_fields r.now due ≡ None
         → record r.now { value = result.value; next = result.next; end = result.end } ≡ due }
 {
     // Whether the word is there tells a fetch outside memory from a word that is not of the table.
-    let there = form.is_some() || fetch(state).is_some();
-    finish(state, there, form, r)
+    let there = decoded.is_some() || fetch(state).is_some();
+    finish(state, there, decoded, r)
 }

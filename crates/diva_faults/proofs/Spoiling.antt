@@ -3,9 +3,9 @@ use Rattle.std.proofs.Common.{◌≡◌, ℕ, List, [], ◌∷◌, length, refl,
 use Rattle.diva_isa.specs.State.{State}
 use Rattle.diva_isa.specs.declared.record.Record.{Record}
 use Rattle.diva_core.specs.Cycle.{cycle_of}
-use Rattle.diva_core.specs.Log.{Meaning, IsLog, Turns, lists_of}
+use Rattle.diva_core.specs.History.{Meaning, IsHistory, Turns, lists_of}
 use Rattle.diva_core.specs.Timed.{Timed}
-use Rattle.diva_core.specs.Told.{Notice, notice_of}
+use Rattle.diva_core.specs.Told.{Told, told_of}
 use Rattle.diva_faults.specs.declared.rows.Row.{Row}
 use Rattle.diva_faults.specs.declared.faulty.Faulty.{Faulty}
 use Rattle.diva_faults.specs.Lists.{scripted}
@@ -17,7 +17,7 @@ pub scripted-none : (now : ℕ) (list : List Record) → scripted [] now list �
 unfolding scripted
 scripted-none now list = refl
 
-module _ {C : Type 0} (gives : Meaning C) (before : C) (told : Notice) (s : State) (list : List Record) (after : C) where
+module _ {C : Type 0} (gives : Meaning C) (before : C) (told : Told) (s : State) (list : List Record) (after : C) where
   pub spoiled-none : gives before told s list after → spoiled [] gives before told s list after
   spoiled-none given = record { inner = list; given = given; laid = sym (scripted-none told.cycle list) }
 
@@ -26,42 +26,42 @@ module _ {C : Type 0} (gives : Meaning C) (before : C) (told : Notice) (s : Stat
       let P : List Record → Type 0 = λ l. gives before told s l after in
       subst P (sym (h.laid ∙ scripted-none told.cycle h.inner)) h.given
 
--- a log of a core under a script without rows is a log of the core
-pub log-none : {C : Type 0} (gives : Meaning C) (m : Timed) (core : C) (log : List (List Record × C)) (last : Timed) (after : C)
-    → IsLog (spoiled [] gives) m core log last after → IsLog gives m core log last after
-log-none gives m core [] last after h = h
-log-none gives m core (turn ∷ rest) last after h =
-    (h.0, (none-spoiled gives core (notice_of m) m.arch turn.0 turn.1 h.1.0, log-none gives (cycle_of m turn.0) turn.1 rest last after h.1.1))
+-- a history of a core under a script without rows is a history of the core
+pub history-none : {C : Type 0} (gives : Meaning C) (m : Timed) (core : C) (history : List (List Record × C)) (last : Timed) (after : C)
+    → IsHistory (spoiled [] gives) m core history last after → IsHistory gives m core history last after
+history-none gives m core [] last after h = h
+history-none gives m core (turn ∷ rest) last after h =
+    (h.0, (none-spoiled gives core (told_of m) m.arch turn.0 turn.1 h.1.0, history-none gives (cycle_of m turn.0) turn.1 rest last after h.1.1))
 
 -- ---- logs of a core that has another one inside
 
 -- each call of the outer core is one of the inner core, where the outer core keeps a fact
 pub record IsOver {A B : Type 0} (outer : Meaning A) (inner : Meaning B) (within : A → B) (Keeps : A → Type 0) : Type 0 where
-  pub call : (before : A) (told : Notice) (s : State) (list : List Record) (after : A) → Keeps before → outer before told s list after
+  pub call : (before : A) (told : Told) (s : State) (list : List Record) (after : A) → Keeps before → outer before told s list after
       → Keeps after × inner (within before) told s list (within after)
 
--- what a log of the outer core gives: a log of the inner core with the same lists
-pub record IsLedWithin {A B : Type 0} (inner : Meaning B) (within : A → B) (Keeps : A → Type 0) (m : Timed) (core : A) (log : List (List Record × A)) (last : Timed) (final : A) : Type 0 where
+-- what a history of the outer core gives: a history of the inner core with the same lists
+pub record IsLedWithin {A B : Type 0} (inner : Meaning B) (within : A → B) (Keeps : A → Type 0) (m : Timed) (core : A) (history : List (List Record × A)) (last : Timed) (final : A) : Type 0 where
   pub turns : List (List Record × B)
-  pub good : IsLog inner m (within core) turns last (within final)
-  pub many : length turns ≡ length log
-  pub same : lists_of turns ≡ lists_of log
+  pub good : IsHistory inner m (within core) turns last (within final)
+  pub many : length turns ≡ length history
+  pub same : lists_of turns ≡ lists_of history
   pub keeps : Keeps final
 
 -- turns in which these lists were handed over
 pub record TurnsWith {C : Type 0} (gives : Meaning C) (m : Timed) (core : C) (last : Timed) (final : C) (lists : List (List Record)) : Type 0 where
   pub turns : Turns gives m core last final
-  pub same : lists_of turns.log ≡ lists
+  pub same : lists_of turns.history ≡ lists
 
 module _ {A B : Type 0} (outer : Meaning A) (inner : Meaning B) (within : A → B) (Keeps : A → Type 0) (over : IsOver outer inner within Keeps) where
-  IsLog-within : (m : Timed) (core : A) (log : List (List Record × A)) (last : Timed) (final : A)
-      → Keeps core → IsLog outer m core log last final
-      → IsLedWithin inner within Keeps m core log last final
-  IsLog-within m core [] last final keeps h =
+  IsHistory-within : (m : Timed) (core : A) (history : List (List Record × A)) (last : Timed) (final : A)
+      → Keeps core → IsHistory outer m core history last final
+      → IsLedWithin inner within Keeps m core history last final
+  IsHistory-within m core [] last final keeps h =
       record { turns = []; good = (h.0, ap within h.1); many = refl; same = refl; keeps = subst Keeps (sym h.1) keeps }
-  IsLog-within m core (turn ∷ rest) last final keeps h =
-      let one : Keeps turn.1 × inner (within core) (notice_of m) m.arch turn.0 (within turn.1) = over.call core (notice_of m) m.arch turn.0 turn.1 keeps h.1.0 in
-      let more : IsLedWithin inner within Keeps (cycle_of m turn.0) turn.1 rest last final = IsLog-within (cycle_of m turn.0) turn.1 rest last final one.0 h.1.1 in
+  IsHistory-within m core (turn ∷ rest) last final keeps h =
+      let one : Keeps turn.1 × inner (within core) (told_of m) m.arch turn.0 (within turn.1) = over.call core (told_of m) m.arch turn.0 turn.1 keeps h.1.0 in
+      let more : IsLedWithin inner within Keeps (cycle_of m turn.0) turn.1 rest last final = IsHistory-within (cycle_of m turn.0) turn.1 rest last final one.0 h.1.1 in
       record {
         turns = (turn.0, within turn.1) ∷ more.turns;
         good = (h.0, (one.1, more.good));
@@ -73,11 +73,11 @@ module _ {A B : Type 0} (outer : Meaning A) (inner : Meaning B) (within : A → 
   -- the turns of the outer core are turns of the inner core, with the same lists
   pub Turns-within : (m : Timed) (core : A) (last : Timed) (final : A)
       → Keeps core → (t : Turns outer m core last final)
-      → TurnsWith inner m (within core) last (within final) (lists_of t.log) × Keeps final
+      → TurnsWith inner m (within core) last (within final) (lists_of t.history) × Keeps final
   Turns-within m core last final keeps t =
-      let led = IsLog-within m core t.log last final keeps t.good in (
+      let led = IsHistory-within m core t.history last final keeps t.good in (
         record {
-          turns = record { log = led.turns; good = led.good; each = (let e = t.each in let f = led.many in omega arith) };
+          turns = record { history = led.turns; good = led.good; each = (let e = t.each in let f = led.many in omega arith) };
           same = led.same;
         },
         led.keeps,
@@ -91,7 +91,7 @@ record Keeps {C : Type 0} (rows : List Row) (name : ℕ) (f : Faulty C) : Type 0
   core : lent_name f ≡ name
 
 one_call :
-    {C : Type 0} (gives : Meaning C) (rows : List Row) (name : ℕ) (before : Faulty C) (told : Notice) (s : State) (list : List Record) (after : Faulty C)
+    {C : Type 0} (gives : Meaning C) (rows : List Row) (name : ℕ) (before : Faulty C) (told : Told) (s : State) (list : List Record) (after : Faulty C)
     → Keeps rows name before → spoiled_call gives before told s list after
     → Keeps rows name after × spoiled rows gives (inside before) told s list (inside after)
 one_call gives rows name before told s list after keeps h = (
@@ -106,14 +106,14 @@ pub Turns-spoiled :
     → rows_in f ≡ rows
     → (lent_name f ≡ lent_name final → after ≡ inside final)
     → (t : Turns (spoiled_call gives) m f last final)
-    → TurnsWith (spoiled rows gives) m core last after (lists_of t.log)
+    → TurnsWith (spoiled rows gives) m core last after (lists_of t.history)
 Turns-spoiled {C} gives rows m core f last final after lent script ends t =
-    let w : TurnsWith (spoiled rows gives) m (inside f) last (inside final) (lists_of t.log) × Keeps rows (lent_name f) final =
+    let w : TurnsWith (spoiled rows gives) m (inside f) last (inside final) (lists_of t.history) × Keeps rows (lent_name f) final =
     Turns-within (spoiled_call gives) (spoiled rows gives) inside (Keeps rows (lent_name f)) (record { call = one_call gives rows (lent_name f) }) m f last final (record { script = script; core = refl }) t in
     rw (← lent, ends (sym w.1.core)) w.0
 
 -- without rows, the turns of a core are its turns under the script
 pub Turns-none : {C : Type 0} (gives : Meaning C) (m : Timed) (core : C) (last : Timed) (after : C) → (t : Turns gives m core last after)
-    → TurnsWith (spoiled [] gives) m core last after (lists_of t.log)
+    → TurnsWith (spoiled [] gives) m core last after (lists_of t.history)
 Turns-none gives m core last after t =
     (Turns-within gives (spoiled [] gives) (λ c. c) (λ _. Unit {0}) (record { call = λ before told s list after k h. (tt, spoiled-none gives before told s list after h) }) m core last after tt t).0

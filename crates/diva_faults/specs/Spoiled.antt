@@ -2,8 +2,8 @@
 use Rattle.std.specs.Prelude.{◌≡◌, ℕ, List}
 use Rattle.diva_isa.specs.State.{State}
 use Rattle.diva_isa.specs.declared.record.Record.{Record}
-use Rattle.diva_core.specs.Log.{Meaning}
-use Rattle.diva_core.specs.Told.{Notice}
+use Rattle.diva_core.specs.History.{Meaning}
+use Rattle.diva_core.specs.Told.{Told}
 use Rattle.diva_faults.specs.declared.rows.Row.{Row}
 use Rattle.diva_faults.specs.declared.faulty.Faulty.{Faulty}
 use Rattle.diva_faults.specs.Lists.{scripted}
@@ -31,7 +31,7 @@ abbrev pub rows_in : {C : Type 0} → Faulty C → List Row
 rows_in f = f.script.now
 
 -- a call: the core that was lent was asked, and the script laid over its list; both stay the same
-pub record IsSpoiledCall {C : Type 0} (gives : Meaning C) (before : Faulty C) (told : Notice) (s : State) (list : List Record) (after : Faulty C) : Type 0 where
+pub record IsSpoiledCall {C : Type 0} (gives : Meaning C) (before : Faulty C) (told : Told) (s : State) (list : List Record) (after : Faulty C) : Type 0 where
   pub spoils : spoiled (rows_in before) gives (inside before) told s list (inside after)
   pub same_script : rows_in after ≡ rows_in before
   pub same_core : lent_name after ≡ lent_name before

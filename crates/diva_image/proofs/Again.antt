@@ -8,7 +8,7 @@ use Rattle.byteorder.specs.Numbers.{little_number-reads_back}
 use Rattle.diva_image.specs.declared.header.Header.{Header}
 use Rattle.diva_image.specs.declared.image.Image.{Image}
 use Rattle.diva_image.specs.Layout.{Layout, IsLayout}
-use Rattle.diva_image.specs.View.{layout, Reads}
+use Rattle.diva_image.specs.ImageLayout.{layout, Reads}
 use Rattle.diva_image.specs.Images.{word_at, header_of, start_fault, header_fault, length_fault, fault_of, image_of, bytes_of}
 
 header_sound : (h : Header) → IsLayout h.base h.size h.entry h.len → header_fault h ≡ None

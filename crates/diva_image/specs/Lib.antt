@@ -1,5 +1,5 @@
 -- What the contracts of this crate cite.
 pub mod Images
 pub mod Layout
-pub mod View
+pub mod ImageLayout
 pub mod Whole

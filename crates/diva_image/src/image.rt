@@ -21,7 +21,7 @@ pub struct Image {
 
 impl Image {
     ghost use Rattle.diva_image.specs.Images.{image_from};
-    ghost use Rattle.diva_image.specs.View.{layout};
+    ghost use Rattle.diva_image.specs.ImageLayout.{layout};
 
     /// The image of these parts, `None` exactly where they break one of its rules.
     #[tactic(auto, using(crate::proofs::Rules::too_long))]

@@ -2,7 +2,7 @@
 ghost use Rattle.std.specs.Prelude.{◌≡◌, ◌≤◌, length, IsNone};
 ghost use Rattle.diva_image.specs.Images.{start_fault, length_fault, fault_of, header_of};
 ghost use Rattle.diva_image.specs.Whole.{IsWhole};
-ghost use Rattle.diva_image.specs.View.{Reads};
+ghost use Rattle.diva_image.specs.ImageLayout.{Reads};
 
 use crate::fault::{Fault, Kind};
 use crate::header::Header;

@@ -2,7 +2,7 @@
 ghost use Rattle.std.specs.Prelude.{◌≡◌, ◌++◌, IfOk, Ok, OnOk};
 ghost use Rattle.byteorder.specs.Endian.{little_bytes};
 ghost use Rattle.diva_image.specs.Images.{bytes_of};
-ghost use Rattle.diva_image.specs.View.{layout, Reads};
+ghost use Rattle.diva_image.specs.ImageLayout.{layout, Reads};
 
 use crate::Image;
 use crate::reading::{HEADER, MAGIC, VERSION};

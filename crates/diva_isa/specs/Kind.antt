@@ -1,17 +1,17 @@
 -- The kind of each operation: what its record has in common with others.
 use Rattle.std.specs.Prelude.{ℕ, Bool, true, false}
 use Rattle.diva_decode.specs.declared.op.Op.{Op}
-use Rattle.diva_decode.specs.declared.op.Op.TheVariants.{Lui, Auipc, Jal, Jalr, Beq, Bne, Blt, Bge, Bltu, Bgeu, Lb, Lh, Lw, Lbu, Lhu, Sb, Sh, Sw, Addi, Slti, Sltiu, Xori, Ori, Andi, Slli, Srli, Srai, Add, Sub, Sll, Slt, Sltu, Xor, Srl, Sra, Or, And, Fence as FenceOp, Ecall, Ebreak, Mul, Mulh, Mulhsu, Mulhu, Div, Divu, Rem, Remu}
+use Rattle.diva_decode.specs.declared.op.Op.TheVariants.{Lui as LuiOp, Auipc as AuipcOp, Jal as JalOp, Jalr as JalrOp, Beq, Bne, Blt, Bge, Bltu, Bgeu, Lb, Lh, Lw, Lbu, Lhu, Sb, Sh, Sw, Addi, Slti, Sltiu, Xori, Ori, Andi, Slli, Srli, Srai, Add, Sub, Sll, Slt, Sltu, Xor, Srl, Sra, Or, And, Fence as FenceOp, Ecall as EcallOp, Ebreak as EbreakOp, Mul, Mulh, Mulhsu, Mulhu, Div, Divu, Rem, Remu}
 use Rattle.diva_isa.specs.declared.kind.Width.{Width}
 use Rattle.diva_isa.specs.declared.kind.Width.TheVariants.{Byte, Half, Word}
 use Rattle.diva_isa.specs.declared.kind.Kind.{Kind}
-use Rattle.diva_isa.specs.declared.kind.Kind.TheVariants.{LoadUpper, AddUpper, Jump, JumpRegister, Branch, Load, Store, Immediate, Register, Fence, Call, Break}
+use Rattle.diva_isa.specs.declared.kind.Kind.TheVariants.{Lui, Auipc, Jal, Jalr, Branch, Load, Store, OpImm, OpReg, Fence, Ecall, Ebreak}
 
 abbrev pub kind : Op → Kind
-kind Lui = LoadUpper
-kind Auipc = AddUpper
-kind Jal = Jump
-kind Jalr = JumpRegister
+kind LuiOp = Lui
+kind AuipcOp = Auipc
+kind JalOp = Jal
+kind JalrOp = Jalr
 kind Beq = Branch
 kind Bne = Branch
 kind Blt = Branch
@@ -26,36 +26,36 @@ kind Lhu = Load Half
 kind Sb = Store Byte
 kind Sh = Store Half
 kind Sw = Store Word
-kind Addi = Immediate
-kind Slti = Immediate
-kind Sltiu = Immediate
-kind Xori = Immediate
-kind Ori = Immediate
-kind Andi = Immediate
-kind Slli = Immediate
-kind Srli = Immediate
-kind Srai = Immediate
-kind Add = Register
-kind Sub = Register
-kind Sll = Register
-kind Slt = Register
-kind Sltu = Register
-kind Xor = Register
-kind Srl = Register
-kind Sra = Register
-kind Or = Register
-kind And = Register
+kind Addi = OpImm
+kind Slti = OpImm
+kind Sltiu = OpImm
+kind Xori = OpImm
+kind Ori = OpImm
+kind Andi = OpImm
+kind Slli = OpImm
+kind Srli = OpImm
+kind Srai = OpImm
+kind Add = OpReg
+kind Sub = OpReg
+kind Sll = OpReg
+kind Slt = OpReg
+kind Sltu = OpReg
+kind Xor = OpReg
+kind Srl = OpReg
+kind Sra = OpReg
+kind Or = OpReg
+kind And = OpReg
 kind FenceOp = Fence
-kind Ecall = Call
-kind Ebreak = Break
-kind Mul = Register
-kind Mulh = Register
-kind Mulhsu = Register
-kind Mulhu = Register
-kind Div = Register
-kind Divu = Register
-kind Rem = Register
-kind Remu = Register
+kind EcallOp = Ecall
+kind EbreakOp = Ebreak
+kind Mul = OpReg
+kind Mulh = OpReg
+kind Mulhsu = OpReg
+kind Mulhu = OpReg
+kind Div = OpReg
+kind Divu = OpReg
+kind Rem = OpReg
+kind Remu = OpReg
 
 -- how many bytes a width is
 abbrev pub size : Width → ℕ
@@ -65,15 +65,15 @@ size Word = 4
 
 -- an operation of the kind is a load or a store
 abbrev pub moves_memory : Kind → Bool
-moves_memory LoadUpper = false
-moves_memory AddUpper = false
-moves_memory Jump = false
-moves_memory JumpRegister = false
+moves_memory Lui = false
+moves_memory Auipc = false
+moves_memory Jal = false
+moves_memory Jalr = false
 moves_memory Branch = false
 moves_memory (Load width) = true
 moves_memory (Store width) = true
-moves_memory Immediate = false
-moves_memory Register = false
+moves_memory OpImm = false
+moves_memory OpReg = false
 moves_memory Fence = false
-moves_memory Call = false
-moves_memory Break = false
+moves_memory Ecall = false
+moves_memory Ebreak = false

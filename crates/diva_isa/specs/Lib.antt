@@ -5,4 +5,4 @@ pub mod Alu
 pub mod Regs
 pub mod Step
 pub mod Trap
-pub mod Run
+pub mod Plain

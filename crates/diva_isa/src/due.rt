@@ -5,7 +5,7 @@ ghost use Rattle.std.specs.Option.{option_and_then};
 ghost use Rattle.diva_decode.specs.Table.{HasRegisters, row_of};
 ghost use Rattle.diva_isa.specs.State.{State, word_of};
 ghost use Rattle.diva_isa.specs.Kind.{kind, moves_memory, size};
-ghost use Rattle.diva_isa.specs.Step.{address, call, ended, going, halt, load, outcome, outcome_of, record_of, source1, source2, source1_of, source2_of, address_of, store, to_target, trap, whole};
+ghost use Rattle.diva_isa.specs.Step.{address, call, ended, continues, halt, load, outcome, outcome_of, record_of, source1, source2, source1_of, source2_of, address_of, store, jumps_to, trap, record_with};
 ghost use Rattle.diva_isa.specs.Trap.{trap_number};
 
 use crate::arithmetic::{alu, branch_taken, load_value};
@@ -27,12 +27,12 @@ pub fn record_of<L: Look>(state: &L) -> Record
     ensures { result ≡ record_of (L.shows state.now) }
 {
     let fetched = fetch(state);
-    record_by(state, fetched, form_of(fetched))
+    record_by(state, fetched, decoded_of(fetched))
 }
 
 /// What a fetched word says, `None` where there is none or it is not one of the table.
-pub fn form_of(fetched: Option<u32>) -> Option<Instr>
-    ensures form { result ≡ option_and_then row_of fetched }
+pub fn decoded_of(fetched: Option<u32>) -> Option<Instr>
+    ensures decoded { result ≡ option_and_then row_of fetched }
     ensures registers { IfSome result HasRegisters }
 {
     match fetched {
@@ -41,20 +41,20 @@ pub fn form_of(fetched: Option<u32>) -> Option<Instr>
     }
 }
 
-/// The same record, where the word of the next instruction was fetched already: `form` is what it says.
+/// The same record, where the word of the next instruction was fetched already: `decoded` is what it says.
 #[tactic(auto, unfolding(crate::specs::Step::record_of))]
-pub fn record_by<L: Look>(state: &L, fetched: Option<u32>, form: Option<Instr>) -> Record
+pub fn record_by<L: Look>(state: &L, fetched: Option<u32>, decoded: Option<Instr>) -> Record
     requires word { let s = L.shows state.now in fetched ≡ word_of s s.pc }
-    requires form { form ≡ option_and_then row_of fetched }
-    requires registers { IfSome form HasRegisters }
+    requires decoded { decoded ≡ option_and_then row_of fetched }
+    requires registers { IfSome decoded HasRegisters }
     ensures { result ≡ record_of (L.shows state.now) }
 {
     let word = fetched.unwrap_or(0);
-    match form {
+    match decoded {
         // The kinds that programs have most of are told apart first: what is done for such a kind is then one piece.
         Some(i) => match kind_of(i.op) {
-            Kind::Immediate => record_as(state, word, &i, Kind::Immediate),
-            Kind::Register => record_as(state, word, &i, Kind::Register),
+            Kind::OpImm => record_as(state, word, &i, Kind::OpImm),
+            Kind::OpReg => record_as(state, word, &i, Kind::OpReg),
             Kind::Branch => record_as(state, word, &i, Kind::Branch),
             kind => record_as(state, word, &i, kind),
         },
@@ -68,7 +68,7 @@ fn record_as<L: Look>(state: &L, word: u32, i: &Instr, kind: Kind) -> Record
     requires { HasRegisters i.now }
     ensures { let s = L.shows state.now in let a = source1 kind s i.now in let b = source2 kind s i.now in
         let addr = address kind i.now a in
-        result ≡ whole s.pc word a b addr (outcome kind s i.now s.pc a b addr) }
+        result ≡ record_with s.pc word a b addr (outcome kind s i.now s.pc a b addr) }
 {
     let read = reads(state, i, kind);
     let r = Record {
@@ -92,14 +92,14 @@ fn unread(pc: u32, fetched: Option<u32>) -> Record
     ensures { (s : State) → s.pc ≡ pc → word_of s pc ≡ fetched → result ≡ record_of s }
 {
     match fetched {
-        Some(word) => trap_before(pc, word, Trap::Illegal),
-        None => trap_before(pc, 0, Trap::FetchOutside),
+        Some(word) => trap_before(pc, word, Trap::IllegalInstruction),
+        None => trap_before(pc, 0, Trap::InstructionAccessFault),
     }
 }
 
 /// The record of an instruction that traps before it is known what it is.
 fn trap_before(pc: u32, word: u32, cause: Trap) -> Record
-    ensures { result ≡ whole pc word 0 0 0 (ended pc (trap (trap_number cause))) }
+    ensures { result ≡ record_with pc word 0 0 0 (ended pc (trap cause)) }
 {
     let r = Record {
         pc,
@@ -122,14 +122,14 @@ pub fn fetch<L: Look>(state: &L) -> Option<u32>
     state.word(state.pc())
 }
 
-/// The words that an instruction reads: `form` is what its word says, and both are 0 where that is `None`.
+/// The words that an instruction reads: `decoded` is what its word says, and both are 0 where that is `None`.
 #[inline(always)]
-pub fn sources<L: Look>(state: &L, form: Option<Instr>) -> Operands
-    requires { IfSome form HasRegisters }
+pub fn sources<L: Look>(state: &L, decoded: Option<Instr>) -> Operands
+    requires { IfSome decoded HasRegisters }
     ensures { let s = L.shows state.now in
-        result ≡ record { first = source1_of form s; second = source2_of form s } }
+        result ≡ record { first = source1_of decoded s; second = source2_of decoded s } }
 {
-    match form {
+    match decoded {
         Some(i) => reads(state, &i, kind_of(i.op)),
         None => Operands {
             first: 0,
@@ -145,26 +145,26 @@ fn reads<L: Look>(state: &L, i: &Instr, kind: Kind) -> Operands
         result ≡ record { first = source1 kind s i.now; second = source2 kind s i.now } }
 {
     match kind {
-        Kind::LoadUpper | Kind::AddUpper | Kind::Jump | Kind::Fence | Kind::Break => Operands {
+        Kind::Lui | Kind::Auipc | Kind::Jal | Kind::Fence | Kind::Ebreak => Operands {
             first: 0,
             second: 0,
         },
-        Kind::JumpRegister | Kind::Load(_) | Kind::Immediate => Operands {
+        Kind::Jalr | Kind::Load(_) | Kind::OpImm => Operands {
             first: state.reg(i.rs1),
             second: 0,
         },
-        Kind::Branch | Kind::Store(_) | Kind::Register => state.operands(i.rs1, i.rs2),
-        Kind::Call => state.operands(17, 10),
+        Kind::Branch | Kind::Store(_) | Kind::OpReg => state.operands(i.rs1, i.rs2),
+        Kind::Ecall => state.operands(17, 10),
     }
 }
 
 /// The address of a load or a store that reads `base`: the sum with its immediate, modulo 2^32. It is 0 of another
-/// instruction, and where `form`, what the word says, is `None`.
+/// instruction, and where `decoded`, what the word says, is `None`.
 #[inline(always)]
-pub fn address(form: Option<Instr>, base: u32) -> u32
-    ensures { result ≡ address_of form base }
+pub fn address(decoded: Option<Instr>, base: u32) -> u32
+    ensures { result ≡ address_of decoded base }
 {
-    match form {
+    match decoded {
         Some(i) => address_as(&i, base, kind_of(i.op)),
         None => 0,
     }
@@ -181,8 +181,8 @@ fn address_as(i: &Instr, base: u32, kind: Kind) -> u32
 }
 
 #[inline(always)]
-fn going(pc: u32, value: u32) -> Outcome
-    ensures { result ≡ going pc value }
+fn continues(pc: u32, value: u32) -> Outcome
+    ensures { result ≡ continues pc value }
 {
     Outcome {
         value,
@@ -193,7 +193,7 @@ fn going(pc: u32, value: u32) -> Outcome
 
 #[inline(always)]
 fn trapped(pc: u32, cause: Trap) -> Outcome
-    ensures { result ≡ ended pc (trap (trap_number cause)) }
+    ensures { result ≡ ended pc (trap cause) }
 {
     Outcome {
         value: 0,
@@ -214,8 +214,8 @@ fn halted(pc: u32, status: u32) -> Outcome
     }
 }
 
-fn to_target(pc: u32, value: u32, target: u32) -> Outcome
-    ensures { result ≡ to_target pc value target }
+fn jumps_to(pc: u32, value: u32, target: u32) -> Outcome
+    ensures { result ≡ jumps_to pc value target }
 {
     if target % 4 == 0 {
         Outcome {
@@ -224,7 +224,7 @@ fn to_target(pc: u32, value: u32, target: u32) -> Outcome
             end: 0,
         }
     } else {
-        trapped(pc, Trap::TargetMisaligned)
+        trapped(pc, Trap::InstructionMisaligned)
     }
 }
 
@@ -236,8 +236,8 @@ fn load<L: Look>(state: &L, r: &Record, op: Op, width: Width) -> Outcome
         return trapped(r.pc, Trap::LoadMisaligned);
     }
     match state.number(r.addr, width) {
-        Some(number) => going(r.pc, load_value(op, number)),
-        None => trapped(r.pc, Trap::LoadOutside),
+        Some(number) => continues(r.pc, load_value(op, number)),
+        None => trapped(r.pc, Trap::LoadAccessFault),
     }
 }
 
@@ -249,9 +249,9 @@ fn store<L: Look>(state: &L, r: &Record, width: Width) -> Outcome
         return trapped(r.pc, Trap::StoreMisaligned);
     }
     if !state.has(r.addr, width) {
-        return trapped(r.pc, Trap::StoreOutside);
+        return trapped(r.pc, Trap::StoreAccessFault);
     }
-    going(r.pc, low_bytes(r.src2, width))
+    continues(r.pc, low_bytes(r.src2, width))
 }
 
 fn low_bytes(word: u32, width: Width) -> u32
@@ -269,20 +269,20 @@ fn call<L: Look>(state: &L, r: &Record) -> Outcome
     ensures { result ≡ call (L.shows state.now) r.now.pc r.now.src1 r.now.src2 }
 {
     match r.src1 {
-        PUT if state.out_len() < OUTPUT_LIMIT => going(r.pc, r.src2 & 0xff),
+        PUT if state.out_len() < OUTPUT_LIMIT => continues(r.pc, r.src2 & 0xff),
         PUT => trapped(r.pc, Trap::OutputFull),
         HALT => halted(r.pc, r.src2 & 0xff),
         _ => trapped(r.pc, Trap::CallNotServed),
     }
 }
 
-/// What an instruction comes to, by the first five fields of its record, by whether its word is there, and by `form`,
+/// What an instruction comes to, by the first five fields of its record, by whether its word is there, and by `decoded`,
 /// what the word says.
 #[inline(always)]
-pub fn finish<L: Look>(state: &L, there: bool, form: Option<Instr>, r: &Record) -> Outcome
-    ensures { result ≡ outcome_of there form (L.shows state.now) r.now.pc r.now.src1 r.now.src2 r.now.addr }
+pub fn finish<L: Look>(state: &L, there: bool, decoded: Option<Instr>, r: &Record) -> Outcome
+    ensures { result ≡ outcome_of there decoded (L.shows state.now) r.now.pc r.now.src1 r.now.src2 r.now.addr }
 {
-    match form {
+    match decoded {
         Some(i) => come_to(state, &i, r, kind_of(i.op)),
         None => not_read(r.pc, there),
     }
@@ -293,9 +293,9 @@ fn not_read(pc: u32, there: bool) -> Outcome
     ensures { (s : State) (a : ℕ) (b : ℕ) (addr : ℕ) → result ≡ outcome_of there None s pc a b addr }
 {
     if there {
-        trapped(pc, Trap::Illegal)
+        trapped(pc, Trap::IllegalInstruction)
     } else {
-        trapped(pc, Trap::FetchOutside)
+        trapped(pc, Trap::InstructionAccessFault)
     }
 }
 
@@ -306,7 +306,7 @@ fn come_to<L: Look>(state: &L, i: &Instr, r: &Record, kind: Kind) -> Outcome
     match kind {
         Kind::Load(width) => load(state, r, i.op, width),
         Kind::Store(width) => store(state, r, width),
-        Kind::Call => call(state, r),
+        Kind::Ecall => call(state, r),
         kind => compute(kind, i, r),
     }
 }
@@ -318,7 +318,7 @@ pub fn execute<L: Look>(state: &L, i: &Instr, r: &Record) -> Outcome
         → result ≡ outcome (kind i.now.op) s i.now r.now.pc r.now.src1 r.now.src2 r.now.addr }
 {
     match kind_of(i.op) {
-        Kind::Call => call(state, r),
+        Kind::Ecall => call(state, r),
         kind => compute(kind, i, r),
     }
 }
@@ -326,21 +326,23 @@ pub fn execute<L: Look>(state: &L, i: &Instr, r: &Record) -> Outcome
 // The same of an instruction that does not call the environment either: no state is looked at.
 #[inline(always)]
 fn compute(kind: Kind, i: &Instr, r: &Record) -> Outcome
-    ensures { (s : State) → moves_memory kind ≡ false → kind ≢ Kind.Call
+    ensures { (s : State) → moves_memory kind ≡ false → kind ≢ Kind.Ecall
         → result ≡ outcome kind s i.now r.now.pc r.now.src1 r.now.src2 r.now.addr }
 {
     let imm = i.imm.cast_unsigned();
     match kind {
-        Kind::LoadUpper => going(r.pc, imm),
-        Kind::AddUpper => going(r.pc, r.pc.wrapping_add(imm)),
-        Kind::Jump => to_target(r.pc, r.pc.wrapping_add(4), r.pc.wrapping_add(imm)),
-        Kind::JumpRegister => to_target(r.pc, r.pc.wrapping_add(4), r.src1.wrapping_add(imm) & !1),
+        Kind::Lui => continues(r.pc, imm),
+        Kind::Auipc => continues(r.pc, r.pc.wrapping_add(imm)),
+        Kind::Jal => jumps_to(r.pc, r.pc.wrapping_add(4), r.pc.wrapping_add(imm)),
+        Kind::Jalr => jumps_to(r.pc, r.pc.wrapping_add(4), r.src1.wrapping_add(imm) & !1),
         Kind::Branch if branch_taken(i.op, r.src1, r.src2) => {
-            to_target(r.pc, 0, r.pc.wrapping_add(imm))
+            jumps_to(r.pc, 0, r.pc.wrapping_add(imm))
         }
-        Kind::Immediate => going(r.pc, alu(i.op, r.src1, imm)),
-        Kind::Register => going(r.pc, alu(i.op, r.src1, r.src2)),
-        Kind::Break => trapped(r.pc, Trap::Breakpoint),
-        Kind::Branch | Kind::Fence | Kind::Load(_) | Kind::Store(_) | Kind::Call => going(r.pc, 0),
+        Kind::OpImm => continues(r.pc, alu(i.op, r.src1, imm)),
+        Kind::OpReg => continues(r.pc, alu(i.op, r.src1, r.src2)),
+        Kind::Ebreak => trapped(r.pc, Trap::Breakpoint),
+        Kind::Branch | Kind::Fence | Kind::Load(_) | Kind::Store(_) | Kind::Ecall => continues(
+            r.pc, 0,
+        ),
     }
 }

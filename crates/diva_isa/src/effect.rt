@@ -46,23 +46,23 @@ pub fn effect_of(r: &Record) -> Effect
     effect_by(decode(r.word), r)
 }
 
-/// The same of a record whose word was decoded already: `form` is what it says.
+/// The same of a record whose word was decoded already: `decoded` is what it says.
 #[inline]
-pub fn effect_by(form: Option<Instr>, r: &Record) -> Effect
-    ensures effect { result ≡ effect_by form r.now }
-    ensures register { IfSome form HasRegisters → HasRegister result }
+pub fn effect_by(decoded: Option<Instr>, r: &Record) -> Effect
+    ensures effect { result ≡ effect_by decoded r.now }
+    ensures register { IfSome decoded HasRegisters → HasRegister result }
 {
-    let Some(i) = form else {
+    let Some(i) = decoded else {
         return Effect::Nothing;
     };
     match kind_of(i.op) {
-        Kind::LoadUpper
-        | Kind::AddUpper
-        | Kind::Jump
-        | Kind::JumpRegister
+        Kind::Lui
+        | Kind::Auipc
+        | Kind::Jal
+        | Kind::Jalr
         | Kind::Load(_)
-        | Kind::Immediate
-        | Kind::Register => Effect::Writes {
+        | Kind::OpImm
+        | Kind::OpReg => Effect::Writes {
             rd: i.rd,
             value: r.value,
         },
@@ -71,7 +71,7 @@ pub fn effect_by(form: Option<Instr>, r: &Record) -> Effect
             addr: r.addr,
             value: r.value,
         },
-        Kind::Call if r.src1 == PUT => Effect::Puts((r.value & 0xff) as u8),
-        Kind::Call | Kind::Branch | Kind::Fence | Kind::Break => Effect::Nothing,
+        Kind::Ecall if r.src1 == PUT => Effect::Puts((r.value & 0xff) as u8),
+        Kind::Ecall | Kind::Branch | Kind::Fence | Kind::Ebreak => Effect::Nothing,
     }
 }

@@ -33,13 +33,13 @@ impl Width {
 #[derive(Clone, Copy, Debug, PartialEq, Eq)]
 pub enum Kind {
     /// LUI.
-    LoadUpper,
+    Lui,
     /// AUIPC.
-    AddUpper,
+    Auipc,
     /// JAL.
-    Jump,
+    Jal,
     /// JALR.
-    JumpRegister,
+    Jalr,
     /// A conditional branch.
     Branch,
     /// A load of so many bytes.
@@ -47,15 +47,15 @@ pub enum Kind {
     /// A store of so many bytes.
     Store(Width),
     /// An operation on a register and an immediate.
-    Immediate,
+    OpImm,
     /// An operation on two registers.
-    Register,
+    OpReg,
     /// FENCE.
     Fence,
     /// ECALL.
-    Call,
+    Ecall,
     /// EBREAK.
-    Break,
+    Ebreak,
 }
 
 impl Kind {
@@ -77,10 +77,10 @@ pub fn kind_of(op: Op) -> Kind
     ensures { result ≡ kind op }
 {
     match op {
-        Op::Lui => Kind::LoadUpper,
-        Op::Auipc => Kind::AddUpper,
-        Op::Jal => Kind::Jump,
-        Op::Jalr => Kind::JumpRegister,
+        Op::Lui => Kind::Lui,
+        Op::Auipc => Kind::Auipc,
+        Op::Jal => Kind::Jal,
+        Op::Jalr => Kind::Jalr,
         Op::Beq | Op::Bne | Op::Blt | Op::Bge | Op::Bltu | Op::Bgeu => Kind::Branch,
         Op::Lb | Op::Lbu => Kind::Load(Width::Byte),
         Op::Lh | Op::Lhu => Kind::Load(Width::Half),
@@ -96,10 +96,10 @@ pub fn kind_of(op: Op) -> Kind
         | Op::Andi
         | Op::Slli
         | Op::Srli
-        | Op::Srai => Kind::Immediate,
+        | Op::Srai => Kind::OpImm,
         Op::Fence => Kind::Fence,
-        Op::Ecall => Kind::Call,
-        Op::Ebreak => Kind::Break,
-        _ => Kind::Register,
+        Op::Ecall => Kind::Ecall,
+        Op::Ebreak => Kind::Ebreak,
+        _ => Kind::OpReg,
     }
 }

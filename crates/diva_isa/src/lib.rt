@@ -26,10 +26,11 @@ mod regs;
 mod trap;
 
 pub use arithmetic::{alu, branch_taken, load_value};
-pub use due::{address, execute, fetch, finish, form_of, record_by, record_of, sources};
+pub use due::{address, decoded_of, execute, fetch, finish, record_by, record_of, sources};
 pub use effect::{Effect, effect_by, effect_of};
 pub use kind::{Kind, Width, kind_of};
 pub use look::Look;
 pub use plain::Plain;
 pub use record::{OUTPUT_LIMIT, Operands, Outcome, Record};
 pub use regs::Regs;
+pub use trap::Trap;

@@ -3,7 +3,7 @@
 ghost use Rattle.std.specs.Prelude.{◌≡◌, ◌+◌, ◌-◌, ◌<◌, ◌≤◌, ◌^◌, [], ◌++◌, IsSome, ◌↔◌, IfSome, IfOk, length, replicate, if◌then◌else◌};
 ghost use Rattle.diva_memory.specs.Bytes.{IsInside};
 ghost use Rattle.diva_isa.specs.Kind.{size};
-ghost use Rattle.diva_isa.specs.Run.{done};
+ghost use Rattle.diva_isa.specs.Plain.{done};
 ghost use Rattle.diva_isa.specs.State.{GoesOn, byte_of, goes_on, memory_of, reg_of};
 ghost use Rattle.diva_isa.specs.Step.{HasRoom, apply, effect_of, record_of, step, steps, with_bytes, with_effect};
 
@@ -30,9 +30,9 @@ pub struct Plain {
 
 impl Model for Plain {
     ghost use Rattle.std.specs.Prelude.{◌≤◌, length, vec_capacity};
-    ghost use Rattle.diva_isa.specs.Run.{Run};
+    ghost use Rattle.diva_isa.specs.Plain.{Plain};
 
-    ghost Value = { Run };
+    ghost Value = { Plain };
 
     ghost view = { λ p. record {
       state = record { regs = p.regs; pc = p.pc; base = p.memory.base; bytes = p.memory.items; output = p.output.items; end = p.end };

@@ -3,26 +3,26 @@
 ghost use Rattle.std.specs.Prelude.{◌≡◌};
 ghost use Rattle.diva_isa.specs.Trap.{trap_number};
 
-/// Why the machine ends other than by a halt. Up to `StoreOutside` they are numbered as the causes of the RISC-V
+/// Why the machine ends other than by a halt. Up to `StoreAccessFault` they are numbered as the causes of the RISC-V
 /// Privileged ISA, "Machine Cause Register"; the others are this machine's own.
 #[derive(Clone, Copy)]
 pub enum Trap {
     /// The target of a jump, or of a branch that is taken, is no multiple of 4.
-    TargetMisaligned,
+    InstructionMisaligned,
     /// No word stands at the pc.
-    FetchOutside,
+    InstructionAccessFault,
     /// The word is not one of the table.
-    Illegal,
+    IllegalInstruction,
     /// EBREAK.
     Breakpoint,
     /// The address of a load is no multiple of its width.
     LoadMisaligned,
     /// A byte of a load is outside memory.
-    LoadOutside,
+    LoadAccessFault,
     /// The address of a store is no multiple of its width.
     StoreMisaligned,
     /// A byte of a store is outside memory.
-    StoreOutside,
+    StoreAccessFault,
     /// ECALL asks for a service that is neither 1 nor 93.
     CallNotServed,
     /// ECALL puts a byte, and the output is full.
@@ -35,14 +35,14 @@ impl Trap {
         ensures { result ≡ trap_number self }
     {
         match self {
-            Trap::TargetMisaligned => 0,
-            Trap::FetchOutside => 1,
-            Trap::Illegal => 2,
+            Trap::InstructionMisaligned => 0,
+            Trap::InstructionAccessFault => 1,
+            Trap::IllegalInstruction => 2,
             Trap::Breakpoint => 3,
             Trap::LoadMisaligned => 4,
-            Trap::LoadOutside => 5,
+            Trap::LoadAccessFault => 5,
             Trap::StoreMisaligned => 6,
-            Trap::StoreOutside => 7,
+            Trap::StoreAccessFault => 7,
             Trap::CallNotServed => 8,
             Trap::OutputFull => 9,
         }

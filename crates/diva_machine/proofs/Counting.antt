@@ -6,16 +6,16 @@ use Rattle.diva_isa.specs.declared.record.Record.{Record}
 use Rattle.diva_isa.specs.Step.{steps}
 use Rattle.diva_core.specs.Timed.{Timed}
 use Rattle.diva_core.specs.Cycle.{cycle_of, run_of, accepts, begun, commits, counted, drained, flushed, watched}
-use Rattle.diva_core.specs.Log.{IsLog, Meaning, Turns, lists_of}
+use Rattle.diva_core.specs.History.{IsHistory, Meaning, Turns, lists_of}
 use Rattle.diva_core.specs.Machine.{IsMachine}
 use Rattle.diva_core.specs.Headline.{KeepsPace, Rises}
 use Rattle.diva_core.proofs.Keeping.{stays}
 use Rattle.diva_core.proofs.Outcomes.{any-base, by-cases, rises}
 use Rattle.diva_core.proofs.Phases.{bark}
-use Rattle.diva_core.proofs.Progressing.{run-sizes, same-sizes}
+use Rattle.diva_core.proofs.Progressing.{run-config, same-config}
 use Rattle.diva_core.proofs.Reaching.{run-off}
 use Rattle.diva_core.proofs.Steps.{steps-shift}
-use Rattle.diva_core.proofs.Turning.{IsLog-run}
+use Rattle.diva_core.proofs.Turning.{IsHistory-run}
 use Rattle.diva_machine.specs.declared.ends.Reach.TheVariants.{Reached, Ended, Budget}
 use Rattle.diva_machine.specs.Counts.{StopsAtOnce, reach_of}
 use Rattle.diva_machine.proofs.Fronts.{watched-count}
@@ -78,9 +78,9 @@ module _ (target : ℕ) (m : Timed) where
 
 -- ---- one cycle
 
-cycle-few : (m : Timed) (list : List Record) → IsMachine m → (cycle_of m list).count ≤ m.count + m.sizes.width
+cycle-few : (m : Timed) (list : List Record) → IsMachine m → (cycle_of m list).count ≤ m.count + m.config.width
 cycle-few m list inv =
-    by-cases (λ n. n.count ≤ m.count + m.sizes.width) m list inv
+    by-cases (λ n. n.count ≤ m.count + m.config.width) m list inv
     (λ on c. let a = any-base m list _ c in let e = a.base.counted in let f = a.base.few in omega arith)
     (λ off. omega arith)
 
@@ -110,7 +110,7 @@ ending-counts m last r on off =
 
 -- ---- a turn from a machine that is below the count and goes on
 
-module _ (target : ℕ) (m mid : Timed) (list : List Record) (last : Timed) (inv : IsMachine mid) (one : mid.sizes.width ≡ 1) (is : last ≡ cycle_of mid list)
+module _ (target : ℕ) (m mid : Timed) (list : List Record) (last : Timed) (inv : IsMachine mid) (one : mid.config.width ≡ 1) (is : last ≡ cycle_of mid list)
     (below : mid.count ≤ target) (opened : reach_of target mid ≡ Budget) where
   on : goes_on mid.arch ≡ true
   on = (budget-open target mid below opened).1
@@ -169,25 +169,25 @@ going-step m n total r few on later (suc j) h =
     ]
 
 -- each instruction that a machine of width 1 counted was one of a state that went on
-run-going : (lists : List (List Record)) (m : Timed) → IsMachine m → m.sizes.width ≡ 1 → (j : ℕ) → j < (run_of m lists).count - m.count → goes_on (steps j m.arch) ≡ true
+run-going : (lists : List (List Record)) (m : Timed) → IsMachine m → m.config.width ≡ 1 → (j : ℕ) → j < (run_of m lists).count - m.count → goes_on (steps j m.arch) ≡ true
 run-going [] m inv one j h = absurd (omega arith)
 run-going (list ∷ rest) m inv one j h =
-    let few : (cycle_of m list).count ≤ m.count + m.sizes.width = cycle-few m list inv in
+    let few : (cycle_of m list).count ≤ m.count + m.config.width = cycle-few m list inv in
     elim (cases_Bool (goes_on m.arch)) [
       | inr off ↦ absurd (let same : (run_of m (list ∷ rest)).count ≡ m.count = ap (λ z. z.count) (run-off (list ∷ rest) m off) in omega arith)
       | inl on ↦ going-step m (cycle_of m list) (run_of (cycle_of m list) rest).count (rises m list inv) (omega arith) on
-          (run-going rest (cycle_of m list) (stays m list inv) (ap (λ z. z.width) (same-sizes m list inv) ∙ one)) j h
+          (run-going rest (cycle_of m list) (stays m list inv) (ap (λ z. z.width) (same-config m list inv) ∙ one)) j h
     ]
 
 module _ {C : Type 0} (gives : Meaning C) (m : Timed) (core : C) (last : Timed) (final : C) (inv : IsMachine m) (t : Turns gives m core last final) where
-  reached : last ≡ run_of m (lists_of t.log)
-  reached = IsLog-run gives m core t.log last final t.good
+  reached : last ≡ run_of m (lists_of t.history)
+  reached = IsHistory-run gives m core t.history last final t.good
 
-  pub turns-sizes : last.sizes ≡ m.sizes
-  turns-sizes = ap (λ z. z.sizes) reached ∙ run-sizes m (lists_of t.log) inv
+  pub turns-config : last.config ≡ m.config
+  turns-config = ap (λ z. z.config) reached ∙ run-config m (lists_of t.history) inv
 
-  pub turns-going : m.sizes.width ≡ 1 → (k : ℕ) → k < last.count - m.count → goes_on (steps k m.arch) ≡ true
-  turns-going one k h = run-going (lists_of t.log) m inv one k (let e = ap (λ z. z.count) reached in omega arith)
+  pub turns-going : m.config.width ≡ 1 → (k : ℕ) → k < last.count - m.count → goes_on (steps k m.arch) ≡ true
+  turns-going one k h = run-going (lists_of t.history) m inv one k (let e = ap (λ z. z.count) reached in omega arith)
 
 -- where the budget is enough for the count, more cycles are not needed
 pub is_enough :
@@ -196,7 +196,7 @@ pub is_enough :
     → m.count ≤ target
     → last.cycles ≡ m.cycles + budget
     → last.count < target
-    → (target - m.count) * (m.sizes.limit + 6) ≤ budget
+    → (target - m.count) * (m.config.limit + 6) ≤ budget
     → ⊥
 is_enough m last target budget pace ahead full short enough =
     let p : m.count + (target - m.count) ≤ last.count = pace (target - m.count) (omega arith) in
@@ -204,14 +204,14 @@ is_enough m last target budget pace ahead full short enough =
 
 -- ---- turns, and turns from there on
 
-pub IsLog-then :
-    {C : Type 0} (gives : Meaning C) (m : Timed) (core : C) (log : List (List Record × C)) (mid : Timed) (between : C) (more : List (List Record × C)) (last : Timed) (final : C)
-    → IsLog gives m core log mid between
-    → IsLog gives mid between more last final
-    → IsLog gives m core (log ++ more) last final
-IsLog-then gives m core [] mid between more last final h k = rw (← h.0, ← h.1) k
-IsLog-then gives m core (turn ∷ rest) mid between more last final h k =
-    (h.0, (h.1.0, IsLog-then gives (cycle_of m turn.0) turn.1 rest mid between more last final h.1.1 k))
+pub IsHistory-then :
+    {C : Type 0} (gives : Meaning C) (m : Timed) (core : C) (history : List (List Record × C)) (mid : Timed) (between : C) (more : List (List Record × C)) (last : Timed) (final : C)
+    → IsHistory gives m core history mid between
+    → IsHistory gives mid between more last final
+    → IsHistory gives m core (history ++ more) last final
+IsHistory-then gives m core [] mid between more last final h k = rw (← h.0, ← h.1) k
+IsHistory-then gives m core (turn ∷ rest) mid between more last final h k =
+    (h.0, (h.1.0, IsHistory-then gives (cycle_of m turn.0) turn.1 rest mid between more last final h.1.1 k))
 
 pub Turns-then :
     {C : Type 0} (gives : Meaning C) (m : Timed) (core : C) (mid : Timed) (between : C) (last : Timed) (final : C)
@@ -220,7 +220,7 @@ pub Turns-then :
     → Turns gives m core last final
 Turns-then gives m core mid between last final t u =
     record {
-      log = t.log ++ u.log;
-      good = IsLog-then gives m core t.log mid between u.log last final t.good u.good;
+      history = t.history ++ u.history;
+      good = IsHistory-then gives m core t.history mid between u.history last final t.good u.good;
       each = rw length-append (let e = t.each in let f = u.each in omega arith);
     }

@@ -11,12 +11,12 @@ use Rattle.diva_core.specs.declared.differences.Diff.{Diff}
 use Rattle.diva_core.specs.declared.flushes.Cause.TheVariants.{Differs}
 use Rattle.diva_core.specs.declared.pending.Entry.{Entry}
 use Rattle.diva_core.specs.Difference.{first_difference}
-use Rattle.diva_core.specs.Timed.{Timed, Waiting}
+use Rattle.diva_core.specs.Timed.{Timed, PendingClaim}
 use Rattle.diva_core.specs.Cycle.{judged, by_front, by_difference, flushed, puts_store, accepts, counted, watched}
 use Rattle.diva_core.specs.Headline.{dues, SameLog}
 use Rattle.diva_core.proofs.Phases.{bark}
 use Rattle.diva_core.proofs.Steps.{steps-add, steps-shift}
-use Rattle.diva_machine.specs.Shown.{waiting_of, KeepsBounds}
+use Rattle.diva_machine.specs.Machine.{pending_claim_of, KeepsBounds}
 use Rattle.diva_machine.specs.Staged.{passed_by}
 
 first_is : (items : List Entry) (e : Entry) → slice_get items 0 ≡ Some e → items ≡ e ∷ drop 1 items
@@ -24,7 +24,7 @@ first_is [] e h = absurd (none-some _ h)
 first_is (x ∷ items) e h = ap (λ (y : Entry). y ∷ items) (same_Some _ _ h)
 
 -- none is judged where no claim is past the last stage
-pub front_young : (next : Timed → Timed) (m : Timed) (xs : List Waiting) → 1 ≤ m.cycles → passed_by (m.cycles - 1) xs ≡ 0 → by_front next m xs ≡ m
+pub front_young : (next : Timed → Timed) (m : Timed) (xs : List PendingClaim) → 1 ≤ m.cycles → passed_by (m.cycles - 1) xs ≡ 0 → by_front next m xs ≡ m
 front_young next m [] some h = refl
 front_young next m (p ∷ xs) some h =
     elim (cases_lt (m.cycles - 1) (p.cycle + 5)) [
@@ -32,11 +32,11 @@ front_young next m (p ∷ xs) some h =
       | inr old ↦ absurd (suc-ne-zero _ (rw (le-leb _ _ old) at h))
     ]
 
-module _ (next : Timed → Timed) (m : Timed) (items : List Entry) (e : Entry) (first : slice_get items 0 ≡ Some e) (waits : m.pending ≡ map waiting_of items) (ready : e.cycle + 6 ≤ m.cycles) where
-  pub front_is : m.pending ≡ waiting_of e ∷ map waiting_of (drop 1 items)
-  front_is = waits ∙ ap (map waiting_of) (first_is items e first)
+module _ (next : Timed → Timed) (m : Timed) (items : List Entry) (e : Entry) (first : slice_get items 0 ≡ Some e) (waits : m.pending ≡ map pending_claim_of items) (ready : e.cycle + 6 ≤ m.cycles) where
+  pub front_is : m.pending ≡ pending_claim_of e ∷ map pending_claim_of (drop 1 items)
+  front_is = waits ∙ ap (map pending_claim_of) (first_is items e first)
 
-  pub front_ready : (o : Option Diff) → first_difference e.claim (record_of m.arch) ≡ o → by_front next m m.pending ≡ by_difference next m (map waiting_of (drop 1 items)) o
+  pub front_ready : (o : Option Diff) → first_difference e.claim (record_of m.arch) ≡ o → by_front next m m.pending ≡ by_difference next m (map pending_claim_of (drop 1 items)) o
   front_ready o d = ap (by_front next m) front_is ∙ rw (le-leb (e.cycle + 6) m.cycles ready, d) refl
 
   -- it is another one than the record that is due
@@ -44,7 +44,7 @@ module _ (next : Timed → Timed) (m : Timed) (items : List Entry) (e : Entry) (
   front_differs d is = front_ready (Some d) is
 
   -- it is a store, and all stores are owed
-  pub front_held : first_difference e.claim (record_of m.arch) ≡ None → puts_store (record_of m.arch) ≡ true → (m.owed == m.sizes.stores) ≡ true → by_front next m m.pending ≡ m
+  pub front_held : first_difference e.claim (record_of m.arch) ≡ None → puts_store (record_of m.arch) ≡ true → (m.owed == m.config.stores) ≡ true → by_front next m m.pending ≡ m
   front_held is store full = front_ready None is ∙ rw (store, full) refl
 
 -- a commit is one step
@@ -95,10 +95,10 @@ SameLog-joined m n o a b = record { rows = b.rows ∙ a.rows; newest = b.newest 
 pub KeepsBounds-joined : (m n o : Timed) → SameLog m n → KeepsBounds m n → KeepsBounds n o → KeepsBounds m o
 KeepsBounds-joined m n o s a b =
     record {
-      sizes = b.sizes ∙ a.sizes;
+      config = b.config ∙ a.config;
       cycles = b.cycles ∙ a.cycles;
       idle = b.idle ∙ a.idle;
-      owed = (let e = ap (λ z. z.stores) a.sizes in let f = b.owed in omega arith);
+      owed = (let e = ap (λ z. z.stores) a.config in let f = b.owed in omega arith);
       pending = (let e = a.pending in let f = b.pending in omega arith);
       flushes = (let e = s.flushes in let f = b.flushes in omega arith);
       silent = (let e = s.silent in let f = b.silent in omega arith);

@@ -11,12 +11,12 @@ use Rattle.diva_core.specs.declared.differences.Diff.{Diff}
 use Rattle.diva_core.specs.declared.flushes.Cause.TheVariants.{Differs}
 use Rattle.diva_core.specs.Difference.{first_difference}
 use Rattle.diva_core.specs.Headline.{dues, SameLog}
-use Rattle.diva_core.specs.Timed.{Timed, Waiting}
+use Rattle.diva_core.specs.Timed.{Timed, PendingClaim}
 use Rattle.diva_core.specs.Cycle.{by_front, committed, flushed, followed, number, puts_store}
 use Rattle.diva_core.proofs.Differing.{difference-none}
 use Rattle.diva_commit.specs.Committing.{answer, is_committed}
-use Rattle.diva_machine.specs.Shown.{waiting_of, KeepsBounds}
-use Rattle.diva_machine.specs.Staged.{left, passed_by, AreChecked, AreInOrder, IsFilledSince, IsStaged, Staged}
+use Rattle.diva_machine.specs.Machine.{pending_claim_of, KeepsBounds}
+use Rattle.diva_machine.specs.Staged.{left, passed_by, AreChecked, AreInOrder, IsFilledSince, IsStaged, Parts}
 use Rattle.diva_machine.proofs.Fronts.{front_differs, front_held, front_is, front_ready, one_step}
 use Rattle.diva_machine.proofs.Answering.{held_by}
 use Rattle.diva_machine.proofs.Staging.{checked_none, checked_rest, front_form, front_verdict, get_there, order_rest, passed_at, passed_length, passed_rest}
@@ -31,11 +31,11 @@ steps_none n s = let none : n - n ≡ 0 = omega arith in sym (ap (λ (k : ℕ). 
 pub dues_none : (n : ℕ) (s : State) (rs : List Record) → rs ≡ rs ++ dues (n - n) s
 dues_none n s rs = let none : n - n ≡ 0 = omega arith in sym (ap (λ (k : ℕ). rs ++ dues k s) none ∙ append-nil rs)
 
-pub bounds_none : (m : Timed) → m.owed ≤ m.sizes.stores → KeepsBounds m m
-bounds_none m owed = record { sizes = refl; cycles = refl; idle = refl; owed = owed; pending = omega arith; flushes = omega arith; silent = omega arith }
+pub bounds_none : (m : Timed) → m.owed ≤ m.config.stores → KeepsBounds m m
+bounds_none m owed = record { config = refl; cycles = refl; idle = refl; owed = owed; pending = omega arith; flushes = omega arith; silent = omega arith }
 
 -- e is the front entry, past the last stage, in the phase that judges it
-pub record IsFront (w : Staged) (e : Entry) : Type 0 where
+pub record IsFront (w : Parts) (e : Entry) : Type 0 where
   pub first : slice_get w.entries 0 ≡ Some e
   pub ready : 0 < w.passed
   pub staged : IsStaged (w.timed.cycles - 1) w
@@ -44,14 +44,14 @@ pub record IsFront (w : Staged) (e : Entry) : Type 0 where
   pub running : w.timed.solo ≡ None
 
 -- there is one
-pub with_front : (w : Staged) (P : Type 0) → 0 < w.passed → IsStaged (w.timed.cycles - 1) w → ((e : Entry) → slice_get w.entries 0 ≡ Some e → P) → P
+pub with_front : (w : Parts) (P : Type 0) → 0 < w.passed → IsStaged (w.timed.cycles - 1) w → ((e : Entry) → slice_get w.entries 0 ≡ Some e → P) → P
 with_front w P ready s found =
     let is = s.passed ∙ ap (passed_by (w.timed.cycles - 1)) s.waits in
     let few = passed_length (w.timed.cycles - 1) w.entries in
     get_there w.entries 0 P (omega arith) found
 
-module _ (w : Staged) (e : Entry) (f : IsFront w e) where
-  passes : 0 < passed_by (w.timed.cycles - 1) (map waiting_of w.entries)
+module _ (w : Parts) (e : Entry) (f : IsFront w e) where
+  passes : 0 < passed_by (w.timed.cycles - 1) (map pending_claim_of w.entries)
   passes = let is = f.staged.passed ∙ ap (passed_by (w.timed.cycles - 1)) f.staged.waits in let some = f.ready in omega arith
 
   pub is_old : e.cycle + 6 ≤ w.timed.cycles
@@ -61,8 +61,8 @@ module _ (w : Staged) (e : Entry) (f : IsFront w e) where
   pub verdict_is : e.verdict ≡ first_difference e.claim (record_of w.timed.arch)
   verdict_is = let old = is_old in front_verdict w.timed.arch (w.timed.cycles - 1) w.entries e f.staged.checked f.first (omega arith) f.on
 
-  pub form_is : e.decoded ≡ row_of e.claim.word
-  form_is = let old = is_old in front_form w.timed.arch (w.timed.cycles - 1) w.entries e f.staged.checked f.first (omega arith)
+  pub decoded_is : e.decoded ≡ row_of e.claim.word
+  decoded_is = let old = is_old in front_form w.timed.arch (w.timed.cycles - 1) w.entries e f.staged.checked f.first (omega arith)
 
   pub claim_is : e.verdict ≡ None → e.claim ≡ record_of w.timed.arch
   claim_is none = difference-none e.claim (record_of w.timed.arch) (sym verdict_is ∙ none)
@@ -70,37 +70,37 @@ module _ (w : Staged) (e : Entry) (f : IsFront w e) where
   pub judged_differs : (next : Timed → Timed) (d : Diff) → e.verdict ≡ Some d → by_front next w.timed w.timed.pending ≡ flushed w.timed (Differs d)
   judged_differs next d some = front_differs next w.timed w.entries e f.first f.staged.waits is_old d (sym verdict_is ∙ some)
 
-  pub judged_held : (next : Timed → Timed) → e.verdict ≡ None → is_committed (answer None e.claim (w.timed.owed == w.timed.sizes.stores)) ≡ false → by_front next w.timed w.timed.pending ≡ w.timed
+  pub judged_held : (next : Timed → Timed) → e.verdict ≡ None → is_committed (answer None e.claim (w.timed.owed == w.timed.config.stores)) ≡ false → by_front next w.timed w.timed.pending ≡ w.timed
   judged_held next none held_back =
-      let held = held_by e.claim (w.timed.owed == w.timed.sizes.stores) held_back in
+      let held = held_by e.claim (w.timed.owed == w.timed.config.stores) held_back in
       front_held next w.timed w.entries e f.first f.staged.waits is_old (sym verdict_is ∙ none) (ap puts_store (sym (claim_is none)) ∙ held.0) held.1
 
   -- the front entry has committed
-  abbrev pub settled : Staged
+  abbrev pub settled : Parts
   settled = record w { timed = committed w.timed e.claim; last = w.last ++ e.claim ∷ [] }
 
   by_end : (next : Timed → Timed) (b : Bool)
-      → (let m = committed (record w.timed { pending = map waiting_of (drop 1 w.entries) }) e.claim in if b then next m else record m { pending = [] })
+      → (let m = committed (record w.timed { pending = map pending_claim_of (drop 1 w.entries) }) e.claim in if b then next m else record m { pending = [] })
       ≡ (if b then next (left b settled).timed else (left b settled).timed)
   unfolding committed
   by_end next true = refl
   by_end next false = refl
 
-  pub judged_settled : (next : Timed → Timed) → e.verdict ≡ None → (puts_store e.claim && (w.timed.owed == w.timed.sizes.stores)) ≡ false
+  pub judged_settled : (next : Timed → Timed) → e.verdict ≡ None → (puts_store e.claim && (w.timed.owed == w.timed.config.stores)) ≡ false
       → by_front next w.timed w.timed.pending ≡ (let b = goes_on settled.timed.arch in if b then next (left b settled).timed else (left b settled).timed)
   unfolding committed
   judged_settled next none room =
       let due = claim_is none in
-      let room2 : (puts_store (record_of w.timed.arch) && (w.timed.owed == w.timed.sizes.stores)) ≡ false = ap (λ (r : Record). puts_store r && (w.timed.owed == w.timed.sizes.stores)) (sym due) ∙ room in
+      let room2 : (puts_store (record_of w.timed.arch) && (w.timed.owed == w.timed.config.stores)) ≡ false = ap (λ (r : Record). puts_store r && (w.timed.owed == w.timed.config.stores)) (sym due) ∙ room in
       front_ready next w.timed w.entries e f.first f.staged.waits is_old None (sym verdict_is ∙ none)
       ∙ rw room2 refl
-      ∙ ap (λ (r : Record). followed next (committed (record w.timed { pending = map waiting_of (drop 1 w.entries) }) r)) (sym due)
+      ∙ ap (λ (r : Record). followed next (committed (record w.timed { pending = map pending_claim_of (drop 1 w.entries) }) r)) (sym due)
       ∙ by_end next (goes_on (apply w.timed.arch e.claim))
 
   pub left_staged : (b : Bool) → IsStaged ((left b settled).timed.cycles - 1) (left b settled)
   unfolding committed
   left_staged b = record { waits = waits b; checked = others b; ordered = in_order b; passed = fewer b } where
-    waits : (b : Bool) → (if b then map waiting_of (drop 1 w.entries) else []) ≡ map waiting_of (if b then drop 1 w.entries else [])
+    waits : (b : Bool) → (if b then map pending_claim_of (drop 1 w.entries) else []) ≡ map pending_claim_of (if b then drop 1 w.entries else [])
     waits true = refl
     waits false = refl
 
@@ -108,11 +108,11 @@ module _ (w : Staged) (e : Entry) (f : IsFront w e) where
     others true = checked_rest w.timed.arch (w.timed.cycles - 1) w.entries e f.staged.checked f.first
     others false = checked_none (apply w.timed.arch e.claim) (w.timed.cycles - 1)
 
-    in_order : (b : Bool) → AreInOrder 0 (w.timed.cycles - 1) (if b then map waiting_of (drop 1 w.entries) else [])
-    in_order true = subst (λ (xs : List Waiting). AreInOrder 0 (w.timed.cycles - 1) xs) (ap (drop 1) (front_is (λ m. m) w.timed w.entries e f.first f.staged.waits is_old)) (order_rest 0 (w.timed.cycles - 1) w.timed.pending f.staged.ordered)
+    in_order : (b : Bool) → AreInOrder 0 (w.timed.cycles - 1) (if b then map pending_claim_of (drop 1 w.entries) else [])
+    in_order true = subst (λ (xs : List PendingClaim). AreInOrder 0 (w.timed.cycles - 1) xs) (ap (drop 1) (front_is (λ m. m) w.timed w.entries e f.first f.staged.waits is_old)) (order_rest 0 (w.timed.cycles - 1) w.timed.pending f.staged.ordered)
     in_order false = omega arith
 
-    fewer : (b : Bool) → (if b then w.passed - 1 else 0) ≡ passed_by (w.timed.cycles - 1) (if b then map waiting_of (drop 1 w.entries) else [])
+    fewer : (b : Bool) → (if b then w.passed - 1 else 0) ≡ passed_by (w.timed.cycles - 1) (if b then map pending_claim_of (drop 1 w.entries) else [])
     fewer true =
         let is = f.staged.passed ∙ ap (passed_by (w.timed.cycles - 1)) f.staged.waits in
         ap (λ (n : ℕ). n - 1) is ∙ sym (passed_rest (w.timed.cycles - 1) w.entries passes)
@@ -148,18 +148,18 @@ module _ (w : Staged) (e : Entry) (f : IsFront w e) where
   unfolding committed
   left_log b = record { rows = refl; newest = refl; flushes = refl; silent = refl }
 
-  fewer_wait : (b : Bool) → length (if b then map waiting_of (drop 1 w.entries) else []) ≤ length w.timed.pending
-  fewer_wait true = let is = ap (λ (ps : List Waiting). length ps) (front_is (λ m. m) w.timed w.entries e f.first f.staged.waits is_old) in omega arith
+  fewer_wait : (b : Bool) → length (if b then map pending_claim_of (drop 1 w.entries) else []) ≤ length w.timed.pending
+  fewer_wait true = let is = ap (λ (ps : List PendingClaim). length ps) (front_is (λ m. m) w.timed w.entries e f.first f.staged.waits is_old) in omega arith
   fewer_wait false = omega arith
 
-  pub left_bounds : (b : Bool) → w.timed.owed ≤ w.timed.sizes.stores → (puts_store e.claim && (w.timed.owed == w.timed.sizes.stores)) ≡ false → KeepsBounds w.timed (left b settled).timed
+  pub left_bounds : (b : Bool) → w.timed.owed ≤ w.timed.config.stores → (puts_store e.claim && (w.timed.owed == w.timed.config.stores)) ≡ false → KeepsBounds w.timed (left b settled).timed
   unfolding committed
   left_bounds b owed room =
       record {
-        sizes = refl;
+        config = refl;
         cycles = refl;
         idle = refl;
-        owed = more_owed (puts_store e.claim) w.timed.owed w.timed.sizes.stores owed room;
+        owed = more_owed (puts_store e.claim) w.timed.owed w.timed.config.stores owed room;
         pending = fewer_wait b;
         flushes = omega arith;
         silent = omega arith;

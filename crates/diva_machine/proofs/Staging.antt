@@ -18,10 +18,10 @@ use Rattle.diva_core.specs.Cycle.{accepted_in, begun, drained, flushed, number}
 use Rattle.diva_core.specs.Difference.{first_difference}
 use Rattle.diva_core.specs.Older.{after, before_entry, older}
 use Rattle.diva_core.specs.Stages.{Answers, HasVerdict}
-use Rattle.diva_core.specs.Timed.{Timed, Waiting}
+use Rattle.diva_core.specs.Timed.{Timed, PendingClaim}
 use Rattle.diva_core.proofs.Bypassing.{after_goes}
-use Rattle.diva_machine.specs.Shown.{waiting_of}
-use Rattle.diva_machine.specs.Staged.{AreChecked, AreInOrder, IsAdvanced, IsChecked, IsFilled, IsSoloFilled, IsStaged, Staged, passed_by}
+use Rattle.diva_machine.specs.Machine.{pending_claim_of}
+use Rattle.diva_machine.specs.Staged.{AreChecked, AreInOrder, IsAdvanced, IsChecked, IsFilled, IsSoloFilled, IsStaged, Parts, passed_by}
 use Rattle.diva_machine.proofs.Verdicts.{form_kept, form_whole, stays_found, verdict_past, whole_verdict}
 
 -- ---- entries by place
@@ -94,10 +94,10 @@ set_same [] i e h = refl
 set_same (x ∷ xs) zero e h = ap (λ (y : Entry). y ∷ xs) (sym (same_Some _ _ h))
 set_same (x ∷ xs) (suc i) e h = ap (λ (ys : List Entry). x ∷ ys) (set_same xs i e h)
 
-pub waiting_set : (xs : List Entry) (i : ℕ) (old new : Entry) → slice_get xs i ≡ Some old → waiting_of new ≡ waiting_of old → map waiting_of (slice_set xs i new) ≡ map waiting_of xs
+pub waiting_set : (xs : List Entry) (i : ℕ) (old new : Entry) → slice_get xs i ≡ Some old → pending_claim_of new ≡ pending_claim_of old → map pending_claim_of (slice_set xs i new) ≡ map pending_claim_of xs
 waiting_set [] i old new h e = refl
-waiting_set (x ∷ xs) zero old new h e = let is : x ≡ old = same_Some _ _ h in ap (λ w. w ∷ map waiting_of xs) (e ∙ ap (λ (y : Entry). waiting_of y) (sym is))
-waiting_set (x ∷ xs) (suc i) old new h e = ap (λ ws. waiting_of x ∷ ws) (waiting_set xs i old new h e)
+waiting_set (x ∷ xs) zero old new h e = let is : x ≡ old = same_Some _ _ h in ap (λ w. w ∷ map pending_claim_of xs) (e ∙ ap (λ (y : Entry). pending_claim_of y) (sym is))
+waiting_set (x ∷ xs) (suc i) old new h e = ap (λ ws. pending_claim_of x ∷ ws) (waiting_set xs i old new h e)
 
 older_set : (xs : List Entry) (i k : ℕ) (old new : Entry) → slice_get xs i ≡ Some old → new.claim ≡ old.claim → older (slice_set xs i new) k ≡ older xs k
 older_set [] i k old new h e = refl
@@ -246,27 +246,27 @@ past_kept arch entries now at e here old adv =
 
 -- ---- claims in the order in which they were accepted
 
-order_ends : (from now : ℕ) (xs : List Waiting) → AreInOrder from now xs → from ≤ now
+order_ends : (from now : ℕ) (xs : List PendingClaim) → AreInOrder from now xs → from ≤ now
 order_ends from now [] h = h
 order_ends from now (p ∷ xs) h = let e = order_ends p.cycle now xs h.1 in let b = h.0 in omega arith
 
-pub order_at : (from now : ℕ) (es : List Entry) (k : ℕ) (e : Entry) → AreInOrder from now (map waiting_of es) → slice_get es k ≡ Some e → (from ≤ e.cycle) × (e.cycle ≤ now)
+pub order_at : (from now : ℕ) (es : List Entry) (k : ℕ) (e : Entry) → AreInOrder from now (map pending_claim_of es) → slice_get es k ≡ Some e → (from ≤ e.cycle) × (e.cycle ≤ now)
 order_at from now [] k e h at = absurd (none-some _ at)
 order_at from now (x ∷ es) zero e h at =
     let one : x ≡ e = same_Some _ _ at in
-    let ends = order_ends x.cycle now (map waiting_of es) h.1 in
+    let ends = order_ends x.cycle now (map pending_claim_of es) h.1 in
     subst (λ (y : Entry). (from ≤ y.cycle) × (y.cycle ≤ now)) one (h.0, ends)
 order_at from now (x ∷ es) (suc k) e h at = let rest = order_at x.cycle now es k e h.1 at in let low = h.0 in let r = rest.0 in (omega arith, rest.1)
 
-order_from : (from low now : ℕ) (xs : List Waiting) → low ≤ from → AreInOrder from now xs → AreInOrder low now xs
+order_from : (from low now : ℕ) (xs : List PendingClaim) → low ≤ from → AreInOrder from now xs → AreInOrder low now xs
 order_from from low now [] le h = omega arith
 order_from from low now (p ∷ xs) le h = let b = h.0 in (omega arith, h.1)
 
-pub order_rest : (from now : ℕ) (xs : List Waiting) → AreInOrder from now xs → AreInOrder from now (drop 1 xs)
+pub order_rest : (from now : ℕ) (xs : List PendingClaim) → AreInOrder from now xs → AreInOrder from now (drop 1 xs)
 order_rest from now [] h = h
 order_rest from now (p ∷ xs) h = order_from p.cycle from now xs h.0 h.1
 
-pub order_later : (from now later : ℕ) (xs : List Waiting) → now ≤ later → AreInOrder from now xs → AreInOrder from later xs
+pub order_later : (from now later : ℕ) (xs : List PendingClaim) → now ≤ later → AreInOrder from now xs → AreInOrder from later xs
 order_later from now later [] le h = omega arith
 order_later from now later (p ∷ xs) le h = (h.0, order_later p.cycle now later xs le h.1)
 
@@ -274,7 +274,7 @@ order_new : (from now : ℕ) (claims : List Record) → from ≤ now → AreInOr
 order_new from now [] h = h
 order_new from now (r ∷ claims) h = (h, order_new now now claims (omega arith))
 
-pub order_more : (from now : ℕ) (xs : List Waiting) (claims : List Record) → AreInOrder from now xs → AreInOrder from now (xs ++ map (accepted_in now) claims)
+pub order_more : (from now : ℕ) (xs : List PendingClaim) (claims : List Record) → AreInOrder from now xs → AreInOrder from now (xs ++ map (accepted_in now) claims)
 order_more from now [] claims h = order_new from now claims h
 order_more from now (p ∷ xs) claims h = (h.0, order_more p.cycle now xs claims h.1)
 
@@ -284,11 +284,11 @@ passed_new : (now : ℕ) (claims : List Record) → passed_by now (map (accepted
 passed_new now [] = refl
 passed_new now (r ∷ claims) = rw (lt-leb (now + 5) now (omega arith)) refl
 
-pub passed_more : (now : ℕ) (xs : List Waiting) (claims : List Record) → passed_by now (xs ++ map (accepted_in now) claims) ≡ passed_by now xs
+pub passed_more : (now : ℕ) (xs : List PendingClaim) (claims : List Record) → passed_by now (xs ++ map (accepted_in now) claims) ≡ passed_by now xs
 passed_more now [] claims = passed_new now claims
 passed_more now (p ∷ xs) claims = rw (passed_more now xs claims) refl
 
-pub passed_length : (now : ℕ) (es : List Entry) → passed_by now (map waiting_of es) ≤ length es
+pub passed_length : (now : ℕ) (es : List Entry) → passed_by now (map pending_claim_of es) ≤ length es
 passed_length now [] = omega arith
 passed_length now (x ∷ es) =
     let rest = passed_length now es in
@@ -297,7 +297,7 @@ passed_length now (x ∷ es) =
       | inr old ↦ rw (le-leb _ _ old) (omega arith)
     ]
 
-pub passed_later : (now : ℕ) (es : List Entry) → passed_by now (map waiting_of es) ≤ passed_by (now + 1) (map waiting_of es)
+pub passed_later : (now : ℕ) (es : List Entry) → passed_by now (map pending_claim_of es) ≤ passed_by (now + 1) (map pending_claim_of es)
 passed_later now [] = omega arith
 passed_later now (x ∷ es) =
     let rest = passed_later now es in
@@ -306,7 +306,7 @@ passed_later now (x ∷ es) =
       | inr old ↦ rw (le-leb _ _ old, le-leb (x.cycle + 5) (now + 1) (omega arith)) (omega arith)
     ]
 
-pub passed_at : (now : ℕ) (es : List Entry) (k : ℕ) (e : Entry) → k < passed_by now (map waiting_of es) → slice_get es k ≡ Some e → e.cycle + 5 ≤ now
+pub passed_at : (now : ℕ) (es : List Entry) (k : ℕ) (e : Entry) → k < passed_by now (map pending_claim_of es) → slice_get es k ≡ Some e → e.cycle + 5 ≤ now
 passed_at now [] k e lt h = absurd (none-some _ h)
 passed_at now (x ∷ es) k e lt h =
     elim (cases_lt now (x.cycle + 5)) [
@@ -317,11 +317,11 @@ passed_at now (x ∷ es) k e lt h =
     none_below : (k : ℕ) → k < 0 → ⊥
     none_below k h = omega arith
 
-    at_place : ((j : ℕ) → j < passed_by now (map waiting_of es) → slice_get es j ≡ Some e → e.cycle + 5 ≤ now) → (k : ℕ) → k < suc (passed_by now (map waiting_of es)) → slice_get (x ∷ es) k ≡ Some e → x.cycle + 5 ≤ now → e.cycle + 5 ≤ now
+    at_place : ((j : ℕ) → j < passed_by now (map pending_claim_of es) → slice_get es j ≡ Some e → e.cycle + 5 ≤ now) → (k : ℕ) → k < suc (passed_by now (map pending_claim_of es)) → slice_get (x ∷ es) k ≡ Some e → x.cycle + 5 ≤ now → e.cycle + 5 ≤ now
     at_place rest zero lt h old = subst (λ (y : Entry). y.cycle + 5 ≤ now) (same_Some _ _ h) old
     at_place rest (suc k) lt h old = rest k (omega arith) h
 
-pub unpassed_at : (from now later : ℕ) (es : List Entry) (k : ℕ) (e : Entry) → AreInOrder from later (map waiting_of es) → passed_by now (map waiting_of es) ≤ k → slice_get es k ≡ Some e → now < e.cycle + 5
+pub unpassed_at : (from now later : ℕ) (es : List Entry) (k : ℕ) (e : Entry) → AreInOrder from later (map pending_claim_of es) → passed_by now (map pending_claim_of es) ≤ k → slice_get es k ≡ Some e → now < e.cycle + 5
 unpassed_at from now later [] k e o le h = absurd (none-some _ h)
 unpassed_at from now later (x ∷ es) k e o le h =
     elim (cases_lt now (x.cycle + 5)) [
@@ -329,11 +329,11 @@ unpassed_at from now later (x ∷ es) k e o le h =
       | inr old ↦ at_place (λ j. unpassed_at x.cycle now later es j e o.1) k (rw (le-leb _ _ old) at le) h
     ]
   where
-    at_place : ((j : ℕ) → passed_by now (map waiting_of es) ≤ j → slice_get es j ≡ Some e → now < e.cycle + 5) → (k : ℕ) → suc (passed_by now (map waiting_of es)) ≤ k → slice_get (x ∷ es) k ≡ Some e → now < e.cycle + 5
+    at_place : ((j : ℕ) → passed_by now (map pending_claim_of es) ≤ j → slice_get es j ≡ Some e → now < e.cycle + 5) → (k : ℕ) → suc (passed_by now (map pending_claim_of es)) ≤ k → slice_get (x ∷ es) k ≡ Some e → now < e.cycle + 5
     at_place rest zero le h = absurd (omega arith)
     at_place rest (suc k) le h = rest k (omega arith) h
 
-pub passed_rest : (now : ℕ) (es : List Entry) → 0 < passed_by now (map waiting_of es) → passed_by now (map waiting_of (drop 1 es)) ≡ passed_by now (map waiting_of es) - 1
+pub passed_rest : (now : ℕ) (es : List Entry) → 0 < passed_by now (map pending_claim_of es) → passed_by now (map pending_claim_of (drop 1 es)) ≡ passed_by now (map pending_claim_of es) - 1
 passed_rest now [] h = refl
 passed_rest now (x ∷ es) h =
     elim (cases_lt now (x.cycle + 5)) [
@@ -345,19 +345,19 @@ passed_rest now (x ∷ es) h =
     nothing h = omega arith
 
 -- one claim more has passed through the stage of its age, and none before it is still to
-pub passed_next : (cycles at passed next : ℕ) (es : List Entry) (e : Entry) → slice_get es at ≡ Some e → AreInOrder 0 cycles (map waiting_of es)
+pub passed_next : (cycles at passed next : ℕ) (es : List Entry) (e : Entry) → slice_get es at ≡ Some e → AreInOrder 0 cycles (map pending_claim_of es)
     → cycles ≤ e.cycle + 5 → next ≡ passed + number (cycles == e.cycle + 5) → passed ≤ at
-    → (at ≤ passed_by cycles (map waiting_of es) → passed ≡ at)
-    → (passed_by cycles (map waiting_of es) ≤ at → passed ≡ passed_by cycles (map waiting_of es))
+    → (at ≤ passed_by cycles (map pending_claim_of es) → passed ≡ at)
+    → (passed_by cycles (map pending_claim_of es) ≤ at → passed ≡ passed_by cycles (map pending_claim_of es))
     → (next ≤ at + 1)
-    × ((at + 1 ≤ passed_by cycles (map waiting_of es) → next ≡ at + 1)
-    × (passed_by cycles (map waiting_of es) ≤ at + 1 → next ≡ passed_by cycles (map waiting_of es)))
+    × ((at + 1 ≤ passed_by cycles (map pending_claim_of es) → next ≡ at + 1)
+    × (passed_by cycles (map pending_claim_of es) ≤ at + 1 → next ≡ passed_by cycles (map pending_claim_of es)))
 passed_next cycles at passed next es e here order young is below early late =
     elim (eqb_tells cycles (e.cycle + 5)) [
       | inl same ↦
           let one : next ≡ passed + 1 = is ∙ ap (λ (b : Bool). passed + number b) same.0 in
           let cycle = same.1 in
-          elim (cases_lt at (passed_by cycles (map waiting_of es))) [
+          elim (cases_lt at (passed_by cycles (map pending_claim_of es))) [
             | inl first ↦ (let p = early (omega arith) in (omega arith, (λ h. omega arith, λ h. omega arith)))
             | inr behind ↦ absurd (let u = unpassed_at 0 cycles cycles es at e order behind here in omega arith)
           ]
@@ -365,7 +365,7 @@ passed_next cycles at passed next es e here order young is below early late =
           let zero_more : next ≡ passed + 0 = is ∙ ap (λ (b : Bool). passed + number b) other.0 in
           let none : next ≡ passed = omega arith in
           let differs = other.1 in
-          elim (cases_lt at (passed_by cycles (map waiting_of es))) [
+          elim (cases_lt at (passed_by cycles (map pending_claim_of es))) [
             | inl first ↦ absurd (let u = passed_at cycles es at e first here in differs (omega arith))
             | inr behind ↦ (let p = late behind in (omega arith, (λ h. omega arith, λ h. omega arith)))
           ]
@@ -374,31 +374,31 @@ passed_next cycles at passed next es e here order young is below early late =
 -- ---- the parts of a machine
 
 -- the stages begin with the first claim that is not past the last one
-pub stages_begin : (w : Staged) → 1 ≤ w.timed.cycles → IsStaged (w.timed.cycles - 1) w
+pub stages_begin : (w : Parts) → 1 ≤ w.timed.cycles → IsStaged (w.timed.cycles - 1) w
     → IsAdvanced w.timed.arch (w.timed.cycles - 1) w.passed w.entries × (w.passed ≤ passed_by w.timed.cycles w.timed.pending)
 stages_begin w some s =
     let now = w.timed.cycles - 1 in
     let cycle : now + 1 ≡ w.timed.cycles = omega arith in
-    let is : w.passed ≡ passed_by now (map waiting_of w.entries) = s.passed ∙ ap (passed_by now) s.waits in
-    let more : passed_by now (map waiting_of w.entries) ≤ passed_by w.timed.cycles (map waiting_of w.entries) = subst (λ (n : ℕ). passed_by now (map waiting_of w.entries) ≤ passed_by n (map waiting_of w.entries)) cycle (passed_later now w.entries) in (
+    let is : w.passed ≡ passed_by now (map pending_claim_of w.entries) = s.passed ∙ ap (passed_by now) s.waits in
+    let more : passed_by now (map pending_claim_of w.entries) ≤ passed_by w.timed.cycles (map pending_claim_of w.entries) = subst (λ (n : ℕ). passed_by now (map pending_claim_of w.entries) ≤ passed_by n (map pending_claim_of w.entries)) cycle (passed_later now w.entries) in (
       advanced_first w.timed.arch now w.passed w.entries (λ k e lt here. passed_at now w.entries k e (subst (λ (n : ℕ). k < n) is lt) here) s.checked,
-      subst (λ (xs : List Waiting). w.passed ≤ passed_by w.timed.cycles xs) (sym s.waits) (omega arith),
+      subst (λ (xs : List PendingClaim). w.passed ≤ passed_by w.timed.cycles xs) (sym s.waits) (omega arith),
     )
 
 -- the claim at a place is still to pass through a stage
-pub still_young : (w : Staged) (at : ℕ) (e : Entry) (es : List Entry) → 1 ≤ w.timed.cycles → IsStaged (w.timed.cycles - 1) w → map waiting_of es ≡ w.timed.pending → w.passed ≤ at → slice_get es at ≡ Some e
+pub still_young : (w : Parts) (at : ℕ) (e : Entry) (es : List Entry) → 1 ≤ w.timed.cycles → IsStaged (w.timed.cycles - 1) w → map pending_claim_of es ≡ w.timed.pending → w.passed ≤ at → slice_get es at ≡ Some e
     → (e.cycle < w.timed.cycles) × (w.timed.cycles ≤ e.cycle + 5)
 still_young w at e es some s waits behind here =
     let now = w.timed.cycles - 1 in
-    let order : AreInOrder 0 now (map waiting_of es) = subst (λ (xs : List Waiting). AreInOrder 0 now xs) (sym waits) s.ordered in
-    let is : w.passed ≡ passed_by now (map waiting_of es) = s.passed ∙ ap (passed_by now) (sym waits) in
+    let order : AreInOrder 0 now (map pending_claim_of es) = subst (λ (xs : List PendingClaim). AreInOrder 0 now xs) (sym waits) s.ordered in
+    let is : w.passed ≡ passed_by now (map pending_claim_of es) = s.passed ∙ ap (passed_by now) (sym waits) in
     let low = order_at 0 now es at e order here in
     let bound = low.1 in
     let high = unpassed_at 0 now now es at e order (omega arith) here in
     (omega arith, omega arith)
 
-pub same_length : (xs ys : List Entry) → map waiting_of xs ≡ map waiting_of ys → length xs ≡ length ys
-same_length xs ys same = sym (length-map xs waiting_of) ∙ ap (λ (ws : List Waiting). length ws) same ∙ length-map ys waiting_of
+pub same_length : (xs ys : List Entry) → map pending_claim_of xs ≡ map pending_claim_of ys → length xs ≡ length ys
+same_length xs ys same = sym (length-map xs pending_claim_of) ∙ ap (λ (ws : List PendingClaim). length ws) same ∙ length-map ys pending_claim_of
 
 pub get_there : (xs : List Entry) (k : ℕ) (P : Type 0) → k < length xs → ((e : Entry) → slice_get xs k ≡ Some e → P) → P
 get_there [] k P h found = absurd (omega arith)
@@ -406,7 +406,7 @@ get_there (x ∷ xs) zero P h found = found x refl
 get_there (x ∷ xs) (suc k) P h found = get_there xs k P (omega arith) found
 
 -- the claim at a place has passed through its stage: z is what is passed then
-pub stage_next : (w y z : Staged) (at : ℕ) → 1 ≤ w.timed.cycles → IsStaged (w.timed.cycles - 1) w → y.timed ≡ w.timed → map waiting_of y.entries ≡ w.timed.pending → w.passed ≤ at → at < length y.entries
+pub stage_next : (w y z : Parts) (at : ℕ) → 1 ≤ w.timed.cycles → IsStaged (w.timed.cycles - 1) w → y.timed ≡ w.timed → map pending_claim_of y.entries ≡ w.timed.pending → w.passed ≤ at → at < length y.entries
     → ((e : Entry) → slice_get y.entries at ≡ Some e → z.passed ≡ y.passed + number (y.timed.cycles == e.cycle + 5))
     → y.passed ≤ at
     → (at ≤ passed_by w.timed.cycles w.timed.pending → y.passed ≡ at)
@@ -421,7 +421,7 @@ stage_next w y z at some s same waits behind within is below early late =
     get_there y.entries at (P (passed_by cycles w.timed.pending)) within
     (λ e here.
     let young = (still_young w at e y.entries some s waits behind here).1 in
-    let order : AreInOrder 0 cycles (map waiting_of y.entries) = subst (λ (xs : List Waiting). AreInOrder 0 cycles xs) (sym waits) (order_later 0 (cycles - 1) cycles w.timed.pending (omega arith) s.ordered) in
+    let order : AreInOrder 0 cycles (map pending_claim_of y.entries) = subst (λ (xs : List PendingClaim). AreInOrder 0 cycles xs) (sym waits) (order_later 0 (cycles - 1) cycles w.timed.pending (omega arith) s.ordered) in
     let next : z.passed ≡ y.passed + number (cycles == e.cycle + 5) = is e here ∙ ap (λ (m : Timed). y.passed + number (m.cycles == e.cycle + 5)) same in
     subst P count
     (passed_next cycles at y.passed z.passed y.entries e here order young next below
@@ -429,7 +429,7 @@ stage_next w y z at some s same waits behind within is below early late =
     (subst (λ (n : ℕ). n ≤ at → y.passed ≡ n) (sym count) late)))
 
 -- all of them have passed through the stage of their age
-pub stages_end : (w z : Staged) (n : ℕ) → 1 ≤ w.timed.cycles → z ≡ record w { entries = z.entries; passed = z.passed } → map waiting_of z.entries ≡ w.timed.pending → IsStaged (w.timed.cycles - 1) w
+pub stages_end : (w z : Parts) (n : ℕ) → 1 ≤ w.timed.cycles → z ≡ record w { entries = z.entries; passed = z.passed } → map pending_claim_of z.entries ≡ w.timed.pending → IsStaged (w.timed.cycles - 1) w
     → length z.entries ≤ n → IsAdvanced w.timed.arch (w.timed.cycles - 1) n z.entries
     → (passed_by w.timed.cycles w.timed.pending ≤ n → z.passed ≡ passed_by w.timed.cycles w.timed.pending)
     → IsStaged z.timed.cycles z
@@ -437,8 +437,8 @@ stages_end w z n some is waits s whole advanced late =
     let now = w.timed.cycles - 1 in
     let cycle : now + 1 ≡ w.timed.cycles = omega arith in
     let all : AreChecked w.timed.arch w.timed.cycles z.entries = subst (λ (c : ℕ). AreChecked w.timed.arch c z.entries) cycle (advanced_all w.timed.arch now n z.entries whole advanced) in
-    let most : passed_by w.timed.cycles w.timed.pending ≤ length z.entries = subst (λ (xs : List Waiting). passed_by w.timed.cycles xs ≤ length z.entries) waits (passed_length w.timed.cycles z.entries) in
-    let same : w.timed ≡ z.timed = sym (ap (λ (x : Staged). x.timed) is) in
+    let most : passed_by w.timed.cycles w.timed.pending ≤ length z.entries = subst (λ (xs : List PendingClaim). passed_by w.timed.cycles xs ≤ length z.entries) waits (passed_length w.timed.cycles z.entries) in
+    let same : w.timed ≡ z.timed = sym (ap (λ (x : Parts). x.timed) is) in
     record {
       waits = sym (ap (λ (m : Timed). m.pending) same) ∙ sym waits;
       checked = subst (λ (m : Timed). AreChecked m.arch m.cycles z.entries) same all;
@@ -447,7 +447,7 @@ stages_end w z n some is waits s whole advanced late =
     }
 
 -- a flush
-pub staged_flushed : (now : ℕ) (w : Staged) (cause : Cause) → IsStaged now (record w { timed = flushed w.timed cause; entries = []; passed = 0 })
+pub staged_flushed : (now : ℕ) (w : Parts) (cause : Cause) → IsStaged now (record w { timed = flushed w.timed cause; entries = []; passed = 0 })
 unfolding flushed
 staged_flushed now w cause = record { waits = refl; checked = checked_none w.timed.arch now; ordered = omega arith; passed = refl }
 
@@ -455,12 +455,12 @@ filled_young : (s : State) (age : ℕ) (r : Record) → age ≡ 0 → IsFilled s
 filled_young s zero r h = refl
 filled_young s (suc age) r h = absurd (omega arith)
 
-pub solo_flushed : (w : Staged) (cause : Cause) → (let z = record w { timed = flushed w.timed cause; entries = []; passed = 0 } in IsSoloFilled z.timed.cycles z)
+pub solo_flushed : (w : Parts) (cause : Cause) → (let z = record w { timed = flushed w.timed cause; entries = []; passed = 0 } in IsSoloFilled z.timed.cycles z)
 unfolding flushed
 solo_flushed w cause = filled_young w.timed.arch (w.timed.cycles - w.timed.cycles) w.filled (omega arith)
 
 -- a cycle begins, and the oldest store is drained
-pub staged_begun : (w : Staged) → IsStaged w.timed.cycles w → IsStaged ((drained (begun w.timed)).cycles - 1) (record w { timed = drained (begun w.timed); last = [] })
+pub staged_begun : (w : Parts) → IsStaged w.timed.cycles w → IsStaged ((drained (begun w.timed)).cycles - 1) (record w { timed = drained (begun w.timed); last = [] })
 unfolding drained
 staged_begun w s =
     let same : w.timed.cycles + 1 - 1 ≡ w.timed.cycles = omega arith in

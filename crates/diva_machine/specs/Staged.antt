@@ -9,8 +9,8 @@ use Rattle.diva_core.specs.declared.pending.Entry.{Entry}
 use Rattle.diva_core.specs.Older.{before_entry}
 use Rattle.diva_core.specs.Difference.{difference_in}
 use Rattle.diva_core.specs.Stages.{fields_at, HasVerdict}
-use Rattle.diva_core.specs.Timed.{Timed, Waiting}
-use Rattle.diva_machine.specs.Shown.{waiting_of}
+use Rattle.diva_core.specs.Timed.{Timed, PendingClaim}
+use Rattle.diva_machine.specs.Machine.{pending_claim_of}
 
 -- the decoded form of a claim with this word: it is noted at age 2
 abbrev pub decoded_at : (age : ℕ) (word : ℕ) → Option Instr
@@ -35,12 +35,12 @@ abbrev pub last_stage : ℕ
 last_stage = 5
 
 -- how many of the claims, from the oldest on, are past the last stage
-abbrev pub passed_by : (now : ℕ) → List Waiting → ℕ
+abbrev pub passed_by : (now : ℕ) → List PendingClaim → ℕ
 passed_by now [] = 0
 passed_by now (p ∷ rest) = if nat_le (p.cycle + last_stage) now then suc (passed_by now rest) else 0
 
 -- the claims were accepted one behind the other, from the cycle `from` on and until `now`
-abbrev pub AreInOrder : (from now : ℕ) → List Waiting → Type 0
+abbrev pub AreInOrder : (from now : ℕ) → List PendingClaim → Type 0
 AreInOrder from now [] = from ≤ now
 AreInOrder from now (p ∷ rest) = (from ≤ p.cycle) × AreInOrder p.cycle now rest
 
@@ -56,7 +56,7 @@ IsFilledSince arch now (Some start) r = IsFilled arch (now - start) r
 
 -- the parts of a machine: the timed machine, what its last cycle committed, the entries of the pending claims, how many of
 -- them are past the last stage, and the record of the solo instruction
-pub record Staged : Type 0 where
+pub record Parts : Type 0 where
   pub timed : Timed
   pub last : List Record
   pub entries : List Entry
@@ -64,14 +64,14 @@ pub record Staged : Type 0 where
   pub filled : Record
 
 -- what holds of the pending claims where the stages of the cycle `now` have run
-pub record IsStaged (now : ℕ) (w : Staged) : Type 0 where
-  pub waits : w.timed.pending ≡ map waiting_of w.entries
+pub record IsStaged (now : ℕ) (w : Parts) : Type 0 where
+  pub waits : w.timed.pending ≡ map pending_claim_of w.entries
   pub checked : AreChecked w.timed.arch now w.entries
   pub ordered : AreInOrder 0 now w.timed.pending
   pub passed : w.passed ≡ passed_by now w.timed.pending
 
 -- and of the solo instruction
-abbrev pub IsSoloFilled : (now : ℕ) → Staged → Type 0
+abbrev pub IsSoloFilled : (now : ℕ) → Parts → Type 0
 IsSoloFilled now w = IsFilledSince w.timed.arch now w.timed.solo w.filled
 
 -- the entries before a place have gone through the stages of the cycle now + 1, the others through those of `now`
@@ -80,10 +80,10 @@ pub record IsAdvanced (arch : State) (now at : ℕ) (entries : List Entry) : Typ
   pub from : (k : ℕ) (e : Entry) → at ≤ k → slice_get entries k ≡ Some e → IsChecked (before_entry arch entries k) (now - e.cycle) e
 
 -- the front entry is gone, and all others too where the machine does not go on
-abbrev pub left : Bool → Staged → Staged
+abbrev pub left : Bool → Parts → Parts
 left goes w =
     record w {
-      timed = record w.timed { pending = if goes then map waiting_of (drop 1 w.entries) else [] };
+      timed = record w.timed { pending = if goes then map pending_claim_of (drop 1 w.entries) else [] };
       entries = if goes then drop 1 w.entries else [];
       passed = if goes then w.passed - 1 else 0;
     }

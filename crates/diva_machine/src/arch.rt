@@ -3,11 +3,11 @@ ghost use Rattle.std.specs.Prelude.{◌≡◌, ◌≤◌, ◌+◌, ◌-◌, ◌=
 ghost use Rattle.diva_decode.specs.Table.{row_of};
 ghost use Rattle.diva_isa.specs.State.{goes_on, GoesOn};
 ghost use Rattle.diva_isa.specs.Step.{apply, record_of};
-ghost use Rattle.diva_image.specs.View.{layout};
+ghost use Rattle.diva_image.specs.ImageLayout.{layout};
 ghost use Rattle.diva_core.specs.Cycle.{number, puts_store};
 ghost use Rattle.diva_commit.specs.Committing.{answer, is_committed};
 ghost use Rattle.diva_machine.specs.Start.{start_of};
-ghost use Rattle.diva_machine.specs.Shown.{end_of, end_number};
+ghost use Rattle.diva_machine.specs.Machine.{end_of, end_number};
 
 use crate::ends::End;
 use diva_commit::{Committed, commit_by};
@@ -36,9 +36,9 @@ impl Model for Arch {
     ghost use Rattle.std.specs.Prelude.{length};
     ghost use Rattle.diva_storeq.specs.Stores.{laid};
     ghost use Rattle.diva_commit.specs.Committing.{state_of};
-    ghost use Rattle.diva_machine.specs.Shown.{Stored, IsKept};
+    ghost use Rattle.diva_machine.specs.Machine.{Arch, IsKept};
 
-    ghost Value = { Stored };
+    ghost Value = { Arch };
 
     ghost view = { λ a. record {
       state = state_of a.regs a.pc (laid a.memory a.queue.items) a.output a.end;
@@ -115,14 +115,14 @@ impl Arch {
         self.queue.drain(&mut self.memory);
     }
 
-    /// Judges a record by its verdict, and commits it where there is none and its store has a place: `form` is what its
+    /// Judges a record by its verdict, and commits it where there is none and its store has a place: `decoded` is what its
     /// word says.
     #[inline(always)]
     #[tactic(auto, using(diva_decode::proofs::Unique::registers_by))]
-    pub fn commit(&mut self, form: Option<Instr>, r: &Record, verdict: Option<Diff>) -> Committed
+    pub fn commit(&mut self, decoded: Option<Instr>, r: &Record, verdict: Option<Diff>) -> Committed
         requires goes_on { GoesOn self.old.state }
         requires due { verdict ≡ None → r.now ≡ record_of self.old.state }
-        requires form { form ≡ row_of r.now.word }
+        requires decoded { decoded ≡ row_of r.now.word }
         ensures answer { result ≡ answer verdict r.now (self.old.owed == self.old.stores) }
         ensures stays { is_committed result ≡ false → self.new ≡ self.old }
         ensures state { is_committed result ≡ true → self.new.state ≡ apply self.old.state r.now }
@@ -136,7 +136,7 @@ impl Arch {
             &self.memory,
             &mut self.queue,
             &mut self.output,
-            form,
+            decoded,
             r,
             verdict,
         );

@@ -1,7 +1,7 @@
 // How wide and deep the machine is.
 ghost use Rattle.std.specs.Prelude.{◌≡◌, ◌↔◌, IsSome, IfSome};
-ghost use Rattle.diva_core.specs.Timed.{Sizes};
-ghost use Rattle.diva_core.specs.Machine.{IsSizes};
+ghost use Rattle.diva_core.specs.Timed.{Config};
+ghost use Rattle.diva_core.specs.Machine.{IsConfig};
 
 use std::marker::Model;
 
@@ -17,14 +17,14 @@ pub struct Config {
 }
 
 impl Model for Config {
-    ghost use Rattle.diva_core.specs.Timed.{Sizes};
-    ghost use Rattle.diva_core.specs.Machine.{IsSizes};
+    ghost use Rattle.diva_core.specs.Timed.{Config};
+    ghost use Rattle.diva_core.specs.Machine.{IsConfig};
 
-    ghost Value = { Sizes };
+    ghost Value = { Config };
 
     ghost view = { λ c. record { width = c.width; window = c.window; stores = c.stores; limit = c.limit } };
 
-    ghost invariant = { λ c. IsSizes (record { width = c.width; window = c.window; stores = c.stores; limit = c.limit }) };
+    ghost invariant = { λ c. IsConfig (record { width = c.width; window = c.window; stores = c.stores; limit = c.limit }) };
 
     ghost inverse = { λ z. record { width = z.width; window = z.window; stores = z.stores; limit = z.limit } };
 }
@@ -33,7 +33,7 @@ impl Config {
     /// The machine's numbers `n` (width, 1 to 4), `q` (window, 8 to 64), `s` (stores, 1 to 6) and `w` (the
     /// watchdog's limit in cycles, 16 to 1024); `None` exactly where one of them is out of its range.
     pub fn new(n: u32, q: u32, s: u32, w: u32) -> Option<Config>
-        ensures ranges { IsSome result ↔ IsSizes (record { width = n; window = q; stores = s; limit = w }) }
+        ensures ranges { IsSome result ↔ IsConfig (record { width = n; window = q; stores = s; limit = w }) }
         ensures value { IfSome result (λ c. c ≡ record { width = n; window = q; stores = s; limit = w }) }
     {
         let in_range = (1..=4).contains(&n)
@@ -54,7 +54,7 @@ impl Config {
 
     pub(crate) fn width(&self) -> u32
         ensures value { result ≡ self.now.width }
-        ensures sizes { IsSizes self.now }
+        ensures config { IsConfig self.now }
     {
         self.width
     }

@@ -14,7 +14,7 @@ pub enum End {
 
 impl End {
     ghost use Rattle.std.specs.Prelude.{◌≡◌};
-    ghost use Rattle.diva_machine.specs.Shown.{end_number};
+    ghost use Rattle.diva_machine.specs.Machine.{end_number};
 
     /// The end as a state has it: 0 where the machine goes on, 1 + a trap's number, or 256 + the
     /// status of a halt.

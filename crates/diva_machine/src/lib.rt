@@ -4,14 +4,14 @@
 //! - `arch`: the committed state over memory and store queue;
 //! - `log`: the flushes, as rows and as counts;
 //! - `stages`: what a pending claim passes through at each age;
-//! - `works`: the parts of the machine, and the phases of a cycle over them;
+//! - `parts`: the parts of the machine, and the phases of a cycle over them;
 //! - `machine`: the machine between cycles, `Machine`;
 //! - `ends`: how a machine ended, `End`, and how a drive stopped, `Drive` and `Reach`;
 //! - `turns`: a machine and a core, turn by turn, `turn` and `drive`;
 //! - `reaching`: turns until so many instructions have committed, `drive_to`.
 //!
 //! What a cycle does is `cycle_of` of `diva_core`'s definitions; `specs/Start.antt` says in which
-//! state an image starts, `specs/Shown.antt` what contracts see of a machine, and
+//! state an image starts, `specs/Machine.antt` what contracts see of a machine, and
 //! `specs/Staged.antt` what the stages note of a claim by its age.
 #![tactic(auto)]
 
@@ -20,10 +20,10 @@ mod config;
 mod ends;
 mod log;
 mod machine;
+mod parts;
 mod reaching;
 mod stages;
 mod turns;
-mod works;
 
 pub use config::Config;
 pub use ends::{Drive, End, Reach};

@@ -2,22 +2,22 @@
 ghost use Rattle.std.specs.Prelude.{◌≡◌, ◌⊎◌, ◌↔◌, ◌+◌, ◌-◌, ◌*◌, ◌<◌, ◌≤◌, ◌^◌, ◌∷◌, ℕ, [], List, length, slice_get, None, Some, IsNone, IfOk, true, false};
 ghost use Rattle.diva_isa.specs.State.{goes_on, GoesOn};
 ghost use Rattle.diva_isa.specs.Step.{steps};
-ghost use Rattle.diva_image.specs.View.{layout};
+ghost use Rattle.diva_image.specs.ImageLayout.{layout};
 ghost use Rattle.diva_core.specs.Older.{before_entry};
-ghost use Rattle.diva_core.specs.Timed.{Timed, Waiting, depth, new_timed};
-ghost use Rattle.diva_core.specs.Told.{notice_of};
+ghost use Rattle.diva_core.specs.Timed.{Timed, PendingClaim, depth, new_timed};
+ghost use Rattle.diva_core.specs.Told.{told_of};
 ghost use Rattle.diva_core.specs.Cycle.{begun, cycle_of, drained};
 ghost use Rattle.diva_core.specs.Machine.{IsMachine};
-ghost use Rattle.diva_core.specs.Headline.{dues, Rises, ByClaims, ByItself, IsJudged, SameLog, AddsRow, HasPace, WillCount};
+ghost use Rattle.diva_core.specs.Headline.{dues, Rises, ByClaims, BySolo, IsJudged, SameLog, AddsRow, HasPace, WillCount};
 ghost use Rattle.diva_core.specs.Right.{IsRight, IsCalm, StaysCalm};
 ghost use Rattle.diva_machine.specs.Start.{start_of};
-ghost use Rattle.diva_machine.specs.Shown.{end_of, end_number, waiting_of};
+ghost use Rattle.diva_machine.specs.Machine.{end_of, end_number, pending_claim_of};
 ghost use Rattle.diva_machine.specs.Staged.{AreChecked, IsChecked};
 
 use crate::DEPTH;
 use crate::config::Config;
 use crate::ends::End;
-use crate::works::Works;
+use crate::parts::Parts;
 use diva_core::{Claims, Entry, FlushRow, Told, View};
 use diva_image::Image;
 use diva_isa::Record;
@@ -32,21 +32,21 @@ use std::marker::Model;
 /// their bounds, and nothing is stalled for longer than the watchdog allows.
 #[derive(Drop)]
 pub struct Machine {
-    works: Works,
+    parts: Parts,
 }
 
 impl Model for Machine {
     ghost use Rattle.std.specs.Prelude.{◌≤◌, ◌^◌};
     ghost use Rattle.diva_core.specs.Machine.{IsMachine};
-    ghost use Rattle.diva_machine.specs.Shown.{Shown, IsSound};
+    ghost use Rattle.diva_machine.specs.Machine.{Machine, IsSound};
     ghost use Rattle.diva_machine.specs.Staged.{IsSoloFilled, IsStaged};
 
-    ghost Value = { Shown };
+    ghost Value = { Machine };
 
-    ghost view = { λ m. record { timed = m.works.timed; last = m.works.last; entries = m.works.entries } };
+    ghost view = { λ m. record { timed = m.parts.timed; last = m.parts.last; entries = m.parts.entries } };
 
-    ghost invariant = { λ m. IsSound m.works.timed
-        × (IsStaged m.works.timed.cycles m.works × IsSoloFilled m.works.timed.cycles m.works) };
+    ghost invariant = { λ m. IsSound m.parts.timed
+        × (IsStaged m.parts.timed.cycles m.parts × IsSoloFilled m.parts.timed.cycles m.parts) };
 }
 
 impl Machine {
@@ -61,27 +61,27 @@ impl Machine {
         ensures paced { IfOk result (λ m. HasPace m.timed) }
         ensures calm { IfOk result (λ m. IsCalm m.timed) }
     {
-        let works = Works::new(alloc, image, config)?;
-        Ok(Machine { works })
+        let parts = Parts::new(alloc, image, config)?;
+        Ok(Machine { parts })
     }
 
     /// What a core is told before the coming cycle.
     pub fn told(&self) -> Told
-        ensures { result ≡ notice_of self.now.timed }
+        ensures { result ≡ told_of self.now.timed }
     {
-        let room = self.works.room() as u32;
-        let pending = self.works.pending.len() as u32;
-        let idle = self.works.watchdog.idle();
+        let room = self.parts.room() as u32;
+        let pending = self.parts.pending.len() as u32;
+        let idle = self.parts.watchdog.idle();
         Told {
-            cycle: self.works.cycles + 1,
-            count: self.works.count,
-            pc: self.works.arch.pc(),
-            epoch: self.works.log.flushes(),
+            cycle: self.parts.cycles + 1,
+            count: self.parts.count,
+            pc: self.parts.arch.pc(),
+            epoch: self.parts.log.flushes(),
             pending,
             room,
             idle,
             due: pending == 0 && room > 0 && u64::from(idle) + DEPTH + 1 >= u64::from(self.limit()),
-            ended: !self.works.goes_on(),
+            ended: !self.parts.goes_on(),
         }
     }
 
@@ -90,7 +90,7 @@ impl Machine {
         ensures shows { result ≡ record self.now.timed.arch { end = 0 } }
         ensures goes_on { goes_on self.now.timed.arch ≡ true → result ≡ self.now.timed.arch }
     {
-        self.works.arch.view()
+        self.parts.arch.view()
     }
 
     /// The pending claim at a place, the oldest being at 0, with the cycle in which it was accepted, and with what the
@@ -100,48 +100,48 @@ impl Machine {
     pub fn entry(&self, at: usize) -> Entry
         requires { at < length self.now.timed.pending }
         ensures entry { slice_get self.now.entries at ≡ Some result }
-        ensures waits { slice_get self.now.timed.pending at ≡ Some (waiting_of result) }
+        ensures waits { slice_get self.now.timed.pending at ≡ Some (pending_claim_of result) }
         ensures checked { IsChecked
             (before_entry self.now.timed.arch self.now.entries at)
             (self.now.timed.cycles - result.cycle)
             result }
     {
-        self.works.entry(at)
+        self.parts.entry(at)
     }
 
     /// How many instructions have committed.
     pub fn count(&self) -> u64
         ensures { result ≡ self.now.timed.count }
     {
-        self.works.count
+        self.parts.count
     }
 
     /// How many cycles have run.
     pub fn cycles(&self) -> u64
         ensures { result ≡ self.now.timed.cycles }
     {
-        self.works.cycles
+        self.parts.cycles
     }
 
     /// How many flushes came.
     pub fn flushes(&self) -> u64
         ensures { result ≡ self.now.timed.flushes }
     {
-        self.works.log.flushes()
+        self.parts.log.flushes()
     }
 
     /// How many of the flushes came since nothing had committed for too long.
     pub fn silent(&self) -> u64
         ensures { result ≡ self.now.timed.silent }
     {
-        self.works.log.silent()
+        self.parts.log.silent()
     }
 
     /// The rows of the first flushes, 1,024 at most.
     pub fn log(&self) -> &[FlushRow]
         ensures { result.now ≡ self.now.timed.rows }
     {
-        self.works.log.rows()
+        self.parts.log.rows()
     }
 
     /// The row of the newest flush, `None` exactly where none came.
@@ -149,21 +149,21 @@ impl Machine {
         ensures row { result ≡ self.now.timed.newest }
         ensures none { IsNone result ↔ (self.now.timed.flushes ≡ 0) }
     {
-        self.works.log.newest()
+        self.parts.log.newest()
     }
 
     /// The watchdog's limit, in cycles.
     pub fn limit(&self) -> u32
-        ensures { result ≡ self.now.timed.sizes.limit }
+        ensures { result ≡ self.now.timed.config.limit }
     {
-        self.works.watchdog.limit()
+        self.parts.watchdog.limit()
     }
 
     /// The records that the last cycle committed, in order; none after a cycle on an ended machine.
     pub fn last(&self) -> &[Record]
         ensures { result.now ≡ self.now.last }
     {
-        self.works.last.as_slice()
+        self.parts.last.as_slice()
     }
 
     /// What the program put.
@@ -171,7 +171,7 @@ impl Machine {
         ensures bytes { result.now ≡ self.now.timed.arch.output }
         ensures most { length result.now ≤ 65536 }
     {
-        self.works.arch.output()
+        self.parts.arch.output()
     }
 
     /// How the machine ended, if it has.
@@ -179,7 +179,7 @@ impl Machine {
         ensures value { result ≡ end_of self.now.timed.arch.end }
         ensures number { end_number result ≡ self.now.timed.arch.end }
     {
-        self.works.arch.ended()
+        self.parts.arch.ended()
     }
 
     /// Whether the machine has not ended.
@@ -187,7 +187,7 @@ impl Machine {
         ensures value { result ≡ goes_on self.now.timed.arch }
         ensures sound { IsMachine self.now.timed }
     {
-        self.works.goes_on()
+        self.parts.goes_on()
     }
 
     /// Runs one cycle on what a core handed over. On an ended machine nothing changes but `last`,
@@ -205,7 +205,7 @@ impl Machine {
         // equal claim or by the checker alone, and each flush has its cause.
         ensures rises { Rises self.old.timed self.new.timed }
         ensures commits { ByClaims self.old.timed self.new.last
-            ⊎ ByItself self.old.timed self.new.last }
+            ⊎ BySolo self.old.timed self.new.last }
         ensures logs { SameLog self.old.timed self.new.timed ⊎ AddsRow self.old.timed self.new.timed }
 
         // It is sound again, and goes on counting.
@@ -222,8 +222,8 @@ impl Machine {
         ensures stays { goes_on self.old.timed.arch ≡ false → self.new.entries ≡ self.old.entries }
 
         // Nothing ready is held up.
-        ensures drained { (drained (begun self.old.timed)).owed < self.old.timed.sizes.stores }
-        ensures front { (p : Waiting) (rest : List Waiting)
+        ensures drained { (drained (begun self.old.timed)).owed < self.old.timed.config.stores }
+        ensures front { (p : PendingClaim) (rest : List PendingClaim)
             → goes_on self.old.timed.arch ≡ true
             → self.old.timed.solo ≡ None
             → self.old.timed.pending ≡ p ∷ rest
@@ -235,10 +235,10 @@ impl Machine {
             → self.old.timed.cycles + 1 ≡ start + depth
             → self.new.timed.count ≡ self.old.timed.count + 1 }
     {
-        if self.works.goes_on() {
-            self.works.cycle(list.as_slice());
+        if self.parts.goes_on() {
+            self.parts.cycle(list.as_slice());
         } else {
-            self.works.forget_last();
+            self.parts.forget_last();
         }
     }
 }

@@ -5,7 +5,7 @@ ghost use Rattle.diva_decode.specs.Table.{row_of};
 ghost use Rattle.diva_core.specs.declared.pending.Entry.{Entry};
 ghost use Rattle.diva_core.specs.Older.{before_entry};
 ghost use Rattle.diva_core.specs.Stages.{Answers, address_fields, memory_fields};
-ghost use Rattle.diva_machine.specs.Shown.{waiting_of};
+ghost use Rattle.diva_machine.specs.Machine.{pending_claim_of};
 ghost use Rattle.diva_machine.specs.Staged.{IsAdvanced, IsFilled};
 
 use crate::arch::Arch;
@@ -22,7 +22,7 @@ pub(crate) const LAST_STAGE: u64 = 5;
 pub(crate) fn pass(pending: &mut Pending, at: usize, arch: &Arch, age: u64)
     requires place { at < length pending.old.items }
     requires age { 1 ≤ age }
-    ensures waits { map waiting_of pending.new.items ≡ map waiting_of pending.old.items }
+    ensures waits { map pending_claim_of pending.new.items ≡ map pending_claim_of pending.old.items }
     ensures capacity { pending.new.capacity ≡ pending.old.capacity }
     ensures advanced { (now : ℕ) (e : Entry)
         → slice_get pending.old.items at ≡ Some e
@@ -32,7 +32,7 @@ pub(crate) fn pass(pending: &mut Pending, at: usize, arch: &Arch, age: u64)
 {
     match age {
         1 => note(pending, at, diva_fetchchk::check(pending, at, &arch.view())),
-        2 => note_form(pending, at),
+        2 => note_decoded(pending, at),
         3 => note(pending, at, diva_opchk::check(pending, at, &arch.view())),
         4 => note(pending, at, diva_execchk::check(pending, at, &arch.view())),
         LAST_STAGE => pass_last(pending, at, arch),
@@ -44,7 +44,7 @@ pub(crate) fn pass(pending: &mut Pending, at: usize, arch: &Arch, age: u64)
 #[inline(always)]
 fn pass_last(pending: &mut Pending, at: usize, arch: &Arch)
     requires { at < length pending.old.items }
-    ensures waits { map waiting_of pending.new.items ≡ map waiting_of pending.old.items }
+    ensures waits { map pending_claim_of pending.new.items ≡ map pending_claim_of pending.old.items }
     ensures capacity { pending.new.capacity ≡ pending.old.capacity }
     ensures advanced { (now : ℕ) (e : Entry)
         → slice_get pending.old.items at ≡ Some e
@@ -53,7 +53,7 @@ fn pass_last(pending: &mut Pending, at: usize, arch: &Arch)
         → IsAdvanced arch.now.state now (at + 1) pending.new.items }
 {
     match pending.at(at).decoded {
-        Some(form) if !is_memory(Some(form)) => {}
+        Some(decoded) if !is_memory(Some(decoded)) => {}
         _ => pass_access(pending, at, arch),
     }
 }
@@ -62,7 +62,7 @@ fn pass_last(pending: &mut Pending, at: usize, arch: &Arch)
 #[inline(never)]
 fn pass_access(pending: &mut Pending, at: usize, arch: &Arch)
     requires { at < length pending.old.items }
-    ensures waits { map waiting_of pending.new.items ≡ map waiting_of pending.old.items }
+    ensures waits { map pending_claim_of pending.new.items ≡ map pending_claim_of pending.old.items }
     ensures capacity { pending.new.capacity ≡ pending.old.capacity }
     ensures advanced { (now : ℕ) (e : Entry)
         → slice_get pending.old.items at ≡ Some e
@@ -79,15 +79,15 @@ fn pass_access(pending: &mut Pending, at: usize, arch: &Arch)
 
 /// Decodes the claim at a place.
 #[inline(always)]
-fn note_form(pending: &mut Pending, at: usize)
+fn note_decoded(pending: &mut Pending, at: usize)
     requires { at < length pending.old.items }
     ensures items { (e : Entry) → slice_get pending.old.items at ≡ Some e
         → pending.new.items ≡ slice_set pending.old.items at (record e { decoded = row_of e.claim.word }) }
-    ensures waits { map waiting_of pending.new.items ≡ map waiting_of pending.old.items }
+    ensures waits { map pending_claim_of pending.new.items ≡ map pending_claim_of pending.old.items }
     ensures capacity { pending.new.capacity ≡ pending.old.capacity }
 {
     let _ = pending.at(at);
-    pending.note_form(at);
+    pending.note_decoded(at);
 }
 
 /// Gives the claim at a place what its stage found, unless an earlier stage found a difference: that one stays.
@@ -96,7 +96,7 @@ fn note(pending: &mut Pending, at: usize, found: Option<Diff>)
     requires { at < length pending.old.items }
     ensures items { (e : Entry) → slice_get pending.old.items at ≡ Some e
         → pending.new.items ≡ slice_set pending.old.items at (record e { verdict = option_or e.verdict found }) }
-    ensures waits { map waiting_of pending.new.items ≡ map waiting_of pending.old.items }
+    ensures waits { map pending_claim_of pending.new.items ≡ map pending_claim_of pending.old.items }
     ensures capacity { pending.new.capacity ≡ pending.old.capacity }
 {
     if let Some(diff) = found {
@@ -111,15 +111,15 @@ fn note_difference(pending: &mut Pending, at: usize, field: Field, claimed: u32,
     ensures items { (e : Entry) → slice_get pending.old.items at ≡ Some e
         → pending.new.items ≡ slice_set pending.old.items at
         (record e { verdict = option_or e.verdict (Some (record { field = field; claimed = claimed; due = due })) }) }
-    ensures waits { map waiting_of pending.new.items ≡ map waiting_of pending.old.items }
+    ensures waits { map pending_claim_of pending.new.items ≡ map pending_claim_of pending.old.items }
     ensures capacity { pending.new.capacity ≡ pending.old.capacity }
 {
     let entry = pending.at(at);
     if entry.verdict.is_some() {
         return;
     }
-    let form = entry.decoded;
-    pending.set(at, form, Some(Diff::new(field, claimed, due)));
+    let decoded = entry.decoded;
+    pending.set(at, decoded, Some(Diff::new(field, claimed, due)));
 }
 
 /// The record of the solo instruction comes to an age, and gets the fields of that age's stage.

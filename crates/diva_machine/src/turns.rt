@@ -1,10 +1,10 @@
 // A machine and a core, turn by turn.
 ghost use Rattle.std.specs.Prelude.{◌≡◌, ◌+◌, ◌-◌, ◌≤◌, ◌<◌, ◌^◌, ◌↔◌, ◌⊎◌, [], true, false};
 ghost use Rattle.diva_isa.specs.State.{goes_on};
-ghost use Rattle.diva_core.specs.Told.{notice_of};
+ghost use Rattle.diva_core.specs.Told.{told_of};
 ghost use Rattle.diva_core.specs.Cycle.{cycle_of};
 ghost use Rattle.diva_core.specs.Machine.{IsMachine};
-ghost use Rattle.diva_core.specs.Headline.{AddsRow, ByClaims, ByItself, Drives, HasPace, KeepsPace, Rises, SameLog, WillCount, dues};
+ghost use Rattle.diva_core.specs.Headline.{AddsRow, ByClaims, BySolo, Drives, HasPace, KeepsPace, Rises, SameLog, WillCount, dues};
 ghost use Rattle.diva_core.specs.Right.{IsRight, IsCalm, StaysCalm};
 
 use crate::ends::Drive;
@@ -18,7 +18,7 @@ pub fn turn<C: Core>(m: &mut Machine, core: &mut C, list: &mut Claims)
     requires { m.old.timed.cycles < 2 ^ 60 }
     ensures cycled { m.new.timed ≡ cycle_of m.old.timed list.new }
     ensures asked { goes_on m.old.timed.arch ≡ true
-        → C.gives core.old (notice_of m.old.timed) m.old.timed.arch list.new core.new }
+        → C.gives core.old (told_of m.old.timed) m.old.timed.arch list.new core.new }
     ensures ended { goes_on m.old.timed.arch ≡ false
         → (m.new.timed ≡ m.old.timed) × (m.new.last ≡ []) × (core.new ≡ core.old) × (list.new ≡ []) }
     ensures stays { goes_on m.old.timed.arch ≡ false → m.new.entries ≡ m.old.entries }
@@ -27,7 +27,7 @@ pub fn turn<C: Core>(m: &mut Machine, core: &mut C, list: &mut Claims)
     // equal claim or by the checker alone, and each flush has its cause.
     ensures rises { Rises m.old.timed m.new.timed }
     ensures last { m.new.last ≡ dues (m.new.timed.count - m.old.timed.count) m.old.timed.arch }
-    ensures commits { ByClaims m.old.timed m.new.last ⊎ ByItself m.old.timed m.new.last }
+    ensures commits { ByClaims m.old.timed m.new.last ⊎ BySolo m.old.timed m.new.last }
     ensures logs { SameLog m.old.timed m.new.timed ⊎ AddsRow m.old.timed m.new.timed }
     ensures sound { IsMachine m.new.timed }
     ensures counts { WillCount m.new.timed }
@@ -51,8 +51,8 @@ fn turn_on<C: Core>(m: &mut Machine, core: &mut C, list: &mut Claims)
     requires cycles { m.old.timed.cycles < 2 ^ 60 }
     ensures cycled { m.new.timed ≡ cycle_of m.old.timed list.new }
     ensures last { m.new.last ≡ dues (m.new.timed.count - m.old.timed.count) m.old.timed.arch }
-    ensures asked { C.gives core.old (notice_of m.old.timed) m.old.timed.arch list.new core.new }
-    ensures commits { ByClaims m.old.timed m.new.last ⊎ ByItself m.old.timed m.new.last }
+    ensures asked { C.gives core.old (told_of m.old.timed) m.old.timed.arch list.new core.new }
+    ensures commits { ByClaims m.old.timed m.new.last ⊎ BySolo m.old.timed m.new.last }
 {
     list.clear();
     core.cycle(&m.told(), &m.view(), list);

@@ -5,7 +5,7 @@ use Rattle.std.proofs.lemmas.Bool.Decides.{nat_tests}
 use Rattle.std.proofs.lemmas.Grind.{common_steps}
 use Rattle.std.proofs.lemmas.List.{append-nil, length-drop, take-append-drop}
 use Rattle.diva_isa.specs.State.{State}
-use Rattle.diva_ahead.specs.Lead.{Lead}
+use Rattle.diva_ahead.specs.Ahead.{Ahead}
 use Rattle.diva_ooo.specs.declared.entry.Entry.{Entry}
 use Rattle.diva_ooo.specs.Board.{can_at, passed}
 use Rattle.diva_ooo.specs.Issue.{begins, can_begin, issued_from, started}
@@ -23,13 +23,13 @@ and_off : (b : Bool) → (b && false) ≡ false
 and_off true = refl
 and_off false = refl
 
-issue_one : (lead : Lead) (s : State) (begun : ℕ) (older rest : List Entry) (e : Entry) → begins begun older e ≡ false → issued_from lead s begun older (e ∷ rest) ≡ issued_from lead s begun (older ++ e ∷ []) rest
+issue_one : (lead : Ahead) (s : State) (begun : ℕ) (older rest : List Entry) (e : Entry) → begins begun older e ≡ false → issued_from lead s begun older (e ∷ rest) ≡ issued_from lead s begun (older ++ e ∷ []) rest
 issue_one lead s begun older rest e idle = rw idle refl
 
 begins_not : (begun : ℕ) (older : List Entry) (e : Entry) → can_begin older e ≡ false → begins begun older e ≡ false
 begins_not begun older e idle = rw idle (and_off (nat_lt begun 2))
 
-stay_by : (b : Bool) (lead : Lead) (s : State) (begun : ℕ) (older rest : List Entry) (e : Entry) → can_begin older e ≡ b
+stay_by : (b : Bool) (lead : Ahead) (s : State) (begun : ℕ) (older rest : List Entry) (e : Entry) → can_begin older e ≡ b
     → issued_from lead s begun (older ++ e ∷ []) rest ≡ issued_from lead s begun ((older ++ e ∷ []) ++ take (passed (older ++ e ∷ []) rest) rest) (drop (passed (older ++ e ∷ []) rest) rest)
     → issued_from lead s begun older (e ∷ rest) ≡ issued_from lead s begun (older ++ take (passed older (e ∷ rest)) (e ∷ rest)) (drop (passed older (e ∷ rest)) (e ∷ rest))
 stay_by true lead s begun older rest e can more = rw (passed_none older rest e can) (ap (λ (x : List Entry). issued_from lead s begun x (e ∷ rest)) (sym (append-nil older)))
@@ -38,11 +38,11 @@ stay_by false lead s begun older rest e idle more =
     ∙ more
     ∙ ap (λ (x : List Entry). issued_from lead s begun x (drop (passed (older ++ e ∷ []) rest) rest)) (append_assoc older (e ∷ []) (take (passed (older ++ e ∷ []) rest) rest)))
 
-stay : (lead : Lead) (s : State) (begun : ℕ) (older rest : List Entry) → issued_from lead s begun older rest ≡ issued_from lead s begun (older ++ take (passed older rest) rest) (drop (passed older rest) rest)
+stay : (lead : Ahead) (s : State) (begun : ℕ) (older rest : List Entry) → issued_from lead s begun older rest ≡ issued_from lead s begun (older ++ take (passed older rest) rest) (drop (passed older rest) rest)
 stay lead s begun older [] = ap (λ (x : List Entry). issued_from lead s begun x []) (sym (append-nil older))
 stay lead s begun older (e ∷ rest) = stay_by (can_begin older e) lead s begun older rest e refl (stay lead s begun (older ++ e ∷ []) rest)
 
-pub passed_stay : (lead : Lead) (s : State) (begun : ℕ) (w : List Entry) (at n : ℕ) → n ≡ at + passed (take at w) (drop at w) → issued_from lead s begun (take at w) (drop at w) ≡ issued_from lead s begun (take n w) (drop n w)
+pub passed_stay : (lead : Ahead) (s : State) (begun : ℕ) (w : List Entry) (at n : ℕ) → n ≡ at + passed (take at w) (drop at w) → issued_from lead s begun (take at w) (drop at w) ≡ issued_from lead s begun (take n w) (drop n w)
 passed_stay lead s begun w at n is =
     rw is (stay lead s begun (take at w) (drop at w) ∙ rw (sym (take_more w at (passed (take at w) (drop at w))), drop_more w at (passed (take at w) (drop at w))) refl)
 
@@ -76,29 +76,29 @@ passed_next w at n x is here =
 
 -- ---- one begins
 
-begun_by : (lead : Lead) (s : State) (begun : ℕ) (older rest : List Entry) (e : Entry) → begun < 2 → can_begin older e ≡ true
+begun_by : (lead : Ahead) (s : State) (begun : ℕ) (older rest : List Entry) (e : Entry) → begun < 2 → can_begin older e ≡ true
     → issued_from lead s begun older (e ∷ rest) ≡ issued_from lead s (begun + 1) (older ++ started lead s older e ∷ []) rest
 begun_by lead s begun older rest e few can = let test : nat_lt begun 2 ≡ true = grind (arith, nat_tests) in rw (test, can) refl
 
-pub begun_one : (lead : Lead) (s : State) (begun : ℕ) (w new : List Entry) (at : ℕ) (e : Entry) → slice_get w at ≡ Some e → begun < 2 → can_begin (take at w) e ≡ true
+pub begun_one : (lead : Ahead) (s : State) (begun : ℕ) (w new : List Entry) (at : ℕ) (e : Entry) → slice_get w at ≡ Some e → begun < 2 → can_begin (take at w) e ≡ true
     → new ≡ slice_set w at (started lead s (take at w) e)
     → issued_from lead s (begun + 1) (take (at + 1) new) (drop (at + 1) new) ≡ issued_from lead s begun (take at w) (drop at w)
 begun_one lead s begun w new at e is few can n =
     rw (n, take_set_at w at e (started lead s (take at w) e) is, drop_set_at w at (started lead s (take at w) e), drop_at w at e is) (sym (begun_by lead s begun (take at w) (drop (at + 1) w) e few can))
 
 -- where two have begun, the rest stays as it is
-enough_one : (lead : Lead) (s : State) (older rest : List Entry) (e : Entry) → issued_from lead s 2 older (e ∷ rest) ≡ issued_from lead s 2 (older ++ e ∷ []) rest
+enough_one : (lead : Ahead) (s : State) (older rest : List Entry) (e : Entry) → issued_from lead s 2 older (e ∷ rest) ≡ issued_from lead s 2 (older ++ e ∷ []) rest
 enough_one lead s older rest e = refl
 
-issued_enough : (lead : Lead) (s : State) (older rest : List Entry) → issued_from lead s 2 older rest ≡ older ++ rest
+issued_enough : (lead : Ahead) (s : State) (older rest : List Entry) → issued_from lead s 2 older rest ≡ older ++ rest
 issued_enough lead s older [] = sym (append-nil older)
 issued_enough lead s older (e ∷ rest) = enough_one lead s older rest e ∙ issued_enough lead s (older ++ e ∷ []) rest ∙ append_assoc older (e ∷ []) rest
 
-pub issued_two : (lead : Lead) (s : State) (begun at : ℕ) (w : List Entry) → begun ≡ 2 → issued_from lead s begun (take at w) (drop at w) ≡ w
+pub issued_two : (lead : Ahead) (s : State) (begun at : ℕ) (w : List Entry) → begun ≡ 2 → issued_from lead s begun (take at w) (drop at w) ≡ w
 issued_two lead s begun at w two = ap (λ (n : ℕ). issued_from lead s n (take at w) (drop at w)) two ∙ issued_enough lead s (take at w) (drop at w) ∙ take-append-drop at w
 
 -- behind the youngest nothing is left
-pub issued_end : (lead : Lead) (s : State) (begun : ℕ) (w : List Entry) (at : ℕ) → length w ≤ at → issued_from lead s begun (take at w) (drop at w) ≡ w
+pub issued_end : (lead : Ahead) (s : State) (begun : ℕ) (w : List Entry) (at : ℕ) → length w ≤ at → issued_from lead s begun (take at w) (drop at w) ≡ w
 issued_end lead s begun w at h =
     let all : take at w ≡ w = grind (arith, common_steps) in
     let none : drop at w ≡ [] = grind (arith, common_steps) in
@@ -112,7 +112,7 @@ get_some (x ∷ xs) zero h P f = f x refl
 get_some (x ∷ xs) (suc i) h P f = get_some xs i (omega arith) P f
 
 -- some entries are passed, and one begins
-pub begun_next : (lead : Lead) (s : State) (begun : ℕ) (w new : List Entry) (from at : ℕ) → begun < 2 → at ≡ from + passed (take from w) (drop from w) → at < length w
+pub begun_next : (lead : Ahead) (s : State) (begun : ℕ) (w new : List Entry) (from at : ℕ) → begun < 2 → at ≡ from + passed (take from w) (drop from w) → at < length w
     → ((e : Entry) → slice_get w at ≡ Some e → new ≡ slice_set w at (started lead s (take at w) e))
     → issued_from lead s (begun + 1) (take (at + 1) new) (drop (at + 1) new) ≡ issued_from lead s begun (take from w) (drop from w)
 begun_next lead s begun w new from at few place h sets =
@@ -120,7 +120,7 @@ begun_next lead s begun w new from at few place h sets =
     (λ e is. begun_one lead s begun w new at e is few (passed_next w from at e place is) (sets e is) ∙ sym (passed_stay lead s begun w from at place))
 
 -- some entries are passed, and none is left
-pub none_next : (lead : Lead) (s : State) (begun : ℕ) (w : List Entry) (from at : ℕ) → at ≡ from + passed (take from w) (drop from w) → at ≡ length w → w ≡ issued_from lead s begun (take from w) (drop from w)
+pub none_next : (lead : Ahead) (s : State) (begun : ℕ) (w : List Entry) (from at : ℕ) → at ≡ from + passed (take from w) (drop from w) → at ≡ length w → w ≡ issued_from lead s begun (take from w) (drop from w)
 none_next lead s begun w from at place end = sym (issued_end lead s begun w at (omega arith)) ∙ sym (passed_stay lead s begun w from at place)
 
 -- ---- the place of the first that can begin

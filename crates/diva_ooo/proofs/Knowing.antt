@@ -9,8 +9,8 @@ use Rattle.diva_decode.specs.declared.instr.Instr.{Instr}
 use Rattle.diva_decode.specs.Table.{HasRegisters, row_of}
 use Rattle.diva_isa.specs.State.{State}
 use Rattle.diva_isa.specs.Kind.{kind}
-use Rattle.diva_isa.specs.declared.kind.Kind.TheVariants.{Immediate, Register}
-use Rattle.diva_isa.specs.Step.{HasRegister, fetched, going, whole}
+use Rattle.diva_isa.specs.declared.kind.Kind.TheVariants.{OpImm, OpReg}
+use Rattle.diva_isa.specs.Step.{HasRegister, record_fetched, continues, record_with}
 use Rattle.diva_isa.specs.declared.effect.Effect.{Effect}
 use Rattle.diva_isa.specs.declared.effect.Effect.TheVariants.{Nothing, Writes}
 use Rattle.diva_isa.specs.declared.record.Record.{Record}
@@ -44,7 +44,7 @@ known_new pc word decoded is registers sources =
     record { decoded = is; registers = registers; sources = sources; effect = blank_does; register = search; fresh = λ waits. refl }
 
 -- what the word of a record says
-pub decoded_kept : (s : State) (word : Option ℕ) (decoded : Option Instr) → decoded ≡ option_and_then row_of word → decoded ≡ row_of (fetched s word).word
+pub decoded_kept : (s : State) (word : Option ℕ) (decoded : Option Instr) → decoded ≡ option_and_then row_of word → decoded ≡ row_of (record_fetched s word).word
 unfolding row_of
 decoded_kept s None decoded is = is
 decoded_kept s (Some w) decoded is = is
@@ -56,10 +56,10 @@ known_staged w at e stage is begun all =
     All-set IsKnown w at (record e { stage = stage }) (record { decoded = k.decoded; registers = k.registers; sources = k.sources; effect = k.effect; register = k.register; fresh = λ waits. absurd (true≢false (sym waits ∙ begun)) }) all
 
 -- what an operation on registers does
-pub immediate_does : (pc word a b v : ℕ) (i : Instr) → row_of word ≡ Some i → kind i.op ≡ Immediate → Writes i.rd v ≡ done_by (whole pc word a b 0 (going pc v))
+pub immediate_does : (pc word a b v : ℕ) (i : Instr) → row_of word ≡ Some i → kind i.op ≡ OpImm → Writes i.rd v ≡ done_by (record_with pc word a b 0 (continues pc v))
 unfolding done_by
 immediate_does pc word a b v i says is = rw (says, is) refl
 
-pub register_does : (pc word a b v : ℕ) (i : Instr) → row_of word ≡ Some i → kind i.op ≡ Register → Writes i.rd v ≡ done_by (whole pc word a b 0 (going pc v))
+pub register_does : (pc word a b v : ℕ) (i : Instr) → row_of word ≡ Some i → kind i.op ≡ OpReg → Writes i.rd v ≡ done_by (record_with pc word a b 0 (continues pc v))
 unfolding done_by
 register_does pc word a b v i says is = rw (says, is) refl

@@ -3,10 +3,10 @@ use Rattle.std.specs.Prelude.{ℕ, ◌+◌, ◌==◌, ◌&&◌, ◌||◌, nat_lt
 use Rattle.std.specs.List.{list_all}
 use Rattle.diva_isa.specs.State.{State}
 use Rattle.diva_isa.specs.Regs.{with_reg}
-use Rattle.diva_isa.specs.Step.{fetched}
+use Rattle.diva_isa.specs.Step.{record_fetched}
 use Rattle.diva_isa.specs.declared.record.Record.{Record}
 use Rattle.diva_ahead.specs.Effects.{done_by}
-use Rattle.diva_ahead.specs.Lead.{Lead, seen}
+use Rattle.diva_ahead.specs.Ahead.{Ahead, seen}
 use Rattle.diva_ooo.specs.declared.entry.Entry.{Entry}
 use Rattle.diva_ooo.specs.declared.entry.Stage.{Stage}
 use Rattle.diva_ooo.specs.declared.entry.Stage.TheVariants.{Waiting, Running, Done}
@@ -70,7 +70,7 @@ written regs (e ∷ older) = written (if is_done e.stage then with_reg regs e.pr
 
 -- what an entry sees, as if the core had handed over the older ones: each byte of memory is that of the youngest older store
 -- of the window that covers it, else of the ring, else that of s
-abbrev pub seen_by : Lead → State → List Entry → Entry → State
+abbrev pub seen_by : Ahead → State → List Entry → Entry → State
 seen_by lead s older e =
     seen (record lead { regs = written lead.regs older; pc = e.pc; ring = lead.ring ++ map (λ x. x.effect) older }) s
 
@@ -79,17 +79,17 @@ abbrev pub running : Entry → Record → Entry
 running e r = record e { stage = Running e.profile.cycles; result = r; effect = done_by r }
 
 -- it computes its record at once, by the word that was fetched
-unfoldable pub started : Lead → State → List Entry → Entry → Entry
-started lead s older e = running e (fetched (seen_by lead s older e) e.word)
+unfoldable pub started : Ahead → State → List Entry → Entry → Entry
+started lead s older e = running e (record_fetched (seen_by lead s older e) e.word)
 
 -- ---- the walk, oldest first
 
 -- the rest behind the older entries, which were looked at, and of which some have begun
-abbrev pub issued_from : Lead → State → (begun : ℕ) → List Entry → List Entry → List Entry
+abbrev pub issued_from : Ahead → State → (begun : ℕ) → List Entry → List Entry → List Entry
 issued_from lead s begun older [] = older
 issued_from lead s begun older (e ∷ rest) =
     if begins begun older e then issued_from lead s (begun + 1) (older ++ started lead s older e ∷ []) rest
     else issued_from lead s begun (older ++ e ∷ []) rest
 
-unfoldable pub issued : Lead → State → List Entry → List Entry
+unfoldable pub issued : Ahead → State → List Entry → List Entry
 issued lead s window = issued_from lead s 0 [] window

@@ -7,8 +7,8 @@ use Rattle.diva_decode.specs.Table.{row_of}
 use Rattle.diva_isa.specs.State.{State, word_of}
 use Rattle.diva_isa.specs.declared.record.Record.{Record}
 use Rattle.diva_isa.specs.declared.effect.Effect.TheVariants.{Nothing}
-use Rattle.diva_core.specs.Told.{Notice}
-use Rattle.diva_ahead.specs.Lead.{Lead, new_lead, synced, trimmed, handed, is_epoch}
+use Rattle.diva_core.specs.Told.{Told}
+use Rattle.diva_ahead.specs.Ahead.{Ahead, new_lead, synced, trimmed, handed, is_epoch}
 use Rattle.diva_ooo.specs.declared.entry.Entry.{Entry}
 use Rattle.diva_ooo.specs.declared.entry.Stage.TheVariants.{Waiting}
 use Rattle.diva_ooo.specs.declared.finishing.Turn.{Turn}
@@ -19,53 +19,53 @@ use Rattle.diva_ooo.specs.Issue.{issued, is_done}
 
 -- the core: where it stands and what it handed over, the instructions under way in program order, where it fetches, and
 -- whether the fetch has stopped
-pub record Pipeline : Type 0 where
-  pub ahead : Lead
+pub record Ooo : Type 0 where
+  pub ahead : Ahead
   pub window : List Entry
   pub fetch_pc : ℕ
   pub dry : Bool
 
-abbrev pub new_pipeline : Pipeline
+abbrev pub new_pipeline : Ooo
 new_pipeline = record { ahead = new_lead; window = []; fetch_pc = 0; dry = false }
 
 -- what a call hands over, and the core after it
 pub record OooCall : Type 0 where
   pub list : List Record
-  pub core : Pipeline
+  pub core : Ooo
 
-abbrev pub call_of : List Record → Pipeline → OooCall
+abbrev pub call_of : List Record → Ooo → OooCall
 call_of list p = record { list = list; core = p }
 
 -- ---- step 1, resynchronise: the core takes the machine's state, and nothing is under way
 
-unfoldable pub restarted : Pipeline → Notice → State → Pipeline
+unfoldable pub restarted : Ooo → Told → State → Ooo
 restarted p told s = record { ahead = synced p.ahead told s; window = []; fetch_pc = s.pc; dry = false }
 
 -- ---- step 2, drop: what is no longer pending
 
-abbrev pub dropped : Pipeline → Notice → Pipeline
+abbrev pub dropped : Ooo → Told → Ooo
 dropped p told = record p { ahead = trimmed p.ahead told }
 
 -- ---- step 3, finish
 
-abbrev pub fetching : Pipeline → Turn → Pipeline
+abbrev pub fetching : Ooo → Turn → Ooo
 fetching p On = p
 fetching p Dry = record p { dry = true }
 fetching p (To pc) = record p { fetch_pc = pc; dry = false }
 
-unfoldable pub completed : Pipeline → Pipeline
+unfoldable pub completed : Ooo → Ooo
 completed p = fetching (record p { window = (finished p.window).window }) (finished p.window).turn
 
 -- ---- step 4, hand over
 
 -- the oldest entry is handed over; behind one that ends nothing is under way, and nothing more is fetched
-abbrev pub with_handed : Pipeline → State → Record → List Entry → Pipeline
+abbrev pub with_handed : Ooo → State → Record → List Entry → Ooo
 with_handed p s r rest =
     if r.end == 0 then record p { ahead = handed p.ahead s r; window = rest }
     else record p { ahead = handed p.ahead s r; window = []; dry = true }
 
 -- as long as the oldest is done, at most n are handed over
-abbrev pub handed_over : ℕ → State → List Record → Pipeline → List Entry → OooCall
+abbrev pub handed_over : ℕ → State → List Record → Ooo → List Entry → OooCall
 handed_over zero s list p window = call_of list p
 handed_over (suc n) s list p [] = call_of list p
 handed_over (suc n) s list p (e ∷ rest) =
@@ -75,7 +75,7 @@ handed_over (suc n) s list p (e ∷ rest) =
 
 -- ---- step 5, issue
 
-abbrev pub with_issued : Pipeline → State → Pipeline
+abbrev pub with_issued : Ooo → State → Ooo
 with_issued p s = record p { window = issued p.ahead s p.window }
 
 -- ---- step 6, fetch
@@ -83,7 +83,7 @@ with_issued p s = record p { window = issued p.ahead s p.window }
 abbrev pub blank : Record
 blank = record { pc = 0; word = 0; src1 = 0; src2 = 0; addr = 0; value = 0; next = 0; end = 0 }
 
--- an entry that waits, of the word at pc if there is one, which says decoded
+-- an entry that waits, of the word at pc if there is one; decoded is what that says
 abbrev pub new_entry : (pc : ℕ) → Option ℕ → Option Instr → Entry
 new_entry pc word decoded =
     record {
@@ -98,7 +98,7 @@ new_entry pc word decoded =
     }
 
 -- the fetch stops where there is no word
-abbrev pub with_word : Pipeline → Option ℕ → Option Instr → Pipeline
+abbrev pub with_word : Ooo → Option ℕ → Option Instr → Ooo
 with_word p word decoded =
     record p {
       window = p.window ++ new_entry p.fetch_pc word decoded ∷ [];
@@ -106,10 +106,10 @@ with_word p word decoded =
       dry = is_none word;
     }
 
-abbrev pub can_fetch : Pipeline → Bool
+abbrev pub can_fetch : Ooo → Bool
 can_fetch p = nat_lt (length p.window) 32 && not p.dry && not p.ahead.stopped
 
-unfoldable pub fetched : Pipeline → State → Pipeline
+unfoldable pub fetched : Ooo → State → Ooo
 fetched p s = if can_fetch p then with_word p (word_of s p.fetch_pc) (option_and_then row_of (word_of s p.fetch_pc)) else p
 
 -- ---- the call
@@ -119,17 +119,17 @@ abbrev pub refilled : OooCall → State → OooCall
 refilled c s = call_of c.list (fetched (fetched (with_issued c.core s) s) s)
 
 -- steps 2 to 6
-unfoldable pub worked : Pipeline → Notice → State → OooCall
+unfoldable pub worked : Ooo → Told → State → OooCall
 worked p told s =
     let now = completed (dropped p told) in refilled (handed_over told.room s [] now now.window) s
 
 -- where the epoch is new, nothing is done before there is room
-unfoldable pub ooo_call : Pipeline → Notice → State → OooCall
+unfoldable pub ooo_call : Ooo → Told → State → OooCall
 ooo_call p told s =
     if is_epoch p.ahead.epoch told.epoch then worked p told s
     else (if told.room == 0 then call_of [] p else worked (restarted p told s) told s)
 
 -- the meaning of the core: the list and the core after are those of its call
-pub record IsOooCall (before : Pipeline) (told : Notice) (s : State) (list : List Record) (after : Pipeline) : Type 0 where
+pub record IsOooCall (before : Ooo) (told : Told) (s : State) (list : List Record) (after : Ooo) : Type 0 where
   pub lists : list ≡ (ooo_call before told s).list
   pub keeps : after ≡ (ooo_call before told s).core

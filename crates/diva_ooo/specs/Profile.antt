@@ -6,7 +6,7 @@ use Rattle.diva_decode.specs.declared.op.Op.TheVariants.{Lb, Lh, Lw, Lbu, Lhu, M
 use Rattle.diva_isa.specs.Kind.{kind}
 use Rattle.diva_isa.specs.Step.{imm}
 use Rattle.diva_isa.specs.declared.kind.Kind.{Kind}
-use Rattle.diva_isa.specs.declared.kind.Kind.TheVariants.{LoadUpper, AddUpper, Jump, JumpRegister, Branch, Load, Store, Immediate, Register, Fence, Call, Break}
+use Rattle.diva_isa.specs.declared.kind.Kind.TheVariants.{Lui, Auipc, Jal, Jalr, Branch, Load, Store, OpImm, OpReg, Fence, Ecall, Ebreak}
 use Rattle.diva_ooo.specs.declared.profile.Profile.{Profile}
 use Rattle.diva_ooo.specs.declared.profile.Class.{Class}
 use Rattle.diva_ooo.specs.declared.profile.Class.TheVariants.{Plain, Loads, Stores, Calls}
@@ -34,18 +34,18 @@ profiled rs1 rs2 rd class cycles = record { rs1 = rs1; rs2 = rs2; rd = rd; class
 -- the registers that an instruction reads and writes, x0 where it reads or writes none. A call reads none here: it waits until
 -- no older instruction is under way
 abbrev pub profile_by : Kind → Instr → Profile
-profile_by LoadUpper i = profiled 0 0 i.rd Plain (cycles_of i.op)
-profile_by AddUpper i = profiled 0 0 i.rd Plain (cycles_of i.op)
-profile_by Jump i = profiled 0 0 i.rd Plain (cycles_of i.op)
-profile_by JumpRegister i = profiled i.rs1 0 i.rd Plain (cycles_of i.op)
+profile_by Lui i = profiled 0 0 i.rd Plain (cycles_of i.op)
+profile_by Auipc i = profiled 0 0 i.rd Plain (cycles_of i.op)
+profile_by Jal i = profiled 0 0 i.rd Plain (cycles_of i.op)
+profile_by Jalr i = profiled i.rs1 0 i.rd Plain (cycles_of i.op)
 profile_by Branch i = profiled i.rs1 i.rs2 0 Plain (cycles_of i.op)
 profile_by (Load width) i = profiled i.rs1 0 i.rd Loads (cycles_of i.op)
 profile_by (Store width) i = profiled i.rs1 i.rs2 0 Stores (cycles_of i.op)
-profile_by Immediate i = profiled i.rs1 0 i.rd Plain (cycles_of i.op)
-profile_by Register i = profiled i.rs1 i.rs2 i.rd Plain (cycles_of i.op)
+profile_by OpImm i = profiled i.rs1 0 i.rd Plain (cycles_of i.op)
+profile_by OpReg i = profiled i.rs1 i.rs2 i.rd Plain (cycles_of i.op)
 profile_by Fence i = profiled 0 0 0 Plain (cycles_of i.op)
-profile_by Call i = profiled 0 0 0 Calls (cycles_of i.op)
-profile_by Break i = profiled 0 0 0 Plain (cycles_of i.op)
+profile_by Ecall i = profiled 0 0 0 Calls (cycles_of i.op)
+profile_by Ebreak i = profiled 0 0 0 Plain (cycles_of i.op)
 
 -- the same of what a word says; one that says nothing, and no word, run one cycle
 abbrev pub profile_of : Option Instr → Profile
@@ -56,18 +56,18 @@ profile_of (Some i) = profile_by (kind i.op) i
 
 -- a jump, and a branch backwards, are predicted to be taken
 abbrev pub is_taken_by : Kind → Instr → Bool
-is_taken_by LoadUpper i = false
-is_taken_by AddUpper i = false
-is_taken_by Jump i = true
-is_taken_by JumpRegister i = false
+is_taken_by Lui i = false
+is_taken_by Auipc i = false
+is_taken_by Jal i = true
+is_taken_by Jalr i = false
 is_taken_by Branch i = int_lt i.imm (pos 0)
 is_taken_by (Load width) i = false
 is_taken_by (Store width) i = false
-is_taken_by Immediate i = false
-is_taken_by Register i = false
+is_taken_by OpImm i = false
+is_taken_by OpReg i = false
 is_taken_by Fence i = false
-is_taken_by Call i = false
-is_taken_by Break i = false
+is_taken_by Ecall i = false
+is_taken_by Ebreak i = false
 
 abbrev pub target_or_next : (pc target : ℕ) → ℕ
 target_or_next pc target = if target % 4 == 0 then target else (pc + 4) % 2 ^ 32

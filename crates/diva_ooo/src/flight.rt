@@ -61,7 +61,7 @@ impl Flight<'_> {
 
 impl Look for Flight<'_> {
     ghost use Rattle.std.specs.Prelude.{◌++◌, map, take};
-    ghost use Rattle.diva_ahead.specs.Lead.{seen};
+    ghost use Rattle.diva_ahead.specs.Ahead.{seen};
     ghost use Rattle.diva_ooo.specs.Issue.{written};
 
     ghost shows = { λ x. seen (record x.ahead.now { regs = written x.ahead.now.regs (take x.at x.window.now); pc = x.pc; ring = x.ahead.now.ring ++ map (λ e. e.effect) (take x.at x.window.now) }) x.view.now };

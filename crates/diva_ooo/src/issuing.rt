@@ -2,7 +2,7 @@
 ghost use Rattle.std.specs.Prelude.{◌≡◌, ◌<◌, length, slice_get, slice_set, take, IfSome, Some, true};
 ghost use Rattle.std.specs.Option.{option_and_then};
 ghost use Rattle.diva_decode.specs.Table.{HasRegisters, row_of};
-ghost use Rattle.diva_isa.specs.Step.{HasRegister, fetched, going, whole};
+ghost use Rattle.diva_isa.specs.Step.{HasRegister, record_fetched, continues, record_with};
 ghost use Rattle.diva_isa.specs.declared.effect.Effect.TheVariants.{Writes};
 ghost use Rattle.diva_ahead.specs.Effects.{done_by};
 ghost use Rattle.diva_ooo.specs.declared.entry.Entry.{Entry};
@@ -65,20 +65,20 @@ struct Begun {
 fn run<L: Look>(state: &L, word: Option<u32>, decoded: Option<Instr>) -> Begun
     requires decoded { decoded ≡ option_and_then row_of word }
     requires registers { IfSome decoded HasRegisters }
-    ensures record { result.result ≡ fetched (L.shows state.now) word }
+    ensures record { result.result ≡ record_fetched (L.shows state.now) word }
     ensures effect { result.effect ≡ done_by result.result }
     ensures register { HasRegister result.effect }
 {
     if let (Some(word), Some(i)) = (word, decoded) {
         // The kinds that programs have most of are told apart first: what is done for such a kind is then one piece.
         match kind_of(i.op) {
-            Kind::Immediate => {
+            Kind::OpImm => {
                 let first = state.reg(i.rs1);
                 let read = Operands { first, second: 0 };
                 let value = alu(i.op, first, i.imm.cast_unsigned());
                 return computed(state.pc(), word, read, i.rd, value);
             }
-            Kind::Register => {
+            Kind::OpReg => {
                 let read = state.operands(i.rs1, i.rs2);
                 let value = alu(i.op, read.first, read.second);
                 return computed(state.pc(), word, read, i.rd, value);
@@ -95,7 +95,7 @@ fn run<L: Look>(state: &L, word: Option<u32>, decoded: Option<Instr>) -> Begun
 #[inline(always)]
 fn computed(pc: u32, word: u32, read: Operands, rd: u8, value: u32) -> Begun
     ensures { result ≡ record {
-      result = whole pc word read.first read.second 0 (going pc value);
+      result = record_with pc word read.first read.second 0 (continues pc value);
       effect = Writes rd value;
     } }
 {
@@ -132,7 +132,7 @@ fn effect_at(decoded: Option<Instr>, r: &Record) -> Effect
 fn record_by<L: Look>(state: &L, word: Option<u32>, decoded: Option<Instr>) -> Record
     requires decoded { decoded ≡ option_and_then row_of word }
     requires registers { IfSome decoded HasRegisters }
-    ensures { result ≡ fetched (L.shows state.now) word }
+    ensures { result ≡ record_fetched (L.shows state.now) word }
 {
     let sources = sources(state, decoded);
     let r = Record {

@@ -3,7 +3,7 @@ ghost use Rattle.std.specs.Prelude.{◌≡◌, ◌≤◌, ◌<◌, ◌+◌, ℕ,
 ghost use Rattle.std.specs.Option.{option_and_then};
 ghost use Rattle.diva_decode.specs.Table.{row_of};
 ghost use Rattle.diva_isa.specs.State.{State};
-ghost use Rattle.diva_ahead.specs.Lead.{is_epoch};
+ghost use Rattle.diva_ahead.specs.Ahead.{is_epoch};
 ghost use Rattle.diva_ooo.specs.Ooo.{IsOooCall, call_of, completed, dropped, fetched, fetching, handed_over, new_pipeline, ooo_call, restarted, with_issued, with_word, worked};
 
 use crate::entry::{Entry, Stage};
@@ -14,7 +14,7 @@ use crate::profile::Profile;
 use crate::window::Window;
 use diva_ahead::Ahead;
 use diva_core::{Claims, Core, Told, View};
-use diva_isa::{Effect, Record, effect_of, form_of};
+use diva_isa::{Effect, Record, decoded_of, effect_of};
 use std::alloc::{AllocError, Global};
 use std::marker::Model;
 
@@ -30,9 +30,9 @@ pub struct Ooo {
 }
 
 impl Model for Ooo {
-    ghost use Rattle.diva_ooo.specs.Ooo.{Pipeline};
+    ghost use Rattle.diva_ooo.specs.Ooo.{Ooo};
 
-    ghost Value = { Pipeline };
+    ghost Value = { Ooo };
 
     ghost view = { λ c. record { ahead = c.ahead; window = c.window; fetch_pc = c.fetch_pc; dry = c.dry } };
 }
@@ -173,7 +173,7 @@ impl Ooo {
         ensures { self.new ≡ with_word self.old word (option_and_then row_of word) }
     {
         let pc = self.fetch_pc;
-        let decoded = form_of(word);
+        let decoded = decoded_of(word);
         self.fetch_pc = predicted(decoded, pc);
         self.dry = word.is_none();
         self.window.push(Entry {

@@ -32,7 +32,7 @@ fn is_taken(i: &Instr) -> bool
     ensures { result ≡ is_taken_by (kind i.now.op) i.now }
 {
     match kind_of(i.op) {
-        Kind::Jump => true,
+        Kind::Jal => true,
         Kind::Branch => i.imm < 0,
         _ => false,
     }

@@ -74,18 +74,16 @@ impl Profile {
     {
         let cycles = cycles_of(i.op);
         match kind_of(i.op) {
-            Kind::LoadUpper | Kind::AddUpper | Kind::Jump => {
+            Kind::Lui | Kind::Auipc | Kind::Jal => {
                 Profile::with(0, 0, i.rd, Class::Plain, cycles)
             }
-            Kind::JumpRegister | Kind::Immediate => {
-                Profile::with(i.rs1, 0, i.rd, Class::Plain, cycles)
-            }
+            Kind::Jalr | Kind::OpImm => { Profile::with(i.rs1, 0, i.rd, Class::Plain, cycles) }
             Kind::Branch => Profile::with(i.rs1, i.rs2, 0, Class::Plain, cycles),
             Kind::Load(_) => Profile::with(i.rs1, 0, i.rd, Class::Loads, cycles),
             Kind::Store(_) => Profile::with(i.rs1, i.rs2, 0, Class::Stores, cycles),
-            Kind::Register => Profile::with(i.rs1, i.rs2, i.rd, Class::Plain, cycles),
-            Kind::Fence | Kind::Break => Profile::with(0, 0, 0, Class::Plain, cycles),
-            Kind::Call => Profile::with(0, 0, 0, Class::Calls, cycles),
+            Kind::OpReg => Profile::with(i.rs1, i.rs2, i.rd, Class::Plain, cycles),
+            Kind::Fence | Kind::Ebreak => Profile::with(0, 0, 0, Class::Plain, cycles),
+            Kind::Ecall => Profile::with(0, 0, 0, Class::Calls, cycles),
         }
     }
 

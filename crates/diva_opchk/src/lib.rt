@@ -28,22 +28,22 @@ pub fn check(pending: &Pending, at: usize, view: &View<'_>) -> Option<Diff>
     let entry = pending.at(at);
     let state = Bypass::new(pending, at, view);
     match entry.decoded {
-        Some(form) => compare(&entry.claim, Some(form), &state),
+        Some(decoded) => compare(&entry.claim, Some(decoded), &state),
         None => check_anew(pending, at, &view.copied()),
     }
 }
 
-/// The first difference in src1 and src2 between a claim and the record that is due in a state. `form` is what the claim's
+/// The first difference in src1 and src2 between a claim and the record that is due in a state. `decoded` is what the claim's
 /// word says.
 #[inline(always)]
 #[tactic(auto, using(diva_core::proofs::Agreeing::operands_due))]
-fn compare<L: Look>(claim: &Claim, form: Option<Instr>, state: &L) -> Option<Diff>
-    requires row { form ≡ row_of claim.now.word }
-    requires registers { IfSome form HasRegisters }
+fn compare<L: Look>(claim: &Claim, decoded: Option<Instr>, state: &L) -> Option<Diff>
+    requires row { decoded ≡ row_of claim.now.word }
+    requires registers { IfSome decoded HasRegisters }
     ensures { let due = record_of (L.shows state.now) in
         difference_in fetch_fields claim.now due ≡ None → result ≡ difference_in operand_fields claim.now due }
 {
-    let read = sources(state, form);
+    let read = sources(state, decoded);
     if claim.src1 != read.first {
         return Some(Diff::new(Field::Src1, claim.src1, read.first));
     }
@@ -76,14 +76,14 @@ pub fn solo(r: &mut Record, view: &View<'_>)
 
 #[inline]
 #[tactic(auto, using(diva_core::proofs::Agreeing::operands_filled))]
-fn fill<L: Look>(r: Record, form: Option<Instr>, state: &L) -> Record
-    requires row { form ≡ row_of r.word }
-    requires registers { IfSome form HasRegisters }
+fn fill<L: Look>(r: Record, decoded: Option<Instr>, state: &L) -> Record
+    requires row { decoded ≡ row_of r.word }
+    requires registers { IfSome decoded HasRegisters }
     ensures due { let due = record_of (L.shows state.now) in
         difference_in fetch_fields r due ≡ None → result ≡ record r { src1 = due.src1; src2 = due.src2 } }
     ensures rest { result ≡ record r { src1 = result.src1; src2 = result.src2 } }
 {
-    let read = sources(state, form);
+    let read = sources(state, decoded);
     Record {
         src1: read.first,
         src2: read.second,

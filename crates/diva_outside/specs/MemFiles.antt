@@ -3,37 +3,37 @@ use Rattle.std.specs.Prelude.{ℕ, List, Some, Result, Bool, ◌==◌, ◌&&◌,
 use Rattle.std.specs.List.{list_any}
 use Rattle.diva_outside.specs.Causes.{raised}
 use Rattle.diva_outside.specs.Faults.{faults_of, raised_at}
-use Rattle.diva_outside.specs.Files.{ToldFiles}
+use Rattle.diva_outside.specs.Files.{Contents}
 use Rattle.diva_outside.specs.Named.{bytes_of, answer_to}
 use Rattle.diva_outside.specs.declared.faults.Faults.{Faults}
 use Rattle.diva_outside.specs.declared.files.What.{What}
 use Rattle.diva_outside.specs.declared.files.LoadFault.{LoadFault}
 
 -- the files, the numbers of the calls that are to fail, and how many calls and faults there were
-pub record FilesInMemory : Type 0 where
+pub record MemFiles : Type 0 where
   pub files : List (List ℕ × List ℕ)
   pub fails : List ℕ
   pub calls : ℕ
   pub faults : Faults
 
 -- the contents, which are known: the bytes of each name
-abbrev pub told_by : FilesInMemory → ToldFiles
-told_by m = Some (bytes_of m.files)
+abbrev pub contents_of : MemFiles → Contents
+contents_of m = Some (bytes_of m.files)
 
 -- how often loads of this kind of file have failed
-abbrev pub faults_in : FilesInMemory → What → ℕ
+abbrev pub faults_in : MemFiles → What → ℕ
 faults_in m what = faults_of m.faults what
 
 -- whether the next call is to fail; calls are counted from 1
-abbrev pub is_to_fail : FilesInMemory → Bool
+abbrev pub is_to_fail : MemFiles → Bool
 is_to_fail m = list_any (λ call. call == raised m.calls) m.fails
 
 -- what a load answers, unless memory runs out: the name is looked up before the call is
-abbrev pub load_of : FilesInMemory → List ℕ → ℕ → Result (List ℕ) LoadFault
+abbrev pub load_of : MemFiles → List ℕ → ℕ → Result (List ℕ) LoadFault
 load_of m name limit = answer_to (bytes_of m.files name) (is_to_fail m) limit
 
 -- the files after a load: one more call, and one more fault where the name was found and the call failed
-abbrev pub after_load : FilesInMemory → What → List ℕ → FilesInMemory
+abbrev pub after_load : MemFiles → What → List ℕ → MemFiles
 after_load m what name = record m {
   calls = raised m.calls;
   faults = if is_to_fail m && is_some (bytes_of m.files name) then raised_at m.faults what else m.faults;

@@ -40,7 +40,7 @@ impl<'a, R: rt::Files> DiskFiles<'a, R> {
 impl<R: rt::Files> Files for DiskFiles<'_, R> {
     ghost use Rattle.diva_outside.specs.Faults.{faults_of};
 
-    ghost told = { λ _. None };
+    ghost contents = { λ _. None };
 
     ghost faults = { faults_of };
 

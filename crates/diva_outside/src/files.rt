@@ -53,7 +53,7 @@ impl<T: Drop> From<AllocFailed<T>> for LoadFault {
 pub trait Files {
     /// The contents, `None` where they are not known: for each name its bytes, or `None` where no file has that name.
     /// An empty file has bytes, the empty list.
-    ghost told: { Self → Option (List ℕ → Option (List ℕ)) };
+    ghost contents: { Self → Option (List ℕ → Option (List ℕ)) };
 
     /// How often loads of each kind of file have failed.
     ghost faults: { Self → What → ℕ };
@@ -72,21 +72,21 @@ pub trait Files {
         limit: usize,
     ) -> Result<Vec<u8>, LoadFault>
         // The files stay as they are, and no count falls.
-        ensures stays { told self.new ≡ told self.old }
+        ensures stays { contents self.new ≡ contents self.old }
         ensures later { (w : What) → faults self.old w ≤ faults self.new w }
 
         // `Ok` is the whole file, where the contents are known, and never longer than the limit.
-        ensures whole { IfOk result (λ v. Has (told self.old) name.now v.items) }
+        ensures whole { IfOk result (λ v. Has (contents self.old) name.now v.items) }
         ensures within { IfOk result (λ v. length v.items ≤ limit) }
 
         ensures too_long { IsErrOf result LoadFault.TooLong
-            → IsLonger (told self.old) name.now limit }
+            → IsLonger (contents self.old) name.now limit }
         ensures failed { IsErrOf result LoadFault.Failed
-            → Rose (faults self.old what) (faults self.new what) ⊎ IsMissing (told self.old) name.now }
+            → Rose (faults self.old what) (faults self.new what) ⊎ IsMissing (contents self.old) name.now }
 
         // A name that no file has is not counted as a fault.
-        ensures missing { IsMissing (told self.old) name.now
+        ensures missing { IsMissing (contents self.old) name.now
             → IsErrOf result LoadFault.Failed ⊎ IsErrOf result LoadFault.Memory }
-        ensures uncounted { IsMissing (told self.old) name.now
+        ensures uncounted { IsMissing (contents self.old) name.now
             → (w : What) → faults self.new w ≡ faults self.old w };
 }

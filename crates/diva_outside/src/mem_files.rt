@@ -24,9 +24,9 @@ pub struct MemFiles {
 }
 
 impl Model for MemFiles {
-    ghost use Rattle.diva_outside.specs.MemFiles.{FilesInMemory};
+    ghost use Rattle.diva_outside.specs.MemFiles.{MemFiles};
 
-    ghost Value = { FilesInMemory };
+    ghost Value = { MemFiles };
 
     ghost view = { λ m. record { files = m.files.items; fails = m.fails.items; calls = m.calls; faults = m.faults } };
 }
@@ -49,9 +49,9 @@ impl MemFiles {
 
 impl Files for MemFiles {
     ghost use Rattle.diva_outside.specs.declared.files.What.{What};
-    ghost use Rattle.diva_outside.specs.MemFiles.{told_by, faults_in, load_of, after_load};
+    ghost use Rattle.diva_outside.specs.MemFiles.{contents_of, faults_in, load_of, after_load};
 
-    ghost told = { told_by };
+    ghost contents = { contents_of };
 
     ghost faults = { faults_in };
 
@@ -62,17 +62,17 @@ impl Files for MemFiles {
         name: &str,
         limit: usize,
     ) -> Result<Vec<u8>, LoadFault>
-        ensures stays { told_by self.new ≡ told_by self.old }
+        ensures stays { contents_of self.new ≡ contents_of self.old }
         ensures later { (w : What) → faults_in self.old w ≤ faults_in self.new w }
-        ensures whole { IfOk result (λ v. Has (told_by self.old) name.now v.items) }
+        ensures whole { IfOk result (λ v. Has (contents_of self.old) name.now v.items) }
         ensures within { IfOk result (λ v. length v.items ≤ limit) }
         ensures too_long { IsErrOf result LoadFault.TooLong
-            → IsLonger (told_by self.old) name.now limit }
+            → IsLonger (contents_of self.old) name.now limit }
         ensures failed { IsErrOf result LoadFault.Failed
-            → Rose (faults_in self.old what) (faults_in self.new what) ⊎ IsMissing (told_by self.old) name.now }
-        ensures missing { IsMissing (told_by self.old) name.now
+            → Rose (faults_in self.old what) (faults_in self.new what) ⊎ IsMissing (contents_of self.old) name.now }
+        ensures missing { IsMissing (contents_of self.old) name.now
             → IsErrOf result LoadFault.Failed ⊎ IsErrOf result LoadFault.Memory }
-        ensures uncounted { IsMissing (told_by self.old) name.now
+        ensures uncounted { IsMissing (contents_of self.old) name.now
             → (w : What) → faults_in self.new w ≡ faults_in self.old w }
 
         // The answer is that of the definition, unless memory runs out.

@@ -30,9 +30,9 @@ pub struct MemSink {
 
 impl Model for MemSink {
     ghost use Rattle.std.specs.Prelude.{◌≤◌, vec_len, vec_capacity};
-    ghost use Rattle.diva_outside.specs.MemSink.{SinkInMemory};
+    ghost use Rattle.diva_outside.specs.MemSink.{MemSink};
 
-    ghost Value = { SinkInMemory };
+    ghost Value = { MemSink };
 
     ghost view = { λ s. record { bytes = s.bytes.items; room = s.room; fails = s.fails.items; calls = s.calls; faults = s.faults } };
 

@@ -16,9 +16,9 @@ pub struct StdSink<W: Write> {
 }
 
 impl<W: Write> Model for StdSink<W> {
-    ghost use Rattle.diva_outside.specs.StdSink.{SinkOver};
+    ghost use Rattle.diva_outside.specs.StdSink.{StdSink};
 
-    ghost Value = { SinkOver };
+    ghost Value = { StdSink };
 
     ghost view = { λ sink. record { bytes = W.contents sink.out; faults = sink.faults } };
 }

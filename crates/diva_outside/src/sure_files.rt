@@ -29,7 +29,7 @@ impl SureFiles {
 }
 
 impl Files for SureFiles {
-    ghost told = { λ files. Some (λ name. Some (or_empty (bytes_of files name))) };
+    ghost contents = { λ files. Some (λ name. Some (or_empty (bytes_of files name))) };
 
     ghost faults = { λ _ _. 0 };
 

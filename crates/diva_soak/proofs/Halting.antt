@@ -9,7 +9,7 @@ use Rattle.diva_decode.specs.declared.op.Op.TheVariants.{Addi, Ecall}
 use Rattle.diva_decode.specs.declared.instr.Instr.{Instr}
 use Rattle.diva_decode.specs.Table.{row_of, word_of as encoded}
 use Rattle.diva_isa.specs.State.{State, goes_on, reg_of, word_of}
-use Rattle.diva_isa.specs.Step.{apply, call, said, step, steps}
+use Rattle.diva_isa.specs.Step.{apply, call, record_by, step, steps}
 use Rattle.diva_isa.specs.declared.effect.Effect.TheVariants.{Writes}
 use Rattle.diva_isa.specs.declared.record.Record.{Record}
 use Rattle.diva_core.proofs.Bypassing.{with_reg_reads}
@@ -80,8 +80,8 @@ call_ends : (code : List ℕ) (s : State) (at : ℕ) → IsNext code s at 0x0000
 call_ends code s at n service =
     let i : Instr = of_sources Ecall 0 0 (pos 0) in
     let on : goes_on s ≡ true = on_true s n.stands.on in
-    let is : step s ≡ apply s (said s true 0x00000073 (Some i)) = step-on s ∙ ap (apply s) (record_is s 0x00000073 i n.there n.says) in
-    halts_at s on (ap (λ (t : State). t.end) is ∙ ended_by s (said s true 0x00000073 (Some i)) on (call_halts s s.pc (reg_of s 17) (reg_of s 10) service n.stands.status))
+    let is : step s ≡ apply s (record_by s true 0x00000073 (Some i)) = step-on s ∙ ap (apply s) (record_is s 0x00000073 i n.there n.says) in
+    halts_at s on (ap (λ (t : State). t.end) is ∙ ended_by s (record_by s true 0x00000073 (Some i)) on (call_halts s s.pc (reg_of s 17) (reg_of s 10) service n.stands.status))
 
 sum_is : (z : ℕ) → z ≡ 0 → (z + 93) % 2 ^ 32 ≡ 93
 sum_is z h = omega arith
@@ -92,7 +92,7 @@ service_read s value next h = grind (arith, common_steps, nat_tests, with_reg_re
 service_is : (code : List ℕ) (s : State) (at : ℕ) → IsNext code s at 0x05d00893 (of_immediate Addi 17 0 (pos 93)) → reg_of (step s) 17 ≡ 93
 service_is code s at n =
     let i : Instr = of_immediate Addi 17 0 (pos 93) in
-    let r : Record = said s true 0x05d00893 (Some i) in
+    let r : Record = record_by s true 0x05d00893 (Some i) in
     ap (λ (t : State). reg_of t 17) (steps_to s 0x05d00893 i n.stands.on n.there n.says refl)
     ∙ service_read s r.value r.next n.stands.regs ∙ sum_is (reg_of s 0) n.stands.none
 

@@ -10,7 +10,7 @@ use Rattle.diva_decode.specs.Table.{row_of}
 use Rattle.diva_isa.specs.Alu.{extended, is_taken}
 use Rattle.diva_isa.specs.Kind.{kind}
 use Rattle.diva_isa.specs.State.{State, memory_of, number_of, reg_of, word_of}
-use Rattle.diva_isa.specs.Step.{effect, going, load, loaded, said, step, store, stored, to_target}
+use Rattle.diva_isa.specs.Step.{effect, continues, load, loaded, record_by, step, store, stored, jumps_to}
 use Rattle.diva_isa.specs.declared.record.Outcome.{Outcome}
 use Rattle.diva_isa.specs.declared.record.Record.{Record}
 use Rattle.diva_soak.specs.Soak.{drawn, of_immediate, of_registers, of_sources}
@@ -27,10 +27,10 @@ pub record IsNext (code : List ℕ) (s : State) (at w : ℕ) (i : Instr) : Type 
 
 -- an instruction that goes on behind pc
 pub straight : (code : List ℕ) (s : State) (at w : ℕ) (i : Instr) → IsNext code s at w i
-    → (said s true w (Some i)).end ≡ 0 → (said s true w (Some i)).next ≡ (s.pc + 4) % 2 ^ 32 → IsMild (effect (kind i.op) i (said s true w (Some i)))
+    → (record_by s true w (Some i)).end ≡ 0 → (record_by s true w (Some i)).next ≡ (s.pc + 4) % 2 ^ 32 → IsMild (effect (kind i.op) i (record_by s true w (Some i)))
     → Stands code (step s) (at + 1)
 straight code s at w i n good next mild =
-    let r : Record = said s true w (Some i) in
+    let r : Record = record_by s true w (Some i) in
     let pc = n.stands.pc in
     let small = n.small in
     let to : r.next ≡ 2048 + 4 * (at + 1) = next ∙ omega arith in
@@ -54,11 +54,11 @@ data_there code s at q st p =
     let inside = p.inside in
     number_inside (memory_of s) 4 q (record { from = omega arith; to = omega arith })
 
-load_at : (s : State) (pc q v : ℕ) → (q % 4 == 0) ≡ true → number_of s 4 q ≡ Some v → load s pc q Lw 4 ≡ going pc (extended Lw v)
+load_at : (s : State) (pc q v : ℕ) → (q % 4 == 0) ≡ true → number_of s 4 q ≡ Some v → load s pc q Lw 4 ≡ continues pc (extended Lw v)
 load_at s pc q v test there =
     ap (λ (b : Bool). if b then loaded pc Lw (number_of s 4 q) else (load s pc 1 Lw 4)) test ∙ ap (loaded pc Lw) there
 
-store_at : (s : State) (pc q b v : ℕ) → (q % 4 == 0) ≡ true → number_of s 4 q ≡ Some v → store s pc q b 4 ≡ going pc (b % 2 ^ 32)
+store_at : (s : State) (pc q b v : ℕ) → (q % 4 == 0) ≡ true → number_of s 4 q ≡ Some v → store s pc q b 4 ≡ continues pc (b % 2 ^ 32)
 store_at s pc q b v test there =
     ap (λ (c : Bool). if c then stored pc b 4 (number_of s 4 q) else (store s pc 1 b 4)) test ∙ ap (stored pc b 4) there
 
@@ -67,7 +67,7 @@ store_at s pc q b v test there =
 target_is : (pc at : ℕ) → pc ≡ 2048 + 4 * at → at ≤ 70000 → (pc + cast_unsigned w32 (pos 8)) % 2 ^ 32 ≡ 2048 + 4 * (at + 2)
 target_is pc at h small = omega arith
 
-target_at : (pc t : ℕ) → t % 4 ≡ 0 → to_target pc 0 t ≡ record { value = 0; next = t; end = 0 }
+target_at : (pc t : ℕ) → t % 4 ≡ 0 → jumps_to pc 0 t ≡ record { value = 0; next = t; end = 0 }
 target_at pc t h = rw h refl
 
 -- the next instruction, or the one behind it
@@ -81,25 +81,25 @@ by_branch : (taken : Bool) (rs1 rs2 : ℕ) (code : List ℕ) (s : State) (at w :
     → is_taken Blt (reg_of s rs1) (reg_of s rs2) ≡ taken → Goes code (step s) at
 by_branch false rs1 rs2 code s at w n e =
     let t : ℕ = (s.pc + cast_unsigned w32 (pos 8)) % 2 ^ 32 in
-    let is : (if is_taken Blt (reg_of s rs1) (reg_of s rs2) then to_target s.pc 0 t else going s.pc 0) ≡ going s.pc 0 = ap (λ (b : Bool). if b then to_target s.pc 0 t else going s.pc 0) e in
+    let is : (if is_taken Blt (reg_of s rs1) (reg_of s rs2) then jumps_to s.pc 0 t else continues s.pc 0) ≡ continues s.pc 0 = ap (λ (b : Bool). if b then jumps_to s.pc 0 t else continues s.pc 0) e in
     inl (straight code s at w (of_sources Blt rs1 rs2 (pos 8)) n (ap (λ (o : Outcome). o.end) is) (ap (λ (o : Outcome). o.next) is) tt)
 by_branch true rs1 rs2 code s at w n e =
     let i : Instr = of_sources Blt rs1 rs2 (pos 8) in
     let t : ℕ = (s.pc + cast_unsigned w32 (pos 8)) % 2 ^ 32 in
     let to : t ≡ 2048 + 4 * (at + 2) = target_is s.pc at n.stands.pc n.small in
     let aligned : t % 4 ≡ 0 = omega arith in
-    let is : (if is_taken Blt (reg_of s rs1) (reg_of s rs2) then to_target s.pc 0 t else going s.pc 0) ≡ record { value = 0; next = t; end = 0 } =
-    ap (λ (b : Bool). if b then to_target s.pc 0 t else going s.pc 0) e ∙ target_at s.pc t aligned in
-    let next : (said s true w (Some i)).next ≡ 2048 + 4 * (at + 2) = ap (λ (o : Outcome). o.next) is ∙ to in
+    let is : (if is_taken Blt (reg_of s rs1) (reg_of s rs2) then jumps_to s.pc 0 t else continues s.pc 0) ≡ record { value = 0; next = t; end = 0 } =
+    ap (λ (b : Bool). if b then jumps_to s.pc 0 t else continues s.pc 0) e ∙ target_at s.pc t aligned in
+    let next : (record_by s true w (Some i)).next ≡ 2048 + 4 * (at + 2) = ap (λ (o : Outcome). o.next) is ∙ to in
     inr (subst (λ t. Stands code t (at + 2)) (sym (steps_to s w i n.stands.on n.there n.says (ap (λ (o : Outcome). o.end) is)))
-    (stands_moved code s at (at + 2) _ (effect (kind i.op) i (said s true w (Some i))) n.stands tt next))
+    (stands_moved code s at (at + 2) _ (effect (kind i.op) i (record_by s true w (Some i))) n.stands tt next))
 
 -- ---- one instruction of each kind
 
 passes_lw : (rd q : ℕ) → IsOwn rd → IsPlace q → Passes (of_immediate Lw rd 0 (pos q))
 passes_lw rd q d p code s at w n =
     let there = data_there code s at q n.stands p in
-    let is : load s s.pc ((reg_of s 0 + cast_unsigned w32 (pos q)) % 2 ^ 32) Lw 4 ≡ going s.pc (extended Lw there.number) =
+    let is : load s s.pc ((reg_of s 0 + cast_unsigned w32 (pos q)) % 2 ^ 32) Lw 4 ≡ continues s.pc (extended Lw there.number) =
     ap (λ (a : ℕ). load s s.pc a Lw 4) (place_is (reg_of s 0) q n.stands.none p) ∙ load_at s s.pc q there.number (test_place q p) there.is in
     inl (straight code s at w (of_immediate Lw rd 0 (pos q)) n (ap (λ (o : Outcome). o.end) is) (ap (λ (o : Outcome). o.next) is) (ten rd d))
 
@@ -108,7 +108,7 @@ passes_sw rs2 q p code s at w n =
     let there = data_there code s at q n.stands p in
     let place = place_is (reg_of s 0) q n.stands.none p in
     let inside = p.inside in
-    let is : store s s.pc ((reg_of s 0 + cast_unsigned w32 (pos q)) % 2 ^ 32) (reg_of s rs2) 4 ≡ going s.pc (reg_of s rs2 % 2 ^ 32) =
+    let is : store s s.pc ((reg_of s 0 + cast_unsigned w32 (pos q)) % 2 ^ 32) (reg_of s rs2) 4 ≡ continues s.pc (reg_of s rs2 % 2 ^ 32) =
     ap (λ (a : ℕ). store s s.pc a (reg_of s rs2) 4) place ∙ store_at s s.pc q (reg_of s rs2) there.number (test_place q p) there.is in
     inl (straight code s at w (of_sources Sw 0 rs2 (pos q)) n (ap (λ (o : Outcome). o.end) is) (ap (λ (o : Outcome). o.next) is) (omega arith))
 

@@ -9,7 +9,7 @@ use Rattle.diva_memory.proofs.Writing.{put_all_length}
 use Rattle.diva_memory.specs.Bytes.{low_bytes}
 use Rattle.diva_isa.specs.State.{State, goes_on, memory_of, reg_of, word_of}
 use Rattle.diva_isa.specs.Kind.{kind, size}
-use Rattle.diva_isa.specs.Step.{apply, effect, effect_by, fetched, record_of, said, step, with_effect}
+use Rattle.diva_isa.specs.Step.{apply, effect, effect_by, record_fetched, record_of, record_by, step, with_effect}
 use Rattle.diva_isa.specs.declared.record.Record.{Record}
 use Rattle.diva_isa.specs.declared.effect.Effect.{Effect}
 use Rattle.diva_isa.specs.declared.effect.Effect.TheVariants.{Nothing, Writes, Stores, Puts}
@@ -103,22 +103,22 @@ stands_moved code s i j next e st mild is =
 
 -- ---- one instruction
 
-pub record_is : (s : State) (w : ℕ) (i : Instr) → word_of s s.pc ≡ Some w → row_of w ≡ Some i → record_of s ≡ said s true w (Some i)
+pub record_is : (s : State) (w : ℕ) (i : Instr) → word_of s s.pc ≡ Some w → row_of w ≡ Some i → record_of s ≡ record_by s true w (Some i)
 unfolding record_of
-record_is s w i at row = ap (fetched s) at ∙ ap (said s true w) row
+record_is s w i at row = ap (record_fetched s) at ∙ ap (record_by s true w) row
 
 on_true : (s : State) → s.end ≡ 0 → goes_on s ≡ true
 on_true s on = grind (arith, nat_tests)
 
 applied : (s : State) (r : Record) (i : Instr) → goes_on s ≡ true → (r.end == 0) ≡ true → row_of r.word ≡ Some i → apply s r ≡ moved s (effect (kind i.op) i r) r.next
 unfolding apply
-applied s r i on good row = rw (on, good) (ap (λ form. moved s (effect_by form r) r.next) row)
+applied s r i on good row = rw (on, good) (ap (λ decoded. moved s (effect_by decoded r) r.next) row)
 
 good_true : (n : ℕ) → n ≡ 0 → (n == 0) ≡ true
 good_true n h = grind (arith, nat_tests)
 
-pub steps_to : (s : State) (w : ℕ) (i : Instr) → s.end ≡ 0 → word_of s s.pc ≡ Some w → row_of w ≡ Some i → (said s true w (Some i)).end ≡ 0
-    → step s ≡ moved s (effect (kind i.op) i (said s true w (Some i))) (said s true w (Some i)).next
+pub steps_to : (s : State) (w : ℕ) (i : Instr) → s.end ≡ 0 → word_of s s.pc ≡ Some w → row_of w ≡ Some i → (record_by s true w (Some i)).end ≡ 0
+    → step s ≡ moved s (effect (kind i.op) i (record_by s true w (Some i))) (record_by s true w (Some i)).next
 steps_to s w i on at row good =
     step-on s ∙ ap (apply s) (record_is s w i at row)
-    ∙ applied s (said s true w (Some i)) i (on_true s on) (good_true _ good) row
+    ∙ applied s (record_by s true w (Some i)) i (on_true s on) (good_true _ good) row

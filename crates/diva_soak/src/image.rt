@@ -1,6 +1,6 @@
 // The image of a seed.
 ghost use Rattle.std.specs.Prelude.{◌≡◌, ◌≤◌, IfOk};
-ghost use Rattle.diva_image.specs.View.{layout};
+ghost use Rattle.diva_image.specs.ImageLayout.{layout};
 ghost use Rattle.diva_soak.specs.Soak.{soak_of};
 
 use crate::payload::payload;

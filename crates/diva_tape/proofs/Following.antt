@@ -9,11 +9,11 @@ use Rattle.diva_isa.specs.State.{State, goes_on}
 use Rattle.diva_isa.specs.Step.{record_of, step, steps}
 use Rattle.diva_isa.specs.declared.record.Record.{Record}
 use Rattle.diva_isa.specs.declared.effect.Effect.{Effect}
-use Rattle.diva_core.specs.Timed.{Timed, Sizes, Waiting, new_timed, room_of}
+use Rattle.diva_core.specs.Timed.{Timed, Config, PendingClaim, new_timed, room_of}
 use Rattle.diva_core.specs.Cycle.{cycle_of}
-use Rattle.diva_core.specs.Told.{notice_of}
-use Rattle.diva_core.specs.Log.{FollowRule, IsLog, lists_of}
-use Rattle.diva_core.specs.Machine.{IsMachine, IsSizes}
+use Rattle.diva_core.specs.Told.{told_of}
+use Rattle.diva_core.specs.History.{FollowRule, IsHistory, lists_of}
+use Rattle.diva_core.specs.Machine.{IsMachine, IsConfig}
 use Rattle.diva_core.specs.Right.{AreRight, IsCalm, IsCalmRunning, IsRight, claim_of}
 use Rattle.diva_core.proofs.Commits.{Commits}
 use Rattle.diva_core.proofs.Steps.{steps-add}
@@ -24,7 +24,7 @@ use Rattle.diva_core.proofs.Calming.{stays_calm, no-difference, wait-least, clai
 use Rattle.diva_core.proofs.Listing.{new_calm}
 use Rattle.diva_core.proofs.Starting.{new-machine}
 use Rattle.diva_ahead.specs.Effects.{done_by}
-use Rattle.diva_ahead.specs.Lead.{Lead, is_epoch}
+use Rattle.diva_ahead.specs.Ahead.{Ahead, is_epoch}
 use Rattle.diva_ahead.proofs.Leading.{Follows}
 use Rattle.diva_tape.specs.Scalar.{IsPast, IsScalarCall, MayLead, ScalarCall, new_scalar, scalar_call, scalar_list}
 use Rattle.diva_tape.proofs.Calling.{Hands, Keeps, Ready, epoch_holds, hands, next_of, waits}
@@ -55,58 +55,58 @@ take_one zero b r some = absurd (omega arith)
 take_one (suc n) true r some = ap (λ (xs : List Record). r ∷ xs) (take_none n)
 take_one (suc n) false r some = refl
 
-at_some : (lead : Lead) (m : Timed) → 0 < room_of m → goes_on m.arch ≡ true → IsCalmRunning m → Ready lead m.flushes m.arch (waiting m) → At m (scalar_call lead (notice_of m) m.arch)
+at_some : (lead : Ahead) (m : Timed) → 0 < room_of m → goes_on m.arch ≡ true → IsCalmRunning m → Ready lead m.flushes m.arch (waiting m) → At m (scalar_call lead (told_of m) m.arch)
 at_some lead m some on calm ready =
-    let h : Hands m.flushes m.arch (waiting m) (scalar_call lead (notice_of m) m.arch) =
-    hands lead (notice_of m) m.arch (waiting m) (let s = some in omega arith) (sym (length-map m.pending claim_of)) on (due_from m.arch (waiting m) calm.claims) ready in
+    let h : Hands m.flushes m.arch (waiting m) (scalar_call lead (told_of m) m.arch) =
+    hands lead (told_of m) m.arch (waiting m) (let s = some in omega arith) (sym (length-map m.pending claim_of)) on (due_from m.arch (waiting m) calm.claims) ready in
     let far : steps (length (waiting m)) m.arch ≡ steps (length m.pending) m.arch = ap (λ (k : ℕ). steps k m.arch) (length-map m.pending claim_of) in
-    let all : take (room_of m) (scalar_call lead (notice_of m) m.arch).list ≡ (scalar_call lead (notice_of m) m.arch).list =
+    let all : take (room_of m) (scalar_call lead (told_of m) m.arch).list ≡ (scalar_call lead (told_of m) m.arch).list =
     ap (take (room_of m)) h.list ∙ take_one (room_of m) (goes_on (steps (length (waiting m)) m.arch)) (record_of (steps (length (waiting m)) m.arch)) some ∙ sym h.list in
     record {
       list = h.list ∙ ap next_of far ∙ rule_some (room_of m) (goes_on (steps (length m.pending) m.arch)) (record_of (steps (length m.pending) m.arch) ∷ []) some;
-      keeps = subst (λ (xs : List Record). Keeps (scalar_call lead (notice_of m) m.arch).core m.flushes m.arch (waiting m ++ xs)) (sym all) h.keeps;
+      keeps = subst (λ (xs : List Record). Keeps (scalar_call lead (told_of m) m.arch).core m.flushes m.arch (waiting m ++ xs)) (sym all) h.keeps;
     }
 
-at_none : (lead : Lead) (m : Timed) → room_of m ≡ 0 → Keeps lead m.flushes m.arch (waiting m) → At m (record { list = []; core = lead })
+at_none : (lead : Ahead) (m : Timed) → room_of m ≡ 0 → Keeps lead m.flushes m.arch (waiting m) → At m (record { list = []; core = lead })
 at_none lead m none k =
     record {
       list = rule_none (room_of m) (goes_on (steps (length m.pending) m.arch)) (record_of (steps (length m.pending) m.arch) ∷ []) none;
       keeps = subst (Keeps lead m.flushes m.arch) (sym (ap (λ (xs : List Record). waiting m ++ xs) (take_none (room_of m)) ∙ append-nil (waiting m))) k;
     }
 
-no_claims : (xs : List Waiting) → map claim_of xs ≡ [] → xs ≡ []
+no_claims : (xs : List PendingClaim) → map claim_of xs ≡ [] → xs ≡ []
 no_claims [] e = refl
 no_claims (p ∷ xs) e = absurd (cc)
 
-kept : (lead : Lead) (m : Timed) → IsMachine m → goes_on m.arch ≡ true → IsCalmRunning m → room_of m ≡ 0 → Ready lead m.flushes m.arch (waiting m) → Keeps lead m.flushes m.arch (waiting m)
+kept : (lead : Ahead) (m : Timed) → IsMachine m → goes_on m.arch ≡ true → IsCalmRunning m → room_of m ≡ 0 → Ready lead m.flushes m.arch (waiting m) → Keeps lead m.flushes m.arch (waiting m)
 kept lead m inv on calm none (inl k) = k
 kept lead m inv on calm none (inr f) = absurd (let some : 1 ≤ room_of m = room-some m inv calm.running on (no_claims m.pending f.1) in omega arith)
 
-at : (lead : Lead) (m : Timed) → IsMachine m → goes_on m.arch ≡ true → IsCalmRunning m → Ready lead m.flushes m.arch (waiting m) → At m (scalar_call lead (notice_of m) m.arch)
+at : (lead : Ahead) (m : Timed) → IsMachine m → goes_on m.arch ≡ true → IsCalmRunning m → Ready lead m.flushes m.arch (waiting m) → At m (scalar_call lead (told_of m) m.arch)
 at lead m inv on calm ready =
     elim (cases_lt 0 (room_of m)) [
       | inl some ↦ at_some lead m some on calm ready
       | inr few ↦
           let none : room_of m ≡ 0 = omega arith in
-          subst (At m) (sym (waits lead (notice_of m) m.arch none)) (at_none lead m none (kept lead m inv on calm none ready))
+          subst (At m) (sym (waits lead (told_of m) m.arch none)) (at_none lead m none (kept lead m inv on calm none ready))
     ]
 
 -- ---- and after the cycle
 
-record Split (k : ℕ) (xs rest : List Waiting) : Type 0 where
-  done : List Waiting
+record Split (k : ℕ) (xs rest : List PendingClaim) : Type 0 where
+  done : List PendingClaim
   parts : xs ≡ done ++ rest
   long : length done ≡ k
 
-split_commits : (k : ℕ) (s : State) (c : ℕ) (xs rest : List Waiting) → Commits k s c xs rest → Split k xs rest
+split_commits : (k : ℕ) (s : State) (c : ℕ) (xs rest : List PendingClaim) → Commits k s c xs rest → Split k xs rest
 split_commits zero s c xs rest h = record { done = []; parts = sym h; long = refl }
 split_commits (suc k) s c [] rest h = absurd h
 split_commits (suc k) s c (p ∷ xs) rest h =
     let r : Split k xs rest = split_commits k (step s) c xs rest h.2 in
-    record { done = p ∷ r.done; parts = ap (λ (z : List Waiting). p ∷ z) r.parts; long = ap suc r.long }
+    record { done = p ∷ r.done; parts = ap (λ (z : List PendingClaim). p ∷ z) r.parts; long = ap suc r.long }
 
 keeps_after :
-    (lead : Lead) (b n : Timed) (list : List Record) (k : ℕ) (rest : List Waiting)
+    (lead : Ahead) (b n : Timed) (list : List Record) (k : ℕ) (rest : List PendingClaim)
     → Base b n k
     → n.flushes ≡ b.flushes
     → Split k b.pending rest
@@ -128,7 +128,7 @@ keeps_after lead b n list k rest v flushes split pending h =
       follows = subst (Follows lead) far h.follows;
     }
 
-ready_cases : (lead : Lead) (b n : Timed) (list : List Record) → IsCalmRunning b → Keeps lead b.flushes b.arch (waiting b ++ take (room_of b) list) → Cycled b list n → goes_on n.arch ≡ true → Ready lead n.flushes n.arch (waiting n)
+ready_cases : (lead : Ahead) (b n : Timed) (list : List Record) → IsCalmRunning b → Keeps lead b.flushes b.arch (waiting b ++ take (room_of b) list) → Cycled b list n → goes_on n.arch ≡ true → Ready lead n.flushes n.arch (waiting n)
 ready_cases lead b n list calm h (idled r) on = inl (keeps_after lead b n list 0 b.pending r.base r.log.flushes (record { done = []; parts = refl; long = refl }) r.pending h)
 ready_cases lead b n list calm h (ran r) on = inl (keeps_after lead b n list (suc r.k) r.rest r.base r.log.flushes (split_commits (suc r.k) b.arch (b.cycles + 1) b.pending r.rest r.claims) r.pending h)
 ready_cases lead b n list calm h (barks r) on =
@@ -140,23 +140,23 @@ ready_cases lead b n list calm h (waited r) on = absurd (none-some _ (sym calm.r
 
 -- ---- while an instruction runs solo
 
-record RunsSolo (m : Timed) (lead : Lead) : Type 0 where
+record RunsSolo (m : Timed) (lead : Ahead) : Type 0 where
   start : ℕ
   since : m.solo ≡ Some start
   other : is_epoch lead.epoch m.flushes ≡ false
 
 -- the machine is calm, and the core keeps what is pending; or an instruction runs solo
-abbrev Stands : Timed → Lead → Type 0
+abbrev Stands : Timed → Ahead → Type 0
 Stands m lead = (IsCalm m × (goes_on m.arch ≡ true → Ready lead m.flushes m.arch (waiting m))) ⊎ RunsSolo m lead
 
 solo_room : (m : Timed) (start : ℕ) → m.solo ≡ Some start → room_of m ≡ 0
 solo_room m start some = rw some refl
 
 -- the core does nothing
-solo_call : (lead : Lead) (m : Timed) (start : ℕ) → m.solo ≡ Some start → scalar_call lead (notice_of m) m.arch ≡ record { list = []; core = lead }
-solo_call lead m start some = waits lead (notice_of m) m.arch (solo_room m start some)
+solo_call : (lead : Ahead) (m : Timed) (start : ℕ) → m.solo ≡ Some start → scalar_call lead (told_of m) m.arch ≡ record { list = []; core = lead }
+solo_call lead m start some = waits lead (told_of m) m.arch (solo_room m start some)
 
-solo_list : (lead : Lead) (m : Timed) (start : ℕ) → m.solo ≡ Some start → (scalar_call lead (notice_of m) m.arch).list ≡ scalar_list m
+solo_list : (lead : Ahead) (m : Timed) (start : ℕ) → m.solo ≡ Some start → (scalar_call lead (told_of m) m.arch).list ≡ scalar_list m
 solo_list lead m start some =
     ap (λ (c : ScalarCall). c.list) (solo_call lead m start some)
     ∙ rule_none (room_of m) (goes_on (steps (length m.pending) m.arch)) (record_of (steps (length m.pending) m.arch) ∷ []) (solo_room m start some)
@@ -180,7 +180,7 @@ solo_after m list start inv on some (ended r) = absurd (none-some _ (sym r.was �
 solo_after m list start inv on some (finished r) = inl (solo_fresh m list r.start inv on r.since r.sixth)
 solo_after m list start inv on some (waited r) = inr (r.solo ∙ sym r.since ∙ some)
 
-stands_solo : (lead : Lead) (m : Timed) (list : List Record) → IsMachine m → goes_on m.arch ≡ true → RunsSolo m lead → Stands (cycle_of m list) lead
+stands_solo : (lead : Ahead) (m : Timed) (list : List Record) → IsMachine m → goes_on m.arch ≡ true → RunsSolo m lead → Stands (cycle_of m list) lead
 stands_solo lead m list inv on r =
     let other : is_epoch lead.epoch (cycle_of m list).flushes ≡ false = ap (is_epoch lead.epoch) (solo_flushes m (cycle_of m list) list r.start r.since (cycled m list inv on)) ∙ r.other in
     elim (solo_after m list r.start inv on r.since (cycled m list inv on)) [
@@ -191,18 +191,18 @@ stands_solo lead m list inv on r =
 -- ---- histories
 
 -- a turn hands over by the rule, and the core stands where it did
-record Turn (m : Timed) (list : List Record) (after : Lead) : Type 0 where
+record Turn (m : Timed) (list : List Record) (after : Ahead) : Type 0 where
   rule : list ≡ scalar_list m
   stands : Stands (cycle_of m list) after
 
-turn : (m : Timed) (lead : Lead) (list : List Record) (after : Lead) → IsMachine m → goes_on m.arch ≡ true → Stands m lead → IsScalarCall lead (notice_of m) m.arch list after → Turn m list after
+turn : (m : Timed) (lead : Ahead) (list : List Record) (after : Ahead) → IsMachine m → goes_on m.arch ≡ true → Stands m lead → IsScalarCall lead (told_of m) m.arch list after → Turn m list after
 turn m lead list after inv on (inl c) given =
-    let a : At m (scalar_call lead (notice_of m) m.arch) = at lead m inv on (c.0 on) (c.1 on) in
+    let a : At m (scalar_call lead (told_of m) m.arch) = at lead m inv on (c.0 on) (c.1 on) in
     let rule : list ≡ scalar_list m = given.lists ∙ a.list in
     let right : IsRight m list = subst (IsRight m) (sym rule) (scalar_right m) in
     let keeps : Keeps after m.flushes m.arch (waiting m ++ take (room_of m) list) =
-    subst (λ (x : Lead). Keeps x m.flushes m.arch (waiting m ++ take (room_of m) list)) (sym given.keeps)
-    (subst (λ (l : List Record). Keeps (scalar_call lead (notice_of m) m.arch).core m.flushes m.arch (waiting m ++ take (room_of m) l)) (sym given.lists) a.keeps) in
+    subst (λ (x : Ahead). Keeps x m.flushes m.arch (waiting m ++ take (room_of m) list)) (sym given.keeps)
+    (subst (λ (l : List Record). Keeps (scalar_call lead (told_of m) m.arch).core m.flushes m.arch (waiting m ++ take (room_of m) l)) (sym given.lists) a.keeps) in
     record {
       rule = rule;
       stands = inl ((stays_calm m list inv c.0 right).calm, λ still. ready_cases after m (cycle_of m list) list (c.0 on) keeps (cycled m list inv on) still);
@@ -214,39 +214,39 @@ turn m lead list after inv on (inr r) given =
     }
 
 follows_rule :
-    (log : List (List Record × Lead)) (m : Timed) (lead : Lead) (last : Timed) (final : Lead)
+    (history : List (List Record × Ahead)) (m : Timed) (lead : Ahead) (last : Timed) (final : Ahead)
     → IsMachine m
     → Stands m lead
-    → IsLog IsScalarCall m lead log last final
-    → FollowRule scalar_list m (lists_of log)
+    → IsHistory IsScalarCall m lead history last final
+    → FollowRule scalar_list m (lists_of history)
 follows_rule [] m lead last final inv stands h = tt
 follows_rule (one ∷ rest) m lead last final inv stands h =
     let t : Turn m one.0 one.1 = turn m lead one.0 one.1 inv h.0 stands h.1.0 in
     (t.rule, follows_rule rest (cycle_of m one.0) one.1 last final (stays m one.0 inv) t.stands h.1.1)
 
-stands_by : (solo : Option ℕ) (m : Timed) (lead : Lead) → m.solo ≡ solo → MayLead m lead → Stands m lead
+stands_by : (solo : Option ℕ) (m : Timed) (lead : Ahead) → m.solo ≡ solo → MayLead m lead → Stands m lead
 stands_by None m lead e may = let rest = may.rests e in inl (rest.0, λ on. inr (may.epoch, ap (map claim_of) rest.1))
 stands_by (Some start) m lead e may = inr (record { start = start; since = e; other = may.epoch })
 
-pub scalar_history : (m last : Timed) (before after : Lead) (log : List (List Record × Lead)) → MayLead m before → IsLog IsScalarCall m before log last after → FollowRule scalar_list m (lists_of log)
-scalar_history m last before after log may h = follows_rule log m before last after may.machine (stands_by m.solo m before refl may) h
+pub scalar_history : (m last : Timed) (before after : Ahead) (history : List (List Record × Ahead)) → MayLead m before → IsHistory IsScalarCall m before history last after → FollowRule scalar_list m (lists_of history)
+scalar_history m last before after history may h = follows_rule history m before last after may.machine (stands_by m.solo m before refl may) h
 
-pub scalar_history_right : (m last : Timed) (before after : Lead) (log : List (List Record × Lead)) → MayLead m before → IsLog IsScalarCall m before log last after → AreRight m (lists_of log)
-scalar_history_right m last before after log may h =
-    rule_right_by scalar_list scalar_right m (lists_of log) (scalar_history m last before after log may h)
+pub scalar_history_right : (m last : Timed) (before after : Ahead) (history : List (List Record × Ahead)) → MayLead m before → IsHistory IsScalarCall m before history last after → AreRight m (lists_of history)
+scalar_history_right m last before after history may h =
+    rule_right_by scalar_list scalar_right m (lists_of history) (scalar_history m last before after history may h)
 
 -- a new core at a new machine
-pub new_leads : (z : Sizes) (s : State) → IsSizes z → MayLead (new_timed z s) new_scalar
+pub new_leads : (z : Config) (s : State) → IsConfig z → MayLead (new_timed z s) new_scalar
 new_leads z s ok = record { machine = new-machine z s ok; epoch = refl; rests = λ none. (new_calm z s ok, refl) }
 
 -- where a solo instruction commits
-pub leads_again : (m : Timed) (before after : Lead) (list : List Record) (start : ℕ) → IsMachine m → goes_on m.arch ≡ true → m.solo ≡ Some start → m.cycles + 1 ≡ start + 6 → is_epoch before.epoch m.flushes ≡ false → IsScalarCall before (notice_of m) m.arch list after
+pub leads_again : (m : Timed) (before after : Ahead) (list : List Record) (start : ℕ) → IsMachine m → goes_on m.arch ≡ true → m.solo ≡ Some start → m.cycles + 1 ≡ start + 6 → is_epoch before.epoch m.flushes ≡ false → IsScalarCall before (told_of m) m.arch list after
     → IsCalm (cycle_of m list) × ((cycle_of m list).pending ≡ []) × (is_epoch after.epoch (cycle_of m list).flushes ≡ false)
 leads_again m before after list start inv on some sixth other given =
     let fresh : Fresh (cycle_of m list) = solo_fresh m list start inv on some sixth in
     let flushes : (cycle_of m list).flushes ≡ m.flushes = solo_flushes m (cycle_of m list) list start some (cycled m list inv on) in
     let same : after ≡ before = given.keeps ∙ ap (λ (c : ScalarCall). c.core) (solo_call before m start some) in
-    (fresh.calm, fresh.pending, ap (λ (c : Lead). is_epoch c.epoch (cycle_of m list).flushes) same ∙ ap (is_epoch before.epoch) flushes ∙ other)
+    (fresh.calm, fresh.pending, ap (λ (c : Ahead). is_epoch c.epoch (cycle_of m list).flushes) same ∙ ap (is_epoch before.epoch) flushes ∙ other)
 
 -- ---- flushes, whatever the machine is handed
 
@@ -263,9 +263,9 @@ flush_cases b n list (waited r) = inl r.log.flushes
 flush_cycle : (m : Timed) (list : List Record) → IsMachine m → ((cycle_of m list).flushes ≡ m.flushes) ⊎ (((cycle_of m list).flushes ≡ m.flushes + 1) × ((cycle_of m list).solo ≡ Some (m.cycles + 1)))
 flush_cycle m list inv = by-cases (λ (n : Timed). (n.flushes ≡ m.flushes) ⊎ ((n.flushes ≡ m.flushes + 1) × (n.solo ≡ Some (m.cycles + 1)))) m list inv (λ on c. flush_cases m (cycle_of m list) list c) (λ off. inl refl)
 
-past_call : (before after : Lead) (m : Timed) (list : List Record) → IsPast before m → IsScalarCall before (notice_of m) m.arch list after → IsPast after m
+past_call : (before after : Ahead) (m : Timed) (list : List Record) → IsPast before m → IsScalarCall before (told_of m) m.arch list after → IsPast after m
 past_call before after m list past given =
-    subst (λ (c : Lead). IsPast c m) (sym given.keeps) (epoch_holds (λ (e : ℕ). e ≤ m.flushes) before (notice_of m) m.arch past (omega arith))
+    subst (λ (c : Ahead). IsPast c m) (sym given.keeps) (epoch_holds (λ (e : ℕ). e ≤ m.flushes) before (told_of m) m.arch past (omega arith))
 
 past_more : (o : Option ℕ) (a b : ℕ) → a ≤ b → IfSome o (λ (e : ℕ). e ≤ a) → IfSome o (λ (e : ℕ). e ≤ b)
 past_more None a b h p = tt
@@ -275,12 +275,12 @@ past_other : (o : Option ℕ) (a b : ℕ) → a < b → IfSome o (λ (e : ℕ). 
 past_other None a b h p = refl
 past_other (Some e) a b h p = grind (arith, nat_tests)
 
-pub stays_past : (m : Timed) (before after : Lead) (list handed : List Record) → IsMachine m → IsPast before m → IsScalarCall before (notice_of m) m.arch list after → IsPast after (cycle_of m handed)
+pub stays_past : (m : Timed) (before after : Ahead) (list handed : List Record) → IsMachine m → IsPast before m → IsScalarCall before (told_of m) m.arch list after → IsPast after (cycle_of m handed)
 stays_past m before after list handed inv past given =
     let rise : m.flushes ≤ (cycle_of m handed).flushes = elim (flush_cycle m handed inv) [ inl e ↦ omega arith | inr f ↦ let e = f.0 in omega arith ] in
     past_more after.epoch m.flushes (cycle_of m handed).flushes rise (past_call before after m list past given)
 
-pub leads_after_flush : (m : Timed) (before after : Lead) (list handed : List Record) → IsMachine m → IsPast before m → IsScalarCall before (notice_of m) m.arch list after → (cycle_of m handed).flushes ≢ m.flushes → MayLead (cycle_of m handed) after
+pub leads_after_flush : (m : Timed) (before after : Ahead) (list handed : List Record) → IsMachine m → IsPast before m → IsScalarCall before (told_of m) m.arch list after → (cycle_of m handed).flushes ≢ m.flushes → MayLead (cycle_of m handed) after
 leads_after_flush m before after list handed inv past given flush =
     elim (flush_cycle m handed inv) [
       | inl e ↦ absurd (flush e)

@@ -7,10 +7,10 @@ use Rattle.std.proofs.lemmas.Option.{none-some}
 use Rattle.diva_isa.specs.State.{State, goes_on}
 use Rattle.diva_isa.specs.Step.{record_of, step, steps}
 use Rattle.diva_isa.specs.declared.record.Record.{Record}
-use Rattle.diva_core.specs.Timed.{Timed, Sizes, Waiting, new_timed, room_of}
+use Rattle.diva_core.specs.Timed.{Timed, Config, PendingClaim, new_timed, room_of}
 use Rattle.diva_core.specs.Cycle.{accepted_in, cycle_of, run_of}
-use Rattle.diva_core.specs.Log.{FollowRule, IsLog, Meaning, lists_of}
-use Rattle.diva_core.specs.Machine.{IsMachine, IsSizes}
+use Rattle.diva_core.specs.History.{FollowRule, IsHistory, Meaning, lists_of}
+use Rattle.diva_core.specs.Machine.{IsMachine, IsConfig}
 use Rattle.diva_core.specs.Right.{IsCalmRunning, IsRight}
 use Rattle.diva_core.proofs.Commits.{Commits}
 use Rattle.diva_core.proofs.Steps.{steps-add}
@@ -20,14 +20,14 @@ use Rattle.diva_core.proofs.Calming.{due_from, no-difference, stays_calm, wait-l
 use Rattle.diva_core.proofs.Listing.{new_calm, run_calm}
 use Rattle.diva_core.proofs.Reaching.{run-off}
 use Rattle.diva_core.proofs.Starting.{new-machine}
-use Rattle.diva_core.proofs.Turning.{IsLog-run}
-use Rattle.diva_ahead.specs.Lead.{Lead}
+use Rattle.diva_core.proofs.Turning.{IsHistory-run}
+use Rattle.diva_ahead.specs.Ahead.{Ahead}
 use Rattle.diva_tape.specs.Scalar.{IsScalarCall, new_scalar, scalar_list}
 use Rattle.diva_tape.proofs.Following.{new_leads, scalar_history, scalar_history_right}
 use Rattle.diva_tape.proofs.Righting.{scalar_right}
 
 -- claims that were accepted in successive cycles, the first in c
-abbrev AreSuccessive : ℕ → List Waiting → Type 0
+abbrev AreSuccessive : ℕ → List PendingClaim → Type 0
 AreSuccessive c [] = Unit {0}
 AreSuccessive c (p ∷ rest) = (p.cycle ≡ c) × AreSuccessive (c + 1) rest
 
@@ -48,7 +48,7 @@ record Paced (m : Timed) : Type 0 where
 
 -- ---- one claim more
 
-successive_more : (c d : ℕ) (xs : List Waiting) (r : Record) → AreSuccessive c xs → c + length xs ≡ d → AreSuccessive c (xs ++ accepted_in d r ∷ [])
+successive_more : (c d : ℕ) (xs : List PendingClaim) (r : Record) → AreSuccessive c xs → c + length xs ≡ d → AreSuccessive c (xs ++ accepted_in d r ∷ [])
 successive_more c d [] r h e = let here : d ≡ c = omega arith in (here, tt)
 successive_more c d (p ∷ xs) r h e = (h.0, successive_more (c + 1) d xs r h.1 (omega arith))
 
@@ -77,14 +77,14 @@ take_one (suc n) r some = ap (λ (xs : List Record). r ∷ xs) (take_none n)
 -- six claims are pending at most, so there is room
 room_left : (b : Timed) → IsMachine b → goes_on b.arch ≡ true → Paced b → b.count + length b.pending ≡ b.cycles → 0 < room_of b
 room_left b inv on p e =
-    let width = inv.sizes.width_low in
-    let window = inv.sizes.window_low in
+    let width = inv.config.width_low in
+    let window = inv.config.window_low in
     let count = p.count in
     rw (p.calm.running, on) (omega arith)
 
 -- ---- one cycle
 
-module _ (b n : Timed) (list : List Record) (rest : List Waiting) (inv : IsMachine b) (on : goes_on b.arch ≡ true) (p : Paced b) (rule : list ≡ scalar_list b) (next : n.cycles ≡ b.cycles + 1)
+module _ (b n : Timed) (list : List Record) (rest : List PendingClaim) (inv : IsMachine b) (on : goes_on b.arch ≡ true) (p : Paced b) (rule : list ≡ scalar_list b) (next : n.cycles ≡ b.cycles + 1)
     (same : n.count + length rest ≡ b.count + length b.pending) (far : steps (length rest) n.arch ≡ steps (length b.pending) b.arch)
     (successive : AreSuccessive (n.count + 1) rest) (pending : n.pending ≡ rest ++ taken b list) where
   -- nothing is handed over behind an end
@@ -94,7 +94,7 @@ module _ (b n : Timed) (list : List Record) (rest : List Waiting) (inv : IsMachi
       let is : n.pending ≡ rest = pending ∙ ap (λ (xs : List Record). rest ++ map (accepted_in (b.cycles + 1)) xs) none ∙ append-nil rest in
       record {
         successive = subst (AreSuccessive (n.count + 1)) (sym is) successive;
-        leads = inr (ap (λ (xs : List Waiting). goes_on (steps (length xs) n.arch)) is ∙ ap goes_on far ∙ off);
+        leads = inr (ap (λ (xs : List PendingClaim). goes_on (steps (length xs) n.arch)) is ∙ ap goes_on far ∙ off);
       }
 
   queue_on : b.count + length b.pending ≡ b.cycles → goes_on (steps (length b.pending) b.arch) ≡ true → Queue n
@@ -117,28 +117,28 @@ module _ (b n : Timed) (list : List Record) (rest : List Waiting) (inv : IsMachi
       ]
 
 -- the front claim is ready where a claim commits
-front_ready : (k : ℕ) (s : State) (c count : ℕ) (xs rest : List Waiting) → Commits (suc k) s c xs rest → AreSuccessive (count + 1) xs → count + 7 ≤ c
+front_ready : (k : ℕ) (s : State) (c count : ℕ) (xs rest : List PendingClaim) → Commits (suc k) s c xs rest → AreSuccessive (count + 1) xs → count + 7 ≤ c
 front_ready k s c count [] rest h a = absurd h
 front_ready k s c count (p ∷ xs) rest h a = let ready = h.1 in let at = a.0 in omega arith
 
 -- and no other one is
-one_commits : (k : ℕ) (s : State) (c count : ℕ) (xs rest : List Waiting) → Commits (suc k) s c xs rest → AreSuccessive (count + 1) xs → c ≤ count + 7 → k ≡ 0
+one_commits : (k : ℕ) (s : State) (c count : ℕ) (xs rest : List PendingClaim) → Commits (suc k) s c xs rest → AreSuccessive (count + 1) xs → c ≤ count + 7 → k ≡ 0
 one_commits zero s c count xs rest h a most = refl
 one_commits (suc k) s c count [] rest h a most = absurd h
 one_commits (suc k) s c count (p ∷ xs) rest h a most = let second = front_ready k (step s) c (count + 1) xs rest h.2 a.1 in absurd (omega arith)
 
-tail_successive : (s : State) (c d : ℕ) (xs rest : List Waiting) → Commits 1 s c xs rest → AreSuccessive d xs → AreSuccessive (d + 1) rest
+tail_successive : (s : State) (c d : ℕ) (xs rest : List PendingClaim) → Commits 1 s c xs rest → AreSuccessive d xs → AreSuccessive (d + 1) rest
 tail_successive s c d [] rest h a = absurd h
 tail_successive s c d (p ∷ xs) rest h a = subst (AreSuccessive (d + 1)) (sym h.2) a.1
 
 -- a commit is of one claim, in the sixth cycle behind that in which it was accepted
-record Commits1 (b n : Timed) (rest : List Waiting) : Type 0 where
+record Commits1 (b n : Timed) (rest : List PendingClaim) : Type 0 where
   claims : Commits 1 b.arch (b.cycles + 1) b.pending rest
   counted : n.count ≡ b.count + 1
   stepped : n.arch ≡ steps 1 b.arch
   sixth : b.count + 6 ≡ b.cycles
 
-one_only : (b n : Timed) (rest : List Waiting) (k : ℕ) → Paced b → Base b n (suc k) → Commits (suc k) b.arch (b.cycles + 1) b.pending rest → Commits1 b n rest
+one_only : (b n : Timed) (rest : List PendingClaim) (k : ℕ) → Paced b → Base b n (suc k) → Commits (suc k) b.arch (b.cycles + 1) b.pending rest → Commits1 b n rest
 one_only b n rest k p base claims =
     let count = p.count in
     let ready = front_ready k b.arch (b.cycles + 1) b.count b.pending rest claims p.queue.successive in
@@ -156,17 +156,17 @@ abbrev Goes : Timed → Type 0
 Goes n = (goes_on n.arch ≡ true → Paced n) × (goes_on n.arch ≡ false → n.cycles ≡ n.count + 6)
 
 -- where nothing was ready, fewer than six cycles have run
-still_early : (b : Timed) → goes_on b.arch ≡ true → Paced b → ((q : Waiting) (rest : List Waiting) → b.pending ≡ q ∷ rest → b.cycles + 1 < q.cycle + 6) → b.cycles < 6
+still_early : (b : Timed) → goes_on b.arch ≡ true → Paced b → ((q : PendingClaim) (rest : List PendingClaim) → b.pending ≡ q ∷ rest → b.cycles + 1 < q.cycle + 6) → b.cycles < 6
 still_early b on p young = by_pending b.pending refl
   where
     no_end : (off : goes_on b.arch ≡ false) → b.cycles < 6
     no_end off = absurd (true≢false (sym on ∙ off))
 
-    by_pending : (xs : List Waiting) → b.pending ≡ xs → b.cycles < 6
+    by_pending : (xs : List PendingClaim) → b.pending ≡ xs → b.cycles < 6
     by_pending [] e =
         elim p.queue.leads [
           | inl leads ↦ let none : length b.pending ≡ 0 = ap length e in let count = p.count in omega arith
-          | inr off ↦ no_end (ap (λ (xs : List Waiting). goes_on (steps (length xs) b.arch)) (sym e) ∙ off)
+          | inr off ↦ no_end (ap (λ (xs : List PendingClaim). goes_on (steps (length xs) b.arch)) (sym e) ∙ off)
         ]
     by_pending (q ∷ xs) e =
         let y = young q xs e in
@@ -232,34 +232,34 @@ run_paced (list ∷ rest) m inv on p h =
       | inr off ↦ subst IsPaced (sym (run-off rest (cycle_of m list) off)) (λ still. absurd (true≢false (sym still ∙ off)), after.1)
     ]
 
-new_paced : (z : Sizes) (s : State) → IsSizes z → goes_on s ≡ true → Paced (new_timed z s)
+new_paced : (z : Config) (s : State) → IsConfig z → goes_on s ≡ true → Paced (new_timed z s)
 new_paced z s ok on = record { calm = new_calm z s ok on; count = refl; queue = record { successive = tt; leads = inl refl } }
 
 -- a new machine under a new Scalar
-paced : (z : Sizes) (s : State) (last : Timed) (after : Lead) (log : List (List Record × Lead)) → IsSizes z → goes_on s ≡ true
-    → IsLog IsScalarCall (new_timed z s) new_scalar log last after → IsPaced last
-paced z s last after log ok on h =
+paced : (z : Config) (s : State) (last : Timed) (after : Ahead) (history : List (List Record × Ahead)) → IsConfig z → goes_on s ≡ true
+    → IsHistory IsScalarCall (new_timed z s) new_scalar history last after → IsPaced last
+paced z s last after history ok on h =
     let m : Timed = new_timed z s in
-    subst IsPaced (sym (IsLog-run IsScalarCall m new_scalar log last after h))
-    (run_paced (lists_of log) m (new-machine z s ok) on (new_paced z s ok on) (scalar_history m last new_scalar after log (new_leads z s ok) h))
+    subst IsPaced (sym (IsHistory-run IsScalarCall m new_scalar history last after h))
+    (run_paced (lists_of history) m (new-machine z s ok) on (new_paced z s ok on) (scalar_history m last new_scalar after history (new_leads z s ok) h))
 
--- a log that leads to a machine that goes on began at one
-began : {C : Type 0} (gives : Meaning C) (m : Timed) (core : C) (log : List (List Record × C)) (last : Timed) (final : C) → IsLog gives m core log last final → goes_on last.arch ≡ true → goes_on m.arch ≡ true
+-- a history that leads to a machine that goes on began at one
+began : {C : Type 0} (gives : Meaning C) (m : Timed) (core : C) (history : List (List Record × C)) (last : Timed) (final : C) → IsHistory gives m core history last final → goes_on last.arch ≡ true → goes_on m.arch ≡ true
 began gives m core [] last final h on = ap (λ (n : Timed). goes_on n.arch) (sym h.0) ∙ on
 began gives m core (turn ∷ rest) last final h on = h.0
 
-pub scalar_runs : (z : Sizes) (s : State) (last : Timed) (after : Lead) (log : List (List Record × Lead)) → IsSizes z
-    → IsLog IsScalarCall (new_timed z s) new_scalar log last after → goes_on last.arch ≡ true → last.count ≡ last.cycles - 6
-scalar_runs z s last after log ok h on =
-    (paced z s last after log ok (began IsScalarCall (new_timed z s) new_scalar log last after h on) h).0 on
+pub scalar_runs : (z : Config) (s : State) (last : Timed) (after : Ahead) (history : List (List Record × Ahead)) → IsConfig z
+    → IsHistory IsScalarCall (new_timed z s) new_scalar history last after → goes_on last.arch ≡ true → last.count ≡ last.cycles - 6
+scalar_runs z s last after history ok h on =
+    (paced z s last after history ok (began IsScalarCall (new_timed z s) new_scalar history last after h on) h).0 on
 
-pub scalar_ends : (z : Sizes) (s : State) (last : Timed) (after : Lead) (log : List (List Record × Lead)) → IsSizes z → goes_on s ≡ true
-    → IsLog IsScalarCall (new_timed z s) new_scalar log last after → goes_on last.arch ≡ false → last.cycles ≡ last.count + 6
-scalar_ends z s last after log ok on h off = (paced z s last after log ok on h).1 off
+pub scalar_ends : (z : Config) (s : State) (last : Timed) (after : Ahead) (history : List (List Record × Ahead)) → IsConfig z → goes_on s ≡ true
+    → IsHistory IsScalarCall (new_timed z s) new_scalar history last after → goes_on last.arch ≡ false → last.cycles ≡ last.count + 6
+scalar_ends z s last after history ok on h off = (paced z s last after history ok on h).1 off
 
-pub scalar_unflushed : (z : Sizes) (s : State) (last : Timed) (after : Lead) (log : List (List Record × Lead)) → IsSizes z
-    → IsLog IsScalarCall (new_timed z s) new_scalar log last after → last.flushes ≡ 0
-scalar_unflushed z s last after log ok h =
+pub scalar_unflushed : (z : Config) (s : State) (last : Timed) (after : Ahead) (history : List (List Record × Ahead)) → IsConfig z
+    → IsHistory IsScalarCall (new_timed z s) new_scalar history last after → last.flushes ≡ 0
+scalar_unflushed z s last after history ok h =
     let m : Timed = new_timed z s in
-    ap (λ (n : Timed). n.flushes) (IsLog-run IsScalarCall m new_scalar log last after h)
-    ∙ (run_calm m (lists_of log) (new-machine z s ok) (new_calm z s ok) (scalar_history_right m last new_scalar after log (new_leads z s ok) h)).flushes
+    ap (λ (n : Timed). n.flushes) (IsHistory-run IsScalarCall m new_scalar history last after h)
+    ∙ (run_calm m (lists_of history) (new-machine z s ok) (new_calm z s ok) (scalar_history_right m last new_scalar after history (new_leads z s ok) h)).flushes

@@ -5,7 +5,7 @@ use Rattle.std.proofs.lemmas.List.Elements.{All-drop}
 use Rattle.std.proofs.lemmas.List.Sums.{sum_by-drop_more}
 use Rattle.diva_isa.specs.declared.record.Record.{Record}
 use Rattle.diva_core.specs.Cycle.{cycle_of}
-use Rattle.diva_core.specs.Log.{IsLog, lists_of}
+use Rattle.diva_core.specs.History.{IsHistory, lists_of}
 use Rattle.diva_core.specs.Timed.{Timed}
 use Rattle.diva_tape.specs.TapeCalls.{next_list, later_lists, tape_call, played}
 use Rattle.diva_tape.specs.TapeParts.{IsPlayed}
@@ -44,12 +44,12 @@ pub played-next : (n : ℕ) (lists : List (List Record)) → next_list lists ∷
 played-next n [] = refl
 played-next n (list ∷ lists) = ap (λ later. list ∷ later) (sym (take-padded n lists))
 
-pub log_played : (m last : Timed) (before after : List (List Record)) (log : List (List Record × List (List Record)))
-    → IsLog tape_call m before log last after
-    → lists_of log ≡ played (length log) before
+pub log_played : (m last : Timed) (before after : List (List Record)) (history : List (List Record × List (List Record)))
+    → IsHistory tape_call m before history last after
+    → lists_of history ≡ played (length history) before
 log_played m last before after [] h = refl
-log_played m last before after (turn ∷ log) h =
-    let more : lists_of log ≡ played (length log) turn.1 = log_played (cycle_of m turn.0) last turn.1 after log h.1.1 in
-    ap (λ list. list ∷ lists_of log) h.1.0.next
-    ∙ ap (λ lists. next_list before ∷ lists) (more ∙ ap (played (length log)) h.1.0.later)
-    ∙ played-next (length log) before
+log_played m last before after (turn ∷ history) h =
+    let more : lists_of history ≡ played (length history) turn.1 = log_played (cycle_of m turn.0) last turn.1 after history h.1.1 in
+    ap (λ list. list ∷ lists_of history) h.1.0.next
+    ∙ ap (λ lists. next_list before ∷ lists) (more ∙ ap (played (length history)) h.1.0.later)
+    ∙ played-next (length history) before

@@ -7,7 +7,7 @@ use Rattle.diva_isa.specs.declared.record.Record.{Record}
 use Rattle.diva_isa.specs.Step.{record_of, step, steps}
 use Rattle.diva_core.specs.Timed.{Timed, room_of}
 use Rattle.diva_core.specs.Cycle.{cycle_of}
-use Rattle.diva_core.specs.Log.{IsLog, FollowRule, lists_of}
+use Rattle.diva_core.specs.History.{IsHistory, FollowRule, lists_of}
 use Rattle.diva_core.specs.Right.{AreDue, IsRight, AreRight}
 use Rattle.diva_core.proofs.Calming.{AreDueFrom, due_at}
 use Rattle.diva_core.proofs.Listing.{log_right}
@@ -66,8 +66,8 @@ pub rule_right : (m : Timed) (lists : List (List Record)) → FollowRule lockste
 rule_right = rule_right_by lockstep_list lockstep_right
 
 pub lockstep_history_right :
-    {C : Type 0} (m : Timed) (core : C) (log : List (List Record × C)) (last : Timed) (final : C)
-    → IsLog IsLockstepCall m core log last final
-    → AreRight m (lists_of log)
-lockstep_history_right m core log last final h =
-    log_right IsLockstepCall (λ n before list after given. subst (IsRight n) (sym given) (lockstep_right n)) m core log last final h
+    {C : Type 0} (m : Timed) (core : C) (history : List (List Record × C)) (last : Timed) (final : C)
+    → IsHistory IsLockstepCall m core history last final
+    → AreRight m (lists_of history)
+lockstep_history_right m core history last final h =
+    log_right IsLockstepCall (λ n before list after given. subst (IsRight n) (sym given) (lockstep_right n)) m core history last final h

@@ -4,11 +4,11 @@ use Rattle.diva_isa.specs.State.{State}
 use Rattle.diva_isa.specs.Step.{record_of}
 use Rattle.diva_isa.specs.declared.record.Record.{Record}
 use Rattle.diva_core.specs.Timed.{Timed}
-use Rattle.diva_core.specs.Told.{Notice, notice_of}
-use Rattle.diva_core.specs.Log.{Meaning}
+use Rattle.diva_core.specs.Told.{Told, told_of}
+use Rattle.diva_core.specs.History.{Meaning}
 
 -- Lockstep in one call: the due record where nothing is pending and there is room, else nothing
-abbrev pub lockstep_call : Notice → State → List Record
+abbrev pub lockstep_call : Told → State → List Record
 lockstep_call told s = if (told.pending == 0) && nat_lt 0 told.room then record_of s ∷ [] else []
 
 -- the meaning of Lockstep: in each call its list, whatever it kept
@@ -17,7 +17,7 @@ IsLockstepCall before told s list after = list ≡ lockstep_call told s
 
 -- Lockstep at each machine
 abbrev pub lockstep_list : Timed → List Record
-lockstep_list m = lockstep_call (notice_of m) m.arch
+lockstep_list m = lockstep_call (told_of m) m.arch
 
 -- Silent at each machine: nothing
 abbrev pub silent_list : Timed → List Record
@@ -36,7 +36,7 @@ abbrev pub IsFloodCall : {C : Type 0} → Meaning C
 IsFloodCall before told s list after = list ≡ replicate 8 zeros
 
 -- Echo in one call: the due record where there is room, pending or not, else nothing
-abbrev pub echo_call : Notice → State → List Record
+abbrev pub echo_call : Told → State → List Record
 echo_call told s = if nat_lt 0 told.room then record_of s ∷ [] else []
 
 -- the meaning of Echo: in each call its list, whatever it kept
@@ -45,4 +45,4 @@ IsEchoCall before told s list after = list ≡ echo_call told s
 
 -- Echo at each machine
 abbrev pub echo_list : Timed → List Record
-echo_list m = echo_call (notice_of m) m.arch
+echo_list m = echo_call (told_of m) m.arch

@@ -1,7 +1,7 @@
 -- What the core `Noise` hands over, seen as the number that its generator gave last.
 use Rattle.std.specs.Prelude.{◌≡◌, ℕ, zero, suc, ◌+◌, ◌*◌, ◌%◌, ◌^◌, List, [], ◌∷◌}
 use Rattle.diva_isa.specs.declared.record.Record.{Record}
-use Rattle.diva_core.specs.Log.{Meaning}
+use Rattle.diva_core.specs.History.{Meaning}
 
 -- the number that a linear congruential generator gives after x
 unfoldable pub next_number : ℕ → ℕ

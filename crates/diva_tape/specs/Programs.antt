@@ -5,10 +5,10 @@ use Rattle.diva_isa.specs.State.{State, reg_of}
 use Rattle.diva_isa.specs.Step.{record_of, steps}
 use Rattle.diva_isa.specs.declared.record.Record.{Record}
 use Rattle.diva_core.specs.declared.flushes.FlushRow.{FlushRow}
-use Rattle.diva_core.specs.Timed.{Timed, Sizes, Waiting, new_timed}
+use Rattle.diva_core.specs.Timed.{Timed, Config, PendingClaim, new_timed}
 use Rattle.diva_core.specs.Cycle.{cycle_of}
-use Rattle.diva_core.specs.Told.{notice_of}
-use Rattle.diva_ahead.specs.Lead.{Lead}
+use Rattle.diva_core.specs.Told.{told_of}
+use Rattle.diva_ahead.specs.Ahead.{Ahead}
 use Rattle.diva_tape.specs.Lists.{lockstep_list}
 use Rattle.diva_tape.specs.Scalar.{new_scalar, scalar_call}
 
@@ -73,7 +73,7 @@ registers numbers s = map (reg_of s) numbers
 -- ---- the machine
 
 -- the numbers of a machine for which no others are asked
-abbrev pub defaults : Sizes
+abbrev pub defaults : Config
 defaults = record { width = 2; window = 16; stores = 4; limit = 64 }
 
 -- the machine after n cycles in which a rule says what is handed over
@@ -95,7 +95,7 @@ abbrev pub summary_of : Timed → Summary
 summary_of m = record { end = m.arch.end; count = m.count; cycles = m.cycles; flushes = m.flushes; silent = m.silent; rows = m.rows }
 
 -- the cycle in which a pending claim was accepted
-abbrev pub cycle_accepted : Waiting → ℕ
+abbrev pub cycle_accepted : PendingClaim → ℕ
 cycle_accepted p = p.cycle
 
 -- for each claim that is accepted within n cycles, the cycle in which it is
@@ -163,12 +163,12 @@ stale_word =
 
 pub record Driven : Type 0 where
   pub machine : Timed
-  pub core : Lead
+  pub core : Ahead
 
 -- one turn: the machine's cycle with what the call hands over
 abbrev pub turn_of : Driven → Driven
 turn_of d =
-    let call = scalar_call d.core (notice_of d.machine) d.machine.arch in
+    let call = scalar_call d.core (told_of d.machine) d.machine.arch in
     record { machine = cycle_of d.machine call.list; core = call.core }
 
 abbrev pub turns_of : ℕ → Driven → Driven

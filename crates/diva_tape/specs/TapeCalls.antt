@@ -1,7 +1,7 @@
 -- What a core hands over that plays a tape, seen as the lists that are yet to come.
 use Rattle.std.specs.Prelude.{◌≡◌, ℕ, List, [], ◌∷◌, ◌++◌, take, replicate}
 use Rattle.diva_isa.specs.declared.record.Record.{Record}
-use Rattle.diva_core.specs.Log.{Meaning}
+use Rattle.diva_core.specs.History.{Meaning}
 
 -- the list that comes next: an empty one past the last
 abbrev pub next_list : List (List Record) → List Record

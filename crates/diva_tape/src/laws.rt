@@ -2,13 +2,13 @@
 //! about the definitions.
 ghost use Rattle.std.specs.Prelude.{ℕ, ◌≡◌, ◌≢◌, ◌+◌, ◌-◌, List, [], Some, length, true, false};
 ghost use Rattle.diva_isa.specs.declared.record.Record.{Record};
-ghost use Rattle.diva_core.specs.Timed.{Timed, Sizes, depth, new_timed};
-ghost use Rattle.diva_ahead.specs.Lead.{Lead, is_epoch};
+ghost use Rattle.diva_core.specs.Timed.{Timed, Config, depth, new_timed};
+ghost use Rattle.diva_ahead.specs.Ahead.{Ahead, is_epoch};
 ghost use Rattle.diva_core.specs.Cycle.{cycle_of};
-ghost use Rattle.diva_core.specs.Log.{FollowRule, IsLog, lists_of};
-ghost use Rattle.diva_core.specs.Machine.{IsMachine, IsSizes};
+ghost use Rattle.diva_core.specs.History.{FollowRule, IsHistory, lists_of};
+ghost use Rattle.diva_core.specs.Machine.{IsMachine, IsConfig};
 ghost use Rattle.diva_core.specs.Right.{AreRight, IsCalm};
-ghost use Rattle.diva_core.specs.Told.{notice_of};
+ghost use Rattle.diva_core.specs.Told.{told_of};
 ghost use Rattle.diva_isa.specs.State.{State, goes_on};
 ghost use Rattle.diva_tape.specs.Lists.{IsLockstepCall};
 ghost use Rattle.diva_tape.specs.Noise.{noise_call, noise_lists};
@@ -20,8 +20,8 @@ ghost use Rattle.diva_tape.specs.declared.lockstep.Lockstep.{Lockstep};
 /// machine that it is handed to. So a calm machine that `Lockstep` drives is never flushed.
 #[tactic(auto, using(crate::proofs::Righting::lockstep_history_right))]
 pub fn lockstep_is_right()
-    ensures { (m last : Timed) (before after : Lockstep) (log : List (List Record × Lockstep))
-        → IsLog IsLockstepCall m before log last after → AreRight m (lists_of log) }
+    ensures { (m last : Timed) (before after : Lockstep) (history : List (List Record × Lockstep))
+        → IsHistory IsLockstepCall m before history last after → AreRight m (lists_of history) }
 {}
 
 /// `Scalar` is right from a machine on at which it may lead, and it may from its making on. In each of its histories from
@@ -30,26 +30,26 @@ pub fn lockstep_is_right()
 /// `Scalar` drives is never flushed.
 #[tactic(auto, using(crate::proofs::Following::scalar_history, crate::proofs::Following::scalar_history_right, crate::proofs::Following::new_leads))]
 pub fn scalar_is_right()
-    ensures lists { (m last : Timed) (before after : Lead) (log : List (List Record × Lead))
-        → MayLead m before → IsLog IsScalarCall m before log last after → FollowRule scalar_list m (lists_of log) }
-    ensures right { (m last : Timed) (before after : Lead) (log : List (List Record × Lead))
-        → MayLead m before → IsLog IsScalarCall m before log last after → AreRight m (lists_of log) }
-    ensures new { (sizes : Sizes) (s : State) → IsSizes sizes → MayLead (new_timed sizes s) new_scalar }
+    ensures lists { (m last : Timed) (before after : Ahead) (history : List (List Record × Ahead))
+        → MayLead m before → IsHistory IsScalarCall m before history last after → FollowRule scalar_list m (lists_of history) }
+    ensures right { (m last : Timed) (before after : Ahead) (history : List (List Record × Ahead))
+        → MayLead m before → IsHistory IsScalarCall m before history last after → AreRight m (lists_of history) }
+    ensures new { (config : Config) (s : State) → IsConfig config → MayLead (new_timed config s) new_scalar }
 {}
 
 /// `Scalar` may lead again after each flush, whatever the machine was handed: at once, since while an instruction runs solo
 /// there is no room and `Scalar` takes no epoch; and where that instruction commits the machine is calm, with nothing
 /// pending, and its epoch is still not `Scalar`'s.
 pub fn scalar_may_lead_again()
-    ensures flushed { (m : Timed) (before after : Lead) (list handed : List Record)
-        → IsMachine m → IsPast before m → IsScalarCall before (notice_of m) m.arch list after
+    ensures flushed { (m : Timed) (before after : Ahead) (list handed : List Record)
+        → IsMachine m → IsPast before m → IsScalarCall before (told_of m) m.arch list after
         → (cycle_of m handed).flushes ≢ m.flushes → MayLead (cycle_of m handed) after }
-    ensures past { (m : Timed) (before after : Lead) (list handed : List Record)
-        → IsMachine m → IsPast before m → IsScalarCall before (notice_of m) m.arch list after
+    ensures past { (m : Timed) (before after : Ahead) (list handed : List Record)
+        → IsMachine m → IsPast before m → IsScalarCall before (told_of m) m.arch list after
         → IsPast after (cycle_of m handed) }
-    ensures committed { (m : Timed) (before after : Lead) (list : List Record) (start : ℕ)
+    ensures committed { (m : Timed) (before after : Ahead) (list : List Record) (start : ℕ)
         → IsMachine m → goes_on m.arch ≡ true → m.solo ≡ Some start → m.cycles + 1 ≡ start + depth
-        → is_epoch before.epoch m.flushes ≡ false → IsScalarCall before (notice_of m) m.arch list after
+        → is_epoch before.epoch m.flushes ≡ false → IsScalarCall before (told_of m) m.arch list after
         → let last = cycle_of m list in
         IsCalm last × (last.pending ≡ []) × (is_epoch after.epoch last.flushes ≡ false) }
 {}
@@ -59,28 +59,28 @@ pub fn scalar_may_lead_again()
 /// handed over; and it is never flushed.
 #[tactic(auto, using(crate::proofs::Pacing::scalar_runs, crate::proofs::Pacing::scalar_ends, crate::proofs::Pacing::scalar_unflushed))]
 pub fn scalar_keeps_pace()
-    ensures running { (sizes : Sizes) (s : State) (last : Timed) (after : Lead) (log : List (List Record × Lead))
-        → IsSizes sizes → IsLog IsScalarCall (new_timed sizes s) new_scalar log last after
+    ensures running { (config : Config) (s : State) (last : Timed) (after : Ahead) (history : List (List Record × Ahead))
+        → IsConfig config → IsHistory IsScalarCall (new_timed config s) new_scalar history last after
         → goes_on last.arch ≡ true → last.count ≡ last.cycles - depth }
-    ensures ended { (sizes : Sizes) (s : State) (last : Timed) (after : Lead) (log : List (List Record × Lead))
-        → IsSizes sizes → goes_on s ≡ true → IsLog IsScalarCall (new_timed sizes s) new_scalar log last after
+    ensures ended { (config : Config) (s : State) (last : Timed) (after : Ahead) (history : List (List Record × Ahead))
+        → IsConfig config → goes_on s ≡ true → IsHistory IsScalarCall (new_timed config s) new_scalar history last after
         → goes_on last.arch ≡ false → last.cycles ≡ last.count + depth }
-    ensures flushes { (sizes : Sizes) (s : State) (last : Timed) (after : Lead) (log : List (List Record × Lead))
-        → IsSizes sizes → IsLog IsScalarCall (new_timed sizes s) new_scalar log last after → last.flushes ≡ 0 }
+    ensures flushes { (config : Config) (s : State) (last : Timed) (after : Ahead) (history : List (List Record × Ahead))
+        → IsConfig config → IsHistory IsScalarCall (new_timed config s) new_scalar history last after → last.flushes ≡ 0 }
 {}
 
 /// A core that plays a tape hands over, in each of its histories, from any machine, the lists of the tape in their order,
 /// and then empty ones.
 #[tactic(auto, using(crate::proofs::Playing::log_played))]
 pub fn tape_core_plays()
-    ensures { (m last : Timed) (before after : List (List Record)) (log : List (List Record × List (List Record)))
-        → IsLog tape_call m before log last after → lists_of log ≡ played (length log) before }
+    ensures { (m last : Timed) (before after : List (List Record)) (history : List (List Record × List (List Record)))
+        → IsHistory tape_call m before history last after → lists_of history ≡ played (length history) before }
 {}
 
 /// `Noise` hands over, in each of its histories, from any machine, the claims of its numbers in their order, one in each
 /// call, whatever becomes of them: how often it was asked is all that it goes by.
 #[tactic(auto, using(crate::proofs::Sounding::log_noise))]
 pub fn noise_goes_by_its_calls()
-    ensures { (m last : Timed) (before after : ℕ) (log : List (List Record × ℕ))
-        → IsLog noise_call m before log last after → lists_of log ≡ noise_lists (length log) before }
+    ensures { (m last : Timed) (before after : ℕ) (history : List (List Record × ℕ))
+        → IsHistory noise_call m before history last after → lists_of history ≡ noise_lists (length history) before }
 {}

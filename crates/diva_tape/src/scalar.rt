@@ -15,9 +15,9 @@ pub struct Scalar {
 }
 
 impl Model for Scalar {
-    ghost use Rattle.diva_ahead.specs.Lead.{Lead};
+    ghost use Rattle.diva_ahead.specs.Ahead.{Ahead};
 
-    ghost Value = { Lead };
+    ghost Value = { Ahead };
 
     ghost view = { λ c. c.ahead };
 }

@@ -8,6 +8,7 @@ ghost use Rattle.std.specs.Prelude.{◌≡◌, [], ◌∷◌};
 ghost use Rattle.diva_core.specs.declared.differences.Field.TheVariants.{Pc, Word, Value};
 ghost use Rattle.diva_core.specs.declared.flushes.Cause.TheVariants.{Differs, Silent};
 ghost use Rattle.diva_core.specs.Timed.{new_timed};
+ghost use Rattle.diva_isa.specs.declared.trap.Trap.TheVariants.{InstructionMisaligned, InstructionAccessFault, LoadMisaligned};
 ghost use Rattle.diva_isa.specs.State.{reg_of};
 ghost use Rattle.diva_isa.specs.Step.{halt, trap, record_of, step, steps};
 ghost use Rattle.diva_tape.specs.Lists.{lockstep_list, silent_list};
@@ -29,24 +30,24 @@ pub fn three_instructions_step_by_step()
 
 /// A load that is both misaligned and outside memory: misaligned wins. A trap changes nothing else.
 pub fn misaligned_wins_over_outside()
-    ensures step { step misaligned_load_outside ≡ record misaligned_load_outside { end = trap 4 } }
+    ensures step { step misaligned_load_outside ≡ record misaligned_load_outside { end = trap LoadMisaligned } }
     ensures summary { summary_of (led_by lockstep_list 20 (new_timed defaults misaligned_load_outside))
-        ≡ record { end = trap 4; count = 1; cycles = 7; flushes = 0; silent = 0; rows = [] } }
+        ≡ record { end = trap LoadMisaligned; count = 1; cycles = 7; flushes = 0; silent = 0; rows = [] } }
 {}
 
 /// A jump to an address that is not a multiple of four traps, and writes no register.
 pub fn a_jump_to_no_multiple_of_four_traps()
-    ensures step { step jump_to_six ≡ record jump_to_six { end = trap 0 } }
+    ensures step { step jump_to_six ≡ record jump_to_six { end = trap InstructionMisaligned } }
     ensures summary { summary_of (led_by lockstep_list 20 (new_timed defaults jump_to_six))
-        ≡ record { end = trap 0; count = 1; cycles = 7; flushes = 0; silent = 0; rows = [] } }
+        ≡ record { end = trap InstructionMisaligned; count = 1; cycles = 7; flushes = 0; silent = 0; rows = [] } }
 {}
 
 /// A fetch behind the last word of memory traps.
 pub fn a_fetch_outside_memory_traps()
     ensures second { record_of (step one_word)
-        ≡ record { pc = 4; word = 0; src1 = 0; src2 = 0; addr = 0; value = 0; next = 4; end = trap 1 } }
+        ≡ record { pc = 4; word = 0; src1 = 0; src2 = 0; addr = 0; value = 0; next = 4; end = trap InstructionAccessFault } }
     ensures summary { summary_of (led_by lockstep_list 20 (new_timed defaults one_word))
-        ≡ record { end = trap 1; count = 2; cycles = 14; flushes = 0; silent = 0; rows = [] } }
+        ≡ record { end = trap InstructionAccessFault; count = 2; cycles = 14; flushes = 0; silent = 0; rows = [] } }
 {}
 
 /// x0 stays 0, though its record has the value that was computed.

@@ -1,2 +1,2 @@
 -- What the contracts of this crate and of those above it cite.
-pub mod Watch
+pub mod Watchdog

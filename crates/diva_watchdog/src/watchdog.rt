@@ -11,9 +11,9 @@ pub struct Watchdog {
 }
 
 impl Model for Watchdog {
-    ghost use Rattle.diva_watchdog.specs.Watch.{Watch};
+    ghost use Rattle.diva_watchdog.specs.Watchdog.{Watchdog};
 
-    ghost Value = { Watch };
+    ghost Value = { Watchdog };
 
     ghost view = { λ w. record { limit = w.limit; idle = w.idle } };
 
@@ -21,7 +21,7 @@ impl Model for Watchdog {
 }
 
 impl Watchdog {
-    ghost use Rattle.diva_watchdog.specs.Watch.{barks, ticked};
+    ghost use Rattle.diva_watchdog.specs.Watchdog.{barks, ticked};
 
     /// A watchdog that calls for a flush after `w` cycles without a commit. None have passed so far.
     pub fn new(w: u32) -> Self

@@ -17,14 +17,14 @@ returns-then-is_memory c c' = λ agrees.
     let s = c.L.Look.shows c'.args.state.now in
     let claim = c'.args.claim.now in
     let addr : claim.addr ≡ (record_of s).addr = c'.if-claim-addr.false ∙ c'.address-addr.ensures ∙ ap (λ (o : Option Instr). address_of o claim.src1) c'.requires ∙ address_due claim s agrees in
-    executed_memory claim (record_of s) c'.args.form c'.requires (sym c'.is_memory.ensures ∙ c'.if-is_memory.true) agrees addr
+    executed_memory claim (record_of s) c'.args.decoded c'.requires (sym c'.is_memory.ensures ∙ c'.if-is_memory.true) agrees addr
 
 pub returns-then-agrees : goal.returns-then-agrees
 returns-then-agrees c c' = λ agrees.
     let s = c.L.Look.shows c'.args.state.now in
     let claim = c'.args.claim.now in
     let addr : claim.addr ≡ (record_of s).addr = c'.if-claim-addr.false ∙ c'.address-addr.ensures ∙ ap (λ (o : Option Instr). address_of o claim.src1) c'.requires ∙ address_due claim s agrees in
-    executed_other claim (record_of s) None c'.args.form c'.requires (sym c'.is_memory.ensures ∙ c'.if-is_memory.false) agrees addr
+    executed_other claim (record_of s) None c'.args.decoded c'.requires (sym c'.is_memory.ensures ∙ c'.if-is_memory.false) agrees addr
     (λ agree. sym (c'.agrees.ensures (record_of s) (c'.outcome_apart-due.ensures agree) c'.if-agrees.true))
 
 pub returns : goal.returns
@@ -32,4 +32,4 @@ returns c c' = λ agrees.
     let s = c.L.Look.shows c'.args.state.now in
     let claim = c'.args.claim.now in
     let addr : claim.addr ≡ (record_of s).addr = c'.if-claim-addr.false ∙ c'.address-addr.ensures ∙ ap (λ (o : Option Instr). address_of o claim.src1) c'.requires ∙ address_due claim s agrees in
-    executed_other claim (record_of s) c'.compare_with.result c'.args.form c'.requires (sym c'.is_memory.ensures ∙ c'.if-is_memory.false) agrees addr (λ agree. c'.compare_with.ensures (record_of s) (c'.outcome_apart-due.ensures agree))
+    executed_other claim (record_of s) c'.compare_with.result c'.args.decoded c'.requires (sym c'.is_memory.ensures ∙ c'.if-is_memory.false) agrees addr (λ agree. c'.compare_with.ensures (record_of s) (c'.outcome_apart-due.ensures agree))

@@ -8,10 +8,10 @@ use Rattle.diva_cli.proofs.loading.load_machine_files.Goals as goal
 
 pub returns-in-Err-load_core-clause-stopped : goal.returns-in-Err-load_core-clause-stopped
 returns-in-Err-load_core-clause-stopped g c =
-    subst (λ (s : Setup). Stops (g.F.Files.told c.args.files.now) (g.F.Files.faults c.args.files.now) (g.F.Files.faults c.load_core.new.files) (machine_files s) c.in-Err-load_core.stop) c.setup.view_is
-    (at_tape (g.F.Files.told c.args.files.now) (record { image = c.setup.inside.image; core = c.setup.inside.core; script = c.setup.inside.script; width = c.setup.inside.width; window = c.setup.inside.window; stores = c.setup.inside.stores; watchdog = c.setup.inside.watchdog }) _
+    subst (λ (s : Setup). Stops (g.F.Files.contents c.args.files.now) (g.F.Files.faults c.args.files.now) (g.F.Files.faults c.load_core.new.files) (machine_files s) c.in-Err-load_core.stop) c.setup.view_is
+    (at_tape (g.F.Files.contents c.args.files.now) (record { image = c.setup.inside.image; core = c.setup.inside.core; script = c.setup.inside.script; width = c.setup.inside.width; window = c.setup.inside.window; stores = c.setup.inside.stores; watchdog = c.setup.inside.watchdog }) _
     c.in-Ok.ensures.holds
-    (g.F.Files.told c.load_image.new.files) (g.F.Files.told c.load_script_if.new.files)
+    (g.F.Files.contents c.load_image.new.files) (g.F.Files.contents c.load_script_if.new.files)
     (g.F.Files.faults c.args.files.now) (g.F.Files.faults c.load_script_if.new.files) (g.F.Files.faults c.load_core.new.files) _ _
     c.load_image.ensures.stays (c.load_script_if.ensures.stays ∙ c.load_image.ensures.stays)
     (λ w. let a = c.load_image.ensures.later w in let b = c.load_script_if.ensures.later w in omega arith)

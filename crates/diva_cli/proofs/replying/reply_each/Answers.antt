@@ -1,21 +1,21 @@
 -- One reply more.
 use Rattle.std.proofs.Common.{◌≡◌, ◌+◌, ◌∙◌, length, slice_get, Some, refl, ap, sym, arith, subst}
 use Rattle.std.proofs.lemmas.Option.{slice_get_read}
-use Rattle.diva_core.specs.Timed.{Sizes}
+use Rattle.diva_core.specs.Timed.{Config}
 use Rattle.diva_debug.specs.Moves.{IsShort}
 use Rattle.diva_cli.proofs.Commanding.{cycles-fit, cycles-more, replied, replies_more, replies_none}
 use Rattle.diva_cli.proofs.replying.reply_each.Goals as goal
 
 pub loop-command-init : goal.loop-command-init
 loop-command-init g c =
-    record { replies = replies_none g.D.Core.gives _ _ _ _ _; within = omega arith; sizes = refl }
+    record { replies = replies_none g.D.Core.gives _ _ _ _ _; within = omega arith; config = refl }
 
 pub reply_to-line-requires-clause-cycles : goal.reply_to-line-requires-clause-cycles
 reply_to-line-requires-clause-cycles g c =
     let inv = c.loop-command.invariant in
     let short : IsShort c.command-item.result = subst IsShort (sym c.command-item.is) (c.requires.short c.loop-command.command-index c.command-item.result c.loop-command-test.true) in
-    cycles-fit c.loop-command.m.timed.cycles c.args.m.now.timed.cycles c.loop-command.command-index (length c.args.commands.now) _ c.args.m.now.timed.sizes.limit c.loop-command.m.timed.sizes.limit _
-    inv.within c.loop-command-test.true (ap (λ (z : Sizes). z.limit) inv.sizes) c.requires.cycles short
+    cycles-fit c.loop-command.m.timed.cycles c.args.m.now.timed.cycles c.loop-command.command-index (length c.args.commands.now) _ c.args.m.now.timed.config.limit c.loop-command.m.timed.config.limit _
+    inv.within c.loop-command-test.true (ap (λ (z : Config). z.limit) inv.config) c.requires.cycles short
 
 pub loop-command-preserved : goal.loop-command-preserved
 loop-command-preserved g c =
@@ -24,8 +24,8 @@ loop-command-preserved g c =
     let at : slice_get c.args.commands.now c.loop-command.command-index ≡ Some c.command-item.result = slice_get_read c.args.commands.now (length c.args.commands.now) c.loop-command.command-index c.command-item.result refl c.loop-command-test.true c.command-item.is in
     record {
       replies = replies_more g.D.Core.gives _ c.loop-command.command-index _ _ _ _ _ _ _ _ _ _ c.command-item.result _ _ _ _ _ inv.replies at reply.drives.turns reply.moved reply.at_once reply.reply c.bytes.ensures.bytes c.in-Ok.ensures;
-      within = cycles-more c.loop-command.m.timed.cycles _ c.loop-command.command-index _ c.loop-command.m.timed.sizes.limit _ inv.within (ap (λ (z : Sizes). z.limit) inv.sizes) reply.million;
-      sizes = reply.sizes ∙ inv.sizes;
+      within = cycles-more c.loop-command.m.timed.cycles _ c.loop-command.command-index _ c.loop-command.m.timed.config.limit _ inv.within (ap (λ (z : Config). z.limit) inv.config) reply.million;
+      config = reply.config ∙ inv.config;
     }
 
 pub returns-in-Err : goal.returns-in-Err
@@ -35,7 +35,7 @@ returns-in-Err g c =
     let at : slice_get c.args.commands.now c.loop-command.command-index ≡ Some c.command-item.result = slice_get_read c.args.commands.now (length c.args.commands.now) c.loop-command.command-index c.command-item.result refl c.loop-command-test.true c.command-item.is in
     replied g.D.Core.gives _ (c.loop-command.command-index + 1) _ _ _ _ _ _ _ _ _
     (replies_more g.D.Core.gives _ c.loop-command.command-index _ _ _ _ _ _ _ _ _ _ c.command-item.result _ _ _ _ _ inv.replies at reply.drives.turns reply.moved reply.at_once reply.reply c.bytes.ensures.bytes c.in-Err.ensures)
-    (cycles-more c.loop-command.m.timed.cycles _ c.loop-command.command-index _ c.loop-command.m.timed.sizes.limit _ inv.within (ap (λ (z : Sizes). z.limit) inv.sizes) reply.million)
+    (cycles-more c.loop-command.m.timed.cycles _ c.loop-command.command-index _ c.loop-command.m.timed.config.limit _ inv.within (ap (λ (z : Config). z.limit) inv.config) reply.million)
     tt
 
 pub returns : goal.returns

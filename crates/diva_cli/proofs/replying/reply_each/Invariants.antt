@@ -7,6 +7,6 @@ use Rattle.diva_cli.proofs.replying.reply_each.Given as goal
 abbrev pub invariant-loop-command : goal.invariant-loop-command
 invariant-loop-command g l = record {
   replies : RepliesSoFar g.D.Core.gives l.commands l.command-index l.fn.m.timed l.fn.core l.m.timed l.core (g.S.Sink.contents l.fn.sink) (g.S.Sink.contents l.sink) (g.S.Sink.faults l.fn.sink) (g.S.Sink.faults l.sink) (Ok tt);
-  within : l.m.timed.cycles ≤ l.fn.m.timed.cycles + cycles_of l.command-index l.fn.m.timed.sizes.limit;
-  sizes : l.m.timed.sizes ≡ l.fn.m.timed.sizes;
+  within : l.m.timed.cycles ≤ l.fn.m.timed.cycles + cycles_of l.command-index l.fn.m.timed.config.limit;
+  config : l.m.timed.config ≡ l.fn.m.timed.config;
 }

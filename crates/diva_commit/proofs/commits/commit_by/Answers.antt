@@ -15,17 +15,17 @@ ended-requires-clause-end c = subst (λ (r : Record). IsEnd r.end) (sym (c.requi
 pub store-requires-clause-inside : goal.store-requires-clause-inside
 store-requires-clause-inside c =
     let s = state_of c.args.regs.now c.args.pc.now (laid c.args.memory.now c.args.queue.now.items) c.args.output.now 0 in
-    subst (HasRoom s) (sym c.effect_by.ensures.effect ∙ c.in-Stores.is) (room_by s c.args.r.now c.args.form (c.requires.due c.in_default.is) c.requires.form (omega arith))
+    subst (HasRoom s) (sym c.effect_by.ensures.effect ∙ c.in-Stores.is) (room_by s c.args.r.now c.args.decoded (c.requires.due c.in_default.is) c.requires.decoded (omega arith))
 
 pub store-requires-clause-aligned : goal.store-requires-clause-aligned
 store-requires-clause-aligned c =
     let s = state_of c.args.regs.now c.args.pc.now (laid c.args.memory.now c.args.queue.now.items) c.args.output.now 0 in
-    subst IsAligned (sym c.effect_by.ensures.effect ∙ c.in-Stores.is) (aligned_by s c.args.r.now c.args.form (c.requires.due c.in_default.is) c.requires.form (omega arith))
+    subst IsAligned (sym c.effect_by.ensures.effect ∙ c.in-Stores.is) (aligned_by s c.args.r.now c.args.decoded (c.requires.due c.in_default.is) c.requires.decoded (omega arith))
 
 pub push-requires : goal.push-requires
 push-requires c =
     let s = state_of c.args.regs.now c.args.pc.now (laid c.args.memory.now c.args.queue.now.items) c.args.output.now 0 in
-    subst (HasRoom s) (sym c.effect_by.ensures.effect ∙ c.in-Puts.is) (room_by s c.args.r.now c.args.form (c.requires.due c.in_default.is) c.requires.form (omega arith))
+    subst (HasRoom s) (sym c.effect_by.ensures.effect ∙ c.in-Puts.is) (room_by s c.args.r.now c.args.decoded (c.requires.due c.in_default.is) c.requires.decoded (omega arith))
 
 pub returns-clause-applied : goal.returns-clause-applied
 returns-clause-applied c = λ yes.
@@ -38,4 +38,4 @@ returns-clause-applied c = λ yes.
       | in-Stores+else-full w ↦ rw (w.in-Stores.is, w.regs-is, w.queue-is, w.output-is) (w.store.ensures.laid c.args.regs.now c.args.pc.now c.args.output.now 0)
       | in-Puts w ↦ rw (w.in-Puts.is, w.regs-is, w.queue-is, w.output-is, w.push.ensures) refl
     ] in
-    applied s t c.args.r.now c.args.form c.effect_by.result refl refl on c.requires.form c.effect_by.ensures.effect has
+    applied s t c.args.r.now c.args.decoded c.effect_by.result refl refl on c.requires.decoded c.effect_by.ensures.effect has

@@ -9,7 +9,7 @@ returns-clause-moved g c =
     let first = c.count.ensures in
     let k = c.from.ensures in
     let target : c.count.result + c.from.result ≡ c.args.m.now.timed.count + c.args.count = omega arith in
-    let ends = reached_or_ended c.drive_to.result to.reached.0 to.ended.0 (to.enough (enough_cycles _ c.args.m.now.timed.count c.args.count c.args.m.now.timed.sizes.limit _ _ _ target c.from-2.ensures (c.from-3.ensures ∙ c.limit.ensures))) in
+    let ends = reached_or_ended c.drive_to.result to.reached.0 to.ended.0 (to.enough (enough_cycles _ c.args.m.now.timed.count c.args.count c.args.m.now.timed.config.limit _ _ _ target c.from-2.ensures (c.from-3.ensures ∙ c.limit.ensures))) in
     moves-on c.args.count (c.count.result + c.from.result) c.args.m.now.timed c.drive_to.new.m.timed target to.rises to.went_on ends
 
 pub returns-clause-at_once : goal.returns-clause-at_once
@@ -18,7 +18,7 @@ returns-clause-at_once g c =
     let first = c.count.ensures in
     let k = c.from.ensures in
     let target : c.count.result + c.from.result ≡ c.args.m.now.timed.count + c.args.count = omega arith in
-    to.at_once (to.enough (enough_cycles _ c.args.m.now.timed.count c.args.count c.args.m.now.timed.sizes.limit _ _ _ target c.from-2.ensures (c.from-3.ensures ∙ c.limit.ensures)))
+    to.at_once (to.enough (enough_cycles _ c.args.m.now.timed.count c.args.count c.args.m.now.timed.config.limit _ _ _ target c.from-2.ensures (c.from-3.ensures ∙ c.limit.ensures)))
 
 pub overflow_add-target : goal.overflow_add-target
 overflow_add-target g c =

@@ -28,7 +28,7 @@ loop-preserved g c =
     record {
       turns = Turns-then g.C.Core.gives _ _ _ _ _ _ inv.turns c.advance.ensures.turns;
       within = search rules;
-      sizes = c.advance.ensures.sizes ∙ inv.sizes;
+      config = c.advance.ensures.config ∙ inv.config;
       so_far = further c.args.most c.loop.counter c.args.pc c.args.m.now.timed c.loop.m.timed c.advance.new.m.timed c.loop-test.true inv.so_far inv.left on c.advance.ensures.moved;
       at_once = at-once-then _ _ _ (moved-up _ _ _ inv.so_far) inv.at_once c.advance.ensures.at_once;
       left = left-then c.args.most c.loop.counter c.args.pc c.args.m.now.timed c.loop.m.timed c.advance.new.m.timed c.loop-test.true inv.so_far inv.left on c.advance.ensures.moved other;

@@ -11,7 +11,7 @@ returns-in-1-clause-advanced c = λ now e here age adv.
 
 pub returns-in-2-clause-advanced : goal.returns-in-2-clause-advanced
 returns-in-2-clause-advanced c = λ now e here age adv.
-    decode_passed _ _ _ now c.args.at e here (c.note_form.ensures.items e here) (let is = c.in-2.is in omega arith) adv
+    decode_passed _ _ _ now c.args.at e here (c.note_decoded.ensures.items e here) (let is = c.in-2.is in omega arith) adv
 
 pub returns-in-3-clause-advanced : goal.returns-in-3-clause-advanced
 returns-in-3-clause-advanced c = λ now e here age adv.

@@ -22,15 +22,15 @@ agrees_before p r h = grind (arith, nat_tests)
 -- of a claim that is no load and no store the last stage compares nothing
 answers_none : (s : State) (p : Record) (i : Instr) → row_of p.word ≡ Some i → is_memory_by (Some i) ≡ false → Answers address_fields memory_fields s p None
 answers_none s p i row apart = λ on h.
-    sym (ap (λ (b : Bool). difference_in (memory_fields b) p (record_of s)) (same_memory p (record_of s) false (agrees_before p (record_of s) h) (ap (λ (form : Option Instr). is_memory_by form) row ∙ apart)))
+    sym (ap (λ (b : Bool). difference_in (memory_fields b) p (record_of s)) (same_memory p (record_of s) false (agrees_before p (record_of s) h) (ap (λ (decoded : Option Instr). is_memory_by decoded) row ∙ apart)))
 
 pub returns-in-Some-clause-advanced : goal.returns-in-Some-clause-advanced
 returns-in-Some-clause-advanced c = λ now e here age adv.
     let items = c.args.pending.now.items in
     let same : c.at.result.now ≡ e = same_Some _ _ (sym c.at.ensures.value ∙ here) in
-    let row : row_of c.at.result.now.claim.word ≡ Some c.in-Some.form = subst (λ (form : Option Instr). IfSome form (λ i. row_of c.at.result.now.claim.word ≡ Some i)) c.in-Some.is c.at.ensures.decoded in
-    let apart : is_memory_by (Some c.in-Some.form) ≡ false = sym c.is_memory.ensures ∙ c.if-not-is_memory.true in
+    let row : row_of c.at.result.now.claim.word ≡ Some c.in-Some.decoded = subst (λ (decoded : Option Instr). IfSome decoded (λ i. row_of c.at.result.now.claim.word ≡ Some i)) c.in-Some.is c.at.ensures.decoded in
+    let apart : is_memory_by (Some c.in-Some.decoded) ≡ false = sym c.is_memory.ensures ∙ c.if-not-is_memory.true in
     let s = before_entry (record c.args.arch.now.state { end = 0 }) items c.args.at in
     stage_noted _ _ items _ now c.args.at 4 e address_fields memory_fields None here
     (sym (ap (λ (v : Option Diff). slice_set items c.args.at (record e { verdict = v })) (or_none e.verdict) ∙ set_same items c.args.at e here))
-    refl (omega arith) (λ z. omega arith) (subst (λ (x : Entry). Answers address_fields memory_fields s x.claim None) same (answers_none s c.at.result.now.claim c.in-Some.form row apart)) (λ none t. found_memory t e None none) adv
+    refl (omega arith) (λ z. omega arith) (subst (λ (x : Entry). Answers address_fields memory_fields s x.claim None) same (answers_none s c.at.result.now.claim c.in-Some.decoded row apart)) (λ none t. found_memory t e None none) adv

@@ -1,6 +1,6 @@
 use Rattle.std.proofs.Common.{◌≡◌, ◌+◌, true}
 use Rattle.diva_isa.specs.State.{goes_on}
-use Rattle.diva_core.specs.Log.{Turns}
+use Rattle.diva_core.specs.History.{Turns}
 use Rattle.diva_core.specs.Machine.{IsMachine}
 use Rattle.diva_machine.proofs.turns.drive.Given as goal
 

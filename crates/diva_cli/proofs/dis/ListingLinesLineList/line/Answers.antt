@@ -1,6 +1,6 @@
 -- The line at a place is that of the word there.
 use Rattle.std.proofs.Common.{refl, arith}
-use Rattle.diva_image.specs.View.{layout}
+use Rattle.diva_image.specs.ImageLayout.{layout}
 use Rattle.diva_cli.proofs.Listing.{line_listed, place_inside}
 use Rattle.diva_cli.proofs.dis.ListingLinesLineList.line.Goals as goal
 

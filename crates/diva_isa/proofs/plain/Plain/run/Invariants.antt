@@ -1,6 +1,6 @@
 -- After so many steps the machine stands where the table does.
 use Rattle.std.proofs.Common.{◌≡◌, ◌≤◌, ◌+◌}
-use Rattle.diva_isa.specs.Run.{done}
+use Rattle.diva_isa.specs.Plain.{done}
 use Rattle.diva_isa.specs.Step.{steps}
 use Rattle.diva_isa.proofs.plain.Plain.run.Given as goal
 

@@ -4,15 +4,15 @@ use Rattle.diva_core.specs.Timed.{Timed}
 use Rattle.diva_core.specs.Cycle.{cycle_of}
 use Rattle.diva_core.proofs.Outcomes.{cycle-off}
 use Rattle.diva_core.proofs.Cycling.{owed-drained}
-use Rattle.diva_machine.specs.Shown.{IsSound, Shown}
-use Rattle.diva_machine.specs.Staged.{Staged}
+use Rattle.diva_machine.specs.Machine.{IsSound, Machine}
+use Rattle.diva_machine.specs.Staged.{Parts}
 use Rattle.diva_machine.proofs.Laws.{sound_again, none_held, none_committed, front_is_judged, sixth_commits}
 use Rattle.diva_machine.proofs.machine.Machine.cycle.Goals as goal
 
 pub invariant_of-self : goal.invariant_of-self
 invariant_of-self c =
-    let same : c.self.inside.works.timed ≡ c.args.self.now.timed = ap (λ (z : Shown). z.timed) c.self.view_is in
-    (sound_again c.self.inside.works.timed c.cycle.new.self.timed c.as_slice.result.now c.self.invariant.0 c.cycle.ensures.timed (sym c.goes_on.ensures ∙ c.if-goes_on.true) (subst (λ (m : Timed). m.cycles < 2 ^ 60) (sym same) c.requires), (c.cycle.ensures.staged, c.cycle.ensures.solo))
+    let same : c.self.inside.parts.timed ≡ c.args.self.now.timed = ap (λ (z : Machine). z.timed) c.self.view_is in
+    (sound_again c.self.inside.parts.timed c.cycle.new.self.timed c.as_slice.result.now c.self.invariant.0 c.cycle.ensures.timed (sym c.goes_on.ensures ∙ c.if-goes_on.true) (subst (λ (m : Timed). m.cycles < 2 ^ 60) (sym same) c.requires), (c.cycle.ensures.staged, c.cycle.ensures.solo))
 
 pub invariant_of-self-else-goes_on : goal.invariant_of-self-else-goes_on
 invariant_of-self-else-goes_on c =
@@ -21,38 +21,38 @@ invariant_of-self-else-goes_on c =
 
 pub returns-then-goes_on-clause-drained : goal.returns-then-goes_on-clause-drained
 returns-then-goes_on-clause-drained c =
-    let same : c.self.inside.works.timed ≡ c.args.self.now.timed = ap (λ (z : Shown). z.timed) c.self.view_is in
+    let same : c.self.inside.parts.timed ≡ c.args.self.now.timed = ap (λ (z : Machine). z.timed) c.self.view_is in
     let sound : IsSound c.args.self.now.timed = subst IsSound same c.self.invariant.0 in
     let is : c.cycle.new.self.timed ≡ cycle_of c.args.self.now.timed c.as_slice.result.now = c.cycle.ensures.timed ∙ ap (λ (m : Timed). cycle_of m c.as_slice.result.now) same in
     none_held c.args.self.now.timed c.cycle.new.self.timed c.as_slice.result.now sound is
 
 pub returns-then-goes_on-clause-front : goal.returns-then-goes_on-clause-front
 returns-then-goes_on-clause-front c =
-    let same : c.self.inside.works.timed ≡ c.args.self.now.timed = ap (λ (z : Shown). z.timed) c.self.view_is in
+    let same : c.self.inside.parts.timed ≡ c.args.self.now.timed = ap (λ (z : Machine). z.timed) c.self.view_is in
     let sound : IsSound c.args.self.now.timed = subst IsSound same c.self.invariant.0 in
     let is : c.cycle.new.self.timed ≡ cycle_of c.args.self.now.timed c.as_slice.result.now = c.cycle.ensures.timed ∙ ap (λ (m : Timed). cycle_of m c.as_slice.result.now) same in
     front_is_judged c.args.self.now.timed c.cycle.new.self.timed c.as_slice.result.now sound is
 
 pub returns-then-goes_on-clause-sixth : goal.returns-then-goes_on-clause-sixth
 returns-then-goes_on-clause-sixth c =
-    let same : c.self.inside.works.timed ≡ c.args.self.now.timed = ap (λ (z : Shown). z.timed) c.self.view_is in
+    let same : c.self.inside.parts.timed ≡ c.args.self.now.timed = ap (λ (z : Machine). z.timed) c.self.view_is in
     let sound : IsSound c.args.self.now.timed = subst IsSound same c.self.invariant.0 in
     let is : c.cycle.new.self.timed ≡ cycle_of c.args.self.now.timed c.as_slice.result.now = c.cycle.ensures.timed ∙ ap (λ (m : Timed). cycle_of m c.as_slice.result.now) same in
     sixth_commits c.args.self.now.timed c.cycle.new.self.timed c.as_slice.result.now sound is
 
 pub returns-else-goes_on-clause-cycled : goal.returns-else-goes_on-clause-cycled
 returns-else-goes_on-clause-cycled c =
-    let same : c.self.inside.works.timed ≡ c.args.self.now.timed = ap (λ (z : Shown). z.timed) c.self.view_is in
+    let same : c.self.inside.parts.timed ≡ c.args.self.now.timed = ap (λ (z : Machine). z.timed) c.self.view_is in
     let off : goes_on c.args.self.now.timed.arch ≡ false = ap (λ (m : Timed). goes_on m.arch) (sym same) ∙ sym c.goes_on.ensures ∙ c.if-goes_on.false in
-    ap (λ (z : Staged). z.timed) c.forget_last.ensures ∙ same ∙ sym (cycle-off c.args.self.now.timed c.args.list.now off)
+    ap (λ (z : Parts). z.timed) c.forget_last.ensures ∙ same ∙ sym (cycle-off c.args.self.now.timed c.args.list.now off)
 
 pub returns-else-goes_on-clause-commits : goal.returns-else-goes_on-clause-commits
-returns-else-goes_on-clause-commits c = none_committed c.args.self.now.timed c.forget_last.new.self.last (ap (λ (z : Staged). z.last) c.forget_last.ensures)
+returns-else-goes_on-clause-commits c = none_committed c.args.self.now.timed c.forget_last.new.self.last (ap (λ (z : Parts). z.last) c.forget_last.ensures)
 
 pub returns-else-goes_on-clause-checked : goal.returns-else-goes_on-clause-checked
 returns-else-goes_on-clause-checked c = rw c.forget_last.ensures c.self.invariant.1.0.checked
 
 pub returns-else-goes_on-clause-drained : goal.returns-else-goes_on-clause-drained
 returns-else-goes_on-clause-drained c =
-    let same : c.self.inside.works.timed ≡ c.args.self.now.timed = ap (λ (z : Shown). z.timed) c.self.view_is in
+    let same : c.self.inside.parts.timed ≡ c.args.self.now.timed = ap (λ (z : Machine). z.timed) c.self.view_is in
     owed-drained c.args.self.now.timed (subst IsSound same c.self.invariant.0).machine

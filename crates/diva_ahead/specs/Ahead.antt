@@ -1,0 +1,69 @@
+-- What a core that runs ahead of the machine keeps: where it stands, and what it has handed over.
+use Rattle.std.specs.Prelude.{ℕ, ◌-◌, ◌^◌, ◌==◌, List, [], ◌∷◌, ◌++◌, length, drop, min, replicate, Bool, false, not, Option, Some, None, if◌then◌else◌}
+use Rattle.diva_isa.specs.State.{State}
+use Rattle.diva_isa.specs.Step.{apply}
+use Rattle.diva_isa.specs.declared.record.Record.{Record}
+use Rattle.diva_isa.specs.declared.effect.Effect.{Effect}
+use Rattle.diva_core.specs.Told.{Told}
+use Rattle.diva_core.specs.Effects.{with_effects}
+use Rattle.diva_ahead.specs.Effects.{done_by}
+
+pub record Ahead : Type 0 where
+  -- the machine's flushes when the core last took its state, none before the first time
+  pub epoch : Option ℕ
+  pub regs : List ℕ
+  pub pc : ℕ
+  -- how many bytes were put
+  pub out_len : ℕ
+  -- what the records did that it handed over and that may be pending, the oldest first
+  pub ring : List Effect
+  -- it has handed over a record that ends
+  pub stopped : Bool
+
+-- nothing is kept yet
+abbrev pub new_lead : Ahead
+new_lead = record { epoch = None; regs = replicate 32 0; pc = 0; out_len = 0; ring = []; stopped = false }
+
+-- ---- the core's own state
+
+-- its registers, pc and output, of which only the length counts, over the memory of a state
+abbrev pub standing : Ahead → State → State
+standing lead s =
+    record { regs = lead.regs; pc = lead.pc; base = s.base; bytes = s.bytes; output = replicate lead.out_len 0; end = 0 }
+
+-- what it sees: a byte of memory is that of the youngest store of the ring that covers it, else that of the state s
+abbrev pub seen : Ahead → State → State
+seen lead s = standing lead (with_effects s lead.ring)
+
+-- ---- what it does with what it is told
+
+abbrev pub is_epoch : Option ℕ → ℕ → Bool
+is_epoch None n = false
+is_epoch (Some e) n = e == n
+
+-- it takes the machine's state
+unfoldable pub begun : Told → State → Ahead
+begun told s = record { epoch = Some told.epoch; regs = s.regs; pc = s.pc; out_len = length s.output; ring = []; stopped = false }
+
+-- it takes that state where the epoch that it is told differs from its own
+abbrev pub synced : Ahead → Told → State → Ahead
+synced lead told s = if is_epoch lead.epoch told.epoch then lead else begun told s
+
+-- while the ring is longer than what is pending, the oldest is dropped
+unfoldable pub trimmed : Ahead → Told → Ahead
+trimmed lead told = record lead { ring = drop (length lead.ring - told.pending) lead.ring }
+
+-- ---- what it does with a record that it hands over
+
+-- the record is applied to registers, pc and output length, and appended to the ring; one that ends stops the core. The
+-- length stands still at the last value of its type
+unfoldable pub handed : Ahead → State → Record → Ahead
+handed lead s r =
+    let after = apply (seen lead s) r in
+    record lead {
+      regs = after.regs;
+      pc = after.pc;
+      out_len = min (length after.output) (2 ^ 32 - 1);
+      ring = lead.ring ++ done_by r ∷ [];
+      stopped = not (r.end == 0);
+    }

@@ -1,0 +1,513 @@
+// The parts of the machine, and the phases of a cycle over them. What holds between two cycles need
+// not hold between two phases, so the bounds are asked for where they are needed.
+//
+// In most cycles nothing is ready. So what each cycle does stands in the loop that drives the
+// machine (`inline(always)`), and what few cycles do is called (`inline(never)`, `cold`).
+ghost use Rattle.std.specs.Prelude.{◌≡◌, ◌+◌, ◌-◌, ◌*◌, ◌<◌, ◌≤◌, ◌^◌, ◌++◌, [], ◌∷◌, ℕ, length, map, take, slice_get, None, Some, IfOk, IsTrue, List, true, false, not, ◌==◌, if◌then◌else◌};
+ghost use Rattle.diva_isa.specs.declared.record.Record.{Record};
+ghost use Rattle.diva_isa.specs.State.{State, goes_on, GoesOn};
+ghost use Rattle.diva_isa.specs.Step.{record_of, steps};
+ghost use Rattle.diva_image.specs.ImageLayout.{layout};
+ghost use Rattle.diva_decode.specs.Table.{row_of};
+ghost use Rattle.diva_core.specs.Timed.{Timed, new_timed, room_of};
+ghost use Rattle.diva_core.specs.declared.pending.Entry.{Entry};
+ghost use Rattle.diva_core.specs.Machine.{IsMachine, IsConfig};
+ghost use Rattle.diva_core.specs.Headline.{dues, SameLog};
+ghost use Rattle.diva_core.specs.Cycle.{accepted_in, accepts, by_front, commits, committed, cycle_of, drained, flushed, judged, number, watched};
+ghost use Rattle.diva_commit.specs.Committing.{answer, is_committed};
+ghost use Rattle.diva_machine.specs.Start.{start_of};
+ghost use Rattle.diva_machine.specs.Machine.{pending_claim_of, KeepsBounds};
+ghost use Rattle.diva_machine.specs.Staged.{last_stage, left, AreChecked, IsAdvanced, IsFilled, IsSoloFilled, IsStaged};
+
+use crate::DEPTH;
+use crate::arch::Arch;
+use crate::config::Config;
+use crate::log::Log;
+use crate::stages::{LAST_STAGE, fill, pass};
+use arrayvec::ArrayVec;
+use diva_commit::Committed;
+use diva_core::{Cause, Claim, Entry, FlushRow, Pending};
+use diva_decode::decode;
+use diva_image::Image;
+use diva_isa::Record;
+use diva_watchdog::{Recover, Watchdog};
+use std::alloc::{AllocError, Global};
+use std::marker::Model;
+
+#[derive(Drop)]
+pub(crate) struct Parts {
+    width: u32,
+    pub(crate) arch: Arch,
+    pub(crate) count: u64,
+    pub(crate) cycles: u64,
+    pub(crate) pending: Pending,
+    /// How many of the pending claims, the oldest, are past the last stage.
+    passed: usize,
+    recover: Recover,
+    /// The record of the solo instruction, as far as the stages have filled it.
+    filled: Record,
+    pub(crate) watchdog: Watchdog,
+    pub(crate) log: Log,
+    /// What the last cycle committed.
+    pub(crate) last: ArrayVec<Record, 4>,
+}
+
+impl Model for Parts {
+    ghost use Rattle.std.specs.Prelude.{map};
+    ghost use Rattle.diva_machine.specs.Machine.{pending_claim_of, solo_of};
+    ghost use Rattle.diva_machine.specs.Staged.{Parts};
+
+    ghost Value = { Parts };
+
+    ghost view = { λ m. record {
+      timed = record {
+        config = record { width = m.width; window = m.pending.capacity; stores = m.arch.stores; limit = m.watchdog.limit };
+        arch = m.arch.state;
+        count = m.count;
+        cycles = m.cycles;
+        pending = map pending_claim_of m.pending.items;
+        solo = solo_of m.recover;
+        owed = m.arch.owed;
+        idle = m.watchdog.idle;
+        rows = m.log.rows;
+        newest = m.log.newest;
+        flushes = m.log.flushes;
+        silent = m.log.silent;
+      };
+      last = m.last.items;
+      entries = m.pending.items;
+      passed = m.passed;
+      filled = m.filled;
+    } };
+}
+
+impl Parts {
+    /// The parts of a new machine. All memory is taken here.
+    pub fn new(alloc: Global, image: &Image, config: Config) -> Result<Self, AllocError>
+        ensures timed { IfOk result (λ m. m.timed ≡ new_timed config (start_of (layout image.now))) }
+        ensures config { IfOk result (λ m. IsConfig m.timed.config) }
+        ensures last { IfOk result (λ m. m.last ≡ []) }
+        ensures entries { IfOk result (λ m. m.entries ≡ []) }
+        ensures passed { IfOk result (λ m. m.passed ≡ 0) }
+    {
+        Ok(Parts {
+            width: config.width(),
+            arch: Arch::new(alloc, image, config.stores() as usize)?,
+            count: 0,
+            cycles: 0,
+            pending: Pending::new(alloc, config.window() as usize)?,
+            passed: 0,
+            recover: Recover::Running,
+            filled: Record::default(),
+            watchdog: Watchdog::new(config.limit()),
+            log: Log::new(alloc)?,
+            last: ArrayVec::new(),
+        })
+    }
+
+    /// How many claims the coming cycle accepts at most.
+    pub fn room(&self) -> usize
+        requires { self.now.timed.config.window ≤ 64 }
+        ensures value { result ≡ room_of self.now.timed }
+        ensures fits { result ≤ self.now.timed.config.window - length self.now.timed.pending }
+        ensures width { result ≤ self.now.timed.config.width }
+    {
+        match self.recover {
+            Recover::Running if self.arch.goes_on() => {
+                let free = self.pending.capacity() - self.pending.len();
+                free.min(self.width as usize)
+            }
+            _ => 0,
+        }
+    }
+
+    /// The pending claim at a place, the oldest being at 0.
+    pub fn entry(&self, at: usize) -> Entry
+        requires { at < length self.now.timed.pending }
+        ensures entry { slice_get self.now.entries at ≡ Some result }
+        ensures waits { slice_get self.now.timed.pending at ≡ Some (pending_claim_of result) }
+    {
+        self.pending.entry(at)
+    }
+
+    /// Whether the machine has not ended.
+    pub fn goes_on(&self) -> bool
+        ensures { result ≡ goes_on self.now.timed.arch }
+    {
+        self.arch.goes_on()
+    }
+
+    /// Forgets what the last cycle committed.
+    pub fn forget_last(&mut self)
+        ensures { self.new ≡ record self.old { last = [] } }
+    {
+        // One by one, since they are few: `clear` fills their places by a call.
+        let last = &mut self.last;
+        while last.pop().is_some() {}
+    }
+
+    /// The claims of a list that the coming cycle accepts, unless it flushes or ends.
+    fn admitted<'a>(&self, list: &'a [Claim]) -> &'a [Claim]
+        requires { self.now.timed.config.window ≤ 64 }
+        ensures value { result.now ≡ take (room_of self.now.timed) list.now }
+        ensures fits { length result.now ≤ self.now.timed.config.window - length self.now.timed.pending }
+    {
+        if list.is_empty() {
+            return list;
+        }
+        &list[..self.room().min(list.len())]
+    }
+
+    /// Phase 1: the oldest undrained store goes to memory.
+    #[tactic(auto, unfolding(diva_core::specs::Cycle::drained))]
+    fn drain(&mut self)
+        ensures { self.new ≡ record self.old { timed = drained self.old.timed } }
+    {
+        self.arch.drain();
+    }
+
+    /// Drops what is pending, and starts the next instruction on the checker alone.
+    #[cold]
+    #[tactic(auto, unfolding(diva_core::specs::Cycle::flushed))]
+    fn flush(&mut self, cause: Cause)
+        requires flushes { self.old.timed.flushes < 2 ^ 63 }
+        requires silent { self.old.timed.silent < 2 ^ 63 }
+        ensures { self.new ≡ record self.old { timed = flushed self.old.timed cause; entries = []; passed = 0 } }
+    {
+        let row = FlushRow {
+            cycle: self.cycles,
+            at: self.count,
+            cause,
+        };
+        self.pending.clear();
+        self.passed = 0;
+        self.recover = Recover::Solo(self.cycles);
+        self.log.add(row);
+    }
+
+    /// Judges the front claim by its verdict, and commits it where there is none. It stays at the front.
+    #[inline(always)]
+    #[tactic(auto, unfolding(diva_core::specs::Cycle::committed))]
+    fn settle_front(&mut self) -> Committed
+        requires there { 0 < length self.old.entries }
+        requires goes_on { GoesOn self.old.timed.arch }
+        requires due { (e : Entry) → slice_get self.old.entries 0 ≡ Some e → e.verdict ≡ None
+            → e.claim ≡ record_of self.old.timed.arch }
+        requires decoded { (e : Entry) → slice_get self.old.entries 0 ≡ Some e
+            → e.decoded ≡ row_of e.claim.word }
+        requires count { self.old.timed.count < 2 ^ 63 }
+        requires last { length self.old.last < 4 }
+        ensures answer { (e : Entry) → slice_get self.old.entries 0 ≡ Some e
+            → result ≡ answer e.verdict e.claim (self.old.timed.owed == self.old.timed.config.stores) }
+        ensures stays { is_committed result ≡ false → self.new ≡ self.old }
+        ensures commits { (e : Entry) → slice_get self.old.entries 0 ≡ Some e → is_committed result ≡ true
+            → self.new ≡ record self.old {
+              timed = committed self.old.timed e.claim;
+              last = self.old.last ++ e.claim ∷ [];
+            } }
+    {
+        let front = self.pending.at(0);
+        let answer = self.arch.commit(front.decoded, &front.claim, front.verdict);
+        if answer.is_committed() {
+            self.count += 1;
+            self.last.push(front.claim);
+        }
+        answer
+    }
+
+    /// Takes out the front claim, which has committed, and all others where that ended the machine; answers whether it
+    /// goes on.
+    #[inline(always)]
+    fn leave_front(&mut self) -> bool
+        requires there { 0 < length self.old.entries }
+        requires passed { 0 < self.old.passed }
+        ensures goes_on { result ≡ goes_on self.old.timed.arch }
+        ensures left { self.new ≡ left result self.old }
+    {
+        self.pending.pop();
+        self.passed -= 1;
+        if !self.arch.goes_on() {
+            self.pending.clear();
+            self.passed = 0;
+            return false;
+        }
+        true
+    }
+
+    /// Judges the front claim, which is ready; answers whether a further one is to be judged. The
+    /// definition is handed what follows, so that one claim can be judged without its number.
+    #[inline(always)]
+    #[tactic(auto, unfolding(diva_core::specs::Cycle::committed, diva_core::specs::Cycle::flushed))]
+    fn judge_front(&mut self) -> bool
+        requires ready { 0 < self.old.passed }
+        requires goes_on { GoesOn self.old.timed.arch }
+        requires owed { self.old.timed.owed ≤ self.old.timed.config.stores }
+        requires count { self.old.timed.count < 2 ^ 63 }
+        requires flushes { self.old.timed.flushes < 2 ^ 63 }
+        requires silent { self.old.timed.silent < 2 ^ 63 }
+        requires last { length self.old.last < 4 }
+        requires cycles { 1 ≤ self.old.timed.cycles }
+        requires running { self.old.timed.solo ≡ None }
+        requires staged { IsStaged (self.old.timed.cycles - 1) self.old }
+        ensures judges { (next : Timed → Timed)
+            → by_front next self.old.timed self.old.timed.pending
+            ≡ (if result then next self.new.timed else self.new.timed) }
+        ensures goes_on { IsTrue result → GoesOn self.new.timed.arch }
+        ensures counted { self.old.timed.count ≤ self.new.timed.count }
+        ensures one { self.new.timed.count ≤ self.old.timed.count + 1 }
+        ensures stepped { self.new.timed.arch
+            ≡ steps (self.new.timed.count - self.old.timed.count) self.old.timed.arch }
+        ensures last { self.new.last
+            ≡ self.old.last ++ dues (self.new.timed.count - self.old.timed.count) self.old.timed.arch }
+        ensures running { IsTrue result → self.new.timed.solo ≡ None }
+        ensures same { IsTrue result → SameLog self.old.timed self.new.timed }
+        ensures bounds { KeepsBounds self.old.timed self.new.timed }
+        ensures staged { IsStaged (self.new.timed.cycles - 1) self.new }
+        ensures solo { IsSoloFilled self.new.timed.cycles self.new }
+    {
+        if let Some(diff) = self.pending.at(0).verdict {
+            self.flush(Cause::Differs(diff));
+            return false;
+        }
+        if !self.settle_front().is_committed() {
+            return false;
+        }
+        self.leave_front()
+    }
+
+    /// Judges at most `n` ready claims, oldest first.
+    #[inline(always)]
+    #[tactic(auto, using(crate::proofs::Fronts::judged_less))]
+    fn judge(&mut self, n: u32)
+        requires width { n ≤ 4 }
+        requires goes_on { GoesOn self.old.timed.arch }
+        requires owed { self.old.timed.owed ≤ self.old.timed.config.stores }
+        requires count { self.old.timed.count + 4 < 2 ^ 63 }
+        requires flushes { self.old.timed.flushes < 2 ^ 62 }
+        requires silent { self.old.timed.silent < 2 ^ 62 }
+        requires last { self.old.last ≡ [] }
+        requires cycles { 1 ≤ self.old.timed.cycles }
+        requires running { self.old.timed.solo ≡ None }
+        requires staged { IsStaged (self.old.timed.cycles - 1) self.old }
+        ensures judged { self.new.timed ≡ judged n self.old.timed }
+        ensures counted { self.old.timed.count ≤ self.new.timed.count }
+        ensures last { self.new.last
+            ≡ dues (self.new.timed.count - self.old.timed.count) self.old.timed.arch }
+        ensures bounds { KeepsBounds self.old.timed self.new.timed }
+        ensures staged { IsStaged (self.new.timed.cycles - 1) self.new }
+        ensures solo { IsSoloFilled self.new.timed.cycles self.new }
+    {
+        for at in 0..n {
+            if self.passed == 0 {
+                return;
+            }
+            if !self.judge_front() {
+                return;
+            }
+        }
+    }
+
+    /// Phase 2: what is ready commits, at most `width` claims or the solo instruction.
+    #[inline(always)]
+    #[tactic(auto, unfolding(diva_core::specs::Cycle::commits, diva_core::specs::Cycle::committed))]
+    fn commits(&mut self)
+        requires width { self.old.timed.config.width ≤ 4 }
+        requires goes_on { GoesOn self.old.timed.arch }
+        requires owed { self.old.timed.owed < self.old.timed.config.stores }
+        requires count { self.old.timed.count + 4 < 2 ^ 63 }
+        requires flushes { self.old.timed.flushes < 2 ^ 62 }
+        requires silent { self.old.timed.silent < 2 ^ 62 }
+        requires last { self.old.last ≡ [] }
+        requires cycles { 1 ≤ self.old.timed.cycles }
+        requires alone { (start : ℕ) → self.old.timed.solo ≡ Some start
+            → (self.old.timed.pending ≡ []) × (start < self.old.timed.cycles) }
+        requires staged { IsStaged (self.old.timed.cycles - 1) self.old }
+        requires solo { IsSoloFilled (self.old.timed.cycles - 1) self.old }
+        ensures timed { self.new.timed ≡ commits self.old.timed }
+        ensures counted { self.old.timed.count ≤ self.new.timed.count }
+        ensures last { self.new.last
+            ≡ dues (self.new.timed.count - self.old.timed.count) self.old.timed.arch }
+        ensures bounds { KeepsBounds self.old.timed self.new.timed }
+        ensures staged { IsStaged (self.new.timed.cycles - 1) self.new }
+        ensures solo { IsSoloFilled self.new.timed.cycles self.new }
+    {
+        match self.recover {
+            Recover::Running => {
+                if self.passed > 0 {
+                    self.judge(self.width);
+                }
+            }
+            Recover::Solo(start) => {
+                let age = self.cycles.saturating_sub(start);
+                if age == DEPTH {
+                    self.commit_solo();
+                } else {
+                    self.fill_solo(age);
+                }
+            }
+        }
+    }
+
+    /// The record of the solo instruction gets the fields of its age.
+    #[cold]
+    fn fill_solo(&mut self, age: u64)
+        requires { 1 ≤ age }
+        ensures rest { self.new ≡ record self.old { filled = self.new.filled } }
+        ensures filled { GoesOn self.old.timed.arch → IsFilled self.old.timed.arch (age - 1) self.old.filled
+            → IsFilled self.old.timed.arch age self.new.filled }
+    {
+        fill(&mut self.filled, &self.arch.view(), age);
+    }
+
+    /// The solo instruction commits.
+    #[cold]
+    #[tactic(auto, unfolding(diva_core::specs::Cycle::committed))]
+    fn commit_solo(&mut self)
+        requires goes_on { GoesOn self.old.timed.arch }
+        requires due { self.old.filled ≡ record_of self.old.timed.arch }
+        requires owed { self.old.timed.owed < self.old.timed.config.stores }
+        requires count { self.old.timed.count < 2 ^ 63 }
+        requires last { length self.old.last < 4 }
+        ensures { self.new ≡ record self.old {
+          timed = committed (record self.old.timed { solo = None }) self.old.filled;
+          last = self.old.last ++ self.old.filled ∷ [];
+        } }
+    {
+        self.arch
+            .commit(decode(self.filled.word), &self.filled, None);
+        self.recover = Recover::Running;
+        self.count += 1;
+        self.last.push(self.filled);
+    }
+
+    /// Phase 3: each claim that is not past the last stage passes through the one of its age.
+    #[inline(always)]
+    fn advance(&mut self)
+        requires cycles { 1 ≤ self.old.timed.cycles }
+        requires staged { IsStaged (self.old.timed.cycles - 1) self.old }
+        ensures rest { self.new ≡ record self.old { entries = self.new.entries; passed = self.new.passed } }
+        ensures staged { IsStaged self.new.timed.cycles self.new }
+    {
+        if self.passed < self.pending.len() {
+            self.pass_stages();
+        }
+    }
+
+    #[inline(always)]
+    fn pass_stages(&mut self)
+        requires cycles { 1 ≤ self.old.timed.cycles }
+        requires staged { IsStaged (self.old.timed.cycles - 1) self.old }
+        requires some { self.old.passed < length self.old.entries }
+        ensures rest { self.new ≡ record self.old { entries = self.new.entries; passed = self.new.passed } }
+        ensures staged { IsStaged self.new.timed.cycles self.new }
+    {
+        // The ring asks for its length at each look-up: this test serves both.
+        let mut at = self.passed;
+        while at < self.pending.len() {
+            self.pass_stage(at);
+            at += 1;
+        }
+    }
+
+    /// The claim at a place passes through the stage of its age.
+    #[inline(always)]
+    fn pass_stage(&mut self, at: usize)
+        requires place { at < length self.old.entries }
+        requires few { at < 64 }
+        requires passed { self.old.passed ≤ at }
+        requires aged { (e : Entry) → slice_get self.old.entries at ≡ Some e → e.cycle < self.old.timed.cycles }
+        ensures rest { self.new ≡ record self.old { entries = self.new.entries; passed = self.new.passed } }
+        ensures waits { map pending_claim_of self.new.entries ≡ map pending_claim_of self.old.entries }
+        ensures passed { (e : Entry) → slice_get self.old.entries at ≡ Some e → self.new.passed
+            ≡ self.old.passed + number (self.old.timed.cycles == e.cycle + last_stage) }
+        ensures advanced { (now : ℕ)
+            → self.old.timed.cycles ≡ now + 1
+            → IsAdvanced self.old.timed.arch now at self.old.entries
+            → IsAdvanced self.old.timed.arch now (at + 1) self.new.entries }
+    {
+        let age = self.cycles - self.pending.at(at).cycle;
+        pass(&mut self.pending, at, &self.arch, age);
+        if age == LAST_STAGE {
+            self.passed += 1;
+        }
+    }
+
+    /// Phase 4: the admitted claims become pending, where phase 2 neither flushed nor ended.
+    /// `flushes` is the number before the cycle.
+    #[tactic(auto, unfolding(diva_core::specs::Cycle::accepts))]
+    fn accept(&mut self, admitted: &[Claim], flushes: u64)
+        requires { length self.old.timed.pending + length admitted.now ≤ self.old.timed.config.window }
+        ensures timed { (before : Timed) (list : List Record)
+            → admitted.now ≡ take (room_of before) list → before.flushes ≡ flushes
+            → self.new.timed ≡ accepts before list self.old.timed }
+        ensures rest { self.new ≡ record self.old { timed = self.new.timed; entries = self.new.entries } }
+        ensures staged { IsStaged self.old.timed.cycles self.old → IsStaged self.new.timed.cycles self.new }
+        ensures solo { IsSoloFilled self.old.timed.cycles self.old → IsSoloFilled self.new.timed.cycles self.new }
+    {
+        if !admitted.is_empty() && self.arch.goes_on() && self.log.flushes() == flushes {
+            accept_all(&mut self.pending, admitted, self.cycles);
+        }
+    }
+
+    /// Phase 5: the watchdog. `committed` tells whether the cycle counted an instruction.
+    #[tactic(auto, unfolding(diva_core::specs::Cycle::watched))]
+    fn watch(&mut self, committed: bool)
+        requires idle { self.old.timed.idle < 2 ^ 31 }
+        requires flushes { self.old.timed.flushes < 2 ^ 63 }
+        requires silent { self.old.timed.silent < 2 ^ 63 }
+        ensures timed { (before : Timed)
+            → (self.old.timed.count == before.count) ≡ not committed
+            → self.new.timed ≡ watched before self.old.timed }
+        ensures last { self.new.last ≡ self.old.last }
+        ensures staged { IsStaged self.old.timed.cycles self.old → IsStaged self.new.timed.cycles self.new }
+        ensures solo { IsSoloFilled self.old.timed.cycles self.old → IsSoloFilled self.new.timed.cycles self.new }
+    {
+        let alone = matches!(self.recover, Recover::Solo(_));
+        let barks = self.watchdog.tick(committed, alone);
+        if barks && self.arch.goes_on() {
+            let limit = self.watchdog.limit();
+            self.flush(Cause::Silent(limit));
+        }
+    }
+
+    /// One cycle of a machine that goes on.
+    #[inline(always)]
+    #[tactic(auto, unfolding(diva_core::specs::Cycle::cycle_of, diva_core::specs::Cycle::drained, diva_core::specs::Cycle::accepts))]
+    pub fn cycle(&mut self, list: &[Claim])
+        requires goes_on { GoesOn self.old.timed.arch }
+        requires sound { IsMachine self.old.timed }
+        requires cycles { self.old.timed.cycles < 2 ^ 60 }
+        requires staged { IsStaged self.old.timed.cycles self.old }
+        requires solo { IsSoloFilled self.old.timed.cycles self.old }
+        ensures timed { self.new.timed ≡ cycle_of self.old.timed list.now }
+        ensures last { self.new.last
+            ≡ dues (self.new.timed.count - self.old.timed.count) self.old.timed.arch }
+        ensures staged { IsStaged self.new.timed.cycles self.new }
+        ensures solo { IsSoloFilled self.new.timed.cycles self.new }
+    {
+        let admitted = self.admitted(list);
+        let flushes = self.log.flushes();
+        self.forget_last();
+        self.cycles += 1;
+        self.drain();
+        self.commits();
+        self.advance();
+        self.accept(admitted, flushes);
+        let committed = !self.last.is_empty();
+        self.watch(committed);
+    }
+}
+
+/// Puts claims that are accepted in a cycle behind those that are pending.
+fn accept_all(pending: &mut Pending, claims: &[Claim], cycle: u64)
+    requires { length pending.old.items + length claims.now ≤ pending.old.capacity }
+    ensures items { map pending_claim_of pending.new.items
+        ≡ map pending_claim_of pending.old.items ++ map (accepted_in cycle) claims.now }
+    ensures capacity { pending.new.capacity ≡ pending.old.capacity }
+    ensures checked { (arch : State) → AreChecked arch cycle pending.old.items
+        → AreChecked arch cycle pending.new.items }
+{
+    for claim in claims {
+        pending.push(*claim, cycle);
+    }
+}
