@@ -3,7 +3,7 @@
 use Rattle.std.specs.Prelude.{◌≡◌, ◌≤◌, ◌+◌, ◌*◌, ℕ, [], Option, None, IfSome}
 use Rattle.diva_outside.specs.Text.{Text}
 use Rattle.diva_isa.specs.State.{State}
-use Rattle.diva_isa.specs.Step.{halt}
+use Rattle.diva_isa.specs.End.{halt}
 use Rattle.diva_core.specs.Timed.{Timed, Config, depth}
 use Rattle.diva_core.specs.History.{Meaning}
 use Rattle.diva_machine.specs.Start.{start_of}

@@ -1,9 +1,12 @@
 -- What becomes of a record that is to commit.
-use Rattle.std.specs.Prelude.{ℕ, ◌≡◌, ◌-◌, ◌==◌, ◌&&◌, nat_lt, Bool, true, false, List, [], ◌∷◌, ◌++◌, length, Option, Some, None, if◌then◌else◌}
+use Rattle.std.specs.Prelude.{ℕ, ◌≡◌, ◌&&◌, Bool, true, false, List, [], ◌∷◌, ◌++◌, length, Option, Some, None, if◌then◌else◌}
 use Rattle.diva_memory.specs.Bytes.{Bytes}
 use Rattle.diva_storeq.specs.declared.masked.Masked.{Masked}
 use Rattle.diva_storeq.specs.Masked.{IsWithin}
 use Rattle.diva_isa.specs.State.{State}
+use Rattle.diva_isa.specs.End.{end_of}
+use Rattle.diva_isa.specs.declared.end.End.{End}
+use Rattle.diva_isa.specs.declared.end.End.TheVariants.{GoesOn as Running, Halt as Halted, Trap as Trapped}
 use Rattle.diva_isa.specs.declared.record.Record.{Record}
 use Rattle.diva_core.specs.declared.differences.Diff.{Diff}
 use Rattle.diva_core.specs.Cycle.{number, puts_store}
@@ -19,14 +22,16 @@ abbrev pub AreInside : Bytes → List Masked → Type 0
 AreInside m [] = Unit {0}
 AreInside m (s ∷ stores) = IsWithin m s × AreInside m stores
 
--- how a state has ended, if it has, by its end
-abbrev pub ending : ℕ → Committed
-ending end = if end == 0 then GoesOn else (if nat_lt end 256 then Trap (end - 1) else Halt (end - 256))
+-- a record commits, and the state has ended so, if it has
+abbrev pub ending : End → Committed
+ending Running = GoesOn
+ending (Halted status) = Halt status
+ending (Trapped number) = Trap number
 
 -- the answer: a verdict is against the record; or it is a store that does not trap, and the queue is full; or it commits
 abbrev pub answer : Option Diff → Record → (full : Bool) → Committed
 answer (Some d) r full = Differs d
-answer None r full = if puts_store r && full then Held else ending r.end
+answer None r full = if puts_store r && full then Held else ending (end_of r.end)
 
 -- the record committed
 abbrev pub is_committed : Committed → Bool

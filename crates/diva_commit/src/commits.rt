@@ -4,14 +4,14 @@ ghost use Rattle.diva_decode.specs.Table.{row_of, HasRegisters};
 ghost use Rattle.diva_storeq.specs.Stores.{laid};
 ghost use Rattle.diva_memory.specs.Bytes.{IsInside};
 ghost use Rattle.diva_isa.specs.Kind.{size};
-ghost use Rattle.diva_isa.specs.Step.{apply, record_of, with_bytes, IsEnd};
+ghost use Rattle.diva_isa.specs.Step.{apply, record_of, with_bytes};
 ghost use Rattle.diva_isa.specs.declared.record.Record.{Record};
 ghost use Rattle.diva_core.specs.Cycle.{puts_store};
 ghost use Rattle.diva_commit.specs.Committing.{state_of, answer, ending, is_committed, AreInside, IsQueued};
 
 use diva_core::{Diff, Output};
 use diva_decode::{Instr, decode};
-use diva_isa::{Effect, Record, Regs, Width, effect_by};
+use diva_isa::{Effect, End, Record, Regs, Width, effect_by};
 use diva_memory::Memory;
 use diva_storeq::{Store, StoreQueue};
 
@@ -37,6 +37,18 @@ impl Committed {
         ensures { result ≡ is_committed self.now }
     {
         !matches!(self, Committed::Held | Committed::Differs(_))
+    }
+}
+
+impl From<End> for Committed {
+    ghost from_gives = { λ end committed. committed ≡ ending end };
+
+    fn from(end: End) -> Self {
+        match end {
+            End::GoesOn => Committed::GoesOn,
+            End::Halt(status) => Committed::Halt(status),
+            End::Trap(number) => Committed::Trap(number),
+        }
     }
 }
 
@@ -100,7 +112,7 @@ pub fn commit_by(
         return Committed::Differs(diff);
     }
     if r.end != 0 {
-        return ended(r.end);
+        return End::of(r.end).into();
     }
     match effect_by(decoded, r) {
         Effect::Nothing => {}
@@ -115,20 +127,6 @@ pub fn commit_by(
     }
     *pc = r.next;
     Committed::GoesOn
-}
-
-// How an end that is not 0 is answered.
-fn ended(end: u32) -> Committed
-    requires end { IsEnd end }
-    requires ends { 0 < end }
-    ensures answer { result ≡ ending end }
-    ensures committed { is_committed result ≡ true }
-{
-    if end < 256 {
-        Committed::Trap((end - 1) as u8)
-    } else {
-        Committed::Halt((end - 256) as u8)
-    }
 }
 
 // Puts a store behind the others of the queue.

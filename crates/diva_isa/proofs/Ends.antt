@@ -7,7 +7,8 @@ use Rattle.diva_isa.specs.declared.trap.Trap.TheVariants.{InstructionMisaligned,
 use Rattle.diva_isa.specs.Alu.{is_taken}
 use Rattle.diva_isa.specs.Kind.{kind, size}
 use Rattle.diva_isa.specs.State.{State, number_of, word_of}
-use Rattle.diva_isa.specs.Step.{IsEnd, address_of, call, ended, record_fetched, continues, halt, imm, loaded, outcome, outcome_of, record_of, source1_of, source2_of, stored, jumps_to, trap}
+use Rattle.diva_isa.specs.End.{IsEnd, halt, trap}
+use Rattle.diva_isa.specs.Step.{address_of, call, ended, record_fetched, continues, imm, loaded, outcome, outcome_of, record_of, source1_of, source2_of, stored, jumps_to}
 use Rattle.diva_isa.specs.declared.kind.Kind.{Kind}
 use Rattle.diva_isa.specs.declared.kind.Kind.TheVariants.{Lui, Auipc, Jal, Jalr, Branch, Load, Store, OpImm, OpReg, Fence, Ecall, Ebreak}
 use Rattle.diva_isa.specs.declared.record.Outcome.{Outcome}

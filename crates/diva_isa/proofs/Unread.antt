@@ -5,7 +5,8 @@ use Rattle.diva_decode.specs.Table.{row_of}
 use Rattle.diva_decode.specs.declared.instr.Instr.{Instr}
 use Rattle.diva_isa.specs.declared.trap.Trap.TheVariants.{InstructionAccessFault, IllegalInstruction}
 use Rattle.diva_isa.specs.State.{State, word_of}
-use Rattle.diva_isa.specs.Step.{ended, record_fetched, record_of, record_by, trap, record_with}
+use Rattle.diva_isa.specs.End.{trap}
+use Rattle.diva_isa.specs.Step.{ended, record_fetched, record_of, record_by, record_with}
 use Rattle.diva_isa.specs.declared.record.Record.{Record}
 
 -- its word, and the trap

@@ -1,5 +1,6 @@
 -- The meaning of the instruction table.
 pub mod State
+pub mod End
 pub mod Kind
 pub mod Alu
 pub mod Regs

@@ -8,7 +8,7 @@ pub record State : Type 0 where
   pub base : ℕ
   pub bytes : List ℕ
   pub output : List ℕ
-  -- 0 where the machine goes on, 1 + a trap's number, or 256 + the status of a halt
+  -- 0 where the machine goes on, 1 + a trap's number, or 256 + the status of a halt (End.antt)
   pub end : ℕ
 
 abbrev pub reg_of : State → ℕ → ℕ

@@ -41,7 +41,7 @@
 --                         memory. StoreMisaligned and StoreAccessFault are the same of a store
 -- CallNotServed           the service that is called is neither 1 nor 93
 -- OutputFull              the output holds 65,536 bytes or more
-use Rattle.std.specs.Prelude.{◌<◌, ◌≤◌, ℕ, zero, suc, ◌+◌, ◌*◌, ◌/◌, ◌%◌, ◌^◌, ◌==◌, Bool, true, false, [], ◌∷◌, ◌++◌, Option, Some, None, length, if◌then◌else◌, nat_lt, ⊤}
+use Rattle.std.specs.Prelude.{◌<◌, ℕ, zero, suc, ◌+◌, ◌*◌, ◌/◌, ◌%◌, ◌^◌, ◌==◌, Bool, true, false, [], ◌∷◌, ◌++◌, Option, Some, None, length, if◌then◌else◌, nat_lt, ⊤}
 use Rattle.std.specs.Int.{cast_unsigned, w32}
 use Rattle.diva_decode.specs.declared.op.Op.{Op}
 use Rattle.diva_decode.specs.declared.instr.Instr.{Instr}
@@ -51,28 +51,14 @@ use Rattle.diva_isa.specs.State.{State, reg_of, memory_of, number_of, word_of, g
 use Rattle.diva_isa.specs.Alu.{alu, is_taken, extended}
 use Rattle.diva_isa.specs.Kind.{kind, size}
 use Rattle.diva_isa.specs.Regs.{with_reg}
-use Rattle.diva_isa.specs.Trap.{trap_number}
+use Rattle.diva_isa.specs.End.{halt, trap}
 use Rattle.diva_isa.specs.declared.kind.Kind.{Kind}
 use Rattle.diva_isa.specs.declared.kind.Kind.TheVariants.{Lui, Auipc, Jal, Jalr, Branch, Load, Store, OpImm, OpReg, Fence, Ecall, Ebreak}
-use Rattle.diva_isa.specs.declared.trap.Trap.{Trap}
 use Rattle.diva_isa.specs.declared.trap.Trap.TheVariants.{InstructionMisaligned, InstructionAccessFault, IllegalInstruction, Breakpoint, LoadMisaligned, LoadAccessFault, StoreMisaligned, StoreAccessFault, CallNotServed, OutputFull}
 use Rattle.diva_isa.specs.declared.record.Record.{Record}
 use Rattle.diva_isa.specs.declared.record.Outcome.{Outcome}
 use Rattle.diva_isa.specs.declared.effect.Effect.{Effect}
 use Rattle.diva_isa.specs.declared.effect.Effect.TheVariants.{Nothing, Writes, Stores, Puts}
-
--- ---- how the machine ends
-
-abbrev pub trap : Trap → ℕ
-trap cause = 1 + trap_number cause
-
-abbrev pub halt : ℕ → ℕ
-halt status = 256 + status
-
--- the end that a record may have: 0, 1 and a trap's number, or 256 and a status
-pub record IsEnd (end : ℕ) : Type 0 where
-  pub halts : 10 < end → 256 ≤ end
-  pub below : end < 512
 
 -- the immediate as a word
 abbrev pub imm : Instr → ℕ

@@ -5,7 +5,8 @@ ghost use Rattle.std.specs.Option.{option_and_then};
 ghost use Rattle.diva_decode.specs.Table.{HasRegisters, row_of};
 ghost use Rattle.diva_isa.specs.State.{State, word_of};
 ghost use Rattle.diva_isa.specs.Kind.{kind, moves_memory, size};
-ghost use Rattle.diva_isa.specs.Step.{address, call, ended, continues, halt, load, outcome, outcome_of, record_of, source1, source2, source1_of, source2_of, address_of, store, jumps_to, trap, record_with};
+ghost use Rattle.diva_isa.specs.End.{halt, trap};
+ghost use Rattle.diva_isa.specs.Step.{address, call, ended, continues, load, outcome, outcome_of, record_of, source1, source2, source1_of, source2_of, address_of, store, jumps_to, record_with};
 ghost use Rattle.diva_isa.specs.Trap.{trap_number};
 
 use crate::arithmetic::{alu, branch_taken, load_value};

@@ -5,19 +5,21 @@
 //! - `look`: a state that can be read.
 //! - `record`: the record of one instruction, and its parts.
 //! - `trap`: the traps by number.
+//! - `end`: how a state has ended, as a word and as a number.
 //! - `due`: the record of a state's next instruction, and each part of it by itself.
 //! - `effect`: what a record does besides moving the pc.
 //! - `regs`: the 32 registers.
 //! - `plain`: the machine that does one instruction after another.
 //!
 //! The definitions that contracts cite are in `specs/`: a state in `State`; the record and what it does in `Step`, with
-//! a table of it, kind by kind; what an operation computes in `Alu`. What follows from them is in `proofs/`.
+//! a table of it, kind by kind; what an operation computes in `Alu`; how a state ends in `End`. What follows from them is in `proofs/`.
 //! (RISC-V Unprivileged ISA, chapters RV32I 2.1 and M 2.0.)
 #![tactic(auto)]
 
 mod arithmetic;
 mod due;
 mod effect;
+mod end;
 mod kind;
 mod look;
 mod plain;
@@ -28,6 +30,7 @@ mod trap;
 pub use arithmetic::{alu, branch_taken, load_value};
 pub use due::{address, decoded_of, execute, fetch, finish, record_by, record_of, sources};
 pub use effect::{Effect, effect_by, effect_of};
+pub use end::End;
 pub use kind::{Kind, Width, kind_of};
 pub use look::Look;
 pub use plain::Plain;

@@ -1,7 +1,7 @@
 -- What contracts see of a machine and of its parts.
 use Rattle.std.specs.Prelude.{ℕ, ◌≡◌, ◌≤◌, ◌+◌, ◌-◌, ◌^◌, ◌==◌, nat_lt, List, length, Option, Some, None, is_none, if◌then◌else◌}
 use Rattle.diva_isa.specs.State.{State}
-use Rattle.diva_isa.specs.Step.{IsEnd}
+use Rattle.diva_isa.specs.End.{IsEnd}
 use Rattle.diva_isa.specs.declared.record.Record.{Record}
 use Rattle.diva_memory.specs.Bytes.{Bytes}
 use Rattle.diva_storeq.specs.declared.masked.Masked.{Masked}

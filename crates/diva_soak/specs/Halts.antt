@@ -1,7 +1,8 @@
 -- A state whose instructions end with status 0.
 use Rattle.std.specs.Prelude.{◌≡◌, ◌≤◌, ℕ}
 use Rattle.diva_isa.specs.State.{State}
-use Rattle.diva_isa.specs.Step.{halt, steps}
+use Rattle.diva_isa.specs.End.{halt}
+use Rattle.diva_isa.specs.Step.{steps}
 use Rattle.diva_core.specs.Headline.{EndsAfter}
 
 -- it ends, after `most` instructions at most, by a halt with status 0

@@ -10,7 +10,8 @@ ghost use Rattle.diva_core.specs.declared.flushes.Cause.TheVariants.{Differs, Si
 ghost use Rattle.diva_core.specs.Timed.{new_timed};
 ghost use Rattle.diva_isa.specs.declared.trap.Trap.TheVariants.{InstructionMisaligned, InstructionAccessFault, LoadMisaligned};
 ghost use Rattle.diva_isa.specs.State.{reg_of};
-ghost use Rattle.diva_isa.specs.Step.{halt, trap, record_of, step, steps};
+ghost use Rattle.diva_isa.specs.End.{halt, trap};
+ghost use Rattle.diva_isa.specs.Step.{record_of, step, steps};
 ghost use Rattle.diva_tape.specs.Lists.{lockstep_list, silent_list};
 ghost use Rattle.diva_tape.specs.Scalar.{scalar_list};
 ghost use Rattle.diva_tape.specs.Programs.{defaults, led_by, summary_of, acceptances, commitments, registers};

@@ -6,7 +6,7 @@ ghost use Rattle.std.specs.Prelude.{◌≡◌, [], ◌∷◌};
 ghost use Rattle.diva_core.specs.declared.differences.Field.TheVariants.{Pc, Word};
 ghost use Rattle.diva_core.specs.declared.flushes.Cause.TheVariants.{Differs};
 ghost use Rattle.diva_core.specs.Timed.{new_timed};
-ghost use Rattle.diva_isa.specs.Step.{halt};
+ghost use Rattle.diva_isa.specs.End.{halt};
 ghost use Rattle.diva_tape.specs.Lists.{echo_list, flood_list};
 ghost use Rattle.diva_tape.specs.Noise.{noise_lists};
 ghost use Rattle.diva_tape.specs.Programs.{acceptances, defaults, handed, led_by, summary_of, three_instructions};

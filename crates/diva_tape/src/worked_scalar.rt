@@ -1,6 +1,6 @@
 //! Runs under the core `Scalar`, call by call, that were worked out by hand. Each function has no body, as in `worked`.
 ghost use Rattle.std.specs.Prelude.{◌≡◌, [], ◌∷◌};
-ghost use Rattle.diva_isa.specs.Step.{halt};
+ghost use Rattle.diva_isa.specs.End.{halt};
 ghost use Rattle.diva_tape.specs.Programs.{Driven, new_driven, registers, summary_of, turns_of};
 ghost use Rattle.diva_tape.specs.Programs.{store_over_next_word, store_then_load, three_instructions, write_to_x0};
 

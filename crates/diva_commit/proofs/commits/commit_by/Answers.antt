@@ -1,16 +1,11 @@
 use Rattle.std.proofs.Common.{◌≡◌, sym, subst, ◌∙◌, refl, arith}
-use Rattle.diva_isa.specs.declared.record.Record.{Record}
-use Rattle.diva_isa.specs.Step.{IsEnd, HasRoom, with_effect}
-use Rattle.diva_isa.proofs.Ends.{end_record_of}
+use Rattle.diva_isa.specs.Step.{HasRoom, with_effect}
 use Rattle.diva_isa.proofs.Room.{IsAligned}
 use Rattle.diva_storeq.specs.Stores.{laid}
 use Rattle.diva_commit.specs.Committing.{state_of}
 use Rattle.diva_commit.proofs.Storing.{aligned_by, applied, room_by}
 use Rattle.diva_commit.proofs.commits.commit_by.Goals as goal
 use Rattle.diva_commit.proofs.commits.commit_by.Goals.{in-Nothing, in-Writes, in-Stores+else-full, in-Puts}
-
-pub ended-requires-clause-end : goal.ended-requires-clause-end
-ended-requires-clause-end c = subst (λ (r : Record). IsEnd r.end) (sym (c.requires.due c.in_default.is)) (end_record_of _)
 
 pub store-requires-clause-inside : goal.store-requires-clause-inside
 store-requires-clause-inside c =

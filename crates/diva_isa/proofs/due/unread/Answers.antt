@@ -1,4 +1,4 @@
-use Rattle.std.proofs.Common.{◌≡◌, Some, None, sym, ◌∙◌}
+use Rattle.std.proofs.Common.{Some, None, ◌∙◌}
 use Rattle.diva_isa.proofs.Unread.{unread}
 use Rattle.diva_isa.proofs.due.unread.Goals as goal
 
