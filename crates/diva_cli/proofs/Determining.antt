@@ -13,7 +13,7 @@ use Rattle.diva_core.specs.History.{Meaning, IsHistory}
 use Rattle.diva_faults.specs.declared.rows.Row.{Row}
 use Rattle.diva_faults.specs.Spoiled.{spoiled}
 use Rattle.diva_faults.specs.Lists.{scripted}
-use Rattle.diva_trace.specs.Lines.{end_line, soak_line}
+use Rattle.diva_trace.specs.Lines.{end_line_of, soak_line}
 use Rattle.diva_trace.specs.Text.{output_text, registers_text, soak_text, text_of}
 use Rattle.diva_trace.specs.declared.report.SoakCore.{SoakCore}
 use Rattle.diva_trace.specs.declared.report.SoakCore.TheVariants as soak_core
@@ -118,6 +118,6 @@ soak_same gives determined options core after last status other text same h k =
     let flushes : h.first.flushes ≡ k.first.flushes = h.unflushed ∙ sym k.unflushed in
     let line = line_same soak_core.Scalar h.first.count k.first.count h.first.cycles k.first.cycles h.first.flushes k.first.flushes counted cycles flushes in
     h.lines ∙ ap (soak_text h.first) ends
-    ∙ ap (λ (l : List ℕ). l ++ soak_line soak_core.Own k.second.count k.second.cycles k.second.flushes ++ end_line k.second.arch.end ++ output_text k.second.arch.output
+    ∙ ap (λ (l : List ℕ). l ++ soak_line soak_core.Own k.second.count k.second.cycles k.second.flushes ++ end_line_of (end_of k.second.arch.end) ++ output_text k.second.arch.output
     ++ registers_text k.second.arch.regs k.second.arch.pc) line
     ∙ sym k.lines

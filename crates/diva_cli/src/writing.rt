@@ -13,7 +13,7 @@ use diva_args::DumpRange;
 use diva_machine::{End, Machine};
 use diva_outside::{Line, Sink, SinkFailed, put_lines};
 use diva_trace::{
-    Dump, Report, SoakCore, end_line, soak_line, write_output, write_registers, write_run,
+    Dump, Report, SoakCore, end_line_of, soak_line, write_output, write_registers, write_run,
 };
 
 /// Writes a line, and answers its status.
@@ -54,7 +54,7 @@ pub(crate) fn write_finished<S: Sink>(
 {
     let report = Report {
         rows: machine.log(),
-        end: machine.ended().number(),
+        end: machine.ended(),
         count: machine.count(),
         cycles: machine.cycles(),
         flushes: machine.flushes(),
@@ -93,7 +93,7 @@ pub(crate) fn write_soaked<S: Sink>(
         &[
             counts_line(SoakCore::Scalar, first),
             counts_line(SoakCore::Own, second),
-            end_line(second.ended().number()),
+            end_line_of(second.ended()),
         ],
     ) {
         Ok(()) => {}

@@ -3,9 +3,11 @@ use Rattle.std.specs.Prelude.{ℕ, ◌+◌, ◌-◌, ◌==◌, ◌&&◌, not, Li
 use Rattle.std.specs.Fmt.{decimal}
 use Rattle.diva_outside.specs.Text.{Text, hex_word}
 use Rattle.diva_isa.specs.State.{State, goes_on, memory_of}
+use Rattle.diva_isa.specs.End.{end_of}
+use Rattle.diva_isa.specs.declared.end.End.{End}
 use Rattle.diva_isa.specs.Step.{steps}
 use Rattle.diva_core.specs.declared.flushes.FlushRow.{FlushRow}
-use Rattle.diva_trace.specs.Lines.{flush_line, mem_line, register_text}
+use Rattle.diva_trace.specs.Lines.{end_text, flush_line, mem_line, register_text}
 use Rattle.diva_debug.specs.Moves.{steps_by}
 use Rattle.diva_debug.specs.declared.command.Command.{Command}
 use Rattle.diva_debug.specs.declared.command.Command.TheVariants.{Step, Until, Reg, Mem, Why}
@@ -24,16 +26,13 @@ at_line place pc = place_line (codes "at ") place pc
 unfoldable pub far_line : (place pc : ℕ) → Text
 far_line place pc = place_line (codes "far ") place pc
 
--- how it ended, by a trap's number or a halt's status
-abbrev pub end_text : ℕ → Text
-end_text end = if nat_lt end 256 then codes " trap " ++ decimal (end - 1) else codes " halt " ++ decimal (end - 256)
-
-unfoldable pub ended_line : (place end : ℕ) → Text
-ended_line place end = codes "ended " ++ decimal place ++ end_text end ++ codes "\n"
+-- how it ended
+unfoldable pub ended_line : (place : ℕ) → End → Text
+ended_line place end = codes "ended " ++ decimal place ++ codes " " ++ end_text end ++ codes "\n"
 
 -- where it stands, or how it ended
 unfoldable pub stop_line : ℕ → State → Text
-stop_line place s = if goes_on s then at_line place s.pc else ended_line place s.end
+stop_line place s = if goes_on s then at_line place s.pc else ended_line place (end_of s.end)
 
 -- the same, where it was to stand at a pc
 unfoldable pub until_line : (pc : ℕ) → ℕ → State → Text

@@ -2,13 +2,13 @@
 ghost use Rattle.std.specs.Prelude.{◌≡◌, ◌↔◌, ◌≤◌, ◌<◌, ◌++◌, length, codes};
 ghost use Rattle.std.specs.Fmt.{decimal};
 ghost use Rattle.diva_debug.specs.declared.command.Command.TheVariants.{Why};
-ghost use Rattle.diva_debug.specs.Replies.{no_flush, place_line, register_line, reply_at, stop_line, until_line, why_line};
+ghost use Rattle.diva_debug.specs.Replies.{ended_line, no_flush, place_line, register_line, reply_at, stop_line, until_line, why_line};
 
 use crate::command::Command;
 use diva_core::FlushRow;
 use diva_machine::{End, Machine};
 use diva_outside::Line;
-use diva_trace::{flush_line, mem_line};
+use diva_trace::{flush_line, mem_line, push_end};
 
 /// What a machine that was moved by a command replies to it.
 #[tactic(auto, unfolding(crate::specs::Replies::reply_at))]
@@ -33,8 +33,7 @@ fn stop_line(m: &Machine) -> Line
 {
     match m.ended() {
         End::GoesOn => place_line(b"at ", m.count(), m.view().pc()),
-        End::Halt(status) => ended_line(m.count(), b" halt ", status),
-        End::Trap(trap) => ended_line(m.count(), b" trap ", trap),
+        end => ended_line(m.count(), end),
     }
 }
 
@@ -65,16 +64,15 @@ fn place_line(word: &[u8], place: u64, pc: u32) -> Line
     line
 }
 
-/// How the machine ended, in a word of at most 8 letters and a number.
-fn ended_line(place: u64, how: &[u8], number: u8) -> Line
-    requires { length how.now ≤ 8 }
-    ensures { result ≡ codes "ended " ++ decimal place ++ (how.now ++ decimal number) ++ codes "\n" }
+/// The place and how the machine ended.
+fn ended_line(place: u64, end: End) -> Line
+    ensures { result ≡ ended_line place end }
 {
     let mut line = Line::new();
     line.text(b"ended ");
     line.decimal(place);
-    line.text(how);
-    line.decimal(u64::from(number));
+    line.text(b" ");
+    push_end(&mut line, end);
     line.text(b"\n");
     line
 }

@@ -1,5 +1,5 @@
 -- What contracts see of a machine and of its parts.
-use Rattle.std.specs.Prelude.{ℕ, ◌≡◌, ◌≤◌, ◌+◌, ◌-◌, ◌^◌, ◌==◌, nat_lt, List, length, Option, Some, None, is_none, if◌then◌else◌}
+use Rattle.std.specs.Prelude.{ℕ, ◌≡◌, ◌≤◌, ◌+◌, ◌^◌, ◌==◌, List, length, Option, Some, None, is_none}
 use Rattle.diva_isa.specs.State.{State}
 use Rattle.diva_isa.specs.End.{IsEnd}
 use Rattle.diva_isa.specs.declared.record.Record.{Record}
@@ -12,8 +12,6 @@ use Rattle.diva_core.specs.declared.flushes.FlushRow.{FlushRow}
 use Rattle.diva_core.specs.declared.pending.Entry.{Entry}
 use Rattle.diva_watchdog.specs.declared.recover.Recover.{Recover}
 use Rattle.diva_watchdog.specs.declared.recover.Recover.TheVariants.{Running, Solo}
-use Rattle.diva_machine.specs.declared.ends.End.{End}
-use Rattle.diva_machine.specs.declared.ends.End.TheVariants.{GoesOn, Halt, Trap}
 
 -- a machine, the records that its last cycle committed, and what it has noted of the claims that are pending, the oldest
 -- first
@@ -67,13 +65,3 @@ pending_claim_of e = record { claim = e.claim; cycle = e.cycle }
 abbrev pub solo_of : Recover → Option ℕ
 solo_of Running = None
 solo_of (Solo start) = Some start
-
--- how a machine ended, by its state's end
-abbrev pub end_of : ℕ → End
-end_of end = if end == 0 then GoesOn else (if nat_lt end 256 then Trap (end - 1) else Halt (end - 256))
-
--- the end of a state, by how the machine ended
-abbrev pub end_number : End → ℕ
-end_number GoesOn = 0
-end_number (Trap n) = 1 + n
-end_number (Halt status) = 256 + status

@@ -2,19 +2,18 @@
 ghost use Rattle.std.specs.Prelude.{◌≡◌, ◌≤◌, ◌+◌, ◌-◌, ◌==◌, true, false, length, None, IfOk};
 ghost use Rattle.diva_decode.specs.Table.{row_of};
 ghost use Rattle.diva_isa.specs.State.{goes_on, GoesOn};
+ghost use Rattle.diva_isa.specs.End.{end_of, end_number};
 ghost use Rattle.diva_isa.specs.Step.{apply, record_of};
 ghost use Rattle.diva_image.specs.ImageLayout.{layout};
 ghost use Rattle.diva_core.specs.Cycle.{number, puts_store};
 ghost use Rattle.diva_commit.specs.Committing.{answer, is_committed};
 ghost use Rattle.diva_machine.specs.Start.{start_of};
-ghost use Rattle.diva_machine.specs.Machine.{end_of, end_number};
 
-use crate::ends::End;
 use diva_commit::{Committed, commit_by};
 use diva_core::{Diff, Output, View};
 use diva_decode::Instr;
 use diva_image::Image;
-use diva_isa::{Record, Regs};
+use diva_isa::{End, Record, Regs};
 use diva_memory::Memory;
 use diva_storeq::StoreQueue;
 use std::alloc::{AllocError, Global};
@@ -99,11 +98,7 @@ impl Arch {
         ensures value { result ≡ end_of self.now.state.end }
         ensures number { end_number result ≡ self.now.state.end }
     {
-        match self.end {
-            0 => End::GoesOn,
-            trap if trap < 256 => End::Trap((trap - 1) as u8),
-            halt => End::Halt((halt - 256) as u8),
-        }
+        End::of(self.end)
     }
 
     /// Puts the oldest undrained store to memory, if there is one.

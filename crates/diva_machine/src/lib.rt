@@ -6,7 +6,7 @@
 //! - `stages`: what a pending claim passes through at each age;
 //! - `parts`: the parts of the machine, and the phases of a cycle over them;
 //! - `machine`: the machine between cycles, `Machine`;
-//! - `ends`: how a machine ended, `End`, and how a drive stopped, `Drive` and `Reach`;
+//! - `ends`: how a drive stopped, `Drive` and `Reach`;
 //! - `turns`: a machine and a core, turn by turn, `turn` and `drive`;
 //! - `reaching`: turns until so many instructions have committed, `drive_to`.
 //!
@@ -26,7 +26,8 @@ mod stages;
 mod turns;
 
 pub use config::Config;
-pub use ends::{Drive, End, Reach};
+pub use diva_isa::End;
+pub use ends::{Drive, Reach};
 pub use machine::Machine;
 pub use reaching::drive_to;
 pub use turns::{drive, turn};

@@ -1,6 +1,7 @@
 // The machine between cycles.
 ghost use Rattle.std.specs.Prelude.{◌≡◌, ◌⊎◌, ◌↔◌, ◌+◌, ◌-◌, ◌*◌, ◌<◌, ◌≤◌, ◌^◌, ◌∷◌, ℕ, [], List, length, slice_get, None, Some, IsNone, IfOk, true, false};
 ghost use Rattle.diva_isa.specs.State.{goes_on, GoesOn};
+ghost use Rattle.diva_isa.specs.End.{end_of, end_number};
 ghost use Rattle.diva_isa.specs.Step.{steps};
 ghost use Rattle.diva_image.specs.ImageLayout.{layout};
 ghost use Rattle.diva_core.specs.Older.{before_entry};
@@ -11,16 +12,15 @@ ghost use Rattle.diva_core.specs.Machine.{IsMachine};
 ghost use Rattle.diva_core.specs.Headline.{dues, Rises, ByClaims, BySolo, IsJudged, SameLog, AddsRow, HasPace, WillCount};
 ghost use Rattle.diva_core.specs.Right.{IsRight, IsCalm, StaysCalm};
 ghost use Rattle.diva_machine.specs.Start.{start_of};
-ghost use Rattle.diva_machine.specs.Machine.{end_of, end_number, pending_claim_of};
+ghost use Rattle.diva_machine.specs.Machine.{pending_claim_of};
 ghost use Rattle.diva_machine.specs.Staged.{AreChecked, IsChecked};
 
 use crate::DEPTH;
 use crate::config::Config;
-use crate::ends::End;
 use crate::parts::Parts;
 use diva_core::{Claims, Entry, FlushRow, Told, View};
 use diva_image::Image;
-use diva_isa::Record;
+use diva_isa::{End, Record};
 use std::alloc::{AllocError, Global};
 use std::marker::Model;
 

@@ -1,12 +1,15 @@
 -- The lines of the program's text, each with its line feed.
-use Rattle.std.specs.Prelude.{ℕ, ◌+◌, ◌-◌, ◌==◌, List, ◌++◌, slice_index, nat_lt, codes, Option, Some, None, if◌then◌else◌}
+use Rattle.std.specs.Prelude.{ℕ, ◌+◌, List, ◌++◌, slice_index, codes, Option, Some, None}
 use Rattle.std.specs.Fmt.{decimal}
 use Rattle.std.specs.List.{flat_map, range_with_len}
 use Rattle.diva_memory.specs.Bytes.{Bytes, byte_at}
+use Rattle.diva_isa.specs.End.{end_of}
+use Rattle.diva_isa.specs.declared.end.End.{End}
+use Rattle.diva_isa.specs.declared.end.End.TheVariants.{GoesOn, Halt, Trap}
 use Rattle.diva_isa.specs.declared.record.Record.{Record}
 use Rattle.diva_core.specs.Difference.{all_fields, field_of}
 use Rattle.diva_core.specs.declared.differences.Field.{Field}
-use Rattle.diva_core.specs.declared.differences.Field.TheVariants.{Pc, Word, Src1, Src2, Addr, Value, Next, End}
+use Rattle.diva_core.specs.declared.differences.Field.TheVariants.{Pc, Word, Src1, Src2, Addr, Value, Next, End as EndField}
 use Rattle.diva_core.specs.declared.flushes.Cause.{Cause}
 use Rattle.diva_core.specs.declared.flushes.Cause.TheVariants.{Differs, Silent}
 use Rattle.diva_core.specs.declared.flushes.FlushRow.{FlushRow}
@@ -33,7 +36,7 @@ field_name Src2 = codes "src2"
 field_name Addr = codes "addr"
 field_name Value = codes "value"
 field_name Next = codes "next"
-field_name End = codes "end"
+field_name EndField = codes "end"
 
 -- the field in which a claim differed, with what was claimed and what was due; or the watchdog's limit
 abbrev pub cause_text : Cause → List ℕ
@@ -46,12 +49,18 @@ flush_line row = codes "flush " ++ decimal row.cycle ++ codes " at " ++ decimal 
 
 -- ---- how a run came out
 
--- how the machine ended: not at all, in a trap, or with a halt's status
-unfoldable pub end_line : ℕ → List ℕ
-end_line end =
-    if end == 0 then codes "end none\n"
-    else if nat_lt end 256 then codes "end trap " ++ decimal (end - 1) ++ codes "\n"
-    else codes "end halt " ++ decimal (end - 256) ++ codes "\n"
+-- how a state has ended: not at all, in a trap, or with a halt's status
+abbrev pub end_text : End → List ℕ
+end_text GoesOn = codes "none"
+end_text (Trap n) = codes "trap " ++ decimal n
+end_text (Halt status) = codes "halt " ++ decimal status
+
+unfoldable pub end_line_of : End → List ℕ
+end_line_of end = codes "end " ++ end_text end ++ codes "\n"
+
+-- the same, of a state's end as a number
+abbrev pub end_line : ℕ → List ℕ
+end_line end = end_line_of (end_of end)
 
 -- the instructions committed
 unfoldable pub count_line : ℕ → List ℕ

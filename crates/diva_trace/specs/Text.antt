@@ -4,11 +4,13 @@ use Rattle.std.specs.Int.{div_ceil}
 use Rattle.std.specs.List.{concat, range_with_len}
 use Rattle.diva_memory.specs.Bytes.{Bytes}
 use Rattle.diva_isa.specs.State.{State, memory_of}
+use Rattle.diva_isa.specs.End.{end_of}
+use Rattle.diva_isa.specs.declared.end.End.{End}
 use Rattle.diva_isa.specs.declared.record.Record.{Record}
 use Rattle.diva_core.specs.Headline.{dues}
 use Rattle.diva_core.specs.Timed.{Timed}
 use Rattle.diva_core.specs.declared.flushes.FlushRow.{FlushRow}
-use Rattle.diva_trace.specs.Lines.{commit_line, flush_line, end_line, count_line, cycles_line, flushes_line, soak_line, output_line, out_line, registers_line, pc_line, mem_line}
+use Rattle.diva_trace.specs.Lines.{commit_line, flush_line, end_line_of, count_line, cycles_line, flushes_line, soak_line, output_line, out_line, registers_line, pc_line, mem_line}
 use Rattle.diva_trace.specs.declared.report.Dump.{Dump}
 use Rattle.diva_trace.specs.declared.report.Report.{Report}
 use Rattle.diva_trace.specs.declared.report.SoakCore.TheVariants.{Scalar, Own}
@@ -52,8 +54,8 @@ unfoldable pub rows_text : List FlushRow → List ℕ
 rows_text rows = concat (flush_lines rows)
 
 -- how the run ended, and its counts
-unfoldable pub summary_text : (end count cycles flushes silent : ℕ) → List ℕ
-summary_text end count cycles flushes silent = end_line end ++ count_line count ++ cycles_line cycles ++ flushes_line flushes silent
+unfoldable pub summary_text : End → (count cycles flushes silent : ℕ) → List ℕ
+summary_text end count cycles flushes silent = end_line_of end ++ count_line count ++ cycles_line cycles ++ flushes_line flushes silent
 
 -- how many bytes the program put out, and the bytes
 unfoldable pub output_text : List ℕ → List ℕ
@@ -78,7 +80,7 @@ asked_text m (Some dump) = dump_text m dump
 abbrev pub text_of : Timed → Option Dump → List ℕ
 text_of m dump =
     rows_text m.rows
-    ++ summary_text m.arch.end m.count m.cycles m.flushes m.silent
+    ++ summary_text (end_of m.arch.end) m.count m.cycles m.flushes m.silent
     ++ output_text m.arch.output
     ++ registers_text m.arch.regs m.arch.pc
     ++ asked_text (memory_of m.arch) dump
@@ -95,7 +97,7 @@ text_in r =
 -- a report says what the machine is, through a view that shows its state as one that goes on
 pub record IsReportOf (m : Timed) (r : Report) : Type 0 where
   pub rows : r.rows.now ≡ m.rows
-  pub end : r.end ≡ m.arch.end
+  pub end : r.end ≡ end_of m.arch.end
   pub count : r.count ≡ m.count
   pub cycles : r.cycles ≡ m.cycles
   pub flushes : r.flushes ≡ m.flushes
@@ -110,6 +112,6 @@ abbrev pub soak_text : (first second : Timed) → List ℕ
 soak_text first second =
     soak_line Scalar first.count first.cycles first.flushes
     ++ soak_line Own second.count second.cycles second.flushes
-    ++ end_line second.arch.end
+    ++ end_line_of (end_of second.arch.end)
     ++ output_text second.arch.output
     ++ registers_text second.arch.regs second.arch.pc

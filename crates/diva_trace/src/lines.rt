@@ -2,11 +2,11 @@
 ghost use Rattle.std.specs.Prelude.{◌≡◌, ◌+◌, ◌*◌, ◌%◌, ◌^◌, ◌<◌, ◌≤◌, ◌++◌, length, codes};
 ghost use Rattle.std.specs.Fmt.{decimal};
 ghost use Rattle.diva_isa.specs.State.{memory_of};
-ghost use Rattle.diva_trace.specs.Lines.{commit_line, fields_text, field_name, cause_text, flush_line, end_line, count_line, cycles_line, flushes_line, soak_line, soak_core_name, output_line, out_line, register_text, registers_line, pc_line, byte_text, mem_line};
+ghost use Rattle.diva_trace.specs.Lines.{commit_line, fields_text, field_name, cause_text, flush_line, end_line, end_line_of, end_text, count_line, cycles_line, flushes_line, soak_line, soak_core_name, output_line, out_line, register_text, registers_line, pc_line, byte_text, mem_line};
 
 use crate::report::SoakCore;
 use diva_core::{Cause, Field, FlushRow, View};
-use diva_isa::Record;
+use diva_isa::{End, Record};
 use diva_outside::Line;
 
 /// A committed instruction: its number, from 0 on, and the eight fields of its record.
@@ -88,18 +88,40 @@ fn field_name(field: Field) -> &'static str
 }
 
 /// How the machine ended. `end` is 0 where it goes on, 1 + a trap's number, or 256 + the status of a halt.
-#[tactic(auto, unfolding(crate::specs::Lines::end_line))]
 pub fn end_line(end: u32) -> Line
     ensures { result ≡ end_line end }
 {
-    if end == 0 {
-        let mut line = Line::new();
-        line.text(b"end none\n");
-        line
-    } else if end < 256 {
-        number_line(b"end trap ", u64::from(end - 1))
-    } else {
-        number_line(b"end halt ", u64::from(end - 256))
+    end_line_of(End::of(end))
+}
+
+/// The same, of the end in words.
+#[tactic(auto, unfolding(crate::specs::Lines::end_line_of))]
+pub fn end_line_of(end: End) -> Line
+    ensures { result ≡ end_line_of end }
+{
+    let mut line = Line::new();
+    line.text(b"end ");
+    push_end(&mut line, end);
+    line.text(b"\n");
+    line
+}
+
+/// Appends how a machine ended, in 25 bytes at most: `none`, `trap NUMBER` or `halt STATUS`.
+pub fn push_end(line: &mut Line, end: End)
+    requires { length line.old + 25 ≤ 128 }
+    ensures bytes { line.new ≡ line.old ++ end_text end }
+    ensures len { length line.new ≤ length line.old + 25 }
+{
+    match end {
+        End::GoesOn => line.text(b"none"),
+        End::Trap(number) => {
+            line.text(b"trap ");
+            line.decimal(u64::from(number));
+        }
+        End::Halt(status) => {
+            line.text(b"halt ");
+            line.decimal(u64::from(status));
+        }
     }
 }
 

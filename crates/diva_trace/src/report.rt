@@ -1,5 +1,6 @@
 // What a run's text is made of, and that of two runs.
 use diva_core::{FlushRow, View};
+use diva_isa::End;
 
 /// A part of memory that is to be shown.
 #[derive(Clone, Copy, Debug, PartialEq, Eq)]
@@ -15,8 +16,8 @@ pub struct Dump {
 pub struct Report<'a> {
     /// The flushes that are kept, in order.
     pub rows: &'a [FlushRow],
-    /// 0 where the machine goes on, 1 + a trap's number, or 256 + the status of a halt.
-    pub end: u32,
+    /// How the machine ended, if it has.
+    pub end: End,
     /// The instructions committed.
     pub count: u64,
     /// The cycles run.

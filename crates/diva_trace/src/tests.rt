@@ -1,7 +1,7 @@
 // The text of a run, and some lines.
 use crate::{Dump, Report, SoakCore, commit_line, end_line, flushes_line, soak_line, write_run};
 use diva_core::{Cause, Diff, Field, FlushRow, Output, View};
-use diva_isa::{Record, Regs};
+use diva_isa::{End, Record, Regs};
 use diva_memory::Memory;
 use diva_outside::{MemSink, put_lines};
 use diva_storeq::StoreQueue;
@@ -66,7 +66,7 @@ const FIRST: Record = Record {
     addr: 0,
     value: 5,
     next: 4,
-    end: 0,
+    end: End::GoesOn,
 };
 
 #[test]
@@ -80,7 +80,7 @@ fn worked_texts(rt: HostRuntime) -> Result<(), Fail> {
     let output = Output::new(alloc)?;
     let report = Report {
         rows: &ROWS,
-        end: 256,
+        end: End::Halt(0),
         count: 3,
         cycles: 27,
         flushes: 2,

@@ -8,7 +8,7 @@ ghost use Rattle.diva_trace.specs.Text.{commits_text, rows_text, summary_text, o
 
 use crate::line_list::{LineList, write_lines};
 use crate::lines::{
-    commit_line, count_line, cycles_line, end_line, flush_line, flushes_line, mem_line, out_line,
+    commit_line, count_line, cycles_line, end_line_of, flush_line, flushes_line, mem_line, out_line,
     output_len_line, pc_line, registers_line,
 };
 use crate::report::{Dump, Report};
@@ -145,7 +145,7 @@ pub fn write_summary<S: Sink>(report: &Report<'_>, sink: &mut S) -> Result<(), S
     put_lines(
         sink,
         &[
-            end_line(report.end),
+            end_line_of(report.end),
             count_line(report.count),
             cycles_line(report.cycles),
             flushes_line(report.flushes, report.silent),

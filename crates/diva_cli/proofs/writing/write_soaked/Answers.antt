@@ -4,7 +4,7 @@ use Rattle.std.specs.List.{concat}
 use Rattle.diva_isa.specs.State.{State}
 use Rattle.diva_outside.specs.Sink.{Puts}
 use Rattle.diva_outside.proofs.Sinks.{puts_then, puts_cut}
-use Rattle.diva_trace.specs.Lines.{end_line}
+use Rattle.diva_trace.specs.Lines.{end_line_of}
 use Rattle.diva_trace.specs.Text.{registers_text}
 use Rattle.diva_cli.proofs.writing.write_soaked.Goals as goal
 
@@ -19,16 +19,16 @@ three a b d a' b' d' old new before now result p q r puts =
 pub returns-in-Err : goal.returns-in-Err
 returns-in-Err g c =
     puts_cut _ _ _ _ _ _ _ (puts_cut _ _ _ _ _ _ _
-    (three _ _ _ _ _ _ _ _ _ _ _ c.counts_line.ensures c.counts_line-2.ensures (c.end_line.ensures ∙ ap end_line (c.number.ensures ∙ c.ended.ensures.number)) c.in-Err.ensures))
+    (three _ _ _ _ _ _ _ _ _ _ _ c.counts_line.ensures c.counts_line-2.ensures (c.end_line_of.ensures ∙ ap end_line_of c.ended.ensures.value) c.in-Err.ensures))
 
 pub returns-in-Err-write_output : goal.returns-in-Err-write_output
 returns-in-Err-write_output g c =
-    let head = three _ _ _ _ _ _ _ _ _ _ _ c.counts_line.ensures c.counts_line-2.ensures (c.end_line.ensures ∙ ap end_line (c.number.ensures ∙ c.ended.ensures.number)) c.in-Ok.ensures in
+    let head = three _ _ _ _ _ _ _ _ _ _ _ c.counts_line.ensures c.counts_line-2.ensures (c.end_line_of.ensures ∙ ap end_line_of c.ended.ensures.value) c.in-Ok.ensures in
     puts_cut _ _ _ _ _ _ _ (puts_then _ _ _ _ _ _ _ _ _ head (rw c.output.ensures.bytes at c.in-Err-write_output.ensures))
 
 pub returns : goal.returns
 returns g c =
-    let head = three _ _ _ _ _ _ _ _ _ _ _ c.counts_line.ensures c.counts_line-2.ensures (c.end_line.ensures ∙ ap end_line (c.number.ensures ∙ c.ended.ensures.number)) c.in-Ok.ensures in
+    let head = three _ _ _ _ _ _ _ _ _ _ _ c.counts_line.ensures c.counts_line-2.ensures (c.end_line_of.ensures ∙ ap end_line_of c.ended.ensures.value) c.in-Ok.ensures in
     puts_then _ _ _ _ _ _ _ _ _
     (puts_then _ _ _ _ _ _ _ _ _ head (rw c.output.ensures.bytes at c.in-Ok-write_output.ensures))
     (subst (λ (s : State). Puts (registers_text s.regs s.pc) (g.S.Sink.contents c.write_output.new.sink) (g.S.Sink.contents c.write_registers.new.sink)
