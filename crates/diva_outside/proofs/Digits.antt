@@ -1,15 +1,13 @@
--- The hex digits, listed.
-use Rattle.std.proofs.Common.{◌≡◌, ◌<◌, ℕ, List, [], ◌∷◌, false, get_or, map, refl, ap, ◌∙◌, arith}
-use Rattle.std.specs.Fmt.{digit_glyph}
+-- The hex digits of all bytes, listed.
+use Rattle.std.proofs.Common.{◌≡◌, ◌<◌, ℕ, List, get_or, map, refl, ap, ◌∙◌, arith}
 use Rattle.std.specs.List.{range_with_len}
 use Rattle.std.proofs.lemmas.List.FromFn.{get_or-map-range_with_len}
+use Rattle.diva_outside.specs.Text.{hex_byte}
+use Rattle.diva_outside.specs.declared.line.TheConstants.{HEX_PAIRS}
 
-abbrev pub hex_digits : List ℕ
-hex_digits = 48 ∷ 49 ∷ 50 ∷ 51 ∷ 52 ∷ 53 ∷ 54 ∷ 55 ∷ 56 ∷ 57 ∷ 97 ∷ 98 ∷ 99 ∷ 100 ∷ 101 ∷ 102 ∷ []
-
-listed : hex_digits ≡ map (digit_glyph false) (range_with_len 0 16)
+listed : HEX_PAIRS ≡ map hex_byte (range_with_len 0 256)
 listed = refl
 
-pub digit_listed : (digit d : ℕ) → digit < 16 → get_or hex_digits digit d ≡ digit_glyph false digit
-digit_listed digit d small =
-    ap (λ (xs : List ℕ). get_or xs digit d) listed ∙ get_or-map-range_with_len (digit_glyph false) 0 16 digit digit d small (omega arith)
+pub pair_listed : (byte : ℕ) (d : List ℕ) → byte < 256 → get_or HEX_PAIRS byte d ≡ hex_byte byte
+pair_listed byte d small =
+    ap (λ (pairs : List (List ℕ)). get_or pairs byte d) listed ∙ get_or-map-range_with_len hex_byte 0 256 byte byte d small (omega arith)
