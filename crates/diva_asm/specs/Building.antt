@@ -1,9 +1,8 @@
 -- Pass 2: the bytes that statements lay.
 use Rattle.std.specs.Prelude.{ℕ, ◌+◌, ◌*◌, ◌/◌, ◌%◌, ◌^◌, ◌-◌, ◌==◌, ◌&&◌, Bool, true, false, List, [], ◌∷◌, ◌++◌, length, replicate, Option, Some, None, Result, Ok, Err, ℤ, neg_ℤ, pos, if◌then◌else◌}
-use Rattle.std.specs.Int.{cast_signed, cast_unsigned, w32}
+use Rattle.std.specs.Int.{cast_signed, cast_unsigned, to_le_bytes, w32}
 use Rattle.std.specs.List.{flat_map}
 use Rattle.std.specs.Option.{ok_or, option_map}
-use Rattle.byteorder.specs.Endian.{little_bytes}
 use Rattle.diva_decode.specs.Fields.{signed}
 use Rattle.diva_decode.specs.Table.{Format, format, word_of}
 use Rattle.diva_decode.specs.Table.Format.{U, J, B}
@@ -99,13 +98,13 @@ instructions m v address pc = Ok []
 -- ---- bytes
 
 abbrev pub bytes_of_words : List Instr → List ℕ
-bytes_of_words is = flat_map (λ i. little_bytes 4 (word_of i)) is
+bytes_of_words is = flat_map (λ i. to_le_bytes w32 (word_of i)) is
 
 abbrev pub in_bytes : Result (List Instr) Kind → Result (List ℕ) Kind
 in_bytes is = and_then is (λ done. Ok (bytes_of_words done))
 
 unfoldable pub bytes_of : Mnemonic → Operands → ℕ → ℕ → Result (List ℕ) Kind
-bytes_of Word v address pc = Ok (little_bytes 4 address)
+bytes_of Word v address pc = Ok (to_le_bytes w32 address)
 bytes_of Byte v address pc = Ok (word_from v.number % 2 ^ 8 ∷ [])
 bytes_of Space v address pc = Ok (replicate (word_from v.number) 0)
 bytes_of m v address pc = in_bytes (instructions m v address pc)

@@ -1,11 +1,11 @@
 -- The listing: the line of a word, and the lines of an image.
-use Rattle.std.specs.Prelude.{ℕ, ◌+◌, ◌*◌, ◌/◌, ◌%◌, ◌^◌, ◌==◌, if◌then◌else◌, List, [], ◌∷◌, ◌++◌, length, drop, map, codes, Option, Some, None, false}
+use Rattle.std.specs.Prelude.{ℕ, ◌+◌, ◌*◌, ◌/◌, ◌%◌, ◌^◌, ◌==◌, if◌then◌else◌, List, [], ◌∷◌, ◌++◌, length, map, codes, Option, Some, None, false}
 use Rattle.std.specs.Fmt.{decimal, signed_decimal, digits, digit_glyph}
 use Rattle.std.specs.Int.{cast_unsigned, div_ceil, w32}
 use Rattle.std.specs.List.{flat_map, range_with_len}
-use Rattle.byteorder.specs.Endian.{little_number}
 use Rattle.diva_decode.specs.Table.{format, row_of}
 use Rattle.diva_decode.specs.declared.instr.Instr.{Instr}
+use Rattle.diva_image.specs.Images.{word_at as number_at}
 use Rattle.diva_image.specs.Layout.{Layout}
 use Rattle.diva_outside.specs.Text.{Text, hex_word}
 use Rattle.diva_asm.specs.Mnemonics.{op_name, format_operands}
@@ -47,9 +47,9 @@ list_line addr word = hex_word addr ++ codes " " ++ hex_word word ++ codes " " +
 
 -- ---- an image
 
--- the word of a payload at a place, the lowest byte first; behind the payload are zeros
+-- the word of a payload at a place; behind the payload are zeros
 abbrev pub word_at : List ℕ → ℕ → ℕ
-word_at payload place = little_number 4 (drop place payload)
+word_at payload place = number_at place payload
 
 -- a line for each word in which the payload has a byte
 unfoldable pub listing_of : Layout → List Text

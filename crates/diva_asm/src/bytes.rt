@@ -1,8 +1,7 @@
 // Bytes that are put together.
 ghost use Rattle.std.specs.Prelude.{◌≡◌, ◌++◌, ◌∷◌, [], length, replicate, IfOk, OnOk};
-ghost use Rattle.byteorder.specs.Endian.{little_bytes};
+ghost use Rattle.std.specs.Int.{to_le_bytes, w32};
 
-use byteorder::{ByteOrder, LittleEndian};
 use std::alloc::{AllocError, Global};
 use std::marker::Model;
 
@@ -44,11 +43,9 @@ impl Bytes {
 
     /// Four bytes, the lowest first.
     pub fn push_word(&mut self, word: u32) -> Result<(), AllocError>
-        ensures { OnOk result (self.new ≡ self.old ++ little_bytes 4 word) }
+        ensures { OnOk result (self.new ≡ self.old ++ to_le_bytes w32 word) }
     {
-        let mut bytes = [0; 4];
-        LittleEndian::write_u32(&mut bytes, word);
-        self.bytes.extend_from_slice(&bytes)
+        self.bytes.extend_from_slice(&word.to_le_bytes())
     }
 
     pub fn push_zeros(&mut self, count: u32) -> Result<(), AllocError>

@@ -2,7 +2,8 @@
 use Rattle.std.specs.Prelude.{ℕ, ◌+◌, ◌%◌, ◌^◌, ◌==◌, ◌&&◌, not, nat_lt, nat_le, nat_eq, Bool, List, length, drop, ◌++◌, codes, Option, Some, None, is_none, if◌then◌else◌}
 use Rattle.std.specs.List.{starts_with}
 use Rattle.std.specs.Option.{option_or}
-use Rattle.byteorder.specs.Endian.{little_bytes, little_number}
+use Rattle.std.specs.Int.{to_le_bytes, w32}
+use Rattle.byteorder.specs.Endian.{little_number}
 use Rattle.diva_image.specs.Layout.{Layout}
 use Rattle.diva_image.specs.declared.header.Header.{Header}
 use Rattle.diva_image.specs.declared.fault.Fault.{Fault}
@@ -51,6 +52,10 @@ header_fault h =
     -- 7: length is more than size
     else (if nat_lt h.size h.len then fault 7 20 else None)))
 
+-- the first fault of the header
+abbrev pub head_fault : List ℕ → Option Fault
+head_fault bytes = option_or (start_fault bytes) (header_fault (header_of bytes))
+
 -- the fault of a payload that does not end where the file does
 unfoldable pub length_fault : ℕ → ℕ → Option Fault
 length_fault length end =
@@ -61,22 +66,28 @@ length_fault length end =
 
 -- the first fault of the bytes
 unfoldable pub fault_of : List ℕ → Option Fault
-fault_of bytes =
-    let header = header_of bytes in
-    option_or (start_fault bytes) (option_or (header_fault header) (length_fault (length bytes) (24 + header.len)))
+fault_of bytes = option_or (head_fault bytes) (length_fault (length bytes) (24 + (header_of bytes).len))
+
+-- the image of a header and the bytes behind it
+abbrev pub image_under : Header → List ℕ → Layout
+image_under h payload = record { base = h.base; size = h.size; entry = h.entry; payload = payload }
 
 -- the image of bytes that have no fault
 abbrev pub image_of : List ℕ → Layout
-image_of bytes = record { base = word_at 8 bytes; size = word_at 12 bytes; entry = word_at 16 bytes; payload = drop 24 bytes }
+image_of bytes = image_under (header_of bytes) (drop 24 bytes)
 
 -- the image of these parts, if they keep the rules
 abbrev pub image_from : ℕ → ℕ → ℕ → List ℕ → Option Layout
 image_from base size entry payload =
-    if is_none (header_fault (record { base = base; size = size; entry = entry; len = length payload }))
-    then Some (record { base = base; size = size; entry = entry; payload = payload }) else None
+    let header : Header = record { base = base; size = size; entry = entry; len = length payload } in
+    if is_none (header_fault header) then Some (image_under header payload) else None
 
--- the bytes of an image: the letters, the version, base, size, entry, length, and the payload
+-- the letters, the version, base, size, entry and length, each number with its lowest byte first
+abbrev pub header_bytes : Header → List ℕ
+header_bytes h =
+    codes "DIVA" ++ to_le_bytes w32 1 ++ to_le_bytes w32 h.base ++ to_le_bytes w32 h.size ++ to_le_bytes w32 h.entry
+    ++ to_le_bytes w32 h.len
+
+-- the bytes of an image: its header, and the payload
 abbrev pub bytes_of : Layout → List ℕ
-bytes_of i =
-    codes "DIVA" ++ little_bytes 4 1 ++ little_bytes 4 i.base ++ little_bytes 4 i.size ++ little_bytes 4 i.entry
-    ++ little_bytes 4 (length i.payload) ++ i.payload
+bytes_of i = header_bytes (record { base = i.base; size = i.size; entry = i.entry; len = length i.payload }) ++ i.payload

@@ -1,8 +1,20 @@
-// The numbers of an image's header, and their faults.
-ghost use Rattle.std.specs.Prelude.{◌≡◌, ◌≤◌, length, IsNone};
+// The header of an image, and its faults.
+ghost use Rattle.std.specs.Prelude.{◌≡◌, ◌≤◌, ◌++◌, length, IsNone, IfOk, IfErr, None, Some, OnOk};
+ghost use Rattle.std.specs.Int.{to_le_bytes, w32};
+ghost use Rattle.diva_image.specs.Images.{start_fault};
 
 use crate::fault::{Fault, Kind};
 use byteorder::{ByteOrder, LittleEndian};
+use std::alloc::AllocError;
+
+/// The first bytes of a file.
+const MAGIC: &[u8; 4] = b"DIVA";
+
+/// The version that is read and written.
+const VERSION: u32 = 1;
+
+/// The length of the header, in bytes.
+pub(crate) const HEADER: usize = 24;
 
 /// The largest size of memory, in bytes.
 const LARGEST: u32 = 1 << 24;
@@ -21,39 +33,43 @@ pub(crate) struct Header {
 }
 
 impl Header {
-    ghost use Rattle.diva_image.specs.Images.{header_of, is_size, is_entry, header_fault};
+    ghost use Rattle.diva_image.specs.Images.{head_fault, header_bytes, header_fault, header_of, is_entry, is_size};
     ghost use Rattle.diva_image.specs.Layout.{IsLayout};
 
-    /// The numbers of a file of 24 bytes or more.
-    pub fn of(bytes: &[u8]) -> Self
-        requires { 24 ≤ length bytes.now }
-        ensures { result ≡ header_of bytes.now }
+    /// The header of a file, or the first fault of its bytes.
+    pub fn read(bytes: &[u8]) -> Result<Self, Fault>
+        ensures header { IfOk result (λ header. header ≡ header_of bytes.now) }
+        ensures sound { IfOk result (λ _. head_fault bytes.now ≡ None) }
+        ensures long { IfOk result (λ _. 24 ≤ length bytes.now) }
+        ensures rules { IfOk result (λ header. IsLayout header.base header.size header.entry header.len) }
+        ensures fault { IfErr result (λ fault. head_fault bytes.now ≡ Some fault) }
     {
-        Header {
+        if let Some(fault) = start_fault(bytes) {
+            return Err(fault);
+        }
+        let header = Header {
             base: LittleEndian::read_u32(&bytes[8..]),
             size: LittleEndian::read_u32(&bytes[12..]),
             entry: LittleEndian::read_u32(&bytes[16..]),
             len: LittleEndian::read_u32(&bytes[20..]),
+        };
+        match header.fault() {
+            Some(fault) => Err(fault),
+            None => Ok(header),
         }
     }
 
-    // Whether size is allowed, and memory ends at 2^32 at the latest.
-    fn has_size(&self) -> bool
-        ensures { result ≡ is_size self.now.base self.now.size }
+    /// Appends the bytes of the header.
+    pub fn write(&self, bytes: &mut Vec<u8>) -> Result<(), AllocError>
+        ensures { OnOk result (bytes.new.items ≡ bytes.old.items ++ header_bytes self.now) }
     {
-        self.size % 4 == 0
-            && 4 <= self.size
-            && self.size <= LARGEST
-            && u64::from(self.base) + u64::from(self.size) <= 1 << 32
-    }
-
-    // Whether entry is a place for an instruction in memory.
-    fn has_entry(&self) -> bool
-        ensures { result ≡ is_entry self.now.base self.now.size self.now.entry }
-    {
-        self.entry % 4 == 0
-            && self.base <= self.entry
-            && u64::from(self.entry) < u64::from(self.base) + u64::from(self.size)
+        bytes.extend_from_slice(MAGIC)?;
+        push_number(bytes, VERSION)?;
+        push_number(bytes, self.base)?;
+        push_number(bytes, self.size)?;
+        push_number(bytes, self.entry)?;
+        push_number(bytes, self.len)?;
+        Ok(())
     }
 
     /// The first fault of the numbers, `None` where they have none.
@@ -86,4 +102,57 @@ impl Header {
             None
         }
     }
+
+    // Whether size is allowed, and memory ends at 2^32 at the latest.
+    fn has_size(&self) -> bool
+        ensures { result ≡ is_size self.now.base self.now.size }
+    {
+        self.size % 4 == 0
+            && 4 <= self.size
+            && self.size <= LARGEST
+            && u64::from(self.base) + u64::from(self.size) <= 1 << 32
+    }
+
+    // Whether entry is a place for an instruction in memory.
+    fn has_entry(&self) -> bool
+        ensures { result ≡ is_entry self.now.base self.now.size self.now.entry }
+    {
+        self.entry % 4 == 0
+            && self.base <= self.entry
+            && u64::from(self.entry) < u64::from(self.base) + u64::from(self.size)
+    }
+}
+
+// The first fault of the length, the letters and the version.
+#[tactic(auto, unfolding(crate::specs::Images::start_fault))]
+fn start_fault(bytes: &[u8]) -> Option<Fault>
+    ensures first { result ≡ start_fault bytes.now }
+    ensures rules { IsNone result → 24 ≤ length bytes.now }
+{
+    if bytes.len() < HEADER {
+        let place = bytes.len() as u32;
+        Some(Fault {
+            kind: Kind::ShortHeader as u8,
+            place,
+        })
+    } else if !bytes.starts_with(MAGIC) {
+        Some(Fault {
+            kind: Kind::Magic as u8,
+            place: 0,
+        })
+    } else if LittleEndian::read_u32(&bytes[4..]) != VERSION {
+        Some(Fault {
+            kind: Kind::Version as u8,
+            place: 4,
+        })
+    } else {
+        None
+    }
+}
+
+// Appends the number's four bytes, the lowest first.
+fn push_number(bytes: &mut Vec<u8>, n: u32) -> Result<(), AllocError>
+    ensures { OnOk result (bytes.new.items ≡ bytes.old.items ++ to_le_bytes w32 n) }
+{
+    bytes.extend_from_slice(&n.to_le_bytes())
 }

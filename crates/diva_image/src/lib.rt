@@ -7,7 +7,7 @@
 //! - `payload`: `Payload`, the bytes of an image.
 //! - `reading`: `read`, from bytes to an image or to their first fault.
 //! - `writing`: `write`, from an image to its bytes.
-//! - `header`: the header's numbers, and their faults.
+//! - `header`: the header, read and written, and its faults.
 //! - `fault`: `ImageFault`, why bytes are not an image.
 //! - `tests`: an image, read and written, and three faults of it.
 #![tactic(auto)]

@@ -8,7 +8,8 @@ use Rattle.std.proofs.lemmas.Option.{none-some, same_Some}
 use Rattle.diva_memory.specs.Bytes.{Bytes, IsInside, byte_at, number_at, word_at}
 use Rattle.diva_memory.proofs.Writing.{byte_inside}
 use Rattle.diva_decode.specs.Table.{word_of}
-use Rattle.diva_soak.specs.Soak.{bytes_of, drawn, last_words, next_of, words_after}
+use Rattle.diva_seed.specs.Generator.{next_number}
+use Rattle.diva_soak.specs.Soak.{bytes_of, drawn, last_words, words_after}
 use Rattle.diva_soak.proofs.EachKind.{has_word}
 
 -- ---- in the code
@@ -19,7 +20,7 @@ get_behind (x ∷ xs) ys k = let one : suc (length xs) + k ≡ suc (length xs + 
 
 pub length_words : (n x : ℕ) → length (words_after n x) ≡ n
 length_words zero x = refl
-length_words (suc n) x = ap suc (length_words n (next_of x))
+length_words (suc n) x = ap suc (length_words n (next_number x))
 
 -- the code of a seed
 abbrev pub code_of : (seed n : ℕ) → List ℕ
@@ -32,8 +33,8 @@ pub record IsDrawnAt (code : List ℕ) (i : ℕ) : Type 0 where
 
 pub drawn_at : (n seed i : ℕ) → i < n → IsDrawnAt (code_of seed n) i
 drawn_at zero seed i h = absurd (omega arith)
-drawn_at (suc n) seed zero h = record { x = next_of seed; is = refl }
-drawn_at (suc n) seed (suc i) h = let rest = drawn_at n (next_of seed) i (omega arith) in record { x = rest.x; is = rest.is }
+drawn_at (suc n) seed zero h = record { x = next_number seed; is = refl }
+drawn_at (suc n) seed (suc i) h = let rest = drawn_at n (next_number seed) i (omega arith) in record { x = rest.x; is = rest.is }
 
 -- and behind those are the last words
 pub last_at : (n seed k : ℕ) → slice_get (code_of seed n) (n + k) ≡ slice_get last_words k
@@ -51,8 +52,8 @@ last_below (suc (suc (suc i))) w e = absurd (none-some _ e)
 
 pub code_below : (n seed : ℕ) → AreWords (code_of seed n)
 code_below zero seed i w e = last_below i w e
-code_below (suc n) seed zero w e = omega (arith, same_Some _ _ e, (has_word (next_of seed)).below)
-code_below (suc n) seed (suc i) w e = code_below n (next_of seed) i w e
+code_below (suc n) seed zero w e = omega (arith, same_Some _ _ e, (has_word (next_number seed)).below)
+code_below (suc n) seed (suc i) w e = code_below n (next_number seed) i w e
 
 -- ---- in memory
 

@@ -2,12 +2,13 @@
 use Rattle.std.proofs.Common.{◌≡◌, ℕ, suc, ◌<◌, ◌+◌, ◌-◌, List, [], ◌∷◌, ◌++◌, refl, ap, sym, ◌∙◌, append_assoc, arith, replicate}
 use Rattle.std.specs.Int.{to_le_bytes, w32}
 use Rattle.diva_decode.specs.Table.{word_of}
-use Rattle.diva_soak.specs.Soak.{bytes_of, drawn, last_words, next_of, payload_of, words_after}
+use Rattle.diva_seed.specs.Generator.{next_number}
+use Rattle.diva_soak.specs.Soak.{bytes_of, drawn, last_words, payload_of, words_after}
 
-pub word_more : (n i x y : ℕ) (items more : List ℕ) → i < n → y ≡ next_of x → more ≡ items ++ to_le_bytes w32 (word_of (drawn y)) → more ++ bytes_of (words_after (n - (i + 1)) y) ≡ items ++ bytes_of (words_after (n - i) x)
+pub word_more : (n i x y : ℕ) (items more : List ℕ) → i < n → y ≡ next_number x → more ≡ items ++ to_le_bytes w32 (word_of (drawn y)) → more ++ bytes_of (words_after (n - (i + 1)) y) ≡ items ++ bytes_of (words_after (n - i) x)
 word_more n i x y items more short next is =
     let e : n - i ≡ suc (n - (i + 1)) = omega arith in
-    rw (e, is, next) (append_assoc items (to_le_bytes w32 (word_of (drawn (next_of x)))) (bytes_of (words_after (n - (i + 1)) (next_of x))))
+    rw (e, is, next) (append_assoc items (to_le_bytes w32 (word_of (drawn (next_number x)))) (bytes_of (words_after (n - (i + 1)) (next_number x))))
 
 bytes_append : (a b : List ℕ) → bytes_of (a ++ b) ≡ bytes_of a ++ bytes_of b
 bytes_append [] b = refl

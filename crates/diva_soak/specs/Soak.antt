@@ -1,5 +1,5 @@
 -- A large valid image from a number, its seed: instructions that are drawn one after the other, and a halt behind them.
-use Rattle.std.specs.Prelude.{ℕ, zero, suc, ◌+◌, ◌-◌, ◌*◌, ◌%◌, ◌^◌, List, [], ◌∷◌, ◌++◌, flat_map, get_or, replicate, ℤ, pos}
+use Rattle.std.specs.Prelude.{ℕ, zero, suc, ◌+◌, ◌-◌, ◌*◌, ◌%◌, List, [], ◌∷◌, ◌++◌, flat_map, get_or, replicate, ℤ, pos}
 use Rattle.std.specs.Int.{to_le_bytes, w32}
 use Rattle.diva_decode.specs.Fields.{field}
 use Rattle.diva_decode.specs.Table.{word_of}
@@ -7,6 +7,7 @@ use Rattle.diva_decode.specs.declared.op.Op.{Op}
 use Rattle.diva_decode.specs.declared.op.Op.TheVariants.{Blt, Lw, Sw, Addi, Sub, Xor, Mul, Rem}
 use Rattle.diva_decode.specs.declared.instr.Instr.{Instr}
 use Rattle.diva_image.specs.Layout.{Layout}
+use Rattle.diva_seed.specs.Generator.{next_number}
 
 -- ---- one instruction
 
@@ -54,14 +55,10 @@ drawn x =
 
 -- ---- the image
 
--- the number after x
-abbrev pub next_of : ℕ → ℕ
-next_of x = (1664525 * x + 1013904223) % 2 ^ 32
-
 -- the words of the instructions that n numbers draw, the numbers after x
 abbrev pub words_after : (n x : ℕ) → List ℕ
 words_after zero x = []
-words_after (suc n) x = word_of (drawn (next_of x)) ∷ words_after n (next_of x)
+words_after (suc n) x = word_of (drawn (next_number x)) ∷ words_after n (next_number x)
 
 -- addi x0, x0, 0; addi x17, x0, 93; ecall: a halt with the status that x10 holds
 abbrev pub last_words : List ℕ

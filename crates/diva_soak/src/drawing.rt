@@ -1,16 +1,9 @@
-// The instruction that a number draws, and the number after it.
+// The instruction that a number draws.
 ghost use Rattle.std.specs.Prelude.{◌≡◌};
 ghost use Rattle.diva_decode.specs.Table.{IsValid};
-ghost use Rattle.diva_soak.specs.Soak.{drawn, next_of, of_immediate, of_registers, of_sources};
+ghost use Rattle.diva_soak.specs.Soak.{drawn, of_immediate, of_registers, of_sources};
 
 use diva_decode::{Instr, Op};
-
-/// The number after a number.
-pub(crate) fn next_of(x: u32) -> u32
-    ensures { result ≡ next_of x }
-{
-    x.wrapping_mul(1_664_525).wrapping_add(1_013_904_223)
-}
 
 /// The instruction that a number draws.
 #[tactic(auto, unfolding(crate::specs::Soak::drawn))]

@@ -2,7 +2,7 @@
 //!
 //! - `image`: `soak_image`, the image of a seed.
 //! - `payload`: the bytes of its memory, data and code.
-//! - `drawing`: the instruction that a number draws, and the number after it.
+//! - `drawing`: the instruction that a number draws.
 //! - `laws`: that the state which such an image starts halts.
 //! - `tests`: images that were worked out by hand, or by another program.
 //!

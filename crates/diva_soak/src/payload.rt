@@ -4,8 +4,9 @@ ghost use Rattle.std.specs.Int.{to_le_bytes, w32};
 ghost use Rattle.diva_decode.specs.Table.{IsValid, word_of};
 ghost use Rattle.diva_soak.specs.Soak.{bytes_of, last_words, payload_of, words_after};
 
-use crate::drawing::{drawn, next_of, of_immediate, of_sources};
+use crate::drawing::{drawn, of_immediate, of_sources};
 use diva_decode::{Instr, Op, encode};
+use diva_seed::next_number;
 use std::alloc::{AllocError, Global};
 
 /// The memory of a seed's image, with `count` drawn instructions.
@@ -28,7 +29,7 @@ fn put_drawn(bytes: &mut Vec<u8>, seed: u32, count: u32) -> Result<(), AllocErro
 {
     let mut x = seed;
     for _ in 0..count {
-        x = next_of(x);
+        x = next_number(x);
         put(bytes, &drawn(x))?;
     }
     Ok(())

@@ -1,11 +1,8 @@
 -- What the core `Noise` hands over, seen as the number that its generator gave last.
-use Rattle.std.specs.Prelude.{◌≡◌, ℕ, zero, suc, ◌+◌, ◌*◌, ◌%◌, ◌^◌, List, [], ◌∷◌}
+use Rattle.std.specs.Prelude.{◌≡◌, ℕ, zero, suc, List, [], ◌∷◌}
 use Rattle.diva_isa.specs.declared.record.Record.{Record}
 use Rattle.diva_core.specs.History.{Meaning}
-
--- the number that a linear congruential generator gives after x
-unfoldable pub next_number : ℕ → ℕ
-next_number x = (1664525 * x + 1013904223) % 2 ^ 32
+use Rattle.diva_seed.specs.Generator.{next_number}
 
 -- the n-th number after x
 abbrev pub number_after : (n x : ℕ) → ℕ

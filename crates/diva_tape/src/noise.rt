@@ -1,8 +1,10 @@
 // A core that hands over numbers without a meaning.
 ghost use Rattle.std.specs.Prelude.{◌≡◌};
-ghost use Rattle.diva_tape.specs.Noise.{next_number, noise_claim, number_after};
+ghost use Rattle.diva_seed.specs.Generator.{next_number};
+ghost use Rattle.diva_tape.specs.Noise.{noise_claim, number_after};
 
 use diva_core::{Claim, Claims, Core, Told, View};
+use diva_seed::next_number;
 use std::marker::Model;
 
 /// A core that hands over one claim in every call, whatever it is told: its eight fields are the next eight numbers of a
@@ -33,15 +35,11 @@ impl Noise {
     }
 
     // The next number.
-    #[tactic(auto, unfolding(crate::specs::Noise::next_number))]
-    fn next_number(&mut self) -> u32
+    fn number(&mut self) -> u32
         ensures number { result ≡ next_number self.old }
         ensures last { self.new ≡ next_number self.old }
     {
-        self.last = self
-            .last
-            .wrapping_mul(1_664_525)
-            .wrapping_add(1_013_904_223);
+        self.last = next_number(self.last);
         self.last
     }
 
@@ -52,14 +50,14 @@ impl Noise {
         ensures last { self.new ≡ number_after 8 self.old }
     {
         Claim {
-            pc: self.next_number(),
-            word: self.next_number(),
-            src1: self.next_number(),
-            src2: self.next_number(),
-            addr: self.next_number(),
-            value: self.next_number(),
-            next: self.next_number(),
-            end: self.next_number(),
+            pc: self.number(),
+            word: self.number(),
+            src1: self.number(),
+            src2: self.number(),
+            addr: self.number(),
+            value: self.number(),
+            next: self.number(),
+            end: self.number(),
         }
     }
 }

@@ -4,7 +4,8 @@ use Rattle.diva_decode.specs.Table.{row_of}
 use Rattle.diva_isa.specs.Step.{record_of, apply, step}
 use Rattle.diva_core.specs.Cycle.{cycle_of, commits, accepts, watched, drained, flushed, committed, puts_store}
 use Rattle.diva_core.specs.Difference.{first_difference}
-use Rattle.diva_tape.specs.Noise.{next_number, noise_claim}
+use Rattle.diva_seed.specs.Generator.{next_number}
+use Rattle.diva_tape.specs.Noise.{noise_claim}
 use Rattle.diva_tape.proofs.worked_hostile.three_instructions_in_noise.Goals as goal
 
 pub returns : goal.returns
