@@ -1,14 +1,14 @@
 -- What phase 2 does.
 use Rattle.std.proofs.Common.{◌≡◌, ℕ, zero, suc, ◌+◌, ◌<◌, ◌≤◌, ◌==◌, Bool, true, false, ◌&&◌, List, [], ◌∷◌, Option, Some, None, refl, ap, sym, ◌∙◌, arith, get_or, drop, subst, ◌⊎◌, inl, inr}
-use Rattle.std.specs.Prelude.{nat_le}
-use Rattle.std.proofs.lemmas.Bool.{cond_both, leb-true, eqb-false, ne_eqb, and_right}
+use Rattle.std.specs.Prelude.{nat_le, if◌then◌else◌}
+use Rattle.std.proofs.lemmas.Bool.{cases_Bool, cond_both, leb-true, eqb-false, ne_eqb, and_right}
 use Rattle.diva_isa.specs.State.{State, goes_on}
 use Rattle.diva_isa.specs.Step.{record_of, step, steps}
 use Rattle.diva_core.specs.declared.differences.Diff.{Diff}
 use Rattle.diva_core.specs.declared.flushes.Cause.TheVariants.{Differs}
 use Rattle.diva_core.specs.Difference.{first_difference}
 use Rattle.diva_core.specs.Timed.{Timed, PendingClaim}
-use Rattle.diva_core.specs.Cycle.{judged, by_front, by_difference, followed, committed, flushed, puts_store, number}
+use Rattle.diva_core.specs.Cycle.{Judgement, judged, by_front, by_difference, by_judgement, judgement_of, past_front, committed, flushed, puts_store, number}
 use Rattle.diva_core.specs.Headline.{SameLog, HasRow}
 use Rattle.diva_core.proofs.Commits.{Commits}
 use Rattle.diva_core.proofs.Steps.{steps-shift, step-on}
@@ -25,38 +25,52 @@ pub record Judges (R : ℕ → Timed → Type 0) (Q : Timed → Type 0) : Type 0
       → first_difference p.claim (record_of m.arch) ≡ None
       → (puts_store (record_of m.arch) && (m.owed == m.config.stores)) ≡ false
       → R (suc n) m
-      → (goes_on (committed (record m { pending = rest }) (record_of m.arch)).arch ≡ true → R n (committed (record m { pending = rest }) (record_of m.arch)))
-      × (goes_on (committed (record m { pending = rest }) (record_of m.arch)).arch ≡ false → Q (record (committed (record m { pending = rest }) (record_of m.arch)) { pending = [] }))
+      → (goes_on (past_front m).arch ≡ true → R n (past_front m)) × (goes_on (past_front m).arch ≡ false → Q (past_front m))
+
+-- where nothing is pending, nothing is judged
+pub judged-none : (n : ℕ) (m : Timed) → m.pending ≡ [] → judged n m ≡ m
+judged-none zero m none = refl
+judged-none (suc n) m none = ap (λ ps. by_judgement m (judged n (past_front m)) (by_front m ps)) none
+
+pub past-off : (m : Timed) → goes_on (past_front m).arch ≡ false → (past_front m).pending ≡ []
+past-off m off = ap (λ (b : Bool). if b then drop 1 m.pending else []) off
 
 Judges-first_difference :
-    (R : ℕ → Timed → Type 0) (Q : Timed → Type 0) (j : Judges R Q) (n : ℕ) (next : Timed → Timed)
-    → ((m : Timed) → R n m → Q (next m))
+    (R : ℕ → Timed → Type 0) (Q : Timed → Type 0) (j : Judges R Q) (n : ℕ)
+    → ((m : Timed) → R n m → Q (judged n m))
     → (m : Timed) (p : PendingClaim) (rest : List PendingClaim) (o : Option Diff)
     → first_difference p.claim (record_of m.arch) ≡ o
     → m.pending ≡ p ∷ rest
     → nat_le (p.cycle + 6) m.cycles ≡ true
     → R (suc n) m
-    → Q (by_difference next m rest o)
-Judges-first_difference R Q j n next ih m p rest (Some d) same e ready r = j.flush (suc n) m p rest d e ready same r
-Judges-first_difference R Q j n next ih m p rest None same e ready r =
-    cond_both (puts_store (record_of m.arch) && (m.owed == m.config.stores)) _ _ Q
+    → Q (by_judgement m (judged n (past_front m)) (by_difference m o))
+Judges-first_difference R Q j n ih m p rest (Some d) same e ready r = j.flush (suc n) m p rest d e ready same r
+Judges-first_difference R Q j n ih m p rest None same e ready r =
+    cond_both (puts_store (record_of m.arch) && (m.owed == m.config.stores)) _ _ (λ (w : Judgement). Q (by_judgement m (judged n (past_front m)) w))
     (λ held. j.stop (suc n) m r)
-    (λ free. let both = j.commit n m p rest e ready same free r in cond_both (goes_on (committed (record m { pending = rest }) (record_of m.arch)).arch) _ _ Q (λ on. ih _ (both.0 on)) (λ off. both.1 off))
+    (λ free.
+    let both = j.commit n m p rest e ready same free r in
+    elim (cases_Bool (goes_on (past_front m).arch)) [
+      | inl on ↦ ih (past_front m) (both.0 on)
+      | inr off ↦ subst Q (sym (judged-none n (past_front m) (past-off m off))) (both.1 off)
+    ])
 
 Judges-front :
-    (R : ℕ → Timed → Type 0) (Q : Timed → Type 0) (j : Judges R Q) (n : ℕ) (next : Timed → Timed)
-    → ((m : Timed) → R n m → Q (next m))
+    (R : ℕ → Timed → Type 0) (Q : Timed → Type 0) (j : Judges R Q) (n : ℕ)
+    → ((m : Timed) → R n m → Q (judged n m))
     → (m : Timed) (pending : List PendingClaim)
     → m.pending ≡ pending
     → R (suc n) m
-    → Q (by_front next m pending)
-Judges-front R Q j n next ih m [] e r = j.stop (suc n) m r
-Judges-front R Q j n next ih m (p ∷ rest) e r =
-    cond_both (nat_le (p.cycle + 6) m.cycles) _ _ Q (λ ready. Judges-first_difference R Q j n next ih m p rest (first_difference p.claim (record_of m.arch)) refl e ready r) (λ young. j.stop (suc n) m r)
+    → Q (by_judgement m (judged n (past_front m)) (by_front m pending))
+Judges-front R Q j n ih m [] e r = j.stop (suc n) m r
+Judges-front R Q j n ih m (p ∷ rest) e r =
+    cond_both (nat_le (p.cycle + 6) m.cycles) _ _ (λ (w : Judgement). Q (by_judgement m (judged n (past_front m)) w))
+    (λ ready. Judges-first_difference R Q j n ih m p rest (first_difference p.claim (record_of m.arch)) refl e ready r)
+    (λ young. j.stop (suc n) m r)
 
 pub Judges-judged : (R : ℕ → Timed → Type 0) (Q : Timed → Type 0) → Judges R Q → (n : ℕ) (m : Timed) → R n m → Q (judged n m)
 Judges-judged R Q j zero m r = j.stop zero m r
-Judges-judged R Q j (suc n) m r = Judges-front R Q j n (judged n) (Judges-judged R Q j n) m m.pending refl r
+Judges-judged R Q j (suc n) m r = Judges-front R Q j n (Judges-judged R Q j n) m m.pending refl r
 
 -- what every part of phase 2 does, after k commits
 pub record Moved (b m : Timed) (k : ℕ) : Type 0 where
@@ -124,14 +138,14 @@ owed-fits true owed stores e h = let n = eqb-false owed stores e in omega arith
 owed-fits false owed stores e h = omega arith
 
 Moved-commit :
-    (b m : Timed) (k : ℕ) (rest : List PendingClaim)
+    (b m : Timed) (k : ℕ)
     → Moved b m k
     → (puts_store (record_of m.arch) && (m.owed == m.config.stores)) ≡ false
     → goes_on m.arch ≡ true
     → suc k ≤ b.config.width
-    → Moved b (committed (record m { pending = rest }) (record_of m.arch)) (suc k)
+    → Moved b (past_front m) (suc k)
 unfolding committed
-Moved-commit b m k rest v free on few =
+Moved-commit b m k v free on few =
     record {
       config = v.config;
       cycles = v.cycles;
@@ -183,6 +197,9 @@ claims-commit b m p rest e ready same r =
     (difference-none p.claim (record_of m.arch) same ∙ ap record_of r.moved.stepped)
     (rw r.moved.cycles at (leb-true _ _ ready))
 
+past-on : (m : Timed) (p : PendingClaim) (rest : List PendingClaim) → m.pending ≡ p ∷ rest → goes_on (past_front m).arch ≡ true → (past_front m).pending ≡ rest
+past-on m p rest e on = ap (λ (b : Bool). if b then drop 1 m.pending else []) on ∙ ap (drop 1) e
+
 Still-commit :
     (b m : Timed) (p : PendingClaim) (rest : List PendingClaim)
     → m.pending ≡ p ∷ rest
@@ -191,16 +208,16 @@ Still-commit :
     → (puts_store (record_of m.arch) && (m.owed == m.config.stores)) ≡ false
     → (r : Still b m)
     → suc r.k ≤ b.config.width
-    → goes_on (committed (record m { pending = rest }) (record_of m.arch)).arch ≡ true
-    → Still b (committed (record m { pending = rest }) (record_of m.arch))
+    → goes_on (past_front m).arch ≡ true
+    → Still b (past_front m)
 unfolding committed
 Still-commit b m p rest e ready same free r few on =
     record {
       k = suc r.k;
-      moved = Moved-commit b m r.k rest r.moved free r.on few;
+      moved = Moved-commit b m r.k r.moved free r.on few;
       log = record { rows = r.log.rows; newest = r.log.newest; flushes = r.log.flushes; silent = r.log.silent };
       solo = r.solo;
-      claims = claims-commit b m p rest e ready same r;
+      claims = subst (Commits (suc r.k) b.arch b.cycles b.pending) (sym (past-on m p rest e on)) (claims-commit b m p rest e ready same r);
       on = on;
     }
 
@@ -212,11 +229,11 @@ Ending-commit :
     → (puts_store (record_of m.arch) && (m.owed == m.config.stores)) ≡ false
     → (r : Still b m)
     → suc r.k ≤ b.config.width
-    → goes_on (committed (record m { pending = rest }) (record_of m.arch)).arch ≡ false
-    → Ending b (record (committed (record m { pending = rest }) (record_of m.arch)) { pending = [] })
+    → goes_on (past_front m).arch ≡ false
+    → Ending b (past_front m)
 unfolding committed
 Ending-commit b m p rest e ready same free r few off =
-    let v = Moved-commit b m r.k rest r.moved free r.on few in
+    let v = Moved-commit b m r.k r.moved free r.on few in
     record {
       k = r.k;
       moved = record { config = v.config; cycles = v.cycles; idle = v.idle; counted = v.counted; stepped = v.stepped; owed = v.owed; few = v.few };
@@ -224,7 +241,7 @@ Ending-commit b m p rest e ready same free r few off =
       rest = rest;
       claims = claims-commit b m p rest e ready same r;
       solo = r.solo;
-      pending = refl;
+      pending = past-off m off;
       went = ap goes_on (sym r.moved.stepped) ∙ r.on;
       off = off;
     }
@@ -249,28 +266,21 @@ counts : (c : ℕ) → Judges (λ n x. c < x.count) (λ x. c < x.count)
 unfolding committed flushed
 counts c = record { stop = λ n m r. r; flush = λ n m p rest d e ready differs r. r; commit = λ n m p rest e ready same free r. (λ on. omega arith, λ off. omega arith) }
 
-followed-counts : (n c : ℕ) (m : Timed) → c < m.count → c < (followed (judged n) m).count
-followed-counts n c m h =
-    cond_both {A = Timed} (goes_on m.arch) _ _ (λ x. c < x.count) (λ on. Judges-judged (λ n x. c < x.count) (λ x. c < x.count) (counts c) n m h) (λ off. h)
+-- what commits is counted
+past-counts : (n : ℕ) (m : Timed) → m.count < (judged n (past_front m)).count
+unfolding committed
+past-counts n m = Judges-judged (λ n x. m.count < x.count) (λ x. m.count < x.count) (counts m.count) n (past_front m) (omega arith)
 
 -- a ready front claim is judged, where a store is not held up
 by_difference-judged :
-    (n : ℕ) (m : Timed) (rest : List PendingClaim) (o : Option Diff)
+    (n : ℕ) (m : Timed) (o : Option Diff)
     → m.owed < m.config.stores
-    → (m.count < (by_difference (judged n) m rest o).count) ⊎ (m.flushes < (by_difference (judged n) m rest o).flushes)
-unfolding committed flushed
-by_difference-judged n m rest (Some d) free = inr (omega arith)
-by_difference-judged n m rest None free =
+    → (let next = by_judgement m (judged n (past_front m)) (by_difference m o) in (m.count < next.count) ⊎ (m.flushes < next.flushes))
+unfolding flushed
+by_difference-judged n m (Some d) free = inr (omega arith)
+by_difference-judged n m None free =
     let open_ : (puts_store (record_of m.arch) && (m.owed == m.config.stores)) ≡ false = and_right (puts_store (record_of m.arch)) _ (ne_eqb m.owed m.config.stores (λ e. omega arith)) in
-    rw open_ (inl (followed-counts n m.count (committed (record m { pending = rest }) (record_of m.arch)) (omega arith)))
-
-by_front-judged :
-    (n : ℕ) (m : Timed) (pending : List PendingClaim) (p : PendingClaim) (rest : List PendingClaim)
-    → pending ≡ p ∷ rest
-    → nat_le (p.cycle + 6) m.cycles ≡ true
-    → m.owed < m.config.stores
-    → (m.count < (by_front (judged n) m pending).count) ⊎ (m.flushes < (by_front (judged n) m pending).flushes)
-by_front-judged n m pending p rest e ready free = rw (e, ready) (by_difference-judged n m rest (first_difference p.claim (record_of m.arch)) free)
+    rw open_ (inl (past-counts n m))
 
 pub front-judged :
     (n : ℕ) (m : Timed) (p : PendingClaim) (rest : List PendingClaim)
@@ -278,4 +288,6 @@ pub front-judged :
     → nat_le (p.cycle + 6) m.cycles ≡ true
     → m.owed < m.config.stores
     → (m.count < (judged (suc n) m).count) ⊎ (m.flushes < (judged (suc n) m).flushes)
-front-judged n m p rest e ready free = by_front-judged n m m.pending p rest e ready free
+front-judged n m p rest e ready free =
+    let is : judgement_of m ≡ by_difference m (first_difference p.claim (record_of m.arch)) = ap (by_front m) e ∙ rw ready refl in
+    rw is (by_difference-judged n m (first_difference p.claim (record_of m.arch)) free)

@@ -8,16 +8,15 @@ use Rattle.diva_isa.specs.Step.{apply, record_of, steps}
 use Rattle.diva_isa.specs.declared.record.Record.{Record}
 use Rattle.diva_core.specs.declared.pending.Entry.{Entry}
 use Rattle.diva_core.specs.declared.differences.Diff.{Diff}
-use Rattle.diva_core.specs.declared.flushes.Cause.TheVariants.{Differs}
 use Rattle.diva_core.specs.Difference.{first_difference}
 use Rattle.diva_core.specs.Headline.{dues, SameLog}
 use Rattle.diva_core.specs.Timed.{Timed, PendingClaim}
-use Rattle.diva_core.specs.Cycle.{by_front, committed, flushed, followed, number, puts_store}
+use Rattle.diva_core.specs.Cycle.{Commit, Flush, Wait, committed, judgement_of, number, past_front, puts_store}
 use Rattle.diva_core.proofs.Differing.{difference-none}
 use Rattle.diva_commit.specs.Committing.{answer, is_committed}
 use Rattle.diva_machine.specs.Machine.{pending_claim_of, KeepsBounds}
 use Rattle.diva_machine.specs.Staged.{left, passed_by, AreChecked, AreInOrder, IsFilledSince, IsStaged, Parts}
-use Rattle.diva_machine.proofs.Fronts.{front_differs, front_held, front_is, front_ready, one_step}
+use Rattle.diva_machine.proofs.Fronts.{front_free, front_held, front_is, front_ready, one_step}
 use Rattle.diva_machine.proofs.Answering.{held_by}
 use Rattle.diva_machine.proofs.Staging.{checked_none, checked_rest, front_form, front_verdict, get_there, order_rest, passed_at, passed_length, passed_rest}
 
@@ -67,35 +66,28 @@ module _ (w : Parts) (e : Entry) (f : IsFront w e) where
   pub claim_is : e.verdict ≡ None → e.claim ≡ record_of w.timed.arch
   claim_is none = difference-none e.claim (record_of w.timed.arch) (sym verdict_is ∙ none)
 
-  pub judged_differs : (next : Timed → Timed) (d : Diff) → e.verdict ≡ Some d → by_front next w.timed w.timed.pending ≡ flushed w.timed (Differs d)
-  judged_differs next d some = front_differs next w.timed w.entries e f.first f.staged.waits is_old d (sym verdict_is ∙ some)
+  pub judged_differs : (d : Diff) → e.verdict ≡ Some d → judgement_of w.timed ≡ Flush d
+  judged_differs d some = front_ready w.timed w.entries e f.first f.staged.waits is_old (Some d) (sym verdict_is ∙ some)
 
-  pub judged_held : (next : Timed → Timed) → e.verdict ≡ None → is_committed (answer None e.claim (w.timed.owed == w.timed.config.stores)) ≡ false → by_front next w.timed w.timed.pending ≡ w.timed
-  judged_held next none held_back =
+  pub judged_held : e.verdict ≡ None → is_committed (answer None e.claim (w.timed.owed == w.timed.config.stores)) ≡ false → judgement_of w.timed ≡ Wait
+  judged_held none held_back =
       let held = held_by e.claim (w.timed.owed == w.timed.config.stores) held_back in
-      front_held next w.timed w.entries e f.first f.staged.waits is_old (sym verdict_is ∙ none) (ap puts_store (sym (claim_is none)) ∙ held.0) held.1
+      front_held w.timed w.entries e f.first f.staged.waits is_old (sym verdict_is ∙ none) (ap puts_store (sym (claim_is none)) ∙ held.0) held.1
+
+  pub judged_free : e.verdict ≡ None → (puts_store e.claim && (w.timed.owed == w.timed.config.stores)) ≡ false → judgement_of w.timed ≡ Commit
+  judged_free none room =
+      front_free w.timed w.entries e f.first f.staged.waits is_old (sym verdict_is ∙ none)
+      (ap (λ (r : Record). puts_store r && (w.timed.owed == w.timed.config.stores)) (sym (claim_is none)) ∙ room)
 
   -- the front entry has committed
   abbrev pub settled : Parts
   settled = record w { timed = committed w.timed e.claim; last = w.last ++ e.claim ∷ [] }
 
-  by_end : (next : Timed → Timed) (b : Bool)
-      → (let m = committed (record w.timed { pending = map pending_claim_of (drop 1 w.entries) }) e.claim in if b then next m else record m { pending = [] })
-      ≡ (if b then next (left b settled).timed else (left b settled).timed)
-  unfolding committed
-  by_end next true = refl
-  by_end next false = refl
-
-  pub judged_settled : (next : Timed → Timed) → e.verdict ≡ None → (puts_store e.claim && (w.timed.owed == w.timed.config.stores)) ≡ false
-      → by_front next w.timed w.timed.pending ≡ (let b = goes_on settled.timed.arch in if b then next (left b settled).timed else (left b settled).timed)
-  unfolding committed
-  judged_settled next none room =
-      let due = claim_is none in
-      let room2 : (puts_store (record_of w.timed.arch) && (w.timed.owed == w.timed.config.stores)) ≡ false = ap (λ (r : Record). puts_store r && (w.timed.owed == w.timed.config.stores)) (sym due) ∙ room in
-      front_ready next w.timed w.entries e f.first f.staged.waits is_old None (sym verdict_is ∙ none)
-      ∙ rw room2 refl
-      ∙ ap (λ (r : Record). followed next (committed (record w.timed { pending = map pending_claim_of (drop 1 w.entries) }) r)) (sym due)
-      ∙ by_end next (goes_on (apply w.timed.arch e.claim))
+  pub judged_settled : e.verdict ≡ None → past_front w.timed ≡ (left (goes_on settled.timed.arch) settled).timed
+  judged_settled none =
+      let rest = ap (drop 1) (front_is w.timed w.entries e f.first f.staged.waits is_old) in
+      ap (λ (r : Record). let after = committed w.timed r in record after { pending = if goes_on after.arch then drop 1 w.timed.pending else [] }) (sym (claim_is none))
+      ∙ ap (λ (ps : List PendingClaim). let after = committed w.timed e.claim in record after { pending = if goes_on after.arch then ps else [] }) rest
 
   pub left_staged : (b : Bool) → IsStaged ((left b settled).timed.cycles - 1) (left b settled)
   unfolding committed
@@ -109,7 +101,7 @@ module _ (w : Parts) (e : Entry) (f : IsFront w e) where
     others false = checked_none (apply w.timed.arch e.claim) (w.timed.cycles - 1)
 
     in_order : (b : Bool) → AreInOrder 0 (w.timed.cycles - 1) (if b then map pending_claim_of (drop 1 w.entries) else [])
-    in_order true = subst (λ (xs : List PendingClaim). AreInOrder 0 (w.timed.cycles - 1) xs) (ap (drop 1) (front_is (λ m. m) w.timed w.entries e f.first f.staged.waits is_old)) (order_rest 0 (w.timed.cycles - 1) w.timed.pending f.staged.ordered)
+    in_order true = subst (λ (xs : List PendingClaim). AreInOrder 0 (w.timed.cycles - 1) xs) (ap (drop 1) (front_is w.timed w.entries e f.first f.staged.waits is_old)) (order_rest 0 (w.timed.cycles - 1) w.timed.pending f.staged.ordered)
     in_order false = omega arith
 
     fewer : (b : Bool) → (if b then w.passed - 1 else 0) ≡ passed_by (w.timed.cycles - 1) (if b then map pending_claim_of (drop 1 w.entries) else [])
@@ -149,7 +141,7 @@ module _ (w : Parts) (e : Entry) (f : IsFront w e) where
   left_log b = record { rows = refl; newest = refl; flushes = refl; silent = refl }
 
   fewer_wait : (b : Bool) → length (if b then map pending_claim_of (drop 1 w.entries) else []) ≤ length w.timed.pending
-  fewer_wait true = let is = ap (λ (ps : List PendingClaim). length ps) (front_is (λ m. m) w.timed w.entries e f.first f.staged.waits is_old) in omega arith
+  fewer_wait true = let is = ap (λ (ps : List PendingClaim). length ps) (front_is w.timed w.entries e f.first f.staged.waits is_old) in omega arith
   fewer_wait false = omega arith
 
   pub left_bounds : (b : Bool) → w.timed.owed ≤ w.timed.config.stores → (puts_store e.claim && (w.timed.owed == w.timed.config.stores)) ≡ false → KeepsBounds w.timed (left b settled).timed

@@ -1,6 +1,7 @@
 pub mod Fronts
 pub mod Laws
 pub mod Storing
+pub mod Telling
 pub mod Answering
 pub mod Verdicts
 pub mod Staging

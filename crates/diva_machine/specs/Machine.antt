@@ -1,6 +1,6 @@
 -- What contracts see of a machine and of its parts.
-use Rattle.std.specs.Prelude.{ℕ, ◌≡◌, ◌≤◌, ◌+◌, ◌^◌, ◌==◌, List, length, Option, Some, None, is_none}
-use Rattle.diva_isa.specs.State.{State}
+use Rattle.std.specs.Prelude.{ℕ, ◌≡◌, ◌≤◌, ◌+◌, ◌^◌, ◌==◌, ◌&&◌, Bool, not, List, length, Option, Some, None, is_none, if◌then◌else◌}
+use Rattle.diva_isa.specs.State.{State, goes_on}
 use Rattle.diva_isa.specs.End.{IsEnd}
 use Rattle.diva_isa.specs.declared.record.Record.{Record}
 use Rattle.diva_memory.specs.Bytes.{Bytes}
@@ -8,10 +8,14 @@ use Rattle.diva_storeq.specs.declared.masked.Masked.{Masked}
 use Rattle.diva_commit.specs.Committing.{AreInside}
 use Rattle.diva_core.specs.Timed.{Timed, PendingClaim}
 use Rattle.diva_core.specs.Machine.{IsMachine}
+use Rattle.diva_core.specs.Cycle.{Judgement, Commit, Flush, Wait}
 use Rattle.diva_core.specs.declared.flushes.FlushRow.{FlushRow}
 use Rattle.diva_core.specs.declared.pending.Entry.{Entry}
 use Rattle.diva_watchdog.specs.declared.recover.Recover.{Recover}
 use Rattle.diva_watchdog.specs.declared.recover.Recover.TheVariants.{Running, Solo}
+use Rattle.diva_machine.specs.declared.phases.CommitPhase.{CommitPhase}
+use Rattle.diva_machine.specs.declared.phases.Judged.{Judged}
+use Rattle.diva_machine.specs.declared.phases.Judged.TheVariants.{Committed, Ended, Flushed, Waits}
 
 -- a machine, the records that its last cycle committed, and what it has noted of the claims that are pending, the oldest
 -- first
@@ -56,6 +60,19 @@ pub record KeepsBounds (m last : Timed) : Type 0 where
   pub pending : length last.pending ≤ length m.pending
   pub flushes : last.flushes ≤ m.flushes + 1
   pub silent : last.silent ≤ m.silent + 1
+
+-- what became of a front claim, by its judgement and by whether the machine goes on then
+abbrev pub judged_by : Judgement → (goes : Bool) → Judged
+judged_by Commit goes = if goes then Committed else Ended
+judged_by (Flush d) goes = Flushed
+judged_by Wait goes = Waits
+
+-- what the commit phase tells, m being the machine before it and n the one behind it
+pub record Tells (phase : CommitPhase) (m n : Timed) : Type 0 where
+  -- an instruction was counted
+  pub committed : phase.committed ≡ not (n.count == m.count)
+  -- the machine goes on, and has not flushed
+  pub accepting : phase.accepting ≡ (goes_on n.arch && (n.flushes == m.flushes))
 
 -- a pending entry as the timed machine has it
 abbrev pub pending_claim_of : Entry → PendingClaim

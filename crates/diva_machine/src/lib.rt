@@ -5,6 +5,7 @@
 //! - `log`: the flushes, as rows and as counts;
 //! - `stages`: what a pending claim passes through at each age;
 //! - `parts`: the parts of the machine, and the phases of a cycle over them;
+//! - `phases`: what these phases tell each other, `Judged` and `CommitPhase`;
 //! - `machine`: the machine between cycles, `Machine`;
 //! - `ends`: how a drive stopped, `Drive` and `Reach`;
 //! - `turns`: a machine and a core, turn by turn, `turn` and `drive`;
@@ -21,6 +22,7 @@ mod ends;
 mod log;
 mod machine;
 mod parts;
+mod phases;
 mod reaching;
 mod stages;
 mod turns;

@@ -3,7 +3,7 @@
 //
 // In most cycles nothing is ready. So what each cycle does stands in the loop that drives the
 // machine (`inline(always)`), and what few cycles do is called (`inline(never)`, `cold`).
-ghost use Rattle.std.specs.Prelude.{◌≡◌, ◌+◌, ◌-◌, ◌*◌, ◌<◌, ◌≤◌, ◌^◌, ◌++◌, [], ◌∷◌, ℕ, length, map, take, slice_get, None, Some, IfOk, IsTrue, List, true, false, not, ◌==◌, if◌then◌else◌};
+ghost use Rattle.std.specs.Prelude.{◌≡◌, ◌+◌, ◌-◌, ◌*◌, ◌<◌, ◌≤◌, ◌^◌, ◌++◌, [], ◌∷◌, ℕ, length, map, take, slice_get, None, Some, IfOk, IsTrue, List, true, false, not, ◌==◌, ◌&&◌};
 ghost use Rattle.diva_isa.specs.declared.record.Record.{Record};
 ghost use Rattle.diva_isa.specs.State.{State, goes_on, GoesOn};
 ghost use Rattle.diva_isa.specs.Step.{record_of, steps};
@@ -13,16 +13,17 @@ ghost use Rattle.diva_core.specs.Timed.{Timed, new_timed, room_of};
 ghost use Rattle.diva_core.specs.declared.pending.Entry.{Entry};
 ghost use Rattle.diva_core.specs.Machine.{IsMachine, IsConfig};
 ghost use Rattle.diva_core.specs.Headline.{dues, SameLog};
-ghost use Rattle.diva_core.specs.Cycle.{accepted_in, accepts, by_front, commits, committed, cycle_of, drained, flushed, judged, number, watched};
+ghost use Rattle.diva_core.specs.Cycle.{Commit, accepted_in, accepts, judgement_of, commits, committed, cycle_of, drained, flushed, judged, number, watched};
 ghost use Rattle.diva_commit.specs.Committing.{answer, is_committed};
 ghost use Rattle.diva_machine.specs.Start.{start_of};
-ghost use Rattle.diva_machine.specs.Machine.{pending_claim_of, KeepsBounds};
+ghost use Rattle.diva_machine.specs.Machine.{pending_claim_of, judged_by, KeepsBounds, Tells};
 ghost use Rattle.diva_machine.specs.Staged.{last_stage, left, AreChecked, IsAdvanced, IsFilled, IsSoloFilled, IsStaged};
 
 use crate::DEPTH;
 use crate::arch::Arch;
 use crate::config::Config;
 use crate::log::Log;
+use crate::phases::{CommitPhase, Judged};
 use crate::stages::{LAST_STAGE, fill, pass};
 use arrayvec::ArrayVec;
 use diva_commit::Committed;
@@ -215,30 +216,28 @@ impl Parts {
         answer
     }
 
-    /// Takes out the front claim, which has committed, and all others where that ended the machine; answers whether it
-    /// goes on.
+    /// Takes out the front claim, which has committed, and all others where that ended the machine.
     #[inline(always)]
-    fn leave_front(&mut self) -> bool
+    fn leave_front(&mut self) -> Judged
         requires there { 0 < length self.old.entries }
         requires passed { 0 < self.old.passed }
-        ensures goes_on { result ≡ goes_on self.old.timed.arch }
-        ensures left { self.new ≡ left result self.old }
+        ensures answer { result ≡ judged_by Commit (goes_on self.old.timed.arch) }
+        ensures left { self.new ≡ left (goes_on self.old.timed.arch) self.old }
     {
         self.pending.pop();
         self.passed -= 1;
         if !self.arch.goes_on() {
             self.pending.clear();
             self.passed = 0;
-            return false;
+            return Judged::Ended;
         }
-        true
+        Judged::Committed
     }
 
-    /// Judges the front claim, which is ready; answers whether a further one is to be judged. The
-    /// definition is handed what follows, so that one claim can be judged without its number.
+    /// Judges the front claim, which is ready.
     #[inline(always)]
     #[tactic(auto, unfolding(diva_core::specs::Cycle::committed, diva_core::specs::Cycle::flushed))]
-    fn judge_front(&mut self) -> bool
+    fn judge_front(&mut self) -> Judged
         requires ready { 0 < self.old.passed }
         requires goes_on { GoesOn self.old.timed.arch }
         requires owed { self.old.timed.owed ≤ self.old.timed.config.stores }
@@ -249,28 +248,26 @@ impl Parts {
         requires cycles { 1 ≤ self.old.timed.cycles }
         requires running { self.old.timed.solo ≡ None }
         requires staged { IsStaged (self.old.timed.cycles - 1) self.old }
-        ensures judges { (next : Timed → Timed)
-            → by_front next self.old.timed self.old.timed.pending
-            ≡ (if result then next self.new.timed else self.new.timed) }
-        ensures goes_on { IsTrue result → GoesOn self.new.timed.arch }
+        ensures answer { result ≡ judged_by (judgement_of self.old.timed) (goes_on self.new.timed.arch) }
+        ensures timed { self.new.timed ≡ judged 1 self.old.timed }
         ensures counted { self.old.timed.count ≤ self.new.timed.count }
         ensures one { self.new.timed.count ≤ self.old.timed.count + 1 }
         ensures stepped { self.new.timed.arch
             ≡ steps (self.new.timed.count - self.old.timed.count) self.old.timed.arch }
         ensures last { self.new.last
             ≡ self.old.last ++ dues (self.new.timed.count - self.old.timed.count) self.old.timed.arch }
-        ensures running { IsTrue result → self.new.timed.solo ≡ None }
-        ensures same { IsTrue result → SameLog self.old.timed self.new.timed }
+        ensures running { result ≡ Judged.Committed → self.new.timed.solo ≡ None }
+        ensures same { result ≡ Judged.Committed → SameLog self.old.timed self.new.timed }
         ensures bounds { KeepsBounds self.old.timed self.new.timed }
         ensures staged { IsStaged (self.new.timed.cycles - 1) self.new }
         ensures solo { IsSoloFilled self.new.timed.cycles self.new }
     {
         if let Some(diff) = self.pending.at(0).verdict {
             self.flush(Cause::Differs(diff));
-            return false;
+            return Judged::Flushed;
         }
         if !self.settle_front().is_committed() {
-            return false;
+            return Judged::Waits;
         }
         self.leave_front()
     }
@@ -278,7 +275,7 @@ impl Parts {
     /// Judges at most `n` ready claims, oldest first.
     #[inline(always)]
     #[tactic(auto, using(crate::proofs::Fronts::judged_less))]
-    fn judge(&mut self, n: u32)
+    fn judge(&mut self, n: u32) -> CommitPhase
         requires width { n ≤ 4 }
         requires goes_on { GoesOn self.old.timed.arch }
         requires owed { self.old.timed.owed ≤ self.old.timed.config.stores }
@@ -290,6 +287,7 @@ impl Parts {
         requires running { self.old.timed.solo ≡ None }
         requires staged { IsStaged (self.old.timed.cycles - 1) self.old }
         ensures judged { self.new.timed ≡ judged n self.old.timed }
+        ensures tells { Tells result self.old.timed self.new.timed }
         ensures counted { self.old.timed.count ≤ self.new.timed.count }
         ensures last { self.new.last
             ≡ dues (self.new.timed.count - self.old.timed.count) self.old.timed.arch }
@@ -297,20 +295,38 @@ impl Parts {
         ensures staged { IsStaged (self.new.timed.cycles - 1) self.new }
         ensures solo { IsSoloFilled self.new.timed.cycles self.new }
     {
+        let mut phase = CommitPhase {
+            committed: false,
+            accepting: true,
+        };
         for at in 0..n {
             if self.passed == 0 {
-                return;
+                return phase;
             }
-            if !self.judge_front() {
-                return;
+            match self.judge_front() {
+                Judged::Committed => phase.committed = true,
+                Judged::Ended => {
+                    return CommitPhase {
+                        committed: true,
+                        accepting: false,
+                    };
+                }
+                Judged::Flushed => {
+                    return CommitPhase {
+                        accepting: false,
+                        ..phase
+                    };
+                }
+                Judged::Waits => return phase,
             }
         }
+        phase
     }
 
     /// Phase 2: what is ready commits, at most `width` claims or the solo instruction.
     #[inline(always)]
     #[tactic(auto, unfolding(diva_core::specs::Cycle::commits, diva_core::specs::Cycle::committed))]
-    fn commits(&mut self)
+    fn commits(&mut self) -> CommitPhase
         requires width { self.old.timed.config.width ≤ 4 }
         requires goes_on { GoesOn self.old.timed.arch }
         requires owed { self.old.timed.owed < self.old.timed.config.stores }
@@ -324,6 +340,7 @@ impl Parts {
         requires staged { IsStaged (self.old.timed.cycles - 1) self.old }
         requires solo { IsSoloFilled (self.old.timed.cycles - 1) self.old }
         ensures timed { self.new.timed ≡ commits self.old.timed }
+        ensures tells { Tells result self.old.timed self.new.timed }
         ensures counted { self.old.timed.count ≤ self.new.timed.count }
         ensures last { self.new.last
             ≡ dues (self.new.timed.count - self.old.timed.count) self.old.timed.arch }
@@ -332,17 +349,25 @@ impl Parts {
         ensures solo { IsSoloFilled self.new.timed.cycles self.new }
     {
         match self.recover {
-            Recover::Running => {
-                if self.passed > 0 {
-                    self.judge(self.width);
-                }
-            }
+            Recover::Running if self.passed > 0 => self.judge(self.width),
+            Recover::Running => CommitPhase {
+                committed: false,
+                accepting: true,
+            },
             Recover::Solo(start) => {
                 let age = self.cycles.saturating_sub(start);
                 if age == DEPTH {
                     self.commit_solo();
+                    CommitPhase {
+                        committed: true,
+                        accepting: self.arch.goes_on(),
+                    }
                 } else {
                     self.fill_solo(age);
+                    CommitPhase {
+                        committed: false,
+                        accepting: true,
+                    }
                 }
             }
         }
@@ -432,19 +457,19 @@ impl Parts {
         }
     }
 
-    /// Phase 4: the admitted claims become pending, where phase 2 neither flushed nor ended.
-    /// `flushes` is the number before the cycle.
+    /// Phase 4: the admitted claims become pending, where the commit phase lets them be accepted.
     #[tactic(auto, unfolding(diva_core::specs::Cycle::accepts))]
-    fn accept(&mut self, admitted: &[Claim], flushes: u64)
+    fn accept(&mut self, admitted: &[Claim], accepting: bool)
         requires { length self.old.timed.pending + length admitted.now ≤ self.old.timed.config.window }
         ensures timed { (before : Timed) (list : List Record)
-            → admitted.now ≡ take (room_of before) list → before.flushes ≡ flushes
+            → admitted.now ≡ take (room_of before) list
+            → accepting ≡ (goes_on self.old.timed.arch && (self.old.timed.flushes == before.flushes))
             → self.new.timed ≡ accepts before list self.old.timed }
         ensures rest { self.new ≡ record self.old { timed = self.new.timed; entries = self.new.entries } }
         ensures staged { IsStaged self.old.timed.cycles self.old → IsStaged self.new.timed.cycles self.new }
         ensures solo { IsSoloFilled self.old.timed.cycles self.old → IsSoloFilled self.new.timed.cycles self.new }
     {
-        if !admitted.is_empty() && self.arch.goes_on() && self.log.flushes() == flushes {
+        if accepting && !admitted.is_empty() {
             accept_all(&mut self.pending, admitted, self.cycles);
         }
     }
@@ -486,15 +511,13 @@ impl Parts {
         ensures solo { IsSoloFilled self.new.timed.cycles self.new }
     {
         let admitted = self.admitted(list);
-        let flushes = self.log.flushes();
         self.forget_last();
         self.cycles += 1;
         self.drain();
-        self.commits();
+        let phase = self.commits();
         self.advance();
-        self.accept(admitted, flushes);
-        let committed = !self.last.is_empty();
-        self.watch(committed);
+        self.accept(admitted, phase.accepting);
+        self.watch(phase.committed);
     }
 }
 

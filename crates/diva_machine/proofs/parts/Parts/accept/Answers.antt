@@ -3,8 +3,8 @@ use Rattle.diva_machine.specs.Machine.{pending_claim_of}
 use Rattle.diva_machine.proofs.Staging.{order_more, passed_more}
 use Rattle.diva_machine.proofs.parts.Parts.accept.Goals as goal
 
-pub returns-then-flushes-clause-staged : goal.returns-then-flushes-clause-staged
-returns-then-flushes-clause-staged c = λ s.
+pub returns-then-not-is_empty-clause-staged : goal.returns-then-not-is_empty-clause-staged
+returns-then-not-is_empty-clause-staged c = λ s.
     let t = rw (← c.self.view_is) at s in
     record {
       waits = refl;

@@ -1,4 +1,4 @@
-use Rattle.std.proofs.Common.{◌≡◌, ◌-◌, ◌==◌, true, not, length, ap, sym, ◌∙◌, arith, refl, []}
+use Rattle.std.proofs.Common.{◌≡◌, ◌-◌, ◌==◌, ◌&&◌, true, not, ap, sym, ◌∙◌, [], refl}
 use Rattle.std.proofs.Math.Bool.{not-not}
 use Rattle.diva_isa.specs.State.{goes_on}
 use Rattle.diva_core.specs.Timed.{Timed}
@@ -6,24 +6,31 @@ use Rattle.diva_core.specs.Cycle.{accepts, begun, commits, cycle_of, drained, wa
 use Rattle.diva_core.specs.Headline.{dues}
 use Rattle.diva_machine.specs.Staged.{Parts}
 use Rattle.diva_machine.proofs.Staging.{staged_begun}
-use Rattle.diva_machine.proofs.Fronts.{watched-count, accepts-count, none-due}
+use Rattle.diva_machine.proofs.Fronts.{watched-count, accepts-count}
 use Rattle.diva_machine.proofs.parts.Parts.cycle.Goals as goal
 
-pub commits-requires-clause-staged : goal.commits-requires-clause-staged
-commits-requires-clause-staged c =
+pub commits-phase-requires-clause-staged : goal.commits-phase-requires-clause-staged
+commits-phase-requires-clause-staged c =
     let next = λ (z : Parts). record z { timed = drained (begun z.timed) } in
-    let is : c.drain.new.self ≡ record c.args.self.now { timed = drained (begun c.args.self.now.timed); last = [] } = c.drain.ensures ∙ ap next c.self-2.view_is ∙ ap next c.forget_last.ensures in
+    let is : c.drain.new.self ≡ record c.args.self.now { timed = drained (begun c.args.self.now.timed); last = [] } = c.drain.ensures ∙ ap next c.self.view_is ∙ ap next c.forget_last.ensures in
     rw is (staged_begun c.args.self.now c.requires.staged)
 
 -- the parts of the cycle, each over the one before
 begins : (c : goal.After-watch) → c.drain.new.self.timed ≡ drained (begun c.args.self.now.timed)
 begins c =
-    let next = λ (z : Parts). drained (begun z.timed) in ap (λ (z : Parts). z.timed) c.drain.ensures ∙ ap next c.self-2.view_is ∙ ap next c.forget_last.ensures
+    let next = λ (z : Parts). drained (begun z.timed) in ap (λ (z : Parts). z.timed) c.drain.ensures ∙ ap next c.self.view_is ∙ ap next c.forget_last.ensures
 
-admits : (c : goal.After-watch) → c.accept.new.self.timed ≡ accepts c.args.self.now.timed c.args.list.now c.commits.new.self.timed
+-- phase 2 has told whether claims are accepted
+opens : (c : goal.After-watch) → c.commits-phase.result.accepting ≡ (goes_on c.advance.new.self.timed.arch && (c.advance.new.self.timed.flushes == c.args.self.now.timed.flushes))
+unfolding drained
+opens c =
+    c.commits-phase.ensures.tells.accepting
+    ∙ ap (λ (m : Timed). goes_on c.commits-phase.new.self.timed.arch && (c.commits-phase.new.self.timed.flushes == m.flushes)) (begins c)
+    ∙ sym (ap (λ (z : Parts). goes_on z.timed.arch && (z.timed.flushes == c.args.self.now.timed.flushes)) c.advance.ensures.rest)
+
+admits : (c : goal.After-watch) → c.accept.new.self.timed ≡ accepts c.args.self.now.timed c.args.list.now c.commits-phase.new.self.timed
 admits c =
-    c.accept.ensures.timed c.args.self.now.timed c.args.list.now c.admitted-admitted.ensures.value
-    (ap (λ (z : Parts). z.timed.flushes) (sym c.self.view_is) ∙ sym c.flushes-flushes.ensures)
+    c.accept.ensures.timed c.args.self.now.timed c.args.list.now c.admitted-admitted.ensures.value (opens c)
     ∙ ap (λ (z : Parts). accepts c.args.self.now.timed c.args.list.now z.timed) c.advance.ensures.rest
 
 -- the instructions that were counted are those whose records came due
@@ -31,20 +38,18 @@ comes-due : (c : goal.After-watch) → c.accept.new.self.last ≡ dues (c.accept
 unfolding drained
 comes-due c =
     let old : Timed = c.args.self.now.timed in
-    let after : c.accept.new.self.timed.count ≡ c.commits.new.self.timed.count = ap (λ z. z.count) (admits c) ∙ accepts-count old c.commits.new.self.timed c.args.list.now in
-    ap (λ (z : Parts). z.last) c.accept.ensures.rest ∙ ap (λ (z : Parts). z.last) c.advance.ensures.rest ∙ c.commits.ensures.last
-    ∙ ap (λ (z : Timed). dues (c.commits.new.self.timed.count - z.count) z.arch) (begins c)
+    let after : c.accept.new.self.timed.count ≡ c.commits-phase.new.self.timed.count = ap (λ z. z.count) (admits c) ∙ accepts-count old c.commits-phase.new.self.timed c.args.list.now in
+    ap (λ (z : Parts). z.last) c.accept.ensures.rest ∙ ap (λ (z : Parts). z.last) c.advance.ensures.rest ∙ c.commits-phase.ensures.last
+    ∙ ap (λ (z : Timed). dues (c.commits-phase.new.self.timed.count - z.count) z.arch) (begins c)
     ∙ ap (λ n. dues (n - old.count) old.arch) (sym after)
 
-counts : (c : goal.After-watch) → (c.accept.new.self.timed.count == c.args.self.now.timed.count) ≡ not (not c.is_empty-committed.result)
+counts : (c : goal.After-watch) → (c.accept.new.self.timed.count == c.args.self.now.timed.count) ≡ not c.commits-phase.result.committed
 unfolding drained
 counts c =
     let old : Timed = c.args.self.now.timed in
-    let after : c.accept.new.self.timed.count ≡ c.commits.new.self.timed.count = ap (λ z. z.count) (admits c) ∙ accepts-count old c.commits.new.self.timed c.args.list.now in
-    let before : c.drain.new.self.timed.count ≡ old.count = ap (λ z. z.count) (begins c) in
-    let more = c.commits.ensures.counted in
-    none-due old.count c.accept.new.self.timed.count old.arch c.accept.new.self.last (omega arith) (comes-due c)
-    ∙ ap (λ (z : Parts). length z.last == 0) (sym c.self-3.view_is) ∙ sym c.is_empty-committed.ensures ∙ sym (not-not c.is_empty-committed.result)
+    let after : c.accept.new.self.timed.count ≡ c.commits-phase.new.self.timed.count = ap (λ z. z.count) (admits c) ∙ accepts-count old c.commits-phase.new.self.timed c.args.list.now in
+    ap (λ n. n == old.count) after ∙ ap (λ (m : Timed). c.commits-phase.new.self.timed.count == m.count) (sym (begins c))
+    ∙ sym (not-not (c.commits-phase.new.self.timed.count == c.drain.new.self.timed.count)) ∙ ap not (sym c.commits-phase.ensures.tells.committed)
 
 watches : (c : goal.After-watch) → c.watch.new.self.timed ≡ watched c.args.self.now.timed c.accept.new.self.timed
 watches c = c.watch.ensures.timed c.args.self.now.timed (counts c)
@@ -54,7 +59,7 @@ unfolding cycle_of
 returns-clause-timed c =
     let old : Timed = c.args.self.now.timed in
     let on : goes_on old.arch ≡ true = ap (λ n. n == 0) c.requires.goes_on in
-    watches c ∙ ap (watched old) (admits c) ∙ ap (λ z. watched old (accepts old c.args.list.now z)) (c.commits.ensures.timed ∙ ap commits (begins c))
+    watches c ∙ ap (watched old) (admits c) ∙ ap (λ z. watched old (accepts old c.args.list.now z)) (c.commits-phase.ensures.timed ∙ ap commits (begins c))
     ∙ rw on refl
 
 pub returns-clause-last : goal.returns-clause-last

@@ -1,7 +1,13 @@
-use Rattle.std.proofs.Common.{◌≡◌, ◌+◌, ◌-◌, ◌≤◌, sym, ◌∙◌, arith, rules, refl}
-use Rattle.diva_core.specs.Cycle.{judged}
+use Rattle.std.proofs.Common.{◌≡◌, ◌+◌, ◌-◌, ◌≤◌, ◌==◌, true, false, ap, sym, ◌∙◌, subst, arith, rules}
+use Rattle.std.proofs.lemmas.Bool.{eqb-true}
+use Rattle.diva_isa.specs.State.{goes_on}
+use Rattle.diva_core.specs.Timed.{Timed}
+use Rattle.diva_core.specs.Cycle.{judged, by_judgement, past_front}
+use Rattle.diva_core.specs.declared.flushes.Cause.TheVariants.{Differs}
+use Rattle.diva_machine.specs.Machine.{Tells}
 use Rattle.diva_machine.specs.Staged.{passed_by}
-use Rattle.diva_machine.proofs.Fronts.{front_young, judged_less, length-dues, steps-joined, dues-joined, SameLog-joined, KeepsBounds-joined}
+use Rattle.diva_machine.proofs.Fronts.{by_flush, end_is, end_off, end_further, flush_is, flush_further, front_young, judged_less, length-dues, past_further, past_is, past_on, steps-joined, dues-joined, SameLog-joined, KeepsBounds-joined, wait_is, wait_further}
+use Rattle.diva_machine.proofs.Telling.{past_count, past_flushes, tells_commit, tells_flush, tells_more}
 use Rattle.diva_machine.proofs.parts.Parts.judge.Goals as goal
 
 pub judge_front-requires-clause-last : goal.judge_front-requires-clause-last
@@ -15,26 +21,91 @@ judge_front-requires-clause-cycles c = rw c.loop-at.invariant.bounds.cycles c.re
 
 pub returns-then-self-eq0-clause-judged : goal.returns-then-self-eq0-clause-judged
 returns-then-self-eq0-clause-judged c =
-    let some : 1 ≤ c.loop-at.self.timed.cycles = rw c.loop-at.invariant.bounds.cycles c.requires.cycles in
-    let none : passed_by (c.loop-at.self.timed.cycles - 1) c.loop-at.self.timed.pending ≡ 0 = sym c.loop-at.invariant.staged.passed ∙ cc in
-    sym (front_young (judged (c.args.n - (c.loop-at.at + 1))) c.loop-at.self.timed c.loop-at.self.timed.pending some none) ∙ sym (judged_less c.args.n c.loop-at.at c.loop-at.self.timed c.loop-at-test.true) ∙ c.loop-at.invariant.left
+    let m : Timed = c.loop-at.self.timed in
+    let k = c.args.n - (c.loop-at.at + 1) in
+    let some : 1 ≤ m.cycles = rw c.loop-at.invariant.bounds.cycles c.requires.cycles in
+    let none : passed_by (m.cycles - 1) m.pending ≡ 0 = sym c.loop-at.invariant.staged.passed ∙ cc in
+    sym (ap (by_judgement m (judged k (past_front m))) (front_young m m.pending some none)) ∙ sym (judged_less c.args.n c.loop-at.at m c.loop-at-test.true) ∙ c.loop-at.invariant.left
 
-pub returns-then-not-judge_front-clause-last : goal.returns-then-not-judge_front-clause-last
-returns-then-not-judge_front-clause-last c =
+-- the front claim ended the machine
+pub returns-in-Ended-clause-judged : goal.returns-in-Ended-clause-judged
+returns-in-Ended-clause-judged c =
+    sym (end_further c.loop-at.self.timed c.judge_front.new.self.timed c.judge_front.result c.judge_front.ensures.timed c.judge_front.ensures.answer c.in-Ended.is (c.args.n - (c.loop-at.at + 1)))
+    ∙ sym (judged_less c.args.n c.loop-at.at c.loop-at.self.timed c.loop-at-test.true) ∙ c.loop-at.invariant.left
+
+pub returns-in-Ended-clause-last : goal.returns-in-Ended-clause-last
+returns-in-Ended-clause-last c =
     dues-joined c.args.self.now.timed.count c.loop-at.self.timed.count _ _ _ c.loop-at.self.last _ c.loop-at.invariant.counted c.judge_front.ensures.counted c.loop-at.invariant.stepped c.loop-at.invariant.last c.judge_front.ensures.last
 
+-- it differs
+pub returns-in-Flushed-clause-judged : goal.returns-in-Flushed-clause-judged
+returns-in-Flushed-clause-judged c =
+    sym (flush_further c.loop-at.self.timed c.judge_front.new.self.timed c.judge_front.result c.judge_front.ensures.timed c.judge_front.ensures.answer c.in-Flushed.is (c.args.n - (c.loop-at.at + 1)))
+    ∙ sym (judged_less c.args.n c.loop-at.at c.loop-at.self.timed c.loop-at-test.true) ∙ c.loop-at.invariant.left
+
+pub returns-in-Flushed-clause-last : goal.returns-in-Flushed-clause-last
+returns-in-Flushed-clause-last c =
+    dues-joined c.args.self.now.timed.count c.loop-at.self.timed.count _ _ _ c.loop-at.self.last _ c.loop-at.invariant.counted c.judge_front.ensures.counted c.loop-at.invariant.stepped c.loop-at.invariant.last c.judge_front.ensures.last
+
+pub returns-in-Flushed-clause-tells : goal.returns-in-Flushed-clause-tells
+returns-in-Flushed-clause-tells c =
+    let b : Timed = c.args.self.now.timed in
+    let m : Timed = c.loop-at.self.timed in
+    let d = (by_flush m c.judge_front.new.self.timed c.judge_front.result c.judge_front.ensures.timed c.judge_front.ensures.answer c.in-Flushed.is).0 in
+    subst (λ (z : Timed). Tells (record c.loop-at.phase { accepting = false }) b z)
+    (sym (flush_is m c.judge_front.new.self.timed c.judge_front.result c.judge_front.ensures.timed c.judge_front.ensures.answer c.in-Flushed.is))
+    (tells_flush c.loop-at.phase b m c.loop-at.invariant.tells (Differs d) c.loop-at.invariant.same.flushes)
+
+-- it waits
+pub returns-in-Waits-clause-judged : goal.returns-in-Waits-clause-judged
+returns-in-Waits-clause-judged c =
+    sym (wait_further c.loop-at.self.timed c.judge_front.new.self.timed c.judge_front.result c.judge_front.ensures.timed c.judge_front.ensures.answer c.in-Waits.is (c.args.n - (c.loop-at.at + 1)))
+    ∙ sym (judged_less c.args.n c.loop-at.at c.loop-at.self.timed c.loop-at-test.true) ∙ c.loop-at.invariant.left
+
+pub returns-in-Waits-clause-last : goal.returns-in-Waits-clause-last
+returns-in-Waits-clause-last c =
+    dues-joined c.args.self.now.timed.count c.loop-at.self.timed.count _ _ _ c.loop-at.self.last _ c.loop-at.invariant.counted c.judge_front.ensures.counted c.loop-at.invariant.stepped c.loop-at.invariant.last c.judge_front.ensures.last
+
+pub returns-in-Waits-clause-tells : goal.returns-in-Waits-clause-tells
+returns-in-Waits-clause-tells c =
+    subst (λ (z : Timed). Tells c.loop-at.phase c.args.self.now.timed z)
+    (sym (wait_is c.loop-at.self.timed c.judge_front.new.self.timed c.judge_front.result c.judge_front.ensures.timed c.judge_front.ensures.answer c.in-Waits.is))
+    c.loop-at.invariant.tells
+
+pub returns-in-Ended-clause-tells : goal.returns-in-Ended-clause-tells
+returns-in-Ended-clause-tells c =
+    let b : Timed = c.args.self.now.timed in
+    let m : Timed = c.loop-at.self.timed in
+    let n : Timed = c.judge_front.new.self.timed in
+    let is : n ≡ past_front m = end_is m n c.judge_front.result c.judge_front.ensures.timed c.judge_front.ensures.answer c.in-Ended.is in
+    let count : n.count ≡ m.count + 1 = ap (λ z. z.count) is ∙ past_count m in
+    let below = c.loop-at.invariant.counted in
+    tells_commit b n _ (omega arith) (ap (λ z. z.flushes) is ∙ past_flushes m ∙ c.loop-at.invariant.same.flushes)
+    (sym (end_off m n c.judge_front.result c.judge_front.ensures.timed c.judge_front.ensures.answer c.in-Ended.is))
+
+-- it committed, and the machine goes on
 pub loop-at-preserved : goal.loop-at-preserved
 loop-at-preserved c =
+    let b : Timed = c.args.self.now.timed in
+    let m : Timed = c.loop-at.self.timed in
+    let n : Timed = c.judge_front.new.self.timed in
+    let yes = c.in-Committed.is in
+    let is : n ≡ past_front m = past_is m n c.judge_front.result c.judge_front.ensures.timed c.judge_front.ensures.answer yes in
+    let goes : goes_on n.arch ≡ true = past_on m n c.judge_front.result c.judge_front.ensures.timed c.judge_front.ensures.answer yes in
+    let count : n.count ≡ m.count + 1 = ap (λ z. z.count) is ∙ past_count m in
+    let below = c.loop-at.invariant.counted in
     record {
       left =
-          sym (c.if-not-judge_front.ensures.judges (judged (c.args.n - (c.loop-at.at + 1)))) ∙ sym (judged_less c.args.n c.loop-at.at c.loop-at.self.timed c.loop-at-test.true) ∙ c.loop-at.invariant.left;
-      on = c.if-not-judge_front.ensures.goes_on refl;
+          sym (past_further m n c.judge_front.result c.judge_front.ensures.timed c.judge_front.ensures.answer yes (c.args.n - (c.loop-at.at + 1)))
+          ∙ sym (judged_less c.args.n c.loop-at.at m c.loop-at-test.true) ∙ c.loop-at.invariant.left;
+      on = eqb-true _ _ goes;
       counted = search rules;
+      tells = tells_more c.loop-at.phase b m c.loop-at.invariant.tells n (ap (λ k. k == 0) c.loop-at.invariant.on) goes (ap (λ z. z.flushes) is ∙ past_flushes m) (omega arith);
       few = search rules;
-      stepped = steps-joined c.args.self.now.timed.count c.loop-at.self.timed.count _ _ c.loop-at.self.timed.arch _ c.loop-at.invariant.counted c.judge_front.ensures.counted c.loop-at.invariant.stepped c.judge_front.ensures.stepped;
-      last = dues-joined c.args.self.now.timed.count c.loop-at.self.timed.count _ _ _ c.loop-at.self.last _ c.loop-at.invariant.counted c.judge_front.ensures.counted c.loop-at.invariant.stepped c.loop-at.invariant.last c.judge_front.ensures.last;
-      same = SameLog-joined c.args.self.now.timed c.loop-at.self.timed c.judge_front.new.self.timed c.loop-at.invariant.same (c.if-not-judge_front.ensures.same refl);
-      running = c.if-not-judge_front.ensures.running refl;
+      stepped = steps-joined b.count m.count _ _ m.arch _ c.loop-at.invariant.counted c.judge_front.ensures.counted c.loop-at.invariant.stepped c.judge_front.ensures.stepped;
+      last = dues-joined b.count m.count _ _ _ c.loop-at.self.last _ c.loop-at.invariant.counted c.judge_front.ensures.counted c.loop-at.invariant.stepped c.loop-at.invariant.last c.judge_front.ensures.last;
+      same = SameLog-joined b m n c.loop-at.invariant.same (c.judge_front.ensures.same yes);
+      running = c.judge_front.ensures.running yes;
       staged = c.judge_front.ensures.staged;
-      bounds = KeepsBounds-joined c.args.self.now.timed c.loop-at.self.timed c.judge_front.new.self.timed c.loop-at.invariant.same c.loop-at.invariant.bounds c.judge_front.ensures.bounds;
+      bounds = KeepsBounds-joined b m n c.loop-at.invariant.same c.loop-at.invariant.bounds c.judge_front.ensures.bounds;
     }
