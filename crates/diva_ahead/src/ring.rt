@@ -61,6 +61,10 @@ impl Ring {
     pub fn trim(&mut self, most: usize)
         ensures { self.new ≡ drop (length self.old - most) self.old }
     {
+        if self.stores == 0 {
+            self.effects.truncate_front(most);
+            return;
+        }
         for _ in most..self.effects.len() {
             self.drop_oldest();
         }

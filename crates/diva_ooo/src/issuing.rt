@@ -79,8 +79,10 @@ fn run<L: Look>(state: &L, word: Option<u32>, decoded: Option<Instr>) -> Begun
                 return computed(state.pc(), word, read, i.rd, value);
             }
             Kind::OpReg => {
-                let read = state.operands(i.rs1, i.rs2);
-                let value = alu(i.op, read.first, read.second);
+                let first = state.reg(i.rs1);
+                let second = state.reg(i.rs2);
+                let read = Operands { first, second };
+                let value = alu(i.op, first, second);
                 return computed(state.pc(), word, read, i.rd, value);
             }
             _ => {}

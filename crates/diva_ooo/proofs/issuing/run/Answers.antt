@@ -14,5 +14,4 @@ pub returns-in-OpReg-clause-effect : goal.returns-in-OpReg-clause-effect
 returns-in-OpReg-clause-effect o c =
     let b = c.in-Some-Some in
     let says : row_of b.word ≡ Some b.i = sym (ap (option_and_then row_of) b.is-0) ∙ sym c.requires.decoded ∙ b.is-1 in
-    let read = c.operands-read.result in
-    rw c.computed-in-OpReg.ensures (register_does c.pc-in-OpReg.result b.word read.first read.second c.alu-value-in-OpReg.result b.i says (sym c.kind_of.ensures ∙ c.in-OpReg.is))
+    rw c.computed-in-OpReg.ensures (register_does c.pc-in-OpReg.result b.word c.reg-first-in-OpReg.result c.reg-second.result c.alu-value-in-OpReg.result b.i says (sym c.kind_of.ensures ∙ c.in-OpReg.is))

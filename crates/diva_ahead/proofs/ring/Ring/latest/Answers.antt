@@ -1,10 +1,7 @@
-use Rattle.std.proofs.Common.{◌≡◌, ◌<◌, ◌^◌, map, true, sym, ap, ◌∙◌, rules}
+use Rattle.std.proofs.Common.{◌≡◌, ◌<◌, ◌^◌, map, sym, ◌∙◌, rules}
 use Rattle.std.proofs.lemmas.List.{map-append}
-use Rattle.diva_isa.specs.State.{State}
-use Rattle.diva_isa.specs.declared.effect.Effect.{Effect}
 use Rattle.diva_isa.specs.declared.effect.Effect.TheVariants.{Stores}
 use Rattle.diva_isa.specs.declared.kind.Width.TheVariants.{Word}
-use Rattle.diva_core.specs.Effects.{is_apart}
 use Rattle.diva_ahead.proofs.Whole.{apart_more, whole_more}
 use Rattle.diva_ahead.proofs.ring.Ring.latest.Goals as goal
 
