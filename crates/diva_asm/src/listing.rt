@@ -1,6 +1,6 @@
 // The listing's line of a word.
-ghost use Rattle.std.specs.Prelude.{◌≡◌, ◌≤◌, ◌+◌, ◌++◌, ◌%◌, ◌<◌, ◌^◌, length, codes, false};
-ghost use Rattle.std.specs.Fmt.{signed_decimal, digits, digit_glyph};
+ghost use Rattle.std.specs.Prelude.{◌≡◌, ◌≤◌, ◌+◌, ◌++◌, ◌<◌, ◌^◌, length, codes, false};
+ghost use Rattle.std.specs.Fmt.{signed_decimal, digits};
 ghost use Rattle.std.specs.List.{sum_by, flat_map};
 ghost use Rattle.diva_decode.specs.Table.{row_of};
 ghost use Rattle.diva_asm.specs.Listing.{register, width, lead, address_text, operand_text, operands_text, text_of, list_line};
@@ -129,7 +129,7 @@ fn push_hex(line: &mut Line, n: u32)
     push_lead(line, n / 16 / 16 / 16);
     push_lead(line, n / 16 / 16);
     push_lead(line, n / 16);
-    line.push(hex_digit(n));
+    line.hex_digit(n);
 }
 
 /// The last hex digit of a number, or nothing where it is 0.
@@ -139,18 +139,6 @@ fn push_lead(line: &mut Line, n: u32)
     ensures len { length line.new ≤ length line.old + 1 }
 {
     if n != 0 {
-        line.push(hex_digit(n));
-    }
-}
-
-/// The last hex digit of a number.
-fn hex_digit(n: u32) -> u8
-    ensures { result ≡ digit_glyph false (n % 16) }
-{
-    let digit = (n % 16) as u8;
-    if digit < 10 {
-        b'0' + digit
-    } else {
-        b'a' + (digit - 10)
+        line.hex_digit(n);
     }
 }

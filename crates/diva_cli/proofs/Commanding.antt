@@ -138,17 +138,16 @@ replies_none gives commands m core old before =
 
 pub replies_more :
     {C : Type 0} (gives : Meaning C) (commands : List Command) (n : ℕ) (m : Timed) (core : C) (mid : Timed) (between : C) (old now new : Option (List ℕ)) (f g h : ℕ)
-    (c : Command) (last : Timed) (after : C) (line piece : List ℕ) (result : Result (Unit {0}) SinkFailed)
+    (c : Command) (last : Timed) (after : C) (line : List ℕ) (result : Result (Unit {0}) SinkFailed)
     → RepliesSoFar gives commands n m core mid between old now f g (Ok tt)
     → slice_get commands n ≡ Some c
     → Turns gives mid between last after
     → Moves (steps_by c mid.arch) mid last
     → StopsAtOnce mid last
     → line ≡ reply_of c mid.count mid.arch last.newest
-    → piece ≡ line
-    → Puts piece now new g h result
+    → Puts line now new g h result
     → RepliesSoFar gives commands (n + 1) m core last after old new f h result
-replies_more gives commands n m core mid between old now new f g h c last after line piece result s at t moved once is piece_is puts =
+replies_more gives commands n m core mid between old now new f g h c last after line result s at t moved once is puts =
     record {
       turns = record {
         history = s.turns.history ++ t.history;
@@ -163,7 +162,7 @@ replies_more gives commands n m core mid between old now new f g h c last after 
       together = lists-both s.turns.history t.history ∙ ap (λ (l : List (List Record)). l ++ lists_of t.history) s.together ∙ sym (joined-more s.parts (lists_of t.history));
       led = led-more s.done c m s.parts (lists_of t.history) mid here s.led (subst (Moves (steps_by c mid.arch) mid) there moved) (subst (StopsAtOnce mid) there once);
       put = subst (λ (x : List ℕ). Puts x old new f h result) (sym text)
-          (puts_then (replies_of s.done m.count m.arch (newest_after m s.parts)) _ old now new f g h result s.put (subst (λ (x : List ℕ). Puts x now new g h result) (piece_is ∙ is) puts));
+          (puts_then (replies_of s.done m.count m.arch (newest_after m s.parts)) _ old now new f g h result s.put (subst (λ (x : List ℕ). Puts x now new g h result) is puts));
     }
   where
     next : NextIs c s.left

@@ -11,8 +11,7 @@ use diva_args::FileName;
 use diva_asm::list_line;
 use diva_core::Core;
 use diva_image::Image;
-use diva_outside::{Files, Line, Sink};
-use diva_trace::{LineList, write_lines};
+use diva_outside::{Files, Line, LineList, Sink, put_lines};
 use std::alloc::Global;
 
 /// Lists an image, each line in one put. The core can't be asked.
@@ -32,7 +31,7 @@ pub(crate) fn dis<F: Files, S: Sink, C: Core>(
         Ok(listed) => listed,
         Err(stop) => return write_stop(stop, sink),
     };
-    match write_lines(&ListingLines { image: &listed }, sink) {
+    match put_lines(&ListingLines { image: &listed }, sink) {
         Ok(()) => Ok(0),
         Err(_) => Err(Failure::Cut),
     }

@@ -5,7 +5,7 @@ ghost use Rattle.diva_cli.specs.Tasks.{Performs};
 use diva_core::Core;
 use diva_debug::{Command, reply_to};
 use diva_machine::Machine;
-use diva_outside::{Sink, SinkFailed};
+use diva_outside::{Sink, SinkFailed, put_line};
 
 /// Does each of the commands and writes the reply to it, until the sink fails.
 pub(crate) fn reply_each<D: Core, S: Sink>(
@@ -21,7 +21,7 @@ pub(crate) fn reply_each<D: Core, S: Sink>(
 {
     for command in commands {
         let line = reply_to(m, core, command);
-        match sink.put(line.bytes()) {
+        match put_line(&line, sink) {
             Ok(()) => {}
             Err(fault) => return Err(fault),
         }

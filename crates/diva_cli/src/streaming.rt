@@ -7,7 +7,7 @@ ghost use Rattle.diva_cli.specs.Tasks.{IsWritten, Performs};
 use diva_core::{Claims, Core};
 use diva_isa::Record;
 use diva_machine::{Machine, turn};
-use diva_outside::{Sink, SinkFailed};
+use diva_outside::{Sink, SinkFailed, put_line};
 use diva_tape::tape_piece;
 use diva_trace::write_commits;
 
@@ -88,7 +88,7 @@ fn write_list<S: Sink>(list: &Claims, sink: &mut S) -> Result<(), SinkFailed>
     ensures says { OnOk result (IsList list.now) }
 {
     for (place, claim) in list.as_slice().iter().enumerate() {
-        match sink.put(tape_piece(claim, place == 0).bytes()) {
+        match put_line(&tape_piece(claim, place == 0), sink) {
             Ok(()) => {}
             Err(fault) => return Err(fault),
         }

@@ -11,7 +11,7 @@ use crate::lines::{refused_line, unreadable_line};
 use crate::stop::{Failure, Stop};
 use diva_args::DumpRange;
 use diva_machine::{End, Machine};
-use diva_outside::{Line, Sink, SinkFailed, put_lines};
+use diva_outside::{Line, Sink, SinkFailed, put_line, put_lines};
 use diva_trace::{
     Dump, Report, SoakCore, end_line_of, soak_line, write_output, write_registers, write_run,
 };
@@ -21,7 +21,7 @@ pub(crate) fn write_line<S: Sink>(line: &Line, status: u8, sink: &mut S) -> Resu
     ensures { WritesLine line.now status
         (S.contents sink.old) (S.contents sink.new) (S.faults sink.old) (S.faults sink.new) result }
 {
-    match sink.put(line.bytes()) {
+    match put_line(line, sink) {
         Ok(()) => Ok(status),
         Err(_) => Err(Failure::Cut),
     }
@@ -89,12 +89,12 @@ pub(crate) fn write_soaked<S: Sink>(
         (S.contents sink.old) (S.contents sink.new) (S.faults sink.old) (S.faults sink.new) result }
 {
     match put_lines(
-        sink,
         &[
             counts_line(SoakCore::Scalar, first),
             counts_line(SoakCore::Own, second),
             end_line_of(second.ended()),
         ],
+        sink,
     ) {
         Ok(()) => {}
         Err(fault) => return Err(fault),

@@ -7,11 +7,12 @@
 //! - `sure_files`: `SureFiles`, files in memory that never fail.
 //! - `mem_file`: `MemFile`, one file in memory, and how it is found and loaded.
 //! - `faults`: how often the files of each kind have failed.
-//! - `sink`: the trait `Sink`, and how lines are put into one.
+//! - `sink`: the trait `Sink`.
 //! - `std_sink`: `StdSink`, a sink over a writer.
 //! - `mem_sink`: `MemSink`, a sink in memory, where puts fail as a test asks for it.
 //! - `sure_sink`: `SureSink`, a sink that never fails.
 //! - `line`: `Line`, a line of text, written piece by piece.
+//! - `line_list`: lines that are made one at a time, and how lines are put into a sink.
 //! - `text_lines`: `lines`, the lines of a text. `line_words`: `words`, the words of a line, and the line without its comment.
 //! - `numbers`: the hex and decimal numbers that words spell.
 //! - `tests`: the files, the sinks and the numbers, each with a worked answer.
@@ -21,6 +22,7 @@ mod disk_files;
 mod faults;
 mod files;
 mod line;
+mod line_list;
 mod line_words;
 mod mem_file;
 mod mem_files;
@@ -37,12 +39,13 @@ mod text_lines;
 pub use disk_files::DiskFiles;
 pub use files::{Files, LoadFault, What};
 pub use line::Line;
+pub use line_list::{LineList, put_line, put_lines};
 pub use line_words::{LineWords, without_comment, words};
 pub use mem_file::MemFile;
 pub use mem_files::MemFiles;
 pub use mem_sink::{Fail, MemSink};
 pub use numbers::{decimal, hex};
-pub use sink::{Sink, SinkFailed, put_lines};
+pub use sink::{Sink, SinkFailed};
 pub use std_sink::StdSink;
 pub use sure_files::SureFiles;
 pub use sure_sink::SureSink;

@@ -1,6 +1,6 @@
 // A line of text, of at most 128 bytes.
-ghost use Rattle.std.specs.Prelude.{◌≡◌, ◌+◌, ◌*◌, ◌≤◌, ◌<◌, List, ℕ, [], ◌∷◌, ◌++◌, length};
-ghost use Rattle.std.specs.Fmt.{decimal};
+ghost use Rattle.std.specs.Prelude.{◌≡◌, ◌+◌, ◌*◌, ◌%◌, ◌≤◌, ◌<◌, false, List, ℕ, [], ◌∷◌, ◌++◌, length};
+ghost use Rattle.std.specs.Fmt.{decimal, digit_glyph};
 ghost use Rattle.std.specs.List.{flat_map};
 ghost use Rattle.diva_outside.specs.Text.{hex_byte, hex_word};
 
@@ -66,6 +66,16 @@ impl Line {
     {
         let mut buffer = Buffer::new();
         self.text(buffer.format(n).as_bytes());
+    }
+
+    /// Appends the last hex digit of the number, in lower case.
+    pub fn hex_digit(&mut self, n: u32)
+        requires { length self.old < 128 }
+        ensures bytes { self.new ≡ self.old ++ digit_glyph false (n % 16) ∷ [] }
+        ensures len { length self.new ≡ length self.old + 1 }
+    {
+        let [_, digit] = hex_pair((n % 16) as u8);
+        self.push(digit);
     }
 
     /// Appends the byte in two hex digits, in lower case.

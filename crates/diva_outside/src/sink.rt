@@ -1,9 +1,6 @@
 // A sink of bytes, piece by piece.
 ghost use Rattle.std.specs.Prelude.{List, ℕ, Option};
-ghost use Rattle.std.specs.List.{concat};
 ghost use Rattle.diva_outside.specs.Sink.{Puts};
-
-use crate::Line;
 
 /// A put failed: its piece was not taken whole.
 #[derive(Clone, Copy, Debug, PartialEq, Eq)]
@@ -20,18 +17,4 @@ pub trait Sink {
     /// Appends the piece. Where that fails, a prefix of the piece was appended and a fault was counted.
     fn put(&mut self, piece: &[u8]) -> Result<(), SinkFailed>
         ensures { Puts piece.now (contents self.old) (contents self.new) (faults self.old) (faults self.new) result };
-}
-
-/// Puts lines, one after the other. Where one fails, a prefix of their text was appended, and no line after it is put.
-pub fn put_lines<S: Sink>(sink: &mut S, lines: &[Line]) -> Result<(), SinkFailed>
-    ensures { Puts (concat lines.now)
-        (S.contents sink.old) (S.contents sink.new) (S.faults sink.old) (S.faults sink.new) result }
-{
-    for line in lines {
-        match sink.put(line.bytes()) {
-            Ok(()) => {}
-            Err(fault) => return Err(fault),
-        }
-    }
-    Ok(())
 }

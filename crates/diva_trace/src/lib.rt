@@ -3,21 +3,18 @@
 //! - `lines`: one call for each line, which gives the line with its line feed.
 //! - `report`: `Report`, what a run's text is made of, `Dump`, a part of memory that is shown at its end, and `SoakCore`, the
 //!   cores of the two runs of `soak`.
-//! - `line_list`: lines that are made one at a time, and how they are put.
 //! - `writers`: the parts of a run's text, and the whole of it. Each line is one put, and no memory is taken.
 //! - `tests`: the text of a run, and some lines.
 //!
 //! `specs/` holds the lines (`Lines`), and the parts and the whole of a run's text (`Text`).
 #![tactic(auto)]
 
-mod line_list;
 mod lines;
 mod report;
 #[cfg(test)]
 mod tests;
 mod writers;
 
-pub use line_list::{LineList, write_lines};
 pub use lines::{
     commit_line, count_line, cycles_line, end_line, end_line_of, flush_line, flushes_line, mem_line,
     out_line, output_line, pc_line, push_end, registers_line, soak_line,

@@ -102,7 +102,7 @@ fn worked_texts(rt: HostRuntime) -> Result<(), Fail> {
         soak_line(SoakCore::Scalar, 4, 10, 0),
         soak_line(SoakCore::Own, 4, 11, 2),
     ];
-    assert_eq!(rt; put_lines(&mut lines, &made), Ok(()));
+    assert_eq!(rt; put_lines(&made, &mut lines), Ok(()));
     assert_eq!(rt; lines.bytes(), LINES.as_bytes());
     Ok(())
 }

@@ -6,7 +6,6 @@ ghost use Rattle.diva_core.specs.Timed.{Timed};
 ghost use Rattle.diva_outside.specs.Sink.{Puts};
 ghost use Rattle.diva_trace.specs.Text.{commits_text, rows_text, summary_text, output_text, registers_text, dump_text, text_in, text_of, IsReportOf};
 
-use crate::line_list::{LineList, write_lines};
 use crate::lines::{
     commit_line, count_line, cycles_line, end_line_of, flush_line, flushes_line, mem_line, out_line,
     output_len_line, pc_line, registers_line,
@@ -14,7 +13,7 @@ use crate::lines::{
 use crate::report::{Dump, Report};
 use diva_core::{FlushRow, View};
 use diva_isa::Record;
-use diva_outside::{Line, Sink, SinkFailed, put_lines};
+use diva_outside::{Line, LineList, Sink, SinkFailed, put_line, put_lines};
 
 // The lines of some committed instructions, the first of which has this number.
 #[derive(Drop)]
@@ -124,7 +123,7 @@ pub fn write_commits<S: Sink>(
     ensures { Puts (commits_text first records.now)
         (S.contents sink.old) (S.contents sink.new) (S.faults sink.old) (S.faults sink.new) result }
 {
-    write_lines(&CommitLines { first, records }, sink)
+    put_lines(&CommitLines { first, records }, sink)
 }
 
 /// Puts the flushes, in order. Where a put fails, a prefix of their text was appended.
@@ -133,7 +132,7 @@ pub fn write_rows<S: Sink>(rows: &[FlushRow], sink: &mut S) -> Result<(), SinkFa
     ensures { Puts (rows_text rows.now)
         (S.contents sink.old) (S.contents sink.new) (S.faults sink.old) (S.faults sink.new) result }
 {
-    write_lines(&FlushLines { rows }, sink)
+    put_lines(&FlushLines { rows }, sink)
 }
 
 /// Puts how the run ended, and its counts. Where a put fails, a prefix of that text was appended.
@@ -143,13 +142,13 @@ pub fn write_summary<S: Sink>(report: &Report<'_>, sink: &mut S) -> Result<(), S
         (S.contents sink.old) (S.contents sink.new) (S.faults sink.old) (S.faults sink.new) result }
 {
     put_lines(
-        sink,
         &[
             end_line_of(report.end),
             count_line(report.count),
             cycles_line(report.cycles),
             flushes_line(report.flushes, report.silent),
         ],
+        sink,
     )
 }
 
@@ -159,8 +158,8 @@ pub fn write_output<S: Sink>(bytes: &[u8], sink: &mut S) -> Result<(), SinkFaile
     ensures { Puts (output_text bytes.now)
         (S.contents sink.old) (S.contents sink.new) (S.faults sink.old) (S.faults sink.new) result }
 {
-    sink.put(output_len_line(bytes.len() as u64).bytes())?;
-    write_lines(&OutLines { bytes }, sink)
+    put_line(&output_len_line(bytes.len() as u64), sink)?;
+    put_lines(&OutLines { bytes }, sink)
 }
 
 /// Puts the registers and the pc. Where a put fails, a prefix of that text was appended.
@@ -170,7 +169,6 @@ pub fn write_registers<S: Sink>(view: &View<'_>, sink: &mut S) -> Result<(), Sin
         (S.contents sink.old) (S.contents sink.new) (S.faults sink.old) (S.faults sink.new) result }
 {
     put_lines(
-        sink,
         &[
             registers_line(view, 0),
             registers_line(view, 4),
@@ -182,6 +180,7 @@ pub fn write_registers<S: Sink>(view: &View<'_>, sink: &mut S) -> Result<(), Sin
             registers_line(view, 28),
             pc_line(view.pc()),
         ],
+        sink,
     )
 }
 
@@ -192,7 +191,7 @@ pub fn write_dump<S: Sink>(view: &View<'_>, dump: Dump, sink: &mut S) -> Result<
     ensures { Puts (dump_text (memory_of view.now) dump)
         (S.contents sink.old) (S.contents sink.new) (S.faults sink.old) (S.faults sink.new) result }
 {
-    write_lines(&DumpLines { view, dump }, sink)
+    put_lines(&DumpLines { view, dump }, sink)
 }
 
 /// Puts the whole text of a run: the flushes, the summary, the output, the registers and the pc, and, where it is

@@ -23,7 +23,7 @@ loop-command-preserved g c =
     let reply = c.reply_to-line.ensures in
     let at : slice_get c.args.commands.now c.loop-command.command-index ≡ Some c.command-item.result = slice_get_read c.args.commands.now (length c.args.commands.now) c.loop-command.command-index c.command-item.result refl c.loop-command-test.true c.command-item.is in
     record {
-      replies = replies_more g.D.Core.gives _ c.loop-command.command-index _ _ _ _ _ _ _ _ _ _ c.command-item.result _ _ _ _ _ inv.replies at reply.drives.turns reply.moved reply.at_once reply.reply c.bytes.ensures.bytes c.in-Ok.ensures;
+      replies = replies_more g.D.Core.gives _ c.loop-command.command-index _ _ _ _ _ _ _ _ _ _ c.command-item.result _ _ _ _ inv.replies at reply.drives.turns reply.moved reply.at_once reply.reply c.in-Ok.ensures;
       within = cycles-more c.loop-command.m.timed.cycles _ c.loop-command.command-index _ c.loop-command.m.timed.config.limit _ inv.within (ap (λ (z : Config). z.limit) inv.config) reply.million;
       config = reply.config ∙ inv.config;
     }
@@ -34,7 +34,7 @@ returns-in-Err g c =
     let reply = c.reply_to-line.ensures in
     let at : slice_get c.args.commands.now c.loop-command.command-index ≡ Some c.command-item.result = slice_get_read c.args.commands.now (length c.args.commands.now) c.loop-command.command-index c.command-item.result refl c.loop-command-test.true c.command-item.is in
     replied g.D.Core.gives _ (c.loop-command.command-index + 1) _ _ _ _ _ _ _ _ _
-    (replies_more g.D.Core.gives _ c.loop-command.command-index _ _ _ _ _ _ _ _ _ _ c.command-item.result _ _ _ _ _ inv.replies at reply.drives.turns reply.moved reply.at_once reply.reply c.bytes.ensures.bytes c.in-Err.ensures)
+    (replies_more g.D.Core.gives _ c.loop-command.command-index _ _ _ _ _ _ _ _ _ _ c.command-item.result _ _ _ _ inv.replies at reply.drives.turns reply.moved reply.at_once reply.reply c.in-Err.ensures)
     (cycles-more c.loop-command.m.timed.cycles _ c.loop-command.command-index _ c.loop-command.m.timed.config.limit _ inv.within (ap (λ (z : Config). z.limit) inv.config) reply.million)
     tt
 

@@ -19,7 +19,7 @@ loop-place-preserved g c =
     let inside : i < length c.args.list.now = (let e = ap (λ (l : List Record). length l) same in omega arith) in
     let text : c.tape_piece.result ≡ piece_text (get_or c.args.list.now i none) (i == 0) = subst (λ (l : List Record). c.tape_piece.result ≡ piece_text (get_or l i none) (i == 0)) same c.tape_piece.ensures.text in
     record {
-      put = rw (pieces_more c.args.list.now i none inside, ← text, ← c.bytes.ensures.bytes) (puts_then _ _ _ _ _ _ _ _ _ inv.put c.in-Ok.ensures);
+      put = rw (pieces_more c.args.list.now i none inside, ← text) (puts_then _ _ _ _ _ _ _ _ _ inv.put c.in-Ok.ensures);
       claims = All-more IsClaim c.args.list.now i none inside inv.claims (subst (λ (l : List Record). IsClaim (get_or l i none)) same c.tape_piece.ensures.numbers);
     }
 
@@ -29,10 +29,10 @@ returns-in-Err-clause-put g c =
     let same = c.as_slice-claim-items.ensures.value in
     let inside : i < length c.args.list.now = (let e = ap (λ (l : List Record). length l) same in omega arith) in
     let text : c.tape_piece.result ≡ piece_text (get_or c.args.list.now i none) (i == 0) = subst (λ (l : List Record). c.tape_piece.result ≡ piece_text (get_or l i none) (i == 0)) same c.tape_piece.ensures.text in
-    rw (pieces_parts c.args.list.now i none (codes "\n") inside, ← text, ← c.bytes.ensures.bytes)
+    rw (pieces_parts c.args.list.now i none (codes "\n") inside, ← text)
     (puts_cut _ _ _ _ _ _ _ (puts_then _ _ _ _ _ _ _ _ _ c.loop-place.invariant.put c.in-Err.ensures))
 
 pub returns-clause-put : goal.returns-clause-put
 returns-clause-put g c =
     let all : length c.args.list.now ≡ c.loop-place.place = (let e = ap (λ (l : List Record). length l) c.as_slice-claim-items.ensures.value in let f = c.loop-place.auto.place-end in let h = c.loop-place-test.false in omega arith) in
-    rw (← pieces_whole c.args.list.now c.loop-place.place all) (puts_then _ _ _ _ _ _ _ _ _ c.loop-place.invariant.put c.put-2.ensures)
+    rw (← pieces_whole c.args.list.now c.loop-place.place all) (puts_then _ _ _ _ _ _ _ _ _ c.loop-place.invariant.put c.put.ensures)

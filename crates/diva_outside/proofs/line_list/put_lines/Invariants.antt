@@ -3,7 +3,7 @@ use Rattle.std.proofs.Common.{Ok, take}
 use Rattle.std.specs.List.{concat}
 use Rattle.diva_outside.specs.Sink.{Puts}
 use Rattle.diva_outside.specs.declared.sink.SinkFailed.{SinkFailed}
-use Rattle.diva_trace.proofs.line_list.write_lines.Given as goal
+use Rattle.diva_outside.proofs.line_list.put_lines.Given as goal
 
 -- the lines so far were put
 abbrev pub invariant-loop-at : goal.invariant-loop-at

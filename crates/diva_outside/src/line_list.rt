@@ -3,7 +3,7 @@ ghost use Rattle.std.specs.Prelude.{◌≡◌, ◌<◌, ℕ, List, [], length};
 ghost use Rattle.std.specs.List.{concat, slice_index_or};
 ghost use Rattle.diva_outside.specs.Sink.{Puts};
 
-use diva_outside::{Line, Sink, SinkFailed};
+use crate::{Line, Sink, SinkFailed};
 
 /// Lines, each made when it is asked for, so that they take no memory.
 pub trait LineList {
@@ -20,17 +20,36 @@ pub trait LineList {
         ensures { result ≡ slice_index_or (lines self.now) at [] };
 }
 
+/// Lines that are made already.
+impl<const N: usize> LineList for [Line; N] {
+    ghost lines = { λ lines. lines };
+
+    fn count(&self) -> usize {
+        N
+    }
+
+    fn line(&self, at: usize) -> Line {
+        let mut line = Line::new();
+        line.text(self[at].bytes());
+        line
+    }
+}
+
 /// Puts the lines, one after the other. Where one fails, a prefix of their text was appended, and no line after it is put.
-pub fn write_lines<L: LineList, S: Sink>(list: &L, sink: &mut S) -> Result<(), SinkFailed>
+pub fn put_lines<L: LineList, S: Sink>(list: &L, sink: &mut S) -> Result<(), SinkFailed>
     ensures { Puts (concat (L.lines list.now))
         (S.contents sink.old) (S.contents sink.new) (S.faults sink.old) (S.faults sink.new) result }
 {
     for at in 0..list.count() {
-        let line = list.line(at);
-        match sink.put(line.bytes()) {
-            Ok(()) => {}
-            Err(fault) => return Err(fault),
-        }
+        put_line(&list.line(at), sink)?;
     }
     Ok(())
+}
+
+/// Puts a line. Where that fails, a prefix of it was appended.
+pub fn put_line<S: Sink>(line: &Line, sink: &mut S) -> Result<(), SinkFailed>
+    ensures { Puts line.now
+        (S.contents sink.old) (S.contents sink.new) (S.faults sink.old) (S.faults sink.new) result }
+{
+    sink.put(line.bytes())
 }
