@@ -13,7 +13,8 @@
 //! - `sure_sink`: `SureSink`, a sink that never fails.
 //! - `line`: `Line`, a line of text, written piece by piece.
 //! - `text_lines`: `lines`, the lines of a text. `line_words`: `words`, the words of a line, and the line without its comment.
-//! - `numbers`: the hex and decimal numbers that words spell.
+//! - `numbers`: the hex and decimal numbers that words spell. `next_words`: the next word of a line as a number, or what is
+//!   wrong with it, `WordFault`.
 //! - `tests`: the files, the sinks and the numbers, each with a worked answer.
 #![tactic(auto)]
 
@@ -25,6 +26,7 @@ mod line_words;
 mod mem_file;
 mod mem_files;
 mod mem_sink;
+mod next_words;
 mod numbers;
 mod sink;
 mod std_sink;
@@ -41,6 +43,7 @@ pub use line_words::{LineWords, without_comment, words};
 pub use mem_file::MemFile;
 pub use mem_files::MemFiles;
 pub use mem_sink::{Fail, MemSink};
+pub use next_words::{WordFault, is_word};
 pub use numbers::{decimal, hex};
 pub use sink::{Sink, SinkFailed, put_lines};
 pub use std_sink::StdSink;
