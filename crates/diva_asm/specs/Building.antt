@@ -9,12 +9,13 @@ use Rattle.diva_decode.specs.Table.Format.{U, J, B}
 use Rattle.diva_decode.specs.declared.op.Op.{Op}
 use Rattle.diva_decode.specs.declared.op.Op.TheVariants.{Lui, Addi, Jal, Jalr}
 use Rattle.diva_decode.specs.declared.instr.Instr.{Instr}
+use Rattle.diva_outside.specs.NextWords.{and_then, fault_by}
 use Rattle.diva_outside.specs.Text.{Text}
+use Rattle.diva_asm.specs.Kinds.{number_of_kind}
 use Rattle.diva_asm.specs.Labels.{Labels, address_of}
 use Rattle.diva_asm.specs.Texts.{without_comment, labels_of}
 use Rattle.diva_asm.specs.Operands.{Place, word_from, is_within}
 use Rattle.diva_asm.specs.Statements.{statement_of}
-use Rattle.diva_asm.specs.Steps.{and_then, numbered}
 use Rattle.diva_asm.specs.Laying.{is_short}
 use Rattle.diva_asm.specs.declared.fault.Kind.{Kind}
 use Rattle.diva_asm.specs.declared.fault.Kind.TheVariants.{UndefinedName, BadOffset}
@@ -134,4 +135,4 @@ unfoldable pub built_text : ℕ → Labels → Built → Text → Result Built K
 built_text base labels built text = and_then (statement_of (labels_of text).rest) (λ s. built_by base labels built s)
 
 abbrev pub built_line : ℕ → Labels → Built → Text → Result Built ℕ
-built_line base labels built line = numbered (built_text base labels built (without_comment line))
+built_line base labels built line = fault_by number_of_kind (built_text base labels built (without_comment line))

@@ -2,12 +2,13 @@
 use Rattle.std.specs.Prelude.{ℕ, ◌+◌, ◌%◌, ◌^◌, ◌==◌, ◌&&◌, ◌||◌, not, nat_lt, Bool, true, false, List, [], ◌∷◌, length, Option, Some, None, Result, Ok, Err, neg_ℤ, pos, is_some, if◌then◌else◌}
 use Rattle.std.specs.Int.{cast_signed, w32}
 use Rattle.std.specs.Option.{unwrap_or}
+use Rattle.diva_outside.specs.NextWords.{and_then, fault_by}
 use Rattle.diva_outside.specs.Text.{Text}
+use Rattle.diva_asm.specs.Kinds.{number_of_kind}
 use Rattle.diva_asm.specs.Labels.{address_of, with_address}
 use Rattle.diva_asm.specs.Texts.{without_comment, labels_of}
 use Rattle.diva_asm.specs.Operands.{word_from, is_within}
 use Rattle.diva_asm.specs.Statements.{statement_of}
-use Rattle.diva_asm.specs.Steps.{and_then, numbered}
 use Rattle.diva_asm.specs.declared.fault.Kind.{Kind}
 use Rattle.diva_asm.specs.declared.fault.Kind.TheVariants.{RepeatedLabel, Misaligned, BadDirective, TooManyBytes}
 use Rattle.diva_asm.specs.declared.mnemonic.Mnemonic.{Mnemonic}
@@ -90,4 +91,4 @@ unfoldable pub with_text : Laid → Text → Result Laid Kind
 with_text laid text = and_then (with_labels laid (labels_of text).names) (λ next. with_statement_of next (labels_of text).rest)
 
 abbrev pub with_line : Laid → Text → Result Laid ℕ
-with_line laid line = numbered (with_text laid (without_comment line))
+with_line laid line = fault_by number_of_kind (with_text laid (without_comment line))

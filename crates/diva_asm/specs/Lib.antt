@@ -15,8 +15,6 @@ pub mod Laying
 pub mod Building
 -- the listing of an image
 pub mod Listing
--- steps that may find a fault
-pub mod Steps
 -- the numbers of the kinds of faults
 pub mod Kinds
 -- labels and where they stand

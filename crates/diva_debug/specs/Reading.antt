@@ -1,57 +1,30 @@
--- The commands of a text, or its first fault. A line's words are read from the left, each by a rule that gives what the word
--- says, or the kind of its fault.
-use Rattle.std.specs.Prelude.{ℕ, ◌-◌, ◌^◌, ◌&&◌, min, nat_le, List, [], ◌∷◌, ◌++◌, codes, Option, Some, None, option_and_then, Result, Ok, Err, if◌then◌else◌}
+-- The commands of a text, or its first fault. A line's words are read from the left, each by a rule that gives what the first
+-- word says, or the kind of its fault.
+use Rattle.std.specs.Prelude.{ℕ, ◌-◌, ◌^◌, min, List, [], ◌∷◌, ◌++◌, codes, Option, Some, None, Result, Ok, Err, if◌then◌else◌}
 use Rattle.std.specs.Str.{bytes_eq}
 use Rattle.diva_outside.specs.Lines.{LineFault, lines_of, over_lines}
-use Rattle.diva_outside.specs.Numbers.{decimal_of, hex_of}
+use Rattle.diva_outside.specs.NextWords.{and_then, fault_by, first_hex, first_number, no_more, with_first}
 use Rattle.diva_outside.specs.Text.{Text}
 use Rattle.diva_outside.specs.Words.{words_of}
 use Rattle.diva_debug.specs.declared.command.Command.{Command}
 use Rattle.diva_debug.specs.declared.command.Command.TheVariants.{Step, Until, Reg, Mem, Why}
 use Rattle.diva_debug.specs.declared.fault.Kind.{Kind}
-use Rattle.diva_debug.specs.declared.fault.Kind.TheVariants.{Unknown, Number, WordCount}
-use Rattle.diva_debug.specs.Kinds.{number_of_kind}
-
--- ---- one word
-
-abbrev pub or_unreadable : Option ℕ → Result ℕ Kind
-or_unreadable (Some n) = Ok n
-or_unreadable None = Err Number
-
-abbrev pub ranged : ℕ → ℕ → ℕ → Option ℕ
-ranged low high n = if nat_le low n && nat_le n high then Some n else None
-
--- a decimal number from low to high
-unfoldable pub number_in : ℕ → ℕ → Text → Result ℕ Kind
-number_in low high word = or_unreadable (option_and_then (ranged low high) (decimal_of word))
-
--- one to eight hex digits
-unfoldable pub hex_in : Text → Result ℕ Kind
-hex_in word = or_unreadable (hex_of word)
+use Rattle.diva_debug.specs.declared.fault.Kind.TheVariants.{Unknown}
+use Rattle.diva_debug.specs.Kinds.{kind_of, number_of_kind}
 
 -- ---- words from the left
 
--- the first word as a rule reads it; there has to be one
-abbrev pub first_by : (Text → Result ℕ Kind) → List Text → Result ℕ Kind
-first_by rule [] = Err WordCount
-first_by rule (word ∷ words) = rule word
+-- the first word as a decimal number from low to high
+abbrev pub number_in : ℕ → ℕ → List Text → Result ℕ Kind
+number_in low high words = fault_by kind_of (first_number low high words)
 
-abbrev pub others_of : List Text → List Text
-others_of [] = []
-others_of (word ∷ words) = words
-
-abbrev pub and_then : {A B : Type 0} → Result A Kind → (A → Result B Kind) → Result B Kind
-and_then (Ok value) next = next value
-and_then (Err kind) next = Err kind
-
--- the first word as a rule reads it, and then the others by what it says
-abbrev pub with_first : (Text → Result ℕ Kind) → List Text → (ℕ → List Text → Result Command Kind) → Result Command Kind
-with_first rule words next = and_then (first_by rule words) (λ n. next n (others_of words))
+-- the first word as one to eight hex digits
+abbrev pub hex_in : List Text → Result ℕ Kind
+hex_in words = fault_by kind_of (first_hex words)
 
 -- no word is left over
 abbrev pub and_no_more : {A : Type 0} → A → List Text → Result A Kind
-and_no_more value [] = Ok value
-and_no_more value (word ∷ words) = Err WordCount
+and_no_more value words = and_then (fault_by kind_of (no_more words)) (λ done. Ok value)
 
 -- ---- one command
 
@@ -106,12 +79,8 @@ abbrev pub and_command : List Command → Option Command → Result (List Comman
 and_command commands None = Ok commands
 and_command commands (Some command) = Ok (commands ++ command ∷ [])
 
-abbrev pub numbered : {A : Type 0} → Result A Kind → Result A ℕ
-numbered (Ok value) = Ok value
-numbered (Err kind) = Err (number_of_kind kind)
-
 abbrev pub with_line : List Command → Text → Result (List Command) ℕ
-with_line commands line = numbered (and_then (line_in (words_of line)) (and_command commands))
+with_line commands line = fault_by number_of_kind (and_then (line_in (words_of line)) (and_command commands))
 
 -- the commands of a text in their order, or its first fault
 unfoldable pub commands_of : Text → Result (List Command) LineFault

@@ -1,6 +1,8 @@
 // Why a text has no commands.
 ghost use Rattle.std.specs.Prelude.{◌≡◌};
-ghost use Rattle.diva_debug.specs.Kinds.{number_of_kind};
+ghost use Rattle.diva_debug.specs.Kinds.{kind_of, number_of_kind};
+
+use diva_outside::WordFault;
 
 /// Why commands were not read.
 #[derive(Clone, Copy, Debug, PartialEq, Eq)]
@@ -36,5 +38,16 @@ impl Kind {
         ensures { result ≡ number_of_kind self }
     {
         self as u8
+    }
+}
+
+impl From<WordFault> for Kind {
+    ghost from_gives = { λ fault kind. kind ≡ kind_of fault };
+
+    fn from(fault: WordFault) -> Self {
+        match fault {
+            WordFault::Count => Kind::WordCount,
+            WordFault::Unreadable => Kind::Number,
+        }
     }
 }

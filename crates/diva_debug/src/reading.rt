@@ -1,18 +1,17 @@
 // The commands of a text, or its first fault.
 ghost use Rattle.std.specs.Prelude.{◌≡◌, ◌≤◌, length, IfOk, IfErr, IfSome, Ok};
 ghost use Rattle.std.specs.List.{All};
-ghost use Rattle.std.specs.Str.{bytes_eq};
 ghost use Rattle.diva_outside.specs.Words.{words_of};
 ghost use Rattle.diva_debug.specs.declared.fault.CommandFault.TheVariants.{Bad};
 ghost use Rattle.diva_debug.specs.Gives.{IsFirstFault};
 ghost use Rattle.diva_debug.specs.Kinds.{number_of_kind};
 ghost use Rattle.diva_debug.specs.Moves.{IsShort};
-ghost use Rattle.diva_debug.specs.Reading.{and_no_more, command_in, commands_of, first_by, hex_in, line_in, mem_in, most_bytes, number_in, others_of, reg_in, step_in, until_in};
+ghost use Rattle.diva_debug.specs.Reading.{command_in, commands_of, line_in, mem_in, most_bytes, reg_in, step_in, until_in};
 
 use crate::command::Command;
 use crate::fault::{CommandFault, Kind};
 use crate::numbers::{MemRange, RegisterNumber, StepCount};
-use diva_outside::{LineWords, decimal, hex, lines, words};
+use diva_outside::{LineWords, is_word, lines, words};
 use std::alloc::Global;
 
 /// The commands of a text in their order, or its first fault.
@@ -71,7 +70,7 @@ fn command_in(word: &[u8], words: &mut LineWords<'_>) -> Result<Command, Kind>
     } else if is_word(word, b"mem") {
         mem_in(words)
     } else if is_word(word, b"why") {
-        no_more(words)?;
+        words.end()?;
         Ok(Command::Why)
     } else {
         Err(Kind::Unknown)
@@ -84,8 +83,8 @@ fn step_in(words: &mut LineWords<'_>) -> Result<Command, Kind>
     ensures command { result ≡ step_in words.old }
     ensures short { IfOk result IsShort }
 {
-    let count = first_number(words, 1, 1_000_000)?;
-    no_more(words)?;
+    let count = words.number(1, 1_000_000)?;
+    words.end()?;
     Ok(Command::Step(StepCount::new(count).unwrap()))
 }
 
@@ -95,8 +94,8 @@ fn until_in(words: &mut LineWords<'_>) -> Result<Command, Kind>
     ensures command { result ≡ until_in words.old }
     ensures short { IfOk result IsShort }
 {
-    let pc = first_hex(words)?;
-    no_more(words)?;
+    let pc = words.hex()?;
+    words.end()?;
     Ok(Command::Until(pc))
 }
 
@@ -106,8 +105,8 @@ fn reg_in(words: &mut LineWords<'_>) -> Result<Command, Kind>
     ensures command { result ≡ reg_in words.old }
     ensures short { IfOk result IsShort }
 {
-    let number = first_number(words, 0, 31)? as u8;
-    no_more(words)?;
+    let number = words.number(0, 31)? as u8;
+    words.end()?;
     Ok(Command::Reg(RegisterNumber::new(number).unwrap()))
 }
 
@@ -117,9 +116,9 @@ fn mem_in(words: &mut LineWords<'_>) -> Result<Command, Kind>
     ensures command { result ≡ mem_in words.old }
     ensures short { IfOk result IsShort }
 {
-    let addr = first_hex(words)?;
-    let len = first_number(words, 1, most_bytes(addr))?;
-    no_more(words)?;
+    let addr = words.hex()?;
+    let len = words.number(1, most_bytes(addr))?;
+    words.end()?;
     Ok(Command::Mem(MemRange::new(addr, len).unwrap()))
 }
 
@@ -129,51 +128,6 @@ fn most_bytes(addr: u32) -> u32
 {
     let left = (1 << 32) - u64::from(addr);
     left.min(32) as u32
-}
-
-/// The next word as a decimal number from `low` to `high`.
-#[tactic(auto, unfolding(crate::specs::Reading::number_in))]
-fn first_number(words: &mut LineWords<'_>, low: u32, high: u32) -> Result<u32, Kind>
-    ensures number { result ≡ first_by (number_in low high) words.old }
-    ensures others { words.new ≡ others_of words.old }
-    ensures low { IfOk result (λ n. low ≤ n) }
-    ensures high { IfOk result (λ n. n ≤ high) }
-{
-    let Some(word) = words.next() else {
-        return Err(Kind::WordCount);
-    };
-    match decimal(word) {
-        Some(number) if u64::from(low) <= number && number <= u64::from(high) => Ok(number as u32),
-        _ => Err(Kind::Number),
-    }
-}
-
-/// The next word as a number of one to eight hex digits.
-#[tactic(auto, unfolding(crate::specs::Reading::hex_in))]
-fn first_hex(words: &mut LineWords<'_>) -> Result<u32, Kind>
-    ensures number { result ≡ first_by hex_in words.old }
-    ensures others { words.new ≡ others_of words.old }
-{
-    match words.next() {
-        Some(word) => hex(word).ok_or(Kind::Number),
-        None => Err(Kind::WordCount),
-    }
-}
-
-fn is_word(word: &[u8], name: &[u8]) -> bool
-    ensures { result ≡ bytes_eq word.now name.now }
-{
-    word == name
-}
-
-/// There is no further word.
-fn no_more(words: &mut LineWords<'_>) -> Result<(), Kind>
-    ensures { result ≡ and_no_more tt words.old }
-{
-    match words.next() {
-        Some(_) => Err(Kind::WordCount),
-        None => Ok(()),
-    }
 }
 
 /// The fault of a line.

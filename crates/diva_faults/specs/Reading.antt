@@ -1,66 +1,41 @@
--- The rows of a script, or its first fault. A line's words are read from the left, each by a rule that gives what the word
+-- The rows of a script, or its first fault. A line's words are read from the left, each by a rule that gives what the first word
 -- says, or the kind of its fault.
-use Rattle.std.specs.Prelude.{ℕ, ◌&&◌, nat_le, nat_lt, List, [], ◌∷◌, ◌++◌, length, codes, find, Option, Some, None, option_and_then, Result, Ok, Err, if◌then◌else◌}
+use Rattle.std.specs.Prelude.{ℕ, nat_lt, List, [], ◌∷◌, ◌++◌, length, codes, find, Option, Some, None, Result, Ok, Err, if◌then◌else◌}
+use Rattle.std.specs.Option.{ok_or}
 use Rattle.std.specs.Str.{bytes_eq}
 use Rattle.diva_core.specs.declared.differences.Field.{Field}
 use Rattle.diva_core.specs.Difference.{all_fields}
 use Rattle.diva_outside.specs.Lines.{LineFault, lines_of, over_lines}
-use Rattle.diva_outside.specs.Numbers.{decimal_of, hex_of}
+use Rattle.diva_outside.specs.NextWords.{and_then, fault_by, first_hex, first_number, no_more, with_first}
 use Rattle.diva_outside.specs.Text.{Text}
 use Rattle.diva_outside.specs.Words.{words_of}
 use Rattle.diva_faults.specs.declared.fault.Kind.{Kind}
-use Rattle.diva_faults.specs.declared.fault.Kind.TheVariants.{Keyword, Number, FieldName, WordCount, RowCount}
+use Rattle.diva_faults.specs.declared.fault.Kind.TheVariants.{Keyword, FieldName, WordCount, RowCount}
 use Rattle.diva_faults.specs.declared.rows.Change.{Change}
 use Rattle.diva_faults.specs.declared.rows.Change.TheVariants.{Flip, Set, Lose, Double}
 use Rattle.diva_faults.specs.declared.rows.Row.{Row}
 use Rattle.diva_faults.specs.declared.rows.Row.TheVariants.{Lane, Hush}
-use Rattle.diva_faults.specs.Kinds.{number_of_kind}
+use Rattle.diva_faults.specs.Kinds.{kind_of, number_of_kind}
 use Rattle.diva_faults.specs.Rows.{field_name}
-
--- ---- one word
-
-abbrev pub or_fault : {A : Type 0} → Kind → Option A → Result A Kind
-or_fault kind (Some value) = Ok value
-or_fault kind None = Err kind
-
-abbrev pub ranged : ℕ → ℕ → ℕ → Option ℕ
-ranged low high n = if nat_le low n && nat_le n high then Some n else None
-
--- a decimal number from low to high
-unfoldable pub number_in : ℕ → ℕ → Text → Result ℕ Kind
-number_in low high word = or_fault Number (option_and_then (ranged low high) (decimal_of word))
-
--- one to eight hex digits
-unfoldable pub hex_in : Text → Result ℕ Kind
-hex_in word = or_fault Number (hex_of word)
-
--- the name of a field
-unfoldable pub field_in : Text → Result Field Kind
-field_in word = or_fault FieldName (find (λ field. bytes_eq word (field_name field)) all_fields)
 
 -- ---- words from the left
 
--- the first word as a rule reads it; there has to be one
-abbrev pub first_by : {A : Type 0} → (Text → Result A Kind) → List Text → Result A Kind
-first_by rule [] = Err WordCount
-first_by rule (word ∷ words) = rule word
+-- the first word as a decimal number from low to high
+abbrev pub number_in : ℕ → ℕ → List Text → Result ℕ Kind
+number_in low high words = fault_by kind_of (first_number low high words)
 
-abbrev pub others_of : List Text → List Text
-others_of [] = []
-others_of (word ∷ words) = words
+-- the first word as one to eight hex digits
+abbrev pub hex_in : List Text → Result ℕ Kind
+hex_in words = fault_by kind_of (first_hex words)
 
-abbrev pub and_then : {A B : Type 0} → Result A Kind → (A → Result B Kind) → Result B Kind
-and_then (Ok value) next = next value
-and_then (Err kind) next = Err kind
-
--- the first word as a rule reads it, and then the others by what it says
-abbrev pub with_first : {A B : Type 0} → (Text → Result A Kind) → List Text → (A → List Text → Result B Kind) → Result B Kind
-with_first rule words next = and_then (first_by rule words) (λ value. next value (others_of words))
+-- the first word as the name of a field
+unfoldable pub field_in : List Text → Result Field Kind
+field_in [] = Err WordCount
+field_in (word ∷ words) = ok_or (find (λ field. bytes_eq word (field_name field)) all_fields) FieldName
 
 -- no word is left over
 abbrev pub and_no_more : {A : Type 0} → A → List Text → Result A Kind
-and_no_more value [] = Ok value
-and_no_more value (word ∷ words) = Err WordCount
+and_no_more value words = and_then (fault_by kind_of (no_more words)) (λ done. Ok value)
 
 -- ---- one row
 
@@ -129,12 +104,8 @@ abbrev pub and_row : List Row → Option Row → Result (List Row) Kind
 and_row rows None = Ok rows
 and_row rows (Some row) = if nat_lt (length rows) most_rows then Ok (rows ++ row ∷ []) else Err RowCount
 
-abbrev pub numbered : {A : Type 0} → Result A Kind → Result A ℕ
-numbered (Ok value) = Ok value
-numbered (Err kind) = Err (number_of_kind kind)
-
 abbrev pub with_line : List Row → Text → Result (List Row) ℕ
-with_line rows line = numbered (and_then (line_in (words_of line)) (and_row rows))
+with_line rows line = fault_by number_of_kind (and_then (line_in (words_of line)) (and_row rows))
 
 -- the rows of a script in their order, or its first fault
 unfoldable pub script_of : Text → Result (List Row) LineFault

@@ -1,7 +1,8 @@
 -- The rows of a script.
-use Rattle.std.specs.Prelude.{ℕ, ◌≤◌, ⊤, List, codes}
+use Rattle.std.specs.Prelude.{ℕ, ⊤, List, codes}
 use Rattle.diva_core.specs.declared.differences.Field.{Field}
 use Rattle.diva_core.specs.declared.differences.Field.TheVariants.{Pc, Word, Src1, Src2, Addr, Value, Next, End}
+use Rattle.diva_outside.specs.NextWords.{IsWithin}
 use Rattle.diva_faults.specs.declared.rows.Change.{Change}
 use Rattle.diva_faults.specs.declared.rows.Change.TheVariants.{Flip, Set, Lose, Double}
 use Rattle.diva_faults.specs.declared.rows.Row.{Row}
@@ -11,11 +12,6 @@ use Rattle.diva_faults.specs.declared.rows.Row.TheVariants.{Lane, Hush}
 abbrev pub row_cycle : Row → ℕ
 row_cycle (Lane cycle lane change) = cycle
 row_cycle (Hush cycle cycles) = cycle
-
--- a number in a range
-pub record IsWithin (low high n : ℕ) : Type 0 where
-  pub least : low ≤ n
-  pub most : n ≤ high
 
 -- cycles, and numbers of cycles
 abbrev pub IsCycle : ℕ → Type 0

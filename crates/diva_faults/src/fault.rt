@@ -1,6 +1,8 @@
 // Why a text is no script.
 ghost use Rattle.std.specs.Prelude.{◌≡◌};
-ghost use Rattle.diva_faults.specs.Kinds.{number_of_kind};
+ghost use Rattle.diva_faults.specs.Kinds.{kind_of, number_of_kind};
+
+use diva_outside::WordFault;
 
 /// Why a script was not read.
 #[derive(Clone, Copy, Debug, PartialEq, Eq)]
@@ -42,5 +44,16 @@ impl Kind {
         ensures { result ≡ number_of_kind self }
     {
         self as u8
+    }
+}
+
+impl From<WordFault> for Kind {
+    ghost from_gives = { λ fault kind. kind ≡ kind_of fault };
+
+    fn from(fault: WordFault) -> Self {
+        match fault {
+            WordFault::Count => Kind::WordCount,
+            WordFault::Unreadable => Kind::Number,
+        }
     }
 }

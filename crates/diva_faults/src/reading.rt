@@ -3,17 +3,18 @@ ghost use Rattle.std.specs.Prelude.{◌≡◌, ◌≤◌, ◌<◌, length, bit_a
 ghost use Rattle.std.specs.List.{All};
 ghost use Rattle.std.specs.Str.{bytes_eq};
 ghost use Rattle.diva_core.specs.Difference.{all_fields};
+ghost use Rattle.diva_outside.specs.NextWords.{others_of};
 ghost use Rattle.diva_outside.specs.Words.{words_of};
 ghost use Rattle.diva_faults.specs.declared.fault.ScriptFault.TheVariants.{Bad};
 ghost use Rattle.diva_faults.specs.Gives.{IsFirstFault};
 ghost use Rattle.diva_faults.specs.Kinds.{number_of_kind};
-ghost use Rattle.diva_faults.specs.Reading.{and_no_more, change_in, field_in, first_by, flip_in, hex_in, hush_in, lane_in, line_in, number_in, others_of, part_in, row_in, script_of, set_in};
-ghost use Rattle.diva_faults.specs.Rows.{field_name, IsChange, IsCycle, IsRow, IsWithin};
+ghost use Rattle.diva_faults.specs.Reading.{change_in, field_in, flip_in, hush_in, lane_in, line_in, part_in, row_in, script_of, set_in};
+ghost use Rattle.diva_faults.specs.Rows.{field_name, IsChange, IsCycle, IsRow};
 
 use crate::fault::{Kind, ScriptFault};
 use crate::rows::{Change, Row};
 use diva_core::Field;
-use diva_outside::{LineWords, decimal, hex, lines, words};
+use diva_outside::{LineWords, is_word, lines, words};
 use std::alloc::Global;
 
 /// The most rows that a script has.
@@ -68,7 +69,7 @@ fn row_in(word: &[u8], words: &mut LineWords<'_>) -> Result<Row, Kind>
     if !is_word(word, b"at") {
         return Err(Kind::Keyword);
     }
-    let cycle = first_number(words, 1, 1_000_000_000)?;
+    let cycle = words.number(1, 1_000_000_000)?;
     part_in(cycle, words)
 }
 
@@ -98,8 +99,8 @@ fn hush_in(cycle: u32, words: &mut LineWords<'_>) -> Result<Row, Kind>
     ensures row { result ≡ hush_in cycle words.old }
     ensures ranges { IfOk result IsRow }
 {
-    let cycles = first_number(words, 1, 1_000_000_000)?;
-    no_more(words)?;
+    let cycles = words.number(1, 1_000_000_000)?;
+    words.end()?;
     Ok(Row::Hush { cycle, cycles })
 }
 
@@ -110,7 +111,7 @@ fn lane_in(cycle: u32, words: &mut LineWords<'_>) -> Result<Row, Kind>
     ensures row { result ≡ lane_in cycle words.old }
     ensures ranges { IfOk result IsRow }
 {
-    let lane = first_number(words, 0, 7)? as u8;
+    let lane = words.number(0, 7)? as u8;
     let change = change_in(words)?;
     Ok(Row::Lane {
         cycle,
@@ -133,10 +134,10 @@ fn change_in(words: &mut LineWords<'_>) -> Result<Change, Kind>
     } else if is_word(word, b"set") {
         set_in(words)
     } else if is_word(word, b"lose") {
-        no_more(words)?;
+        words.end()?;
         Ok(Change::Lose)
     } else if is_word(word, b"double") {
-        no_more(words)?;
+        words.end()?;
         Ok(Change::Double)
     } else {
         Err(Kind::Keyword)
@@ -150,8 +151,8 @@ fn flip_in(words: &mut LineWords<'_>) -> Result<Change, Kind>
     ensures ranges { IfOk result IsChange }
 {
     let field = first_field(words)?;
-    let bit = first_number(words, 0, 31)? as u8;
-    no_more(words)?;
+    let bit = words.number(0, 31)? as u8;
+    words.end()?;
     Ok(Change::Flip { field, bit })
 }
 
@@ -162,43 +163,15 @@ fn set_in(words: &mut LineWords<'_>) -> Result<Change, Kind>
     ensures ranges { IfOk result IsChange }
 {
     let field = first_field(words)?;
-    let value = first_hex(words)?;
-    no_more(words)?;
+    let value = words.hex()?;
+    words.end()?;
     Ok(Change::Set { field, value })
-}
-
-/// The next word as a decimal number from `low` to `high`.
-#[tactic(auto, unfolding(crate::specs::Reading::number_in))]
-fn first_number(words: &mut LineWords<'_>, low: u32, high: u32) -> Result<u32, Kind>
-    ensures number { result ≡ first_by (number_in low high) words.old }
-    ensures others { words.new ≡ others_of words.old }
-    ensures range { IfOk result (IsWithin low high) }
-{
-    let Some(word) = words.next() else {
-        return Err(Kind::WordCount);
-    };
-    match decimal(word) {
-        Some(number) if u64::from(low) <= number && number <= u64::from(high) => Ok(number as u32),
-        _ => Err(Kind::Number),
-    }
-}
-
-/// The next word as a number of one to eight hex digits.
-#[tactic(auto, unfolding(crate::specs::Reading::hex_in))]
-fn first_hex(words: &mut LineWords<'_>) -> Result<u32, Kind>
-    ensures number { result ≡ first_by hex_in words.old }
-    ensures others { words.new ≡ others_of words.old }
-{
-    match words.next() {
-        Some(word) => hex(word).ok_or(Kind::Number),
-        None => Err(Kind::WordCount),
-    }
 }
 
 /// The next word as a field's name.
 #[tactic(auto, unfolding(crate::specs::Reading::field_in))]
 fn first_field(words: &mut LineWords<'_>) -> Result<Field, Kind>
-    ensures field { result ≡ first_by field_in words.old }
+    ensures field { result ≡ field_in words.old }
     ensures others { words.new ≡ others_of words.old }
 {
     match words.next() {
@@ -230,22 +203,6 @@ fn field_name(field: Field) -> &'static [u8]
         Field::Value => b"value",
         Field::Next => b"next",
         Field::End => b"end",
-    }
-}
-
-fn is_word(word: &[u8], name: &[u8]) -> bool
-    ensures { result ≡ bytes_eq word.now name.now }
-{
-    word == name
-}
-
-/// There is no further word.
-fn no_more(words: &mut LineWords<'_>) -> Result<(), Kind>
-    ensures { result ≡ and_no_more tt words.old }
-{
-    match words.next() {
-        Some(_) => Err(Kind::WordCount),
-        None => Ok(()),
     }
 }
 

@@ -6,6 +6,7 @@ pub mod Lines
 pub mod MemFiles
 pub mod MemSink
 pub mod Named
+pub mod NextWords
 pub mod Numbers
 pub mod Sink
 pub mod StdSink

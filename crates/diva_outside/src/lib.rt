@@ -14,7 +14,8 @@
 //! - `line`: `Line`, a line of text, written piece by piece.
 //! - `line_list`: lines that are made one at a time, and how lines are put into a sink.
 //! - `text_lines`: `lines`, the lines of a text. `line_words`: `words`, the words of a line, and the line without its comment.
-//! - `numbers`: the hex and decimal numbers that words spell.
+//! - `numbers`: the hex and decimal numbers that words spell. `next_words`: the next word of a line as a number, or what is
+//!   wrong with it, `WordFault`.
 //! - `tests`: the files, the sinks and the numbers, each with a worked answer.
 #![tactic(auto)]
 
@@ -27,6 +28,7 @@ mod line_words;
 mod mem_file;
 mod mem_files;
 mod mem_sink;
+mod next_words;
 mod numbers;
 mod sink;
 mod std_sink;
@@ -44,6 +46,7 @@ pub use line_words::{LineWords, without_comment, words};
 pub use mem_file::MemFile;
 pub use mem_files::MemFiles;
 pub use mem_sink::{Fail, MemSink};
+pub use next_words::{WordFault, is_word};
 pub use numbers::{decimal, hex};
 pub use sink::{Sink, SinkFailed};
 pub use std_sink::StdSink;

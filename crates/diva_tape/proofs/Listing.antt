@@ -10,7 +10,8 @@ use Rattle.diva_outside.specs.Words.{words_of}
 use Rattle.diva_tape.specs.declared.fault.Kind.{Kind}
 use Rattle.diva_tape.specs.declared.fault.Kind.TheVariants.{Word, NumberCount, ClaimCount}
 use Rattle.diva_tape.specs.LineParts.{claim_in}
-use Rattle.diva_tape.specs.Tapes.{all_by, and_then, list_from, record_from}
+use Rattle.diva_outside.specs.NextWords.{and_then}
+use Rattle.diva_tape.specs.Tapes.{all_by, list_from, record_from}
 
 abbrev pub numbers_in : Text → Option (List ℕ)
 numbers_in part = all_by hex_of (words_of part)

@@ -3,12 +3,13 @@ use Rattle.std.specs.Prelude.{List, [], Option, Some, None, Result, Ok}
 use Rattle.std.specs.List.{slice_split}
 use Rattle.std.specs.Option.{ok_or}
 use Rattle.diva_isa.specs.declared.record.Record.{Record}
+use Rattle.diva_outside.specs.NextWords.{and_then}
 use Rattle.diva_outside.specs.Numbers.{hex_of}
 use Rattle.diva_outside.specs.Text.{Text}
 use Rattle.diva_outside.specs.Words.{words_of}
 use Rattle.diva_tape.specs.declared.fault.Kind.{Kind}
 use Rattle.diva_tape.specs.declared.fault.Kind.TheVariants.{Word}
-use Rattle.diva_tape.specs.Tapes.{all_by, and_then, record_from, separates}
+use Rattle.diva_tape.specs.Tapes.{all_by, record_from, separates}
 
 -- the parts of what is left of a line, if something is
 abbrev pub parts_left : Option Text → List Text

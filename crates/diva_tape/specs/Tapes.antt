@@ -4,6 +4,7 @@ use Rattle.std.specs.List.{before_first, slice_split}
 use Rattle.std.specs.Option.{ok_or}
 use Rattle.diva_isa.specs.declared.record.Record.{Record}
 use Rattle.diva_outside.specs.Lines.{LineFault, lines_of, over_lines}
+use Rattle.diva_outside.specs.NextWords.{and_then, fault_by}
 use Rattle.diva_outside.specs.Numbers.{hex_of}
 use Rattle.diva_outside.specs.Text.{Text}
 use Rattle.diva_outside.specs.Words.{begins_comment, words_of}
@@ -15,10 +16,6 @@ use Rattle.diva_tape.specs.TapeFaults.{number_of_kind}
 abbrev pub all_by : {A B : Type 0} → (A → Option B) → List A → Option (List B)
 all_by rule [] = Some []
 all_by rule (x ∷ xs) = option_and_then (λ y. option_map (λ ys. y ∷ ys) (all_by rule xs)) (rule x)
-
-abbrev pub and_then : {A B E : Type 0} → Result A E → (A → Result B E) → Result B E
-and_then (Ok value) next = next value
-and_then (Err kind) next = Err kind
 
 -- ---- one line
 
@@ -50,13 +47,9 @@ list_in line = if length (words_of line) == 0 then Ok [] else list_from (parts_o
 
 -- ---- all lines
 
-abbrev pub numbered : {A : Type 0} → Result A Kind → Result A ℕ
-numbered (Ok value) = Ok value
-numbered (Err kind) = Err (number_of_kind kind)
-
 -- the lists so far, and that of one more line
 abbrev pub with_line : List (List Record) → Text → Result (List (List Record)) ℕ
-with_line lists line = numbered (and_then (list_in line) (λ list. Ok (lists ++ list ∷ [])))
+with_line lists line = fault_by number_of_kind (and_then (list_in line) (λ list. Ok (lists ++ list ∷ [])))
 
 -- the lists of a tape, one for each line, or its first fault
 unfoldable pub tape_of : Text → Result (List (List Record)) LineFault

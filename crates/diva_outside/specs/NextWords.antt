@@ -1,0 +1,54 @@
+-- The next words of a line, each as what is due there.
+use Rattle.std.specs.Prelude.{ℕ, ◌≤◌, ◌&&◌, nat_le, List, [], ◌∷◌, Option, Some, None, option_and_then, Result, Ok, Err, if◌then◌else◌}
+use Rattle.std.specs.Option.{ok_or}
+use Rattle.diva_outside.specs.Numbers.{decimal_of, hex_of}
+use Rattle.diva_outside.specs.Text.{Text}
+use Rattle.diva_outside.specs.declared.next_words.WordFault.{WordFault}
+use Rattle.diva_outside.specs.declared.next_words.WordFault.TheVariants.{Count, Unreadable}
+
+-- ---- what is read, or a fault
+
+-- what the next step makes of it, where this one found no fault
+abbrev pub and_then : {A B E : Type 0} → Result A E → (A → Result B E) → Result B E
+and_then (Ok value) next = next value
+and_then (Err fault) next = Err fault
+
+-- the fault by the name that a rule gives it
+abbrev pub fault_by : {A E F : Type 0} → (E → F) → Result A E → Result A F
+fault_by name (Ok value) = Ok value
+fault_by name (Err fault) = Err (name fault)
+
+-- ---- one word
+
+-- a number in a range
+pub record IsWithin (low high n : ℕ) : Type 0 where
+  pub least : low ≤ n
+  pub most : n ≤ high
+
+abbrev pub ranged : ℕ → ℕ → ℕ → Option ℕ
+ranged low high n = if nat_le low n && nat_le n high then Some n else None
+
+-- the first word as a decimal number from low to high
+unfoldable pub first_number : (low high : ℕ) → List Text → Result ℕ WordFault
+first_number low high [] = Err Count
+first_number low high (word ∷ words) = ok_or (option_and_then (ranged low high) (decimal_of word)) Unreadable
+
+-- the first word as one to eight hex digits
+unfoldable pub first_hex : List Text → Result ℕ WordFault
+first_hex [] = Err Count
+first_hex (word ∷ words) = ok_or (hex_of word) Unreadable
+
+-- no word is left over
+abbrev pub no_more : List Text → Result (Unit {0}) WordFault
+no_more [] = Ok tt
+no_more (word ∷ words) = Err Count
+
+-- ---- words from the left
+
+abbrev pub others_of : List Text → List Text
+others_of [] = []
+others_of (word ∷ words) = words
+
+-- what a rule makes of the words by the first of them, and then the others by what that says
+abbrev pub with_first : {A B E : Type 0} → (List Text → Result A E) → List Text → (A → List Text → Result B E) → Result B E
+with_first rule words next = and_then (rule words) (λ value. next value (others_of words))
