@@ -58,11 +58,18 @@ fn pass_access(pending: &mut Pending, at: usize, arch: &Arch)
     ensures capacity { pending.new.capacity ≡ pending.old.capacity }
     ensures advanced { HasPassed arch.now.state LAST_STAGE at pending.old.items pending.new.items }
 {
-    note(
-        pending,
-        at,
-        diva_execchk::check_memory(pending, at, &arch.view()),
-    );
+    let found = check_access(pending, at, &arch.view());
+    note(pending, at, found);
+}
+
+/// What the last stage finds of a load or a store.
+#[inline(always)]
+fn check_access(pending: &Pending, at: usize, view: &View<'_>) -> Option<Diff>
+    requires { at < length pending.now.items }
+    ensures { (e : Entry) → slice_get pending.now.items at ≡ Some e
+        → Answers address_fields memory_fields (before_entry view.now pending.now.items at) e.claim result }
+{
+    diva_execchk::check_memory(pending, at, view)
 }
 
 /// Decodes the claim at a place.
