@@ -79,6 +79,11 @@ pub record IsAdvanced (arch : State) (now at : ℕ) (entries : List Entry) : Typ
   pub below : (k : ℕ) (e : Entry) → k < at → slice_get entries k ≡ Some e → IsChecked (before_entry arch entries k) (now + 1 - e.cycle) e
   pub from : (k : ℕ) (e : Entry) → at ≤ k → slice_get entries k ≡ Some e → IsChecked (before_entry arch entries k) (now - e.cycle) e
 
+-- the entry at a place has come to an age, and through the stage of that age
+abbrev pub HasPassed : State → (age at : ℕ) (before after : List Entry) → Type 0
+HasPassed arch age at before after =
+    (now : ℕ) (e : Entry) → slice_get before at ≡ Some e → now + 1 ≡ age + e.cycle → IsAdvanced arch now at before → IsAdvanced arch now (at + 1) after
+
 -- the front entry is gone, and all others too where the machine does not go on
 abbrev pub left : Bool → Parts → Parts
 left goes w =

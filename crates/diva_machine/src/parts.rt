@@ -450,7 +450,7 @@ impl Parts {
             → IsAdvanced self.old.timed.arch now at self.old.entries
             → IsAdvanced self.old.timed.arch now (at + 1) self.new.entries }
     {
-        let age = self.cycles - self.pending.at(at).cycle;
+        let age = age_in(self.cycles, self.pending.at(at).cycle);
         pass(&mut self.pending, at, &self.arch, age);
         if age == LAST_STAGE {
             self.passed += 1;
@@ -519,6 +519,15 @@ impl Parts {
         self.accept(admitted, phase.accepting);
         self.watch(phase.committed);
     }
+}
+
+/// The age, in a cycle, of a claim that was accepted in an earlier one.
+#[inline(always)]
+fn age_in(cycle: u64, accepted: u64) -> u64
+    requires { accepted < cycle }
+    ensures { result + accepted ≡ cycle }
+{
+    cycle - accepted
 }
 
 /// Puts claims that are accepted in a cycle behind those that are pending.

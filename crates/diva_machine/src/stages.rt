@@ -6,7 +6,7 @@ ghost use Rattle.diva_core.specs.declared.pending.Entry.{Entry};
 ghost use Rattle.diva_core.specs.Older.{before_entry};
 ghost use Rattle.diva_core.specs.Stages.{Answers, address_fields, memory_fields};
 ghost use Rattle.diva_machine.specs.Machine.{pending_claim_of};
-ghost use Rattle.diva_machine.specs.Staged.{IsAdvanced, IsFilled};
+ghost use Rattle.diva_machine.specs.Staged.{HasPassed, IsFilled};
 
 use crate::arch::Arch;
 use diva_core::{Diff, Field, Pending, View};
@@ -24,11 +24,7 @@ pub(crate) fn pass(pending: &mut Pending, at: usize, arch: &Arch, age: u64)
     requires age { 1 ≤ age }
     ensures waits { map pending_claim_of pending.new.items ≡ map pending_claim_of pending.old.items }
     ensures capacity { pending.new.capacity ≡ pending.old.capacity }
-    ensures advanced { (now : ℕ) (e : Entry)
-        → slice_get pending.old.items at ≡ Some e
-        → now + 1 ≡ age + e.cycle
-        → IsAdvanced arch.now.state now at pending.old.items
-        → IsAdvanced arch.now.state now (at + 1) pending.new.items }
+    ensures advanced { HasPassed arch.now.state age at pending.old.items pending.new.items }
 {
     match age {
         1 => note(pending, at, diva_fetchchk::check(pending, at, &arch.view())),
@@ -46,11 +42,7 @@ fn pass_last(pending: &mut Pending, at: usize, arch: &Arch)
     requires { at < length pending.old.items }
     ensures waits { map pending_claim_of pending.new.items ≡ map pending_claim_of pending.old.items }
     ensures capacity { pending.new.capacity ≡ pending.old.capacity }
-    ensures advanced { (now : ℕ) (e : Entry)
-        → slice_get pending.old.items at ≡ Some e
-        → now + 1 ≡ LAST_STAGE + e.cycle
-        → IsAdvanced arch.now.state now at pending.old.items
-        → IsAdvanced arch.now.state now (at + 1) pending.new.items }
+    ensures advanced { HasPassed arch.now.state LAST_STAGE at pending.old.items pending.new.items }
 {
     match pending.at(at).decoded {
         Some(decoded) if !is_memory(Some(decoded)) => {}
@@ -64,17 +56,20 @@ fn pass_access(pending: &mut Pending, at: usize, arch: &Arch)
     requires { at < length pending.old.items }
     ensures waits { map pending_claim_of pending.new.items ≡ map pending_claim_of pending.old.items }
     ensures capacity { pending.new.capacity ≡ pending.old.capacity }
-    ensures advanced { (now : ℕ) (e : Entry)
-        → slice_get pending.old.items at ≡ Some e
-        → now + 1 ≡ LAST_STAGE + e.cycle
-        → IsAdvanced arch.now.state now at pending.old.items
-        → IsAdvanced arch.now.state now (at + 1) pending.new.items }
+    ensures advanced { HasPassed arch.now.state LAST_STAGE at pending.old.items pending.new.items }
 {
-    note(
-        pending,
-        at,
-        diva_execchk::check_memory(pending, at, &arch.view()),
-    );
+    let found = check_access(pending, at, &arch.view());
+    note(pending, at, found);
+}
+
+/// What the last stage finds of a load or a store.
+#[inline(always)]
+fn check_access(pending: &Pending, at: usize, view: &View<'_>) -> Option<Diff>
+    requires { at < length pending.now.items }
+    ensures { (e : Entry) → slice_get pending.now.items at ≡ Some e
+        → Answers address_fields memory_fields (before_entry view.now pending.now.items at) e.claim result }
+{
+    diva_execchk::check_memory(pending, at, view)
 }
 
 /// Decodes the claim at a place.

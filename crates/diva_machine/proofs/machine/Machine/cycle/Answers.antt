@@ -19,26 +19,24 @@ invariant_of-self-else-goes_on c =
     let s = c.self.invariant.1.0 in
     rw c.forget_last.ensures (c.self.invariant.0, (record { waits = s.waits; checked = s.checked; ordered = s.ordered; passed = s.passed }, c.self.invariant.1.1))
 
+-- the machine before and after the cycle, as contracts see it
+same : (c : goal.After-cycle) → c.self.inside.parts.timed ≡ c.args.self.now.timed
+same c = ap (λ (z : Machine). z.timed) c.self.view_is
+
+sound : (c : goal.After-cycle) → IsSound c.args.self.now.timed
+sound c = subst IsSound (same c) c.self.invariant.0
+
+is : (c : goal.After-cycle) → c.cycle.new.self.timed ≡ cycle_of c.args.self.now.timed c.as_slice.result.now
+is c = c.cycle.ensures.timed ∙ ap (λ (m : Timed). cycle_of m c.as_slice.result.now) (same c)
+
 pub returns-then-goes_on-clause-drained : goal.returns-then-goes_on-clause-drained
-returns-then-goes_on-clause-drained c =
-    let same : c.self.inside.parts.timed ≡ c.args.self.now.timed = ap (λ (z : Machine). z.timed) c.self.view_is in
-    let sound : IsSound c.args.self.now.timed = subst IsSound same c.self.invariant.0 in
-    let is : c.cycle.new.self.timed ≡ cycle_of c.args.self.now.timed c.as_slice.result.now = c.cycle.ensures.timed ∙ ap (λ (m : Timed). cycle_of m c.as_slice.result.now) same in
-    none_held c.args.self.now.timed c.cycle.new.self.timed c.as_slice.result.now sound is
+returns-then-goes_on-clause-drained c = none_held c.args.self.now.timed c.cycle.new.self.timed c.as_slice.result.now (sound c) (is c)
 
 pub returns-then-goes_on-clause-front : goal.returns-then-goes_on-clause-front
-returns-then-goes_on-clause-front c =
-    let same : c.self.inside.parts.timed ≡ c.args.self.now.timed = ap (λ (z : Machine). z.timed) c.self.view_is in
-    let sound : IsSound c.args.self.now.timed = subst IsSound same c.self.invariant.0 in
-    let is : c.cycle.new.self.timed ≡ cycle_of c.args.self.now.timed c.as_slice.result.now = c.cycle.ensures.timed ∙ ap (λ (m : Timed). cycle_of m c.as_slice.result.now) same in
-    front_is_judged c.args.self.now.timed c.cycle.new.self.timed c.as_slice.result.now sound is
+returns-then-goes_on-clause-front c = front_is_judged c.args.self.now.timed c.cycle.new.self.timed c.as_slice.result.now (sound c) (is c)
 
 pub returns-then-goes_on-clause-sixth : goal.returns-then-goes_on-clause-sixth
-returns-then-goes_on-clause-sixth c =
-    let same : c.self.inside.parts.timed ≡ c.args.self.now.timed = ap (λ (z : Machine). z.timed) c.self.view_is in
-    let sound : IsSound c.args.self.now.timed = subst IsSound same c.self.invariant.0 in
-    let is : c.cycle.new.self.timed ≡ cycle_of c.args.self.now.timed c.as_slice.result.now = c.cycle.ensures.timed ∙ ap (λ (m : Timed). cycle_of m c.as_slice.result.now) same in
-    sixth_commits c.args.self.now.timed c.cycle.new.self.timed c.as_slice.result.now sound is
+returns-then-goes_on-clause-sixth c = sixth_commits c.args.self.now.timed c.cycle.new.self.timed c.as_slice.result.now (sound c) (is c)
 
 pub returns-else-goes_on-clause-cycled : goal.returns-else-goes_on-clause-cycled
 returns-else-goes_on-clause-cycled c =

@@ -5,11 +5,11 @@ use Rattle.diva_machine.proofs.parts.Parts.pass_stage.Goals as goal
 pub returns-then-age-eq-LAST_STAGE-clause-advanced : goal.returns-then-age-eq-LAST_STAGE-clause-advanced
 returns-then-age-eq-LAST_STAGE-clause-advanced c = λ now is adv.
     let cycle : c.self.inside.cycles ≡ now + 1 = ap (λ (z : Parts). z.timed.cycles) c.self.view_is ∙ is in
-    let young = rw (← c.self.view_is) at (c.requires.aged c.at.result.now) c.at.ensures.value in
+    let age = c.age_in-age.ensures in
     rw (← c.self.view_is) (c.pass.ensures.advanced now c.at.result.now c.at.ensures.value (omega arith) (rw (← c.self.view_is) at adv))
 
 pub returns-else-age-eq-LAST_STAGE-clause-advanced : goal.returns-else-age-eq-LAST_STAGE-clause-advanced
 returns-else-age-eq-LAST_STAGE-clause-advanced c = λ now is adv.
     let cycle : c.self.inside.cycles ≡ now + 1 = ap (λ (z : Parts). z.timed.cycles) c.self.view_is ∙ is in
-    let young = rw (← c.self.view_is) at (c.requires.aged c.at.result.now) c.at.ensures.value in
+    let age = c.age_in-age.ensures in
     rw (← c.self.view_is) (c.pass.ensures.advanced now c.at.result.now c.at.ensures.value (omega arith) (rw (← c.self.view_is) at adv))
