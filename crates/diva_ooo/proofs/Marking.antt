@@ -9,7 +9,7 @@ use Rattle.std.proofs.lemmas.Grind.{common_steps}
 use Rattle.std.proofs.lemmas.List.{length-drop}
 use Rattle.std.proofs.lemmas.Nat.{div_below, le-div, one_shl, pow_pos, shr-shr}
 use Rattle.std.proofs.Math.Nat.{pow-suc}
-use Rattle.std.proofs.lemmas.Nat.Bits.{bit_at-zero, bit_at-lt, bit_at_above, bit_at_and, bit_at_or, bit_at_ones, bit_at_ones_above, bit_at_mask_below, bit_at_mask_inside, bit_at_not, bit_at_set_same, bit_at_set_other, bit_at_clear_same, bit_at_clear_other, bit_at-trailing_zeros, ones_shl, shr_and_one}
+use Rattle.std.proofs.lemmas.Nat.Bits.{bit_at-zero, bit_at-lt, bit_at_above, bit_at_and, bit_at_or, bit_at_ones, bit_at_ones_above, bit_at_mask_below, bit_at_mask_inside, bit_at_not, bit_at_set_same, bit_at_set_other, bit_at_clear_same, bit_at_clear_other, bit_at-trailing_zeros, ones_shl, ones_shr, shr_and_one}
 use mir.Val.{bool_byte}
 use Rattle.diva_ooo.specs.declared.entry.Entry.{Entry}
 use Rattle.diva_ooo.specs.declared.mark_set.MarkSet.{MarkSet}
@@ -145,6 +145,11 @@ keep_by false n most i is =
 
 pub keep_has : (n most : ℕ) → most < 64 → (i : ℕ) → (bit_at (bit_and n (1 * 2 ^ most % 2 ^ 64 - 1)) i == 1) ≡ (if nat_lt i most then (bit_at n i == 1) else false)
 keep_has n most h i = rw (one_shl most 64 h) (keep_by (nat_lt i most) n most i refl)
+
+pub up_has : (n mark : ℕ) → mark < 64 → (i : ℕ) → (bit_at (bit_and n ((2 ^ 64 - 1) / 2 ^ (63 - mark))) i == 1) ≡ (if nat_lt i (mark + 1) then (bit_at n i == 1) else false)
+up_has n mark h i =
+    let ones : 64 - (63 - mark) ≡ mark + 1 = omega arith in
+    rw (ones_shr 64 (63 - mark) (omega arith), ones) (keep_by (nat_lt i (mark + 1)) n (mark + 1) i refl)
 
 -- ---- the lowest from a place on
 

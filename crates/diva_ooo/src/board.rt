@@ -154,6 +154,7 @@ impl Board {
     }
 
     // The readers of the register that the entry at a place writes, up to the next entry that writes it.
+    #[tactic(auto, using(crate::proofs::Asking::woken_all, crate::proofs::Asking::woken_some))]
     fn readers_of(&self, at: usize, rd: u8) -> MarkSet
         requires base { self.now.base < 32 }
         requires place { at < 32 }
@@ -163,8 +164,8 @@ impl Board {
     {
         let readers = self.readers[usize::from(rd)];
         match self.writers[usize::from(rd)].next(self.base + at + 1) {
-            Some(next) if next < 63 => readers.below(next + 1),
-            _ => readers,
+            Some(next) => readers.up_to(next),
+            None => readers,
         }
     }
 

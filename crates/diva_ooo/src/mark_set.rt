@@ -73,6 +73,16 @@ impl MarkSet {
         }
     }
 
+    /// The marks up to one, and that one.
+    pub(crate) fn up_to(self, mark: usize) -> MarkSet
+        requires { mark < 64 }
+        ensures { (i : ℕ) → has result i ≡ (if nat_lt i (mark + 1) then has self i else false) }
+    {
+        MarkSet {
+            bits: self.bits & (u64::MAX >> (63 - mark)),
+        }
+    }
+
     /// The marks from 32 on, each of them lower by 32.
     pub(crate) fn lowered(self) -> MarkSet
         ensures { (i : ℕ) → has result i ≡ has self (32 + i) }
