@@ -62,8 +62,15 @@ fn lines_that_are_taken(rt: HostRuntime) -> Result<(), Fail> {
     assert_eq!(rt; setup.image.as_str(), "p1.diva");
     assert_eq!(rt; core_words(&setup.core), ("own", None));
     assert_eq!(rt; text_in(&setup.script), None);
-    assert_eq!(rt; (setup.width, setup.window, setup.stores), (2, 16, 4));
-    assert_eq!(rt; (setup.watchdog, cycles), (64, 1_000_000));
+    assert_eq!(rt;
+        (
+            setup.config.width(),
+            setup.config.window(),
+            setup.config.stores()
+        ),
+        (2, 16, 4)
+    );
+    assert_eq!(rt; (setup.config.limit(), cycles), (64, 1_000_000));
     assert_eq!(rt; (trace, dump), (false, None));
 
     let words = [
@@ -95,8 +102,15 @@ fn lines_that_are_taken(rt: HostRuntime) -> Result<(), Fail> {
     } = run(rt.alloc(), &words)?;
     assert_eq!(rt; core_words(&setup.core), ("silent", None));
     assert_eq!(rt; text_in(&setup.script), Some("faults.txt"));
-    assert_eq!(rt; (setup.width, setup.window, setup.stores), (1, 8, 6));
-    assert_eq!(rt; (setup.watchdog, cycles), (1024, 1_000_000_000));
+    assert_eq!(rt;
+        (
+            setup.config.width(),
+            setup.config.window(),
+            setup.config.stores()
+        ),
+        (1, 8, 6)
+    );
+    assert_eq!(rt; (setup.config.limit(), cycles), (1024, 1_000_000_000));
     assert_eq!(rt;
         (trace, dump),
         (true, Some(DumpRange { addr: 0x3c, len: 8 }))
@@ -114,7 +128,7 @@ fn lines_of_tape(rt: HostRuntime) -> Result<(), Fail> {
     let TapeOptions { setup, cycles } = tape(rt.alloc(), &["tape", "p", "--cycles", "9"])?;
     assert_eq!(rt; setup.image.as_str(), "p");
     assert_eq!(rt; core_words(&setup.core), ("own", None));
-    assert_eq!(rt; (setup.width, cycles), (2, 9));
+    assert_eq!(rt; (setup.config.width(), cycles), (2, 9));
 
     let words = [
         "tape", "p", "--script", "s", "--tape", "t", "--core", "tape",
@@ -161,12 +175,19 @@ fn lines_of_soak(rt: HostRuntime) -> Result<(), Fail> {
 fn lines_of_debug(rt: HostRuntime) -> Result<(), Fail> {
     let DebugOptions { setup, commands } = debug(rt.alloc(), &["debug", "p", "c"])?;
     assert_eq!(rt; (setup.image.as_str(), commands.as_str()), ("p", "c"));
-    assert_eq!(rt; (setup.width, setup.window, setup.stores), (1, 16, 4));
+    assert_eq!(rt;
+        (
+            setup.config.width(),
+            setup.config.window(),
+            setup.config.stores()
+        ),
+        (1, 16, 4)
+    );
 
     let words = ["debug", "p", "c", "--watchdog", "16", "--core", "silent"];
     let DebugOptions { setup, .. } = debug(rt.alloc(), &words)?;
     assert_eq!(rt; core_words(&setup.core), ("silent", None));
-    assert_eq!(rt; setup.watchdog, 16);
+    assert_eq!(rt; setup.config.limit(), 16);
     Ok(())
 }
 

@@ -15,10 +15,9 @@ ghost use Rattle.diva_machine.specs.Machine.{end_of, end_number, pending_claim_o
 ghost use Rattle.diva_machine.specs.Staged.{AreChecked, IsChecked};
 
 use crate::DEPTH;
-use crate::config::Config;
 use crate::ends::End;
 use crate::parts::Parts;
-use diva_core::{Claims, Entry, FlushRow, Told, View};
+use diva_core::{Claims, Config, Entry, FlushRow, Told, View};
 use diva_image::Image;
 use diva_isa::Record;
 use std::alloc::{AllocError, Global};
