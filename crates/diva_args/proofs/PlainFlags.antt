@@ -1,15 +1,15 @@
 -- What stands for the flags that a plain line does not have.
-use Rattle.std.proofs.Common.{◌≡◌, ◌∙◌, ◌||◌, Bool, true, false, List, [], ◌∷◌, ◌++◌, map, refl, ap, sym, subst, Some, None, codes}
+use Rattle.std.proofs.Common.{◌≡◌, ◌∙◌, ◌||◌, Bool, true, false, List, [], ◌∷◌, ◌++◌, map, refl, sym, subst, Some, None, codes}
 use Rattle.std.specs.Prelude.{fold, if◌then◌else◌}
 use Rattle.std.specs.Str.{bytes_eq}
-use Rattle.clap.specs.Walk.{Row, Rule, Text, at_row, first_of, has_row, is_empty, more_values, with_default}
+use Rattle.clap.specs.Walk.{Row, Text, at_row, first_of, has_row, is_empty, more_values, with_default}
 use Rattle.clap.specs.Takes.{is_given}
 use Rattle.clap.specs.Faults.{default_fault, defaults_fault, given_default_fault}
 use Rattle.clap.specs.declared.parser.ValueSource.TheVariants.{DefaultValue}
 use Rattle.clap.specs.declared.builder.value_parser.Reading.TheVariants as reading
 use Rattle.diva_args.specs.Plain.{has_text}
 use Rattle.diva_args.specs.Values.{is_set_by}
-use Rattle.diva_args.proofs.PlainSteps.{Absent, at_absent, built_flag, built_option}
+use Rattle.diva_args.proofs.PlainSteps.{Absent, at_absent, built_flag}
 
 -- ---- one flag
 

@@ -1,6 +1,6 @@
 -- On a plain line the job is read off the words.
 use Rattle.std.proofs.Common.{◌≡◌, ◌∙◌, ◌&&◌, ◌||◌, Bool, true, false, not, List, [], ◌∷◌, ◌++◌, map, refl, ap, subst, Option, Some, codes}
-use Rattle.std.specs.Prelude.{option_and_then, option_map}
+use Rattle.std.specs.Prelude.{option_map}
 use Rattle.std.specs.List.{Contains, flat_map, list_all}
 use Rattle.std.specs.Str.{bytes_eq}
 use Rattle.std.proofs.lemmas.List.Elements.{All-contains, All-from_recursion}
@@ -8,10 +8,11 @@ use Rattle.std.proofs.lemmas.Slice.Eq.{bytes_eq-Decides}
 use Rattle.clap.specs.Walk.{Row, Text, nothing_held, walked}
 use Rattle.clap.specs.Simple.{Shape, argument_words, built}
 use Rattle.clap.proofs.WalkLemmas.{both}
+use Rattle.diva_core.specs.Timed.{default_config}
 use Rattle.diva_args.specs.Command.{Leaf, asm, debug, dis, diva, leaves, run, soak, tape}
-use Rattle.diva_args.specs.Line.{command_of, cycles_from, job_from, run_from, run_with, setup_from, setup_with, taken, values_of, width_from}
+use Rattle.diva_args.specs.Line.{command_of, config_from, config_with, cycles_from, job_from, run_from, run_with, setup_from, setup_with, taken, values_of}
 use Rattle.diva_args.specs.Plain.{IsPlainLine, PlainLine, Use, are_distinct, flagged, given_by, given_in, has_text, is_plain_word, is_use_of, job_on, name_of, names_in, use_words, value_in, valued, values_in}
-use Rattle.diva_args.specs.Values.{core_of, dump_of, is_set_by, number_of}
+use Rattle.diva_args.specs.Values.{core_of, dump_of, is_set_by, number_of, number_or}
 use Rattle.diva_args.specs.declared.job.Job.TheVariants.{Run}
 use Rattle.diva_args.proofs.PlainSteps.{Stands, first_given, given_row}
 use Rattle.diva_args.proofs.PlainFlags.{flag_kept, value_kept, with_flags}
@@ -49,7 +50,7 @@ pub record IsSound (l : Leaf) : Type 0 where
   pub same : (f g : Text → Option Text) → SameValues l.flags f g → job_from l.name f ≡ job_from l.name g
 
 run_same : (f g : Text → Option Text) → SameValues run.flags f g → run_from f ≡ run_from g
-unfolding run_from setup_from width_from cycles_from
+unfolding run_from setup_from config_from cycles_from
 run_same f g s =
     let image = s.value (codes "IMAGE") refl in
     let core = s.value (codes "core") refl in
@@ -63,8 +64,8 @@ run_same f g s =
     let dump = s.value (codes "dump") refl in
     let trace = s.flag (codes "trace") in
     λ i. run_with
-    (option_and_then (λ n. setup_with (image i) (core_of (core i) (tape i)) (script i) n (number_of 8 64 16 (window i)) (number_of 1 6 4 (stores i)) (number_of 16 1024 64 (watchdog i)))
-    (number_of 1 4 2 (width i)))
+    (setup_with (image i) (core_of (core i) (tape i)) (script i)
+    (config_with (number_or default_config.width (width i)) (number_or default_config.window (window i)) (number_or default_config.stores (stores i)) (number_or default_config.limit (watchdog i))))
     (number_of 1 1000000000 1000000 (cycles i)) (trace i) (dump_of (dump i))
 
 run_sound : IsSound run

@@ -1,14 +1,16 @@
 -- What a command line asks for: the words as `clap` matches them, then the rules on the options' values.
-use Rattle.std.specs.Prelude.{ℕ, Bool, List, [], ◌∷◌, Option, None, codes, if◌then◌else◌}
+use Rattle.std.specs.Prelude.{ℕ, Bool, List, [], ◌∷◌, Option, Some, None, codes, if◌then◌else◌}
 use Rattle.std.specs.Prelude.{option_and_then, option_map}
 use Rattle.std.specs.Str.{bytes_eq}
 use Rattle.clap.specs.Walk.{Row, Text, first_of}
 use Rattle.clap.specs.Simple.{subcommand_of}
 use Rattle.clap.specs.Faults.{fault_of}
 use Rattle.clap.specs.Kinds.{Kinds}
+use Rattle.diva_core.specs.Timed.{Config, default_config}
+use Rattle.diva_core.specs.Machine.{config_in_range}
 use Rattle.diva_args.specs.Command.{diva}
 use Rattle.diva_args.specs.Options.{DebugOptions, DumpRange, RunOptions, Setup, SoakOptions, TapeOptions}
-use Rattle.diva_args.specs.Values.{core_of, dump_of, given_number, is_set_by, number_of}
+use Rattle.diva_args.specs.Values.{core_of, dump_of, given_number, is_set_by, number_of, number_or}
 use Rattle.diva_args.specs.declared.job.CoreChoice.{CoreChoice}
 use Rattle.diva_args.specs.declared.job.Job.{Job}
 use Rattle.diva_args.specs.declared.job.Job.TheVariants as job
@@ -24,37 +26,42 @@ taken words = unless (fault_of diva words) (subcommand_of diva words)
 
 -- ---- jobs, by the value of each positional, option and flag
 
-abbrev pub setup_with : Option Text → Option CoreChoice → (script : Option Text) → (width : ℕ) → Option ℕ → Option ℕ
-    → Option ℕ → Option Setup
-setup_with image core script width window stores watchdog =
-    option_and_then (λ i. option_and_then (λ c. option_and_then (λ q.
-    option_and_then (λ s. option_map (λ w. record {
-      image = i;
-      core = c;
-      script = script;
-      width = width;
+abbrev pub config_with : (width window stores watchdog : Option ℕ) → Option Config
+config_with width window stores watchdog =
+    option_and_then (λ n. option_and_then (λ q. option_and_then (λ s. option_and_then (λ w. config_in_range (record {
+      width = n;
       window = q;
       stores = s;
-      watchdog = w;
-    }) watchdog) stores) window) core) image
+      limit = w;
+    })) watchdog) stores) window) width
+
+-- the numbers of a machine of this width, where they are in their ranges
+unfoldable pub config_from : (width : Option ℕ) → (Text → Option Text) → Option Config
+config_from width value = config_with
+    width
+    (number_or default_config.window (value (codes "window")))
+    (number_or default_config.stores (value (codes "stores")))
+    (number_or default_config.limit (value (codes "watchdog")))
+
+abbrev pub setup_with : Option Text → Option CoreChoice → (script : Option Text) → Option Config → Option Setup
+setup_with image core script config = option_and_then (λ i. option_and_then (λ c. option_map (λ z. record {
+  image = i;
+  core = c;
+  script = script;
+  config = z;
+}) config) core) image
 
 -- what commands have in common that run an image, on a machine of this width; files are named by the words as they are
-unfoldable pub setup_from : (width : ℕ) → (Text → Option Text) → Option Setup
+unfoldable pub setup_from : (width : Option ℕ) → (Text → Option Text) → Option Setup
 setup_from width value = setup_with
     (value (codes "IMAGE"))
     (core_of (value (codes "core")) (value (codes "tape")))
     (value (codes "script"))
-    width
-    (number_of 8 64 16 (value (codes "window")))
-    (number_of 1 6 4 (value (codes "stores")))
-    (number_of 16 1024 64 (value (codes "watchdog")))
+    (config_from width value)
 
--- the width of a machine, and what goes with it
-unfoldable pub width_from : (Text → Option Text) → Option ℕ
-width_from value = number_of 1 4 2 (value (codes "width"))
-
+-- the same on a machine of the width that the words ask for
 abbrev pub wide_from : (Text → Option Text) → Option Setup
-wide_from value = option_and_then (λ width. setup_from width value) (width_from value)
+wide_from value = setup_from (number_or default_config.width (value (codes "width"))) value
 
 -- the cycles to run at most
 unfoldable pub cycles_from : (Text → Option Text) → Option ℕ
@@ -83,7 +90,7 @@ debug_with setup commands = option_and_then (λ s. option_map (λ c.
 
 -- `debug`, whose machine stops at any count
 unfoldable pub debug_from : (Text → Option Text) → Option DebugOptions
-debug_from value = debug_with (setup_from 1 value) (value (codes "COMMANDS"))
+debug_from value = debug_with (setup_from (Some 1) value) (value (codes "COMMANDS"))
 
 abbrev pub soak_with : (seed instructions : Option ℕ) → Option SoakOptions
 soak_with seed instructions = option_and_then (λ s. option_map (λ n.

@@ -1,5 +1,6 @@
 -- What contracts see of a job, and the ranges that its numbers keep.
 use Rattle.std.specs.Prelude.{ℕ, ◌+◌, ◌^◌, ◌≤◌, Bool, List, Option}
+use Rattle.diva_core.specs.Timed.{Config}
 use Rattle.diva_args.specs.declared.job.CoreChoice.{CoreChoice}
 
 -- a part of memory: the address of its first byte, and the number of its bytes
@@ -18,21 +19,7 @@ pub record Setup : Type 0 where
   pub image : List ℕ
   pub core : CoreChoice
   pub script : Option (List ℕ)
-  pub width : ℕ
-  pub window : ℕ
-  pub stores : ℕ
-  pub watchdog : ℕ
-
--- the ranges of those numbers
-pub record IsSetup (width window stores watchdog : ℕ) : Type 0 where
-  pub width_low : 1 ≤ width
-  pub width_high : width ≤ 4
-  pub window_low : 8 ≤ window
-  pub window_high : window ≤ 64
-  pub stores_low : 1 ≤ stores
-  pub stores_high : stores ≤ 6
-  pub watchdog_low : 16 ≤ watchdog
-  pub watchdog_high : watchdog ≤ 1024
+  pub config : Config
 
 -- the range of the cycles to run at most
 pub record IsBudget (cycles : ℕ) : Type 0 where

@@ -50,6 +50,10 @@ abbrev pub number_of : ℕ → ℕ → ℕ → Option Text → Option ℕ
 number_of least most otherwise None = Some otherwise
 number_of least most otherwise (Some word) = number_in_range least most word
 
+-- a number below 2 ^ 32, or what stands for one that is not given
+abbrev pub number_or : (otherwise : ℕ) → Option Text → Option ℕ
+number_or otherwise = number_of 0 4294967295 otherwise
+
 -- `:`
 abbrev pub is_colon : ℕ → Bool
 is_colon byte = byte == 58

@@ -1,5 +1,6 @@
 // What a command line asks for.
 use crate::file_name::FileName;
+use diva_core::Config;
 use std::marker::Model;
 
 /// A command with its options. On the command line, numbers are spelled with 1 to 10 decimal digits.
@@ -30,24 +31,21 @@ pub struct Setup {
     /// `--script`: the name of the file whose rows are laid over what the core hands over. It is the word as it is; with
     /// no such word nothing is laid over.
     pub script: Option<FileName>,
-    /// `--width`: the claims accepted and judged in a cycle at most, 1 to 4; 2 by default.
-    pub width: u32,
-    /// `--window`: the claims pending at most, 8 to 64; 16 by default.
-    pub window: u32,
-    /// `--stores`: the undrained stores at most, 1 to 6; 4 by default.
-    pub stores: u32,
-    /// `--watchdog`: the watchdog's limit in cycles, 16 to 1,024; 64 by default.
-    pub watchdog: u32,
+    /// `--width`, `--window`, `--stores` and `--watchdog`: the claims accepted and judged in a cycle at most (1 to 4; 2 by
+    /// default), the claims pending at most (8 to 64; 16 by default), the undrained stores at most (1 to 6; 4 by default), and
+    /// the watchdog's limit in cycles (16 to 1,024; 64 by default).
+    pub config: Config,
 }
 
 impl Model for Setup {
-    ghost use Rattle.diva_args.specs.Options.{IsSetup, Setup};
+    ghost use Rattle.diva_args.specs.Options.{Setup};
+    ghost use Rattle.diva_core.specs.Machine.{IsConfig};
 
     ghost Value = { Setup };
 
-    ghost view = { λ s. record { image = s.image; core = s.core; script = s.script; width = s.width; window = s.window; stores = s.stores; watchdog = s.watchdog } };
+    ghost view = { λ s. record { image = s.image; core = s.core; script = s.script; config = s.config } };
 
-    ghost invariant = { λ s. IsSetup s.width s.window s.stores s.watchdog };
+    ghost invariant = { λ s. IsConfig s.config };
 }
 
 /// `run IMAGE` with its options.
@@ -110,7 +108,7 @@ impl Model for DebugOptions {
 
     ghost view = { λ d. record { setup = d.setup; commands = d.commands } };
 
-    ghost invariant = { λ d. d.setup.width ≡ 1 };
+    ghost invariant = { λ d. d.setup.config.width ≡ 1 };
 }
 
 /// `soak SEED LENGTH`. It names no file, and has no options.

@@ -1,12 +1,14 @@
 // From words to a job.
-ghost use Rattle.std.specs.Prelude.{◌≡◌, ◌≤◌, IfOk, IfSome, None, Some, map, option_and_then, option_map};
+ghost use Rattle.std.specs.Prelude.{◌≡◌, ◌≤◌, IfOk, IfSome, None, Some, codes, map, option_and_then, option_map};
 ghost use Rattle.clap.specs.Walk.{rows_of};
 ghost use Rattle.clap.specs.Words.{found_of, subcommand_rows_of};
-ghost use Rattle.diva_args.specs.Line.{command_of, cycles_from, debug_from, job_of, run_from, setup_from, soak_from};
-ghost use Rattle.diva_args.specs.Line.{taken, tape_from, values_of, width_from};
+ghost use Rattle.diva_args.specs.Line.{command_of, config_from, cycles_from, debug_from, job_of, run_from, setup_from};
+ghost use Rattle.diva_args.specs.Line.{soak_from, taken, tape_from, values_of};
 ghost use Rattle.diva_args.specs.Options.{IsBudget};
 ghost use Rattle.diva_args.specs.Plain.{IsPlainLine, PlainLine, job_on};
-ghost use Rattle.diva_args.specs.Values.{given_number, is_set_by};
+ghost use Rattle.diva_args.specs.Values.{given_number, is_set_by, number_or};
+ghost use Rattle.diva_core.specs.Timed.{default_config};
+ghost use Rattle.diva_core.specs.Machine.{IsConfig};
 
 use crate::command::command;
 use crate::fault::ArgsFault;
@@ -14,6 +16,7 @@ use crate::file_name::FileName;
 use crate::job::{DebugOptions, Job, RunOptions, Setup, SoakOptions, TapeOptions};
 use crate::values::{core, dump, number, number_within};
 use clap::ArgMatches;
+use diva_core::Config;
 use std::alloc::{AllocError, Global};
 
 /// The job that the words ask for. `words` are those after the program's name.
@@ -74,10 +77,7 @@ fn run(alloc: Global, found: &ArgMatches<'_>) -> Result<RunOptions, ArgsFault>
     ensures usage { result ≡ Err ArgsFault.Usage
         → run_from (values_of (rows_of (found_of found.now))) ≡ None }
 {
-    let Some(width) = width(found) else {
-        return Err(ArgsFault::Usage);
-    };
-    let setup = setup(alloc, found, width)?;
+    let setup = setup(alloc, found, width(found))?;
     let Some(cycles) = cycles(found) else {
         return Err(ArgsFault::Usage);
     };
@@ -100,10 +100,7 @@ fn tape(alloc: Global, found: &ArgMatches<'_>) -> Result<TapeOptions, ArgsFault>
     ensures usage { result ≡ Err ArgsFault.Usage
         → tape_from (values_of (rows_of (found_of found.now))) ≡ None }
 {
-    let Some(width) = width(found) else {
-        return Err(ArgsFault::Usage);
-    };
-    let setup = setup(alloc, found, width)?;
+    let setup = setup(alloc, found, width(found))?;
     let Some(cycles) = cycles(found) else {
         return Err(ArgsFault::Usage);
     };
@@ -130,7 +127,7 @@ fn debug(alloc: Global, found: &ArgMatches<'_>) -> Result<DebugOptions, ArgsFaul
     ensures usage { result ≡ Err ArgsFault.Usage
         → debug_from (values_of (rows_of (found_of found.now))) ≡ None }
 {
-    let setup = setup(alloc, found, 1)?;
+    let setup = setup(alloc, found, Some(1))?;
     let Some(commands) = text_of(found, "COMMANDS") else {
         return Err(ArgsFault::Usage);
     };
@@ -167,46 +164,55 @@ fn number_of(found: &ArgMatches<'_>, id: &str, least: u32, most: u32) -> Option<
 
 // What commands have in common that run an image, on a machine of this width.
 #[tactic(auto, unfolding(crate::specs::Line::setup_from))]
-fn setup(alloc: Global, found: &ArgMatches<'_>, width: u32) -> Result<Setup, ArgsFault>
-    requires low { 1 ≤ width }
-    requires high { width ≤ 4 }
+fn setup(alloc: Global, found: &ArgMatches<'_>, width: Option<u32>) -> Result<Setup, ArgsFault>
     ensures setup { IfOk result (λ setup.
         setup_from width (values_of (rows_of (found_of found.now))) ≡ Some setup) }
-    ensures width { IfOk result (λ setup. setup.width ≡ width) }
+    ensures width { IfOk result (λ setup. width ≡ Some setup.config.width) }
     ensures usage { result ≡ Err ArgsFault.Usage
         → setup_from width (values_of (rows_of (found_of found.now))) ≡ None }
 {
     let Some(image) = text_of(found, "IMAGE") else {
         return Err(ArgsFault::Usage);
     };
-    let Some(window) = number(text_of(found, "window"), 8, 64, 16) else {
-        return Err(ArgsFault::Usage);
-    };
-    let Some(stores) = number(text_of(found, "stores"), 1, 6, 4) else {
-        return Err(ArgsFault::Usage);
-    };
-    let Some(watchdog) = number(text_of(found, "watchdog"), 16, 1024, 64) else {
+    let Some(config) = config(found, width) else {
         return Err(ArgsFault::Usage);
     };
     Ok(Setup {
         image: FileName::new(alloc, image)?,
         core: core(alloc, text_of(found, "core"), text_of(found, "tape"))?,
         script: name_of(alloc, text_of(found, "script"))?,
-        width,
-        window,
-        stores,
-        watchdog,
+        config,
     })
 }
 
-// The width of a machine.
-#[tactic(auto, unfolding(crate::specs::Line::width_from))]
-fn width(found: &ArgMatches<'_>) -> Option<u32>
-    ensures value { result ≡ width_from (values_of (rows_of (found_of found.now))) }
-    ensures low { IfSome result (λ n. 1 ≤ n) }
-    ensures high { IfSome result (λ n. n ≤ 4) }
+// The numbers of a machine of this width, where they are in their ranges.
+#[tactic(auto, unfolding(crate::specs::Line::config_from))]
+fn config(found: &ArgMatches<'_>, width: Option<u32>) -> Option<Config>
+    ensures value { result ≡ config_from width (values_of (rows_of (found_of found.now))) }
+    ensures fits { IfSome result IsConfig }
+    ensures width { IfSome result (λ config. width ≡ Some config.width) }
 {
-    number(text_of(found, "width"), 1, 4, 2)
+    let usual = Config::default();
+    Config::new(
+        width?,
+        number_or(found, "window", usual.window())?,
+        number_or(found, "stores", usual.stores())?,
+        number_or(found, "watchdog", usual.limit())?,
+    )
+}
+
+// The width that the words ask for.
+fn width(found: &ArgMatches<'_>) -> Option<u32>
+    ensures { result ≡ number_or default_config.width (values_of (rows_of (found_of found.now)) (codes "width")) }
+{
+    number_or(found, "width", Config::default().width())
+}
+
+// The number of an option of the machine, or what stands for one that is not given.
+fn number_or(found: &ArgMatches<'_>, name: &str, otherwise: u32) -> Option<u32>
+    ensures { result ≡ number_or otherwise (values_of (rows_of (found_of found.now)) name.now) }
+{
+    number(text_of(found, name), 0, u32::MAX, otherwise)
 }
 
 // The cycles to run at most.

@@ -17,13 +17,13 @@ use Rattle.diva_debug.specs.Moves.{Moves, steps_by}
 use Rattle.diva_debug.specs.Replies.{reply_of}
 use Rattle.diva_debug.specs.declared.command.Command.{Command}
 use Rattle.diva_cli.specs.Replies.{AreLed, IsReplied, cycles_of, joined, newest_after, replies_of}
-use Rattle.diva_core.specs.Timed.{Timed, new_timed}
-use Rattle.diva_core.specs.Machine.{IsConfig}
+use Rattle.diva_core.specs.Timed.{Timed, depth, new_timed}
+use Rattle.diva_core.specs.Machine.{IsConfig, most_config}
 use Rattle.diva_args.specs.Options.{DebugOptions}
 use Rattle.diva_args.specs.declared.job.Job.TheVariants.{Debug}
 use Rattle.diva_cli.specs.declared.loading.SessionReady.{SessionReady}
-use Rattle.diva_cli.specs.Wanted.{FileBytes}
-use Rattle.diva_cli.specs.Runs.{IsRunOver, config_of, start_in}
+use Rattle.diva_cli.specs.Wanted.{FileBytes, file_limit}
+use Rattle.diva_cli.specs.Runs.{IsRunOver, start_in}
 use Rattle.diva_cli.specs.DebugTexts.{HasReplies}
 use Rattle.diva_cli.specs.Parts.{IsSession, WritesPart, WritesWhole}
 use Rattle.diva_cli.specs.Tasks.{Performs, PerformsBy}
@@ -209,46 +209,46 @@ replied gives commands n m core last after old new f g result s within all =
 -- ---- cycles
 
 -- one command more takes a million steps at most
-pub cycles-more : (cycles before n limit limit' : ℕ) (after : ℕ) → cycles ≤ before + cycles_of n limit → limit' ≡ limit → after ≤ cycles + 1000000 * (limit' + 6) → after ≤ before + cycles_of (n + 1) limit
+pub cycles-more : (cycles before n limit limit' : ℕ) (after : ℕ) → cycles ≤ before + cycles_of n limit → limit' ≡ limit → after ≤ cycles + 1000000 * (limit' + depth) → after ≤ before + cycles_of (n + 1) limit
 cycles-more cycles before n limit limit' after so_far same one =
-    let l : 1000000 * (limit' + 6) ≡ 1000000 * (limit + 6) = ap (λ k. 1000000 * (k + 6)) same in
-    let p : cycles_of (n + 1) limit ≡ cycles_of n limit + 1000000 * (limit + 6) = grind arith in
+    let l : 1000000 * (limit' + depth) ≡ 1000000 * (limit + depth) = ap (λ k. 1000000 * (k + depth)) same in
+    let p : cycles_of (n + 1) limit ≡ cycles_of n limit + 1000000 * (limit + depth) = grind arith in
     omega arith
 
 -- a command's cycles fit where those of all do
 pub cycles-fit : (cycles before n len most limit limit' bound : ℕ) → cycles ≤ before + cycles_of n limit → n < len → limit' ≡ limit → before + cycles_of len limit ≤ bound → most ≤ 1000000
-    → cycles + most * (limit' + 6) ≤ bound
+    → cycles + most * (limit' + depth) ≤ bound
 cycles-fit cycles before n len most limit limit' bound so_far short same all few =
-    let p : (n + 1) * (1000000 * (limit + 6)) ≤ len * (1000000 * (limit + 6)) = mul-le-mul_right (1000000 * (limit + 6)) (omega arith) in
-    let q : most * (limit + 6) ≤ 1000000 * (limit + 6) = mul-le-mul_right (limit + 6) few in
-    let r : (n + 1) * (1000000 * (limit + 6)) ≡ n * (1000000 * (limit + 6)) + 1000000 * (limit + 6) = grind arith in
-    let s : most * (limit' + 6) ≡ most * (limit + 6) = ap (λ k. most * (k + 6)) same in
+    let p : (n + 1) * (1000000 * (limit + depth)) ≤ len * (1000000 * (limit + depth)) = mul-le-mul_right (1000000 * (limit + depth)) (omega arith) in
+    let q : most * (limit + depth) ≤ 1000000 * (limit + depth) = mul-le-mul_right (limit + depth) few in
+    let r : (n + 1) * (1000000 * (limit + depth)) ≡ n * (1000000 * (limit + depth)) + 1000000 * (limit + depth) = grind arith in
+    let s : most * (limit' + depth) ≡ most * (limit + depth) = ap (λ k. most * (k + depth)) same in
     omega arith
 
 -- a new machine has cycles for all commands of a file
-pub file-fits : (cycles n limit : ℕ) → cycles ≡ 0 → n ≤ 16777240 → limit ≤ 1024 → cycles + cycles_of n limit ≤ 2 ^ 60
+pub file-fits : (cycles n limit : ℕ) → cycles ≡ 0 → n ≤ file_limit → limit ≤ most_config.limit → cycles + cycles_of n limit ≤ 2 ^ 60
 file-fits cycles n limit none few small =
-    let p : n * (1000000 * (limit + 6)) ≤ 16777240 * (1000000 * (limit + 6)) = mul-le-mul_right (1000000 * (limit + 6)) few in
+    let p : n * (1000000 * (limit + depth)) ≤ file_limit * (1000000 * (limit + depth)) = mul-le-mul_right (1000000 * (limit + depth)) few in
     omega arith
 
 -- ---- the replies of a session
 
 module _ {C : Type 0} (gives : Meaning C) (options : DebugOptions) (bytes : FileBytes) (session : SessionReady) (core : C) (last : Timed) (after : C)
     (old new : Option (List ℕ)) (before now : ℕ) (result : Result (Unit {0}) SinkFailed)
-    (fits : IsConfig (config_of options.setup)) (is : IsSession options bytes session) (commands : List Command) (same : commands ≡ session.commands.items)
+    (fits : IsConfig options.setup.config) (is : IsSession options bytes session) (commands : List Command) (same : commands ≡ session.commands.items)
     (p : PerformsBy gives session.ready.core session.ready.script session.ready.machine.timed core last after
     (λ lists. IsReplied commands session.ready.machine.timed lists old new before now result)) where
   abbrev first : Timed
-  first = new_timed (config_of options.setup) (start_in bytes)
+  first = new_timed options.setup.config (start_in bytes)
 
-  few : length p.lists ≤ cycles_of (length p.done.done) options.setup.watchdog
+  few : length p.lists ≤ cycles_of (length p.done.done) options.setup.config.limit
   few = subst (λ (m : Timed). length p.lists ≤ cycles_of (length p.done.done) m.config.limit) is.ready.begun p.done.most
 
-  abbrev over : IsRunOver gives options.setup (cycles_of (length p.done.done) options.setup.watchdog) bytes core last after
-  over = run_over gives options.setup (cycles_of (length p.done.done) options.setup.watchdog) bytes session.ready core last after fits is.ready p.lists p.ran p.each p.handed few
+  abbrev over : IsRunOver gives options.setup (cycles_of (length p.done.done) options.setup.config.limit) bytes core last after
+  over = run_over gives options.setup (cycles_of (length p.done.done) options.setup.config.limit) bytes session.ready core last after fits is.ready p.lists p.ran p.each p.handed few
 
   all_lists : over.run.driven.lists ≡ p.lists
-  all_lists = over_lists gives options.setup (cycles_of (length p.done.done) options.setup.watchdog) bytes session.ready core last after fits is.ready p.lists p.ran p.each p.handed few
+  all_lists = over_lists gives options.setup (cycles_of (length p.done.done) options.setup.config.limit) bytes session.ready core last after fits is.ready p.lists p.ran p.each p.handed few
 
   abbrev text : List ℕ
   text = replies_of p.done.done 0 (start_in bytes) (newest_after first p.done.parts)

@@ -6,7 +6,7 @@ use Rattle.diva_outside.specs.Text.{Text}
 use Rattle.diva_outside.specs.declared.files.What.TheVariants.{Script}
 use Rattle.diva_isa.specs.State.{goes_on}
 use Rattle.diva_isa.specs.declared.record.Record.{Record}
-use Rattle.diva_core.specs.Timed.{Timed, new_timed}
+use Rattle.diva_core.specs.Timed.{Timed, default_config, depth, new_timed}
 use Rattle.diva_core.specs.Cycle.{cycle_of}
 use Rattle.diva_core.specs.Told.{told_of}
 use Rattle.diva_core.specs.History.{Meaning, IsHistory}
@@ -23,8 +23,8 @@ use Rattle.diva_args.specs.declared.job.CoreChoice.TheVariants.{Own}
 use Rattle.diva_cli.specs.Wanted.{FileBytes}
 use Rattle.diva_cli.specs.Determined.{IsDetermined}
 use Rattle.diva_cli.specs.Driven.{AreHanded, ByTurns}
-use Rattle.diva_cli.specs.Runs.{AreRows, HasRun, asked_trace, shown_dump, config_of, start_in}
-use Rattle.diva_cli.specs.SoakTexts.{HasSoaked, soak_cycles, soak_config, soak_start}
+use Rattle.diva_cli.specs.Runs.{AreRows, HasRun, asked_trace, shown_dump, start_in}
+use Rattle.diva_cli.specs.SoakTexts.{HasSoaked, soak_cycles, soak_start}
 
 module _ {C : Type 0} (gives : Meaning C) (determined : IsDetermined gives) where
   -- the turns of two logs that were not broken off
@@ -70,14 +70,14 @@ record Ran {C : Type 0} (gives : Meaning C) (n : ℕ) (m : Timed) (core : C) (la
 
 ran : {C : Type 0} (gives : Meaning C) (options : RunOptions) (bytes : FileBytes) (core after : C) (status : Option ℕ) (text : Text) (rows : List Row)
     → options.setup.core ≡ Own → (h : HasRun gives options bytes core after status text) → (options.trace ≡ true → IsSome status) → h.over.script ≡ rows
-    → Ran (spoiled rows gives) options.cycles (new_timed (config_of options.setup) (start_in bytes)) core h.last after
+    → Ran (spoiled rows gives) options.cycles (new_timed options.setup.config (start_in bytes)) core h.last after
 ran gives options bytes core after status text rows own h asked is =
     let driven = h.over.run.driven in
-    let turns = own_turns gives options.setup.core h.over.tape h.over.script (new_timed (config_of options.setup) (start_in bytes)) core driven.lists h.last after own driven.handed in
+    let turns = own_turns gives options.setup.core h.over.tape h.over.script (new_timed options.setup.config (start_in bytes)) core driven.lists h.last after own driven.handed in
     let long : length driven.lists ≡ length turns.history = ap length turns.in_order ∙ length-map turns.history (λ turn. turn.0) in
     let most = driven.most in
     let each = driven.each in
-    subst (λ (r : List Row). Ran (spoiled r gives) options.cycles (new_timed (config_of options.setup) (start_in bytes)) core h.last after) is
+    subst (λ (r : List Row). Ran (spoiled r gives) options.cycles (new_timed options.setup.config (start_in bytes)) core h.last after) is
     (record { history = turns.history; good = turns.good; most = omega arith; all = λ on. (let e = (h.whole asked).all on in omega arith) })
 
 pub text_same : {C : Type 0} (gives : Meaning C) → IsDetermined gives → (options : RunOptions) (bytes : FileBytes) (core after last : C) (status other : Option ℕ) (text same : Text)
@@ -87,7 +87,7 @@ text_same gives determined options bytes core after last status other text same 
     let rows = k.over.script in
     let i = ran gives options bytes core after status text rows own h (λ on. (asked on).0) (rows_same options.setup.script (bytes Script) h.over.script rows h.over.rows k.over.rows) in
     let j = ran gives options bytes core last other same rows own k (λ on. (asked on).1) refl in
-    let ends : h.last ≡ k.last = last_same (spoiled rows gives) (spoiled_determined gives rows determined) options.cycles (new_timed (config_of options.setup) (start_in bytes)) h.last k.last core after last i.history j.history i.good j.good i.most j.most i.all j.all in
+    let ends : h.last ≡ k.last = last_same (spoiled rows gives) (spoiled_determined gives rows determined) options.cycles (new_timed options.setup.config (start_in bytes)) h.last k.last core after last i.history j.history i.good j.good i.most j.most i.all j.all in
     h.lines ∙ ap (λ (m : Timed). asked_trace options.trace (start_in bytes) m.count ++ text_of m (shown_dump options.dump)) ends ∙ sym k.lines
 
 -- ---- the text of `soak`
@@ -95,10 +95,10 @@ text_same gives determined options bytes core after last status other text same 
 -- the turns of its second run, which has ended
 soak_ran : {C : Type 0} (gives : Meaning C) (options : SoakOptions) (core after : C) (status : Option ℕ) (text : Text)
     → (h : HasSoaked gives options core after status text)
-    → Ran (spoiled [] gives) (soak_cycles options.instructions) (new_timed soak_config (soak_start options)) core h.second after
+    → Ran (spoiled [] gives) (soak_cycles options.instructions) (new_timed default_config (soak_start options)) core h.second after
 soak_ran gives options core after status text h =
     let driven = h.under_own.driven in
-    let turns : ByTurns (spoiled [] gives) (new_timed soak_config (soak_start options)) core driven.lists h.second after = driven.handed in
+    let turns : ByTurns (spoiled [] gives) (new_timed default_config (soak_start options)) core driven.lists h.second after = driven.handed in
     let long : length driven.lists ≡ length turns.history = ap length turns.in_order ∙ length-map turns.history (λ turn. turn.0) in
     let most = driven.most in
     let off : goes_on h.second.arch ≡ false = ap (λ end. end == 0) h.halts.1 in
@@ -112,9 +112,9 @@ pub soak_same : {C : Type 0} (gives : Meaning C) → IsDetermined gives → (opt
 soak_same gives determined options core after last status other text same h k =
     let i = soak_ran gives options core after status text h in
     let j = soak_ran gives options core last other same k in
-    let ends : h.second ≡ k.second = last_same (spoiled [] gives) (spoiled_determined gives [] determined) (soak_cycles options.instructions) (new_timed soak_config (soak_start options)) h.second k.second core after last i.history j.history i.good j.good i.most j.most i.all j.all in
+    let ends : h.second ≡ k.second = last_same (spoiled [] gives) (spoiled_determined gives [] determined) (soak_cycles options.instructions) (new_timed default_config (soak_start options)) h.second k.second core after last i.history j.history i.good j.good i.most j.most i.all j.all in
     let counted : h.first.count ≡ k.first.count = sym h.same.1 ∙ ap (λ (m : Timed). m.count) ends ∙ k.same.1 in
-    let cycles : h.first.cycles ≡ k.first.cycles = h.paced ∙ ap (λ n. n + 6) counted ∙ sym k.paced in
+    let cycles : h.first.cycles ≡ k.first.cycles = h.paced ∙ ap (λ n. n + depth) counted ∙ sym k.paced in
     let flushes : h.first.flushes ≡ k.first.flushes = h.unflushed ∙ sym k.unflushed in
     let line = line_same soak_core.Scalar h.first.count k.first.count h.first.cycles k.first.cycles h.first.flushes k.first.flushes counted cycles flushes in
     h.lines ∙ ap (soak_text h.first) ends

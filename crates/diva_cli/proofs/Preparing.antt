@@ -11,7 +11,6 @@ use Rattle.diva_debug.specs.Reading.{commands_of}
 use Rattle.diva_cli.specs.declared.loading.Ready.{Ready}
 use Rattle.diva_cli.specs.declared.loading.SessionReady.{SessionReady}
 use Rattle.diva_cli.specs.Wanted.{AreSound, FileBytes, file, file_if, machine_files, tape_name}
-use Rattle.diva_cli.specs.Runs.{config_of}
 use Rattle.diva_cli.specs.Parts.{Holds, HoldsRows, HoldsCore, HoldsReady, HoldsSession}
 use Rattle.diva_cli.proofs.Stopping.{sound_both, sound_if}
 
@@ -26,7 +25,7 @@ pub ready_held : (contents : Contents) (setup : Setup) (i : Layout) (ready : Rea
     → Holds contents (file Image setup.image) (λ bytes. image_of bytes ≡ i)
     → HoldsRows contents setup.script ready.script
     → HoldsCore contents setup.core ready.core
-    → ready.machine.timed ≡ new_timed (config_of setup) (start_of i)
+    → ready.machine.timed ≡ new_timed setup.config (start_of i)
     → HoldsReady contents setup ready
 ready_held contents setup i ready image script core begun =
     record {
@@ -38,7 +37,7 @@ ready_held contents setup i ready image script core begun =
             (sound_if contents TapeFile (tape_name setup.core) (all image.bytes script.bytes core.bytes) core.sound),
       );
       is = record {
-        begun = begun ∙ ap (λ (l : Layout). new_timed (config_of setup) (start_of l)) (sym image.holds);
+        begun = begun ∙ ap (λ (l : Layout). new_timed setup.config (start_of l)) (sym image.holds);
         rows = script.holds;
         core = core.holds;
       };

@@ -28,7 +28,7 @@ use Rattle.diva_trace.specs.Text.{text_of}
 use Rattle.diva_cli.specs.declared.loading.Ready.{Ready}
 use Rattle.diva_cli.specs.Wanted.{FileBytes, tape_name}
 use Rattle.diva_cli.specs.Driven.{IsDriven, scripted_lists}
-use Rattle.diva_cli.specs.Runs.{IsRunOver, IsWhole, HasRun, AreRows, AreLists, asked_trace, shown_dump, config_of, start_in}
+use Rattle.diva_cli.specs.Runs.{IsRunOver, IsWhole, HasRun, AreRows, AreLists, asked_trace, shown_dump, start_in}
 use Rattle.diva_cli.specs.TapeTexts.{IsHandedFor, IsReplay, IsTapeOf}
 use Rattle.diva_cli.specs.Tasks.{IsWritten, PerformsBy, cycles_text, tape_line}
 use Rattle.diva_cli.specs.Parts.{IsReady, WritesWhole, WritesPart}
@@ -78,12 +78,12 @@ only_one : {A E : Type 0} (r : Result A E) (x y : A) → r ≡ Ok x → r ≡ Ok
 only_one r x y a b = cc
 
 module _ (options : TapeOptions) (bytes : FileBytes) (lists : List (List Record)) (last : Timed)
-    (ran : last ≡ run_of (new_timed (config_of options.setup) (start_in bytes)) lists)
+    (ran : last ≡ run_of (new_timed options.setup.config (start_in bytes)) lists)
     (each : last.cycles ≡ length lists)
     (most : length lists ≤ options.cycles)
     (whole : IsWhole options.setup options.cycles (start_in bytes) last) where
   abbrev first : Timed
-  first = new_timed (config_of options.setup) (start_in bytes)
+  first = new_timed options.setup.config (start_in bytes)
 
   pub same_machine : (others : List (List Record)) → others ≡ played (length others) lists → IsHandedFor options.cycles first others → run_of first others ≡ last
   same_machine others are handed =
@@ -105,8 +105,8 @@ module _ (options : TapeOptions) (bytes : FileBytes) (lists : List (List Record)
     same_lists : run.over.tape ≡ lists
     same_lists = only_one (tape_of text) run.over.tape lists (ap tape_of (sym is.tape) ∙ of_tape) reads
 
-    same_first : new_timed (config_of replay.setup) (start_in its_bytes) ≡ first
-    same_first = ap (λ (z : Config). new_timed z (start_in its_bytes)) is.config ∙ ap (λ (b : List ℕ). new_timed (config_of options.setup) (start_of (image_of b))) is.image
+    same_first : new_timed replay.setup.config (start_in its_bytes) ≡ first
+    same_first = ap (λ (z : Config). new_timed z (start_in its_bytes)) is.config ∙ ap (λ (b : List ℕ). new_timed options.setup.config (start_of (image_of b))) is.image
 
     driven : IsDriven gives (OfTape is.name) lists [] options.cycles first core run.last after
     driven =
@@ -141,7 +141,7 @@ tape_lines m (list ∷ lists) = ap (λ (t : List ℕ). list_text list ++ t) (tap
 
 module _ {C : Type 0} (gives : Meaning C) (options : TapeOptions) (bytes : FileBytes) (ready : Ready) (core : C) (last : Timed) (after : C)
     (cycles : ℕ) (old new : Option (List ℕ)) (before now : ℕ) (result : Result (Unit {0}) SinkFailed)
-    (y : cycles ≡ options.cycles) (fits : IsConfig (config_of options.setup))
+    (y : cycles ≡ options.cycles) (fits : IsConfig options.setup.config)
     (is : IsReady options.setup bytes ready)
     (p : PerformsBy gives ready.core ready.script ready.machine.timed core last after (λ lists. IsWritten tape_line IsList cycles ready.machine.timed lists last old new before now result)) where
   few : length p.lists ≤ options.cycles
@@ -162,7 +162,7 @@ module _ {C : Type 0} (gives : Meaning C) (options : TapeOptions) (bytes : FileB
       let are : All IsList p.lists = subst (λ (r : Result (Unit {0}) SinkFailed). OnOk r (All IsList p.lists)) ok p.done.said in
       let whole = run_whole gives options.setup options.cycles bytes ready core last after fits is p.lists p.ran p.each p.handed (λ on. all on ∙ y) in
       let reads = tape_read_back p.lists are in
-      let ran_new : last ≡ run_of (new_timed (config_of options.setup) (start_in bytes)) p.lists = p.ran ∙ ap (λ (m : Timed). run_of m p.lists) is.begun in
+      let ran_new : last ≡ run_of (new_timed options.setup.config (start_in bytes)) p.lists = p.ran ∙ ap (λ (m : Timed). run_of m p.lists) is.begun in
       let each : last.cycles ≡ length p.lists = each_new gives options.setup options.cycles bytes ready core last after fits is p.lists p.ran p.each p.handed in
       record {
         text = tape_text p.lists;

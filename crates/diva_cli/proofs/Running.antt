@@ -3,7 +3,7 @@ use Rattle.std.proofs.Common.{◌≡◌, ◌⊎◌, ℕ, suc, ◌+◌, ◌-◌, 
 use Rattle.diva_isa.specs.State.{State, goes_on}
 use Rattle.diva_isa.specs.Step.{steps}
 use Rattle.diva_isa.specs.declared.record.Record.{Record}
-use Rattle.diva_core.specs.Timed.{Timed, Config, new_timed}
+use Rattle.diva_core.specs.Timed.{Timed, Config, depth, new_timed}
 use Rattle.diva_core.specs.Cycle.{cycle_of, run_of}
 use Rattle.diva_core.specs.History.{Meaning, IsHistory, FollowRule}
 use Rattle.std.proofs.lemmas.Bool.{cases_Bool, true≢false}
@@ -43,7 +43,7 @@ use Rattle.diva_cli.specs.declared.loading.Ready.{Ready}
 use Rattle.diva_cli.specs.Wanted.{FileBytes}
 use Rattle.diva_cli.specs.Driven.{IsDriven, AreHanded, ByCalls, ByOther, scripted_lists, scripted_rule}
 use Rattle.diva_cli.proofs.Handing.{calls_made}
-use Rattle.diva_cli.specs.Runs.{IsRunFrom, IsRunOver, IsUnflushed, IsWhole, EndsWith, halted, trapped, unfinished, asked_trace, shown_dump, config_of, start_in}
+use Rattle.diva_cli.specs.Runs.{IsRunFrom, IsRunOver, IsUnflushed, IsWhole, EndsWith, halted, trapped, unfinished, asked_trace, shown_dump, start_in}
 use Rattle.diva_cli.specs.declared.tasks.Task.{Task}
 use Rattle.diva_cli.specs.Tasks.{AreHandedBy, Does, PerformsBy, cycles_text, run_task, trace_lines}
 use Rattle.diva_cli.specs.Parts.{IsReady, WritesWhole, WritesPart, core_for}
@@ -133,29 +133,29 @@ handed_for gives (Tape name) tape script m core lists last after leads h =
 
 pub run_from_start :
     {C : Type 0} (gives : Meaning C) (setup : Setup) (cycles : ℕ) (tape : List (List Record)) (script : List Row) (start : State) (core : C) (last : Timed) (after : C)
-    → IsConfig (config_of setup)
-    → IsDriven gives setup.core tape script cycles (new_timed (config_of setup) start) core last after
+    → IsConfig setup.config
+    → IsDriven gives setup.core tape script cycles (new_timed setup.config start) core last after
     → IsRunFrom gives setup cycles tape script start core last after
 run_from_start gives setup cycles tape script start core last after ok d =
     record {
       driven = d;
-      stepped = subst (λ (n : Timed). n.arch ≡ steps n.count start) (sym d.ran) (headline (config_of setup) start d.lists ok);
-      committed = are_committed (new_timed (config_of setup) start) d.lists (new-machine (config_of setup) start ok);
-      rows = subst (AddsRows (new_timed (config_of setup) start) d.lists) (sym d.ran) (run-adds d.lists (new_timed (config_of setup) start) (new-machine (config_of setup) start ok));
-      paced = subst (λ (n : Timed). n.cycles / (setup.watchdog + 6) ≤ n.count) (sym d.ran) (pace_of_run (config_of setup) start d.lists ok);
-      calm = no_flush (config_of setup) start d.lists last ok d.ran;
-      unflushed = λ is none. no_flush (config_of setup) start d.lists last ok d.ran (right_handed gives setup.core tape script (new_timed (config_of setup) start) core d.lists last after (new_leads (config_of setup) start ok) is none d.handed);
+      stepped = subst (λ (n : Timed). n.arch ≡ steps n.count start) (sym d.ran) (headline setup.config start d.lists ok);
+      committed = are_committed (new_timed setup.config start) d.lists (new-machine setup.config start ok);
+      rows = subst (AddsRows (new_timed setup.config start) d.lists) (sym d.ran) (run-adds d.lists (new_timed setup.config start) (new-machine setup.config start ok));
+      paced = subst (λ (n : Timed). n.cycles / (setup.config.limit + depth) ≤ n.count) (sym d.ran) (pace_of_run setup.config start d.lists ok);
+      calm = no_flush setup.config start d.lists last ok d.ran;
+      unflushed = λ is none. no_flush setup.config start d.lists last ok d.ran (right_handed gives setup.core tape script (new_timed setup.config start) core d.lists last after (new_leads setup.config start ok) is none d.handed);
     }
 
 -- ---- a run over files
 
 module _ {C : Type 0} (gives : Meaning C) (setup : Setup) (cycles : ℕ) (bytes : FileBytes) (ready : Ready) (core : C) (last : Timed) (after : C)
-    (fits : IsConfig (config_of setup)) (is : IsReady setup bytes ready) (lists : List (List Record))
+    (fits : IsConfig setup.config) (is : IsReady setup bytes ready) (lists : List (List Record))
     (ran : last ≡ run_of ready.machine.timed lists)
     (each : last.cycles ≡ ready.machine.timed.cycles + length lists)
     (handed : AreHandedBy gives ready.core ready.script ready.machine.timed core lists last after) where
   abbrev first : Timed
-  first = new_timed (config_of setup) (start_in bytes)
+  first = new_timed setup.config (start_in bytes)
 
   ran_new : last ≡ run_of first lists
   ran_new = ran ∙ ap (λ (m : Timed). run_of m lists) is.begun
@@ -165,7 +165,7 @@ module _ {C : Type 0} (gives : Meaning C) (setup : Setup) (cycles : ℕ) (bytes 
 
   handed_new : AreHanded gives setup.core is.core.tape ready.script first core lists last after
   handed_new =
-      handed_for gives setup.core is.core.tape ready.script first core lists last after (new_leads (config_of setup) (start_in bytes) fits)
+      handed_for gives setup.core is.core.tape ready.script first core lists last after (new_leads setup.config (start_in bytes) fits)
       (subst (λ (m : Timed). AreHandedBy gives (core_for setup.core is.core.tape) ready.script m core lists last after) is.begun
       (subst (λ (used : CoreInUse). AreHandedBy gives used ready.script ready.machine.timed core lists last after) is.core.is handed))
 
@@ -189,7 +189,7 @@ module _ {C : Type 0} (gives : Meaning C) (setup : Setup) (cycles : ℕ) (bytes 
       record {
         all = λ on. each_new ∙ all on;
         same = λ n ends long. subst (λ (m : Timed). (m.arch ≡ steps n (start_in bytes)) × (m.count ≡ n)) (sym ran_new)
-            (same_end (config_of setup) (start_in bytes) lists n cycles fits (λ on. all (ap (λ (m : Timed). goes_on m.arch) ran_new ∙ on)) ends long);
+            (same_end setup.config (start_in bytes) lists n cycles fits (λ on. all (ap (λ (m : Timed). goes_on m.arch) ran_new ∙ on)) ends long);
       }
 
 -- ---- how it ended
@@ -267,7 +267,7 @@ went true cycles m lists last old new before now result w =
 
 module _ {C : Type 0} (gives : Meaning C) (options : RunOptions) (bytes : FileBytes) (ready : Ready) (core : C) (last : Timed) (after : C)
     (trace : Bool) (cycles : ℕ) (dump : Option DumpRange) (old mid new : Option (List ℕ)) (before between now : ℕ) (result : Result (Unit {0}) SinkFailed)
-    (t : trace ≡ options.trace) (y : cycles ≡ options.cycles) (d : dump ≡ options.dump) (fits : IsConfig (config_of options.setup))
+    (t : trace ≡ options.trace) (y : cycles ≡ options.cycles) (d : dump ≡ options.dump) (fits : IsConfig options.setup.config)
     (is : IsReady options.setup bytes ready) (task : Task) (task_is : task ≡ run_task trace cycles)
     (p : PerformsBy gives ready.core ready.script ready.machine.timed core last after (λ lists. Does task ready.machine.timed lists last old mid before between result)) where
   abbrev run_text : List ℕ
@@ -276,14 +276,14 @@ module _ {C : Type 0} (gives : Meaning C) (options : RunOptions) (bytes : FileBy
   w : Went trace cycles ready.machine.timed p.lists last old mid before between result
   w = went trace cycles ready.machine.timed p.lists last old mid before between result (subst (λ (k : Task). Does k ready.machine.timed p.lists last old mid before between result) task_is p.done)
 
-  run_from_new : last ≡ run_of (new_timed (config_of options.setup) (start_in bytes)) p.lists
+  run_from_new : last ≡ run_of (new_timed options.setup.config (start_in bytes)) p.lists
   run_from_new = p.ran ∙ ap (λ (m : Timed). run_of m p.lists) is.begun
 
   puts_trace : Puts (asked_trace options.trace (start_in bytes) last.count) old mid before between result
   puts_trace =
       subst (λ (b : Bool). Puts (asked_trace b (start_in bytes) last.count) old mid before between result) t
       (subst (λ (x : List ℕ). Puts x old mid before between result)
-      (ap (λ (m : Timed). commits_if trace m p.lists) is.begun ∙ trace-run (config_of options.setup) (start_in bytes) p.lists last trace fits run_from_new) w.put)
+      (ap (λ (m : Timed). commits_if trace m p.lists) is.begun ∙ trace-run options.setup.config (start_in bytes) p.lists last trace fits run_from_new) w.put)
 
   over : IsRunOver gives options.setup options.cycles bytes core last after
   over = run_over gives options.setup options.cycles bytes ready core last after fits is p.lists p.ran p.each p.handed (let m = w.most in omega arith)

@@ -6,7 +6,7 @@ use Rattle.diva_isa.specs.State.{State, goes_on}
 use Rattle.diva_isa.specs.End.{halt}
 use Rattle.diva_isa.specs.Step.{steps}
 use Rattle.diva_isa.specs.declared.record.Record.{Record}
-use Rattle.diva_core.specs.Timed.{Timed, new_timed}
+use Rattle.diva_core.specs.Timed.{Timed, default_config, new_timed}
 use Rattle.diva_core.specs.Cycle.{run_of}
 use Rattle.diva_core.specs.History.{Meaning, Turns, lists_of}
 use Rattle.diva_core.specs.Machine.{IsConfig}
@@ -26,12 +26,12 @@ use Rattle.diva_args.specs.Options.{SoakOptions}
 use Rattle.diva_args.specs.declared.job.CoreChoice.TheVariants.{Own, Scalar}
 use Rattle.diva_args.specs.declared.job.Job.TheVariants.{Soak}
 use Rattle.diva_cli.specs.Wanted.{FileBytes}
-use Rattle.diva_cli.specs.SoakTexts.{HasSoaked, IsSoakRun, soak_cycles, soak_setup, soak_config, soak_start}
+use Rattle.diva_cli.specs.SoakTexts.{HasSoaked, IsSoakRun, soak_cycles, soak_setup, soak_start}
 use Rattle.diva_cli.specs.Parts.{WritesPart, WritesWhole}
 use Rattle.diva_cli.proofs.Handing.{went_far}
 use Rattle.diva_cli.proofs.Running.{handed_for, run_from_start}
 
-sizes_fit : IsConfig soak_config
+sizes_fit : IsConfig default_config
 sizes_fit = record {
   width_low = omega arith;
   width_high = omega arith;
@@ -45,19 +45,19 @@ sizes_fit = record {
 
 -- the machine with which both runs begin
 abbrev soak_new : SoakOptions → Timed
-soak_new options = new_timed soak_config (soak_start options)
+soak_new options = new_timed default_config (soak_start options)
 
 -- ---- a drive from there
 
 -- it led to a machine that has ended, or that has run all the cycles
 pub record Soaks {D : Type 0} (gives : Meaning D) (options : SoakOptions) (core : D) (last : Timed) (after : D) : Type 0 where
-  pub turns : Turns gives (new_timed soak_config (soak_start options)) core last after
+  pub turns : Turns gives (new_timed default_config (soak_start options)) core last after
   pub most : last.cycles ≤ soak_cycles options.instructions
   pub whole : goes_on last.arch ≡ true → last.cycles ≡ soak_cycles options.instructions
 
 pub drove :
     {D : Type 0} (gives : Meaning D) (options : SoakOptions) (m : Timed) (core begun : D) (last : Timed) (after : D) (budget : ℕ) (r : Drive)
-    → m ≡ new_timed soak_config (soak_start options)
+    → m ≡ new_timed default_config (soak_start options)
     → core ≡ begun
     → budget ≡ soak_cycles options.instructions
     → Turns gives m core last after
@@ -96,7 +96,7 @@ module _ {D : Type 0} (gives : Meaning D) (options : SoakOptions) (core : D) (la
   at_end =
       let h = halts.few in
       subst (λ (m : Timed). (m.arch ≡ steps halts.after (soak_start options)) × (m.count ≡ halts.after)) (sym led)
-      (same_end soak_config (soak_start options) lists halts.after (soak_cycles options.instructions) sizes_fit
+      (same_end default_config (soak_start options) lists halts.after (soak_cycles options.instructions) sizes_fit
       (λ on. sym each ∙ s.whole (ap (λ (m : Timed). goes_on m.arch) led ∙ on)) halts.ends (omega arith))
 
   halted : last.arch.end ≡ halt 0
@@ -132,7 +132,7 @@ scalar_run gives options core last lead few s =
       each = (let e = each IsScalarCall options new_scalar last lead few s in omega arith);
       most = within IsScalarCall options new_scalar last lead few s;
       handed = handed_for gives Scalar [] [] (soak_new options) core (lists IsScalarCall options new_scalar last lead few s) last core
-          (new_leads soak_config (soak_start options) sizes_fit)
+          (new_leads default_config (soak_start options) sizes_fit)
           (record { final = lead; turns = record { history = t.turns.history; good = t.turns.good; in_order = sym t.same }; same = refl });
     })
 
@@ -159,8 +159,8 @@ module _ {C : Type 0} (gives : Meaning C) (options : SoakOptions) (bytes : FileB
     halts = (first_halts, halted gives options core second after few two);
     few = (let e = first_end.1 in let h = (soak_halts options.seed options.instructions few).few in omega arith);
     same = (second_end.0 ∙ sym first_end.0, second_end.1 ∙ sym first_end.1);
-    paced = scalar_ends soak_config (soak_start options) first lead one.turns.history sizes_fit refl one.turns.good (ap (λ end. end == 0) first_halts);
-    unflushed = scalar_unflushed soak_config (soak_start options) first lead one.turns.history sizes_fit one.turns.good;
+    paced = scalar_ends default_config (soak_start options) first lead one.turns.history sizes_fit refl one.turns.good (ap (λ end. end == 0) first_halts);
+    unflushed = scalar_unflushed default_config (soak_start options) first lead one.turns.history sizes_fit one.turns.good;
     lines = refl;
     ended = ended;
   }

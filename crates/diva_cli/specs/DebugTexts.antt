@@ -9,7 +9,7 @@ use Rattle.diva_args.specs.Options.{DebugOptions}
 use Rattle.diva_debug.specs.Reading.{commands_of}
 use Rattle.diva_debug.specs.declared.command.Command.{Command}
 use Rattle.diva_cli.specs.Wanted.{FileBytes}
-use Rattle.diva_cli.specs.Runs.{IsRunOver, config_of, start_in}
+use Rattle.diva_cli.specs.Runs.{IsRunOver, start_in}
 use Rattle.diva_cli.specs.Replies.{AreLed, cycles_of, joined, newest_after, replies_of}
 
 -- the text of `debug` over files with these bytes, and the status that goes with it where it was written whole. Each reply is
@@ -21,9 +21,9 @@ pub record HasReplies {C : Type 0} (gives : Meaning C) (options : DebugOptions) 
   pub read : commands_of (bytes Commands) ≡ Ok (done ++ left)
   pub whole : IfSome status (λ s. (s ≡ 0) × (left ≡ []))
   pub last : Timed
-  pub over : IsRunOver gives options.setup (cycles_of (length done) options.setup.watchdog) bytes core last after
+  pub over : IsRunOver gives options.setup (cycles_of (length done) options.setup.config.limit) bytes core last after
   pub parts : List (List (List Record))
   pub together : over.run.driven.lists ≡ joined parts
-  pub led : AreLed done (new_timed (config_of options.setup) (start_in bytes)) parts
+  pub led : AreLed done (new_timed options.setup.config (start_in bytes)) parts
   pub lines : text
-      ≡ replies_of done 0 (start_in bytes) (newest_after (new_timed (config_of options.setup) (start_in bytes)) parts)
+      ≡ replies_of done 0 (start_in bytes) (newest_after (new_timed options.setup.config (start_in bytes)) parts)

@@ -8,7 +8,7 @@ use Rattle.diva_outside.specs.Text.{Text}
 use Rattle.diva_outside.specs.declared.files.What.{What}
 use Rattle.diva_outside.specs.declared.files.What.TheVariants.{Script, Tape as TapeFile, Commands}
 use Rattle.diva_isa.specs.declared.record.Record.{Record}
-use Rattle.diva_core.specs.Timed.{new_timed}
+use Rattle.diva_core.specs.Timed.{default_config, new_timed}
 use Rattle.diva_core.specs.History.{Meaning}
 use Rattle.diva_faults.specs.declared.rows.Row.{Row}
 use Rattle.diva_tape.specs.Scalar.{new_scalar}
@@ -28,8 +28,8 @@ use Rattle.diva_cli.specs.declared.stop.Failure.{Failure}
 use Rattle.diva_cli.specs.declared.stop.Failure.TheVariants.{Cut, Memory as NoMemory}
 use Rattle.diva_cli.specs.Lines.{unreadable_line, refused_line}
 use Rattle.diva_cli.specs.Wanted.{Wanted, FileBytes, IsSound, AreSound, file_if, machine_files, session_files, tape_name}
-use Rattle.diva_cli.specs.Runs.{AreRows, AreLists, start_in, config_of}
-use Rattle.diva_cli.specs.SoakTexts.{soak_config, soak_start}
+use Rattle.diva_cli.specs.Runs.{AreRows, AreLists, start_in}
+use Rattle.diva_cli.specs.SoakTexts.{soak_start}
 use Rattle.diva_cli.specs.Stops.{StopsAt, IsUnread, IsRefused}
 use Rattle.diva_cli.specs.Texts.{HasText}
 use Rattle.diva_cli.specs.Answers.{IsAnswer}
@@ -82,7 +82,7 @@ HoldsCore contents asked core = HoldsIf contents TapeFile (tape_name asked) (λ 
 
 -- the machine is new and begins with the image of these bytes, the script has their rows, and the core is the one asked for
 pub record IsReady (setup : Setup) (bytes : FileBytes) (ready : Ready) : Type 0 where
-  pub begun : ready.machine.timed ≡ new_timed (config_of setup) (start_in bytes)
+  pub begun : ready.machine.timed ≡ new_timed setup.config (start_in bytes)
   pub rows : AreRows setup.script (bytes Script) ready.script
   pub core : IsCore setup.core (bytes TapeFile) ready.core
 
@@ -105,8 +105,8 @@ pub record HoldsSession (contents : Contents) (options : DebugOptions) (session 
 
 -- both machines are new and begin with the image of the seed, and so is the core of the first
 pub record IsSoakReady (options : SoakOptions) (ready : SoakReady) : Type 0 where
-  pub first : ready.first.timed ≡ new_timed soak_config (soak_start options)
-  pub second : ready.second.timed ≡ new_timed soak_config (soak_start options)
+  pub first : ready.first.timed ≡ new_timed default_config (soak_start options)
+  pub second : ready.second.timed ≡ new_timed default_config (soak_start options)
   pub scalar : ready.scalar ≡ new_scalar
 
 -- ---- writing

@@ -6,7 +6,7 @@ use Rattle.diva_image.specs.Images.{image_of}
 use Rattle.diva_isa.specs.State.{State, goes_on}
 use Rattle.diva_isa.specs.Step.{steps}
 use Rattle.diva_isa.specs.declared.record.Record.{Record}
-use Rattle.diva_core.specs.Timed.{Timed, Config, new_timed, depth}
+use Rattle.diva_core.specs.Timed.{Timed, new_timed, depth}
 use Rattle.diva_core.specs.History.{Meaning}
 use Rattle.diva_core.specs.Headline.{AddsRows, AreCommitted, EndsAfter}
 use Rattle.diva_core.specs.Right.{AreRight}
@@ -21,9 +21,6 @@ use Rattle.diva_trace.specs.Text.{text_of, trace_of}
 use Rattle.diva_cli.specs.Wanted.{FileBytes, tape_name}
 use Rattle.diva_cli.specs.Driven.{IsDriven}
 
-abbrev pub config_of : Setup → Config
-config_of setup = record { width = setup.width; window = setup.window; stores = setup.stores; limit = setup.watchdog }
-
 -- the machine was never flushed
 pub record IsUnflushed (m : Timed) : Type 0 where
   pub flushes : m.flushes ≡ 0
@@ -35,17 +32,17 @@ pub record IsUnflushed (m : Timed) : Type 0 where
 -- script made of it
 pub record IsRunFrom {C : Type 0} (gives : Meaning C) (setup : Setup) (cycles : ℕ) (tape : List (List Record)) (script : List Row)
     (start : State) (core : C) (last : Timed) (after : C) : Type 0 where
-  pub driven : IsDriven gives setup.core tape script cycles (new_timed (config_of setup) start) core last after
+  pub driven : IsDriven gives setup.core tape script cycles (new_timed setup.config start) core last after
   -- the committed state is the table's after the counted instructions
   pub stepped : last.arch ≡ steps last.count start
   -- in each cycle equal claims that had waited committed, or the one instruction that ran solo
-  pub committed : AreCommitted (new_timed (config_of setup) start) driven.lists
+  pub committed : AreCommitted (new_timed setup.config start) driven.lists
   -- each row of the log is that of a cycle of the run in which a claim differed from the due record, or idle stood at the limit
-  pub rows : AddsRows (new_timed (config_of setup) start) driven.lists last
+  pub rows : AddsRows (new_timed setup.config start) driven.lists last
   -- until the end every W + 6 cycles counted at least one instruction, W being the watchdog's limit
-  pub paced : last.cycles / (setup.watchdog + depth) ≤ last.count
+  pub paced : last.cycles / (setup.config.limit + depth) ≤ last.count
   -- where each list was right for its machine, nothing was flushed
-  pub calm : AreRight (new_timed (config_of setup) start) driven.lists → IsUnflushed last
+  pub calm : AreRight (new_timed setup.config start) driven.lists → IsUnflushed last
   -- so it is under lockstep and under scalar where there is no script, or one without rows
   pub unflushed : (setup.core ≡ Lockstep) ⊎ (setup.core ≡ Scalar) → script ≡ [] → IsUnflushed last
 
@@ -53,7 +50,7 @@ pub record IsRunFrom {C : Type 0} (gives : Meaning C) (setup : Setup) (cycles : 
 pub record IsWhole (setup : Setup) (cycles : ℕ) (start : State) (last : Timed) : Type 0 where
   pub all : goes_on last.arch ≡ true → last.cycles ≡ cycles
   -- where the table ends within these cycles, every core, every script and every tape lead to just that end
-  pub same : (n : ℕ) → EndsAfter n start → n * (setup.watchdog + depth) ≤ cycles
+  pub same : (n : ℕ) → EndsAfter n start → n * (setup.config.limit + depth) ≤ cycles
       → (last.arch ≡ steps n start) × (last.count ≡ n)
 
 -- how a run ended, by its status: it halted, it trapped, or it goes on after exactly the cycles that were asked for

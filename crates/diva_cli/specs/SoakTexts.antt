@@ -4,7 +4,7 @@ use Rattle.std.specs.Prelude.{◌≡◌, ◌≤◌, ◌+◌, ◌*◌, ℕ, [], O
 use Rattle.diva_outside.specs.Text.{Text}
 use Rattle.diva_isa.specs.State.{State}
 use Rattle.diva_isa.specs.End.{halt}
-use Rattle.diva_core.specs.Timed.{Timed, Config, depth}
+use Rattle.diva_core.specs.Timed.{Timed, default_config, depth}
 use Rattle.diva_core.specs.History.{Meaning}
 use Rattle.diva_machine.specs.Start.{start_of}
 use Rattle.diva_soak.specs.Soak.{soak_of}
@@ -12,20 +12,17 @@ use Rattle.diva_trace.specs.Text.{soak_text}
 use Rattle.diva_args.specs.Options.{Setup, SoakOptions}
 use Rattle.diva_args.specs.declared.job.CoreChoice.{CoreChoice}
 use Rattle.diva_args.specs.declared.job.CoreChoice.TheVariants.{Own, Scalar}
-use Rattle.diva_cli.specs.Runs.{IsRunFrom, config_of}
+use Rattle.diva_cli.specs.Runs.{IsRunFrom}
 
 -- ---- one run
 
 -- the numbers of a machine where no option asks for others, and this core; no file is named
 abbrev pub soak_setup : CoreChoice → Setup
-soak_setup core = record { image = []; core = core; script = None; width = 2; window = 16; stores = 4; watchdog = 64 }
-
-abbrev pub soak_config : Config
-soak_config = config_of (soak_setup Own)
+soak_setup core = record { image = []; core = core; script = None; config = default_config }
 
 -- W + 6 cycles for each of n drawn instructions and the three behind them, W being the watchdog's limit
 abbrev pub soak_cycles : (n : ℕ) → ℕ
-soak_cycles n = (64 + depth) * (n + 3)
+soak_cycles n = (default_config.limit + depth) * (n + 3)
 
 -- the state that the image starts
 abbrev pub soak_start : SoakOptions → State

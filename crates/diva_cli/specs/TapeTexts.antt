@@ -14,7 +14,7 @@ use Rattle.diva_trace.specs.Text.{text_of}
 use Rattle.diva_args.specs.Options.{RunOptions, TapeOptions}
 use Rattle.diva_args.specs.declared.job.CoreChoice.TheVariants.{Tape as OfTape}
 use Rattle.diva_cli.specs.Wanted.{FileBytes}
-use Rattle.diva_cli.specs.Runs.{IsRunOver, IsWhole, EndsWith, HasRun, asked_trace, config_of, start_in, shown_dump}
+use Rattle.diva_cli.specs.Runs.{IsRunOver, IsWhole, EndsWith, HasRun, asked_trace, start_in, shown_dump}
 
 -- a `run` of the same image with the same numbers, by the tape of this text and without a script
 pub record IsReplay (options : TapeOptions) (bytes : FileBytes) (text : Text) (replay : RunOptions) (its_bytes : FileBytes) : Type 0 where
@@ -22,7 +22,7 @@ pub record IsReplay (options : TapeOptions) (bytes : FileBytes) (text : Text) (r
   pub core : replay.setup.core ≡ OfTape name
   pub tape : its_bytes TapeFile ≡ text
   pub script : replay.setup.script ≡ None
-  pub config : config_of replay.setup ≡ config_of options.setup
+  pub config : replay.setup.config ≡ options.setup.config
   pub cycles : replay.cycles ≡ options.cycles
   pub image : its_bytes Image ≡ bytes Image
 
@@ -41,8 +41,8 @@ pub record IsTapeOf {C : Type 0} (gives : Meaning C) (options : TapeOptions) (by
   pub reads : tape_of text ≡ Ok lists
   -- the lists of that tape, and then empty ones, lead from the same start under the same numbers to this machine again
   pub again : (others : List (List Record)) → others ≡ played (length others) lists
-      → IsHandedFor options.cycles (new_timed (config_of options.setup) (start_in bytes)) others
-      → run_of (new_timed (config_of options.setup) (start_in bytes)) others ≡ last
+      → IsHandedFor options.cycles (new_timed options.setup.config (start_in bytes)) others
+      → run_of (new_timed options.setup.config (start_in bytes)) others ≡ last
   -- so running the image with that tape leaves the text of this machine; with commit lines, where they are all written
   pub replays : (replay : RunOptions) → (its_bytes : FileBytes) → IsReplay options bytes text replay its_bytes
       → (core after : C) → (shown_status : Option ℕ) → (shown : Text) → HasRun gives replay its_bytes core after shown_status shown

@@ -5,7 +5,6 @@ ghost use Rattle.diva_args.specs.declared.job.Job.TheVariants.{Debug};
 ghost use Rattle.diva_core.specs.Machine.{IsConfig};
 ghost use Rattle.diva_debug.specs.Moves.{IsShort};
 ghost use Rattle.diva_cli.specs.Wanted.{FileBytes, file_limit};
-ghost use Rattle.diva_cli.specs.Runs.{config_of};
 ghost use Rattle.diva_cli.specs.Parts.{Answers, IsSession, WritesText};
 
 use crate::driving::perform_by;
@@ -45,7 +44,7 @@ fn debug_ready<S: Sink, C: Core>(
     sink: &mut S,
     core: &mut C,
 ) -> Result<u8, Failure>
-    requires fits { IsConfig (config_of options.setup) }
+    requires fits { IsConfig options.setup.config }
     requires new { session.ready.machine.timed.cycles ≡ 0 }
     requires narrow { session.ready.machine.timed.config.width ≡ 1 }
     requires few { length session.commands.items ≤ file_limit }

@@ -11,7 +11,6 @@ ghost use Rattle.diva_tape.specs.Tapes.{tape_of};
 ghost use Rattle.diva_debug.specs.Moves.{IsShort};
 ghost use Rattle.diva_debug.specs.Reading.{commands_of};
 ghost use Rattle.diva_cli.specs.Wanted.{file, file_if, file_limit, machine_files, session_files, tape_name};
-ghost use Rattle.diva_cli.specs.Runs.{config_of};
 ghost use Rattle.diva_cli.specs.Parts.{Stops, Holds, HoldsCore, HoldsReady, HoldsRows, HoldsSession};
 
 use crate::driving::CoreInUse;
@@ -21,7 +20,7 @@ use diva_asm::{AsmFault, assemble};
 use diva_debug::{Command, CommandFault, commands};
 use diva_faults::{Script, ScriptFault};
 use diva_image::{Image, ImageFault, read};
-use diva_machine::{Config, Machine};
+use diva_machine::Machine;
 use diva_outside::{Files, LoadFault, What};
 use diva_tape::{Noise, Scalar, Tape, TapeCore, TapeFault};
 use std::alloc::Global;
@@ -50,11 +49,11 @@ pub(crate) fn make_ready<F: Files>(
     ensures stays { F.contents files.new ≡ F.contents files.old }
     ensures later { (w : What) → F.faults files.old w ≤ F.faults files.new w }
     ensures ready { IfOk result (HoldsReady (F.contents files.old) setup.now) }
-    ensures config { IsConfig (config_of setup.now) }
+    ensures config { IsConfig setup.now.config }
     ensures stopped { IfErr result (λ stop. Stops (F.contents files.old) (F.faults files.old)
         (F.faults files.new) (machine_files setup.now) stop) }
 {
-    let config = config_of(setup);
+    let config = setup.config;
     let Loaded {
         image,
         script,
@@ -91,7 +90,7 @@ pub(crate) fn make_session<F: Files>(
     ensures stays { F.contents files.new ≡ F.contents files.old }
     ensures later { (w : What) → F.faults files.old w ≤ F.faults files.new w }
     ensures session { IfOk result (HoldsSession (F.contents files.old) options.now) }
-    ensures config { IsConfig (config_of options.now.setup) }
+    ensures config { IsConfig options.now.setup.config }
     ensures narrow { IfOk result (λ session. session.ready.machine.timed.config.width ≡ 1) }
     ensures few { IfOk result (λ session. length session.commands.items ≤ file_limit) }
     ensures short { IfOk result (λ session. All IsShort session.commands.items) }
@@ -106,14 +105,6 @@ pub(crate) fn make_session<F: Files>(
         Ok(commands) => Ok(SessionReady { ready, commands }),
         Err(stop) => Err(stop),
     }
-}
-
-/// The machine's numbers, as the command line asks for them.
-fn config_of(setup: &Setup) -> Config
-    ensures value { result ≡ config_of setup.now }
-    ensures fits { IsConfig (config_of setup.now) }
-{
-    Config::new(setup.width, setup.window, setup.stores, setup.watchdog).unwrap()
 }
 
 /// What was read of the files of a machine.

@@ -3,7 +3,6 @@ ghost use Rattle.std.specs.Prelude.{◌≡◌, Some, IsErrOf};
 ghost use Rattle.diva_args.specs.declared.job.Job.TheVariants.{Run};
 ghost use Rattle.diva_core.specs.Machine.{IsConfig};
 ghost use Rattle.diva_cli.specs.Wanted.{FileBytes};
-ghost use Rattle.diva_cli.specs.Runs.{config_of};
 ghost use Rattle.diva_cli.specs.Tasks.{run_task};
 ghost use Rattle.diva_cli.specs.Parts.{Answers, IsReady, WritesText};
 
@@ -45,7 +44,7 @@ fn run_ready<S: Sink, C: Core>(
     core: &mut C,
 ) -> Result<u8, Failure>
     requires new { ready.machine.timed.cycles ≡ 0 }
-    requires fits { IsConfig (config_of options.setup) }
+    requires fits { IsConfig options.setup.config }
     ensures writes { (bytes : FileBytes) → IsReady options.setup bytes ready
         → WritesText C.gives (Run options) bytes core.old core.new
         (S.contents sink.old) (S.contents sink.new) (S.faults sink.old) (S.faults sink.new) result }

@@ -2,7 +2,7 @@
 // under the core that is handed in.
 ghost use Rattle.std.specs.Prelude.{◌≡◌, IfOk, IsErrOf, Some};
 ghost use Rattle.diva_args.specs.declared.job.Job.TheVariants.{Soak};
-ghost use Rattle.diva_cli.specs.SoakTexts.{soak_cycles, soak_config};
+ghost use Rattle.diva_cli.specs.SoakTexts.{soak_cycles};
 ghost use Rattle.diva_cli.specs.Wanted.{FileBytes};
 ghost use Rattle.diva_cli.specs.Parts.{Answers, IsSoakReady, WritesText};
 
@@ -15,9 +15,6 @@ use diva_outside::{Files, Sink};
 use diva_soak::soak_image;
 use diva_tape::Scalar;
 use std::alloc::{AllocError, Global};
-
-/// The watchdog's limit of both machines.
-const WATCHDOG: u32 = 64;
 
 /// Runs the image of a seed under two cores, and then writes what the runs came to. All memory is taken before the core that is
 /// handed in is asked, and before anything is written; no file is loaded.
@@ -53,20 +50,13 @@ struct SoakReady {
 fn make_soak(alloc: Global, options: &SoakOptions) -> Result<SoakReady, AllocError>
     ensures { IfOk result (IsSoakReady options.now) }
 {
-    let config = soak_config();
+    let config = Config::default();
     let image = soak_image(alloc, options.seed, options.instructions)?;
     Ok(SoakReady {
         first: Machine::new(alloc, &image, config)?,
         second: Machine::new(alloc, &image, config)?,
         scalar: Scalar::new(alloc)?,
     })
-}
-
-/// The numbers that a machine has where no option asks for others.
-fn soak_config() -> Config
-    ensures { result ≡ soak_config }
-{
-    Config::new(2, 16, 4, WATCHDOG).unwrap()
 }
 
 /// Drives both machines to their ends, and then writes what they came to.
@@ -100,5 +90,5 @@ fn soak_ready<S: Sink, C: Core>(
 fn soak_cycles(instructions: u32) -> u64
     ensures { result ≡ soak_cycles instructions }
 {
-    (u64::from(WATCHDOG) + DEPTH) * (u64::from(instructions) + 3)
+    (u64::from(Config::default().limit()) + DEPTH) * (u64::from(instructions) + 3)
 }

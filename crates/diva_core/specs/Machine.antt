@@ -1,16 +1,33 @@
 -- What holds of a machine between two cycles.
 use Rattle.std.specs.Prelude.{ℕ, ◌≡◌, ◌≤◌, ◌+◌, ◌-◌, ◌*◌, List, [], ◌∷◌, length, Option, Some, None, ⊤}
+use Rattle.std.specs.Prelude.{Bool, ◌&&◌, nat_le, if◌then◌else◌}
 use Rattle.diva_core.specs.Timed.{Timed, Config, PendingClaim, depth, rows_kept}
 
+-- the least that each of a machine's numbers may be, and the most
+abbrev pub least_config : Config
+least_config = record { width = 1; window = 8; stores = 1; limit = 16 }
+
+abbrev pub most_config : Config
+most_config = record { width = 4; window = 64; stores = 6; limit = 1024 }
+
+-- each of the numbers is in its range
 pub record IsConfig (z : Config) : Type 0 where
-  pub width_low : 1 ≤ z.width
-  pub width_high : z.width ≤ 4
-  pub window_low : 8 ≤ z.window
-  pub window_high : z.window ≤ 64
-  pub stores_low : 1 ≤ z.stores
-  pub stores_high : z.stores ≤ 6
-  pub limit_low : 16 ≤ z.limit
-  pub limit_high : z.limit ≤ 1024
+  pub width_low : least_config.width ≤ z.width
+  pub width_high : z.width ≤ most_config.width
+  pub window_low : least_config.window ≤ z.window
+  pub window_high : z.window ≤ most_config.window
+  pub stores_low : least_config.stores ≤ z.stores
+  pub stores_high : z.stores ≤ most_config.stores
+  pub limit_low : least_config.limit ≤ z.limit
+  pub limit_high : z.limit ≤ most_config.limit
+
+-- the same as a test: no number is greater than the other's
+abbrev pub config_le : Config → Config → Bool
+config_le a b = nat_le a.width b.width && nat_le a.window b.window && nat_le a.stores b.stores && nat_le a.limit b.limit
+
+-- the numbers, where each is in its range
+unfoldable pub config_in_range : Config → Option Config
+config_in_range z = if config_le least_config z && config_le z most_config then Some z else None
 
 -- an instruction runs solo since the cycle `start`
 pub record IsSolo (m : Timed) (start : ℕ) : Type 0 where

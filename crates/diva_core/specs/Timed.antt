@@ -21,6 +21,10 @@ pub record Config : Type 0 where
   pub stores : ℕ
   pub limit : ℕ
 
+-- the numbers of a machine for which no others are asked
+abbrev pub default_config : Config
+default_config = record { width = 2; window = 16; stores = 4; limit = 64 }
+
 -- a pending claim, and the cycle in which it was accepted
 pub record PendingClaim : Type 0 where
   pub claim : Record

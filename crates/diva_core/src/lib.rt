@@ -1,5 +1,6 @@
 //! What cores, checks and the machine share.
 //!
+//! - `config`: how wide and deep the machine is, `Config`;
 //! - `claims`: what a core hands over, `Claim` and `Claims`;
 //! - `told`, `view`: what a core is told and shown before a cycle, `Told` and `View`;
 //! - `cores`: the trait `Core`, with its one meaning `gives`;
@@ -21,6 +22,7 @@
 
 mod bypass;
 mod claims;
+mod config;
 mod cores;
 mod differences;
 mod effects;
@@ -33,6 +35,7 @@ mod walks;
 
 pub use bypass::Bypass;
 pub use claims::{Claim, Claims};
+pub use config::Config;
 pub use cores::Core;
 pub use differences::{Diff, Field, difference_in, first_difference};
 pub use effects::{byte_in, is_apart};

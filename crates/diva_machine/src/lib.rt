@@ -1,6 +1,5 @@
 //! The processor's timed machine: a checker that commits nothing that it has not recomputed.
 //!
-//! - `config`: how wide and deep the machine is, `Config`;
 //! - `arch`: the committed state over memory and store queue;
 //! - `log`: the flushes, as rows and as counts;
 //! - `stages`: what a pending claim passes through at each age;
@@ -11,13 +10,14 @@
 //! - `turns`: a machine and a core, turn by turn, `turn` and `drive`;
 //! - `reaching`: turns until so many instructions have committed, `drive_to`.
 //!
+//! How wide and deep the machine is, `Config`, is told by `diva_core`.
+//!
 //! What a cycle does is `cycle_of` of `diva_core`'s definitions; `specs/Start.antt` says in which
 //! state an image starts, `specs/Machine.antt` what contracts see of a machine, and
 //! `specs/Staged.antt` what the stages note of a claim by its age.
 #![tactic(auto)]
 
 mod arch;
-mod config;
 mod ends;
 mod log;
 mod machine;
@@ -27,7 +27,7 @@ mod reaching;
 mod stages;
 mod turns;
 
-pub use config::Config;
+pub use diva_core::Config;
 pub use diva_isa::End;
 pub use ends::{Drive, Reach};
 pub use machine::Machine;

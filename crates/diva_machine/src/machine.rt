@@ -16,9 +16,8 @@ ghost use Rattle.diva_machine.specs.Machine.{pending_claim_of};
 ghost use Rattle.diva_machine.specs.Staged.{AreChecked, IsChecked};
 
 use crate::DEPTH;
-use crate::config::Config;
 use crate::parts::Parts;
-use diva_core::{Claims, Entry, FlushRow, Told, View};
+use diva_core::{Claims, Config, Entry, FlushRow, Told, View};
 use diva_image::Image;
 use diva_isa::{End, Record};
 use std::alloc::{AllocError, Global};

@@ -21,13 +21,12 @@ ghost use Rattle.diva_machine.specs.Staged.{last_stage, left, AreChecked, IsAdva
 
 use crate::DEPTH;
 use crate::arch::Arch;
-use crate::config::Config;
 use crate::log::Log;
 use crate::phases::{CommitPhase, Judged};
 use crate::stages::{LAST_STAGE, fill, pass};
 use arrayvec::ArrayVec;
 use diva_commit::Committed;
-use diva_core::{Cause, Claim, Entry, FlushRow, Pending};
+use diva_core::{Cause, Claim, Config, Entry, FlushRow, Pending};
 use diva_decode::decode;
 use diva_image::Image;
 use diva_isa::Record;

@@ -5,7 +5,7 @@ use Rattle.diva_isa.specs.State.{State, reg_of}
 use Rattle.diva_isa.specs.Step.{record_of, steps}
 use Rattle.diva_isa.specs.declared.record.Record.{Record}
 use Rattle.diva_core.specs.declared.flushes.FlushRow.{FlushRow}
-use Rattle.diva_core.specs.Timed.{Timed, Config, PendingClaim, new_timed}
+use Rattle.diva_core.specs.Timed.{Timed, PendingClaim, default_config, new_timed}
 use Rattle.diva_core.specs.Cycle.{cycle_of}
 use Rattle.diva_core.specs.Told.{told_of}
 use Rattle.diva_ahead.specs.Ahead.{Ahead}
@@ -71,10 +71,6 @@ abbrev pub registers : List ℕ → State → List ℕ
 registers numbers s = map (reg_of s) numbers
 
 -- ---- the machine
-
--- the numbers of a machine for which no others are asked
-abbrev pub defaults : Config
-defaults = record { width = 2; window = 16; stores = 4; limit = 64 }
 
 -- the machine after n cycles in which a rule says what is handed over
 abbrev pub led_by : (Timed → List Record) → ℕ → Timed → Timed
@@ -177,4 +173,4 @@ turns_of (suc n) d = turns_of n (turn_of d)
 
 -- a new machine with the numbers above, and a new core
 abbrev pub new_driven : State → Driven
-new_driven s = record { machine = new_timed defaults s; core = new_scalar }
+new_driven s = record { machine = new_timed default_config s; core = new_scalar }

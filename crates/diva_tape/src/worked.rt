@@ -7,14 +7,14 @@
 ghost use Rattle.std.specs.Prelude.{◌≡◌, [], ◌∷◌};
 ghost use Rattle.diva_core.specs.declared.differences.Field.TheVariants.{Pc, Word, Value};
 ghost use Rattle.diva_core.specs.declared.flushes.Cause.TheVariants.{Differs, Silent};
-ghost use Rattle.diva_core.specs.Timed.{new_timed};
+ghost use Rattle.diva_core.specs.Timed.{default_config, new_timed};
 ghost use Rattle.diva_isa.specs.declared.trap.Trap.TheVariants.{InstructionMisaligned, InstructionAccessFault, LoadMisaligned};
 ghost use Rattle.diva_isa.specs.State.{reg_of};
 ghost use Rattle.diva_isa.specs.End.{halt, trap};
 ghost use Rattle.diva_isa.specs.Step.{record_of, step, steps};
 ghost use Rattle.diva_tape.specs.Lists.{lockstep_list, silent_list};
 ghost use Rattle.diva_tape.specs.Scalar.{scalar_list};
-ghost use Rattle.diva_tape.specs.Programs.{defaults, led_by, summary_of, acceptances, commitments, registers};
+ghost use Rattle.diva_tape.specs.Programs.{led_by, summary_of, acceptances, commitments, registers};
 ghost use Rattle.diva_tape.specs.Programs.{handed, hushed, flipped_first, second_twice, eight_at_once, two_at_once, late_and_wrong, stale_word};
 ghost use Rattle.diva_tape.specs.Programs.{three_instructions, jump_to_itself, one_word, misaligned_load_outside, jump_to_six, write_to_x0, division_by_zero, least_by_minus_one, store_then_load, store_over_next_word, two_stores};
 
@@ -32,14 +32,14 @@ pub fn three_instructions_step_by_step()
 /// A load that is both misaligned and outside memory: misaligned wins. A trap changes nothing else.
 pub fn misaligned_wins_over_outside()
     ensures step { step misaligned_load_outside ≡ record misaligned_load_outside { end = trap LoadMisaligned } }
-    ensures summary { summary_of (led_by lockstep_list 20 (new_timed defaults misaligned_load_outside))
+    ensures summary { summary_of (led_by lockstep_list 20 (new_timed default_config misaligned_load_outside))
         ≡ record { end = trap LoadMisaligned; count = 1; cycles = 7; flushes = 0; silent = 0; rows = [] } }
 {}
 
 /// A jump to an address that is not a multiple of four traps, and writes no register.
 pub fn a_jump_to_no_multiple_of_four_traps()
     ensures step { step jump_to_six ≡ record jump_to_six { end = trap InstructionMisaligned } }
-    ensures summary { summary_of (led_by lockstep_list 20 (new_timed defaults jump_to_six))
+    ensures summary { summary_of (led_by lockstep_list 20 (new_timed default_config jump_to_six))
         ≡ record { end = trap InstructionMisaligned; count = 1; cycles = 7; flushes = 0; silent = 0; rows = [] } }
 {}
 
@@ -47,7 +47,7 @@ pub fn a_jump_to_no_multiple_of_four_traps()
 pub fn a_fetch_outside_memory_traps()
     ensures second { record_of (step one_word)
         ≡ record { pc = 4; word = 0; src1 = 0; src2 = 0; addr = 0; value = 0; next = 4; end = trap InstructionAccessFault } }
-    ensures summary { summary_of (led_by lockstep_list 20 (new_timed defaults one_word))
+    ensures summary { summary_of (led_by lockstep_list 20 (new_timed default_config one_word))
         ≡ record { end = trap InstructionAccessFault; count = 2; cycles = 14; flushes = 0; silent = 0; rows = [] } }
 {}
 
@@ -55,7 +55,7 @@ pub fn a_fetch_outside_memory_traps()
 pub fn a_write_to_x0_is_ignored()
     ensures value { (record_of write_to_x0).value ≡ 7 }
     ensures registers { registers (0 ∷ 1 ∷ []) (steps 2 write_to_x0) ≡ 0 ∷ 0 ∷ [] }
-    ensures summary { summary_of (led_by scalar_list 20 (new_timed defaults write_to_x0))
+    ensures summary { summary_of (led_by scalar_list 20 (new_timed default_config write_to_x0))
         ≡ record { end = halt 0; count = 4; cycles = 10; flushes = 0; silent = 0; rows = [] } }
 {}
 
@@ -75,20 +75,20 @@ pub fn the_least_number_divided_by_minus_one()
 pub fn a_store_in_flight_is_seen_by_a_load()
     ensures registers { registers (1 ∷ 2 ∷ []) (steps 3 store_then_load)
         ≡ 0x00000055 ∷ 0x44335511 ∷ [] }
-    ensures summary { summary_of (led_by scalar_list 20 (new_timed defaults store_then_load))
+    ensures summary { summary_of (led_by scalar_list 20 (new_timed default_config store_then_load))
         ≡ record { end = halt 0; count = 5; cycles = 11; flushes = 0; silent = 0; rows = [] } }
 {}
 
 /// A store over the next instruction's word is seen by its fetch at once.
 pub fn a_store_over_the_next_word()
     ensures end { (steps 4 store_over_next_word).end ≡ halt 0 }
-    ensures summary { summary_of (led_by scalar_list 20 (new_timed defaults store_over_next_word))
+    ensures summary { summary_of (led_by scalar_list 20 (new_timed default_config store_over_next_word))
         ≡ record { end = halt 0; count = 4; cycles = 10; flushes = 0; silent = 0; rows = [] } }
 {}
 
 /// A core that fetched before that store claims the old word, which flushes.
 pub fn a_stale_word_flushes()
-    ensures summary { summary_of (led_by (handed stale_word) 20 (new_timed defaults store_over_next_word))
+    ensures summary { summary_of (led_by (handed stale_word) 20 (new_timed default_config store_over_next_word))
         ≡ record {
           end = halt 0;
           count = 4;
@@ -102,11 +102,11 @@ pub fn a_stale_word_flushes()
 
 /// Two stores commit in one cycle where four may be owed. Where one may, the second waits a cycle.
 pub fn a_store_waits_for_room()
-    ensures with_one { commitments (handed two_at_once) 20 (new_timed (record defaults { stores = 1 }) two_stores)
+    ensures with_one { commitments (handed two_at_once) 20 (new_timed (record default_config { stores = 1 }) two_stores)
         ≡ 7 ∷ 8 ∷ 8 ∷ 9 ∷ [] }
-    ensures with_four { commitments (handed two_at_once) 20 (new_timed defaults two_stores)
+    ensures with_four { commitments (handed two_at_once) 20 (new_timed default_config two_stores)
         ≡ 7 ∷ 7 ∷ 8 ∷ 8 ∷ [] }
-    ensures summary { summary_of (led_by (handed two_at_once) 20 (new_timed (record defaults { stores = 1 }) two_stores))
+    ensures summary { summary_of (led_by (handed two_at_once) 20 (new_timed (record default_config { stores = 1 }) two_stores))
         ≡ record { end = halt 0; count = 4; cycles = 9; flushes = 0; silent = 0; rows = [] } }
 {}
 
@@ -115,31 +115,31 @@ pub fn a_store_waits_for_room()
 /// An instruction that is handed over by itself commits six cycles later, and the next is accepted
 /// in the cycle after that.
 pub fn three_instructions_in_lockstep()
-    ensures accepted { acceptances lockstep_list 30 (new_timed defaults three_instructions)
+    ensures accepted { acceptances lockstep_list 30 (new_timed default_config three_instructions)
         ≡ 1 ∷ 8 ∷ 15 ∷ [] }
-    ensures committed { commitments lockstep_list 30 (new_timed defaults three_instructions)
+    ensures committed { commitments lockstep_list 30 (new_timed default_config three_instructions)
         ≡ 7 ∷ 14 ∷ 21 ∷ [] }
-    ensures summary { summary_of (led_by lockstep_list 30 (new_timed defaults three_instructions))
+    ensures summary { summary_of (led_by lockstep_list 30 (new_timed default_config three_instructions))
         ≡ record { end = halt 0; count = 3; cycles = 21; flushes = 0; silent = 0; rows = [] } }
-    ensures state { (led_by lockstep_list 30 (new_timed defaults three_instructions)).arch
+    ensures state { (led_by lockstep_list 30 (new_timed default_config three_instructions)).arch
         ≡ steps 3 three_instructions }
 {}
 
 /// Claims that follow one another by a cycle commit so.
 pub fn three_instructions_one_by_one()
-    ensures accepted { acceptances scalar_list 20 (new_timed defaults three_instructions)
+    ensures accepted { acceptances scalar_list 20 (new_timed default_config three_instructions)
         ≡ 1 ∷ 2 ∷ 3 ∷ [] }
-    ensures committed { commitments scalar_list 20 (new_timed defaults three_instructions)
+    ensures committed { commitments scalar_list 20 (new_timed default_config three_instructions)
         ≡ 7 ∷ 8 ∷ 9 ∷ [] }
-    ensures summary { summary_of (led_by scalar_list 20 (new_timed defaults three_instructions))
+    ensures summary { summary_of (led_by scalar_list 20 (new_timed default_config three_instructions))
         ≡ record { end = halt 0; count = 3; cycles = 9; flushes = 0; silent = 0; rows = [] } }
 {}
 
 /// Claims past the room are dropped.
 pub fn claims_past_the_room_are_dropped()
-    ensures accepted { acceptances (handed eight_at_once) 20 (new_timed defaults three_instructions)
+    ensures accepted { acceptances (handed eight_at_once) 20 (new_timed default_config three_instructions)
         ≡ 1 ∷ 1 ∷ 2 ∷ 2 ∷ [] }
-    ensures summary { summary_of (led_by (handed eight_at_once) 20 (new_timed defaults three_instructions))
+    ensures summary { summary_of (led_by (handed eight_at_once) 20 (new_timed default_config three_instructions))
         ≡ record { end = halt 0; count = 3; cycles = 8; flushes = 0; silent = 0; rows = [] } }
 {}
 
@@ -148,11 +148,11 @@ pub fn claims_past_the_room_are_dropped()
 /// A claim with one wrong bit flushes. That instruction then runs solo, on the checker's own values,
 /// for six cycles.
 pub fn a_flipped_value_flushes()
-    ensures accepted { acceptances flipped_first 30 (new_timed defaults three_instructions)
+    ensures accepted { acceptances flipped_first 30 (new_timed default_config three_instructions)
         ≡ 1 ∷ 14 ∷ 21 ∷ [] }
-    ensures committed { commitments flipped_first 30 (new_timed defaults three_instructions)
+    ensures committed { commitments flipped_first 30 (new_timed default_config three_instructions)
         ≡ 13 ∷ 20 ∷ 27 ∷ [] }
-    ensures summary { summary_of (led_by flipped_first 30 (new_timed defaults three_instructions))
+    ensures summary { summary_of (led_by flipped_first 30 (new_timed default_config three_instructions))
         ≡ record {
           end = halt 0;
           count = 3;
@@ -162,13 +162,13 @@ pub fn a_flipped_value_flushes()
           rows =
               record { cycle = 7; at = 0; cause = Differs (record { field = Value; claimed = 4; due = 5 }) } ∷ [];
         } }
-    ensures state { (led_by flipped_first 30 (new_timed defaults three_instructions)).arch
+    ensures state { (led_by flipped_first 30 (new_timed default_config three_instructions)).arch
         ≡ steps 3 three_instructions }
 {}
 
 /// A right claim that comes twice commits once, and flushes the second time.
 pub fn a_claim_made_twice_flushes()
-    ensures summary { summary_of (led_by (handed second_twice) 20 (new_timed defaults three_instructions))
+    ensures summary { summary_of (led_by (handed second_twice) 20 (new_timed default_config three_instructions))
         ≡ record {
           end = halt 0;
           count = 3;
@@ -183,9 +183,9 @@ pub fn a_claim_made_twice_flushes()
 /// A wrong claim that is judged in the very cycle in which the watchdog would flush: the claim is the
 /// cause. After it the watchdog flushes for each instruction. Its limit is 16 cycles.
 pub fn a_wrong_claim_comes_before_the_watchdog()
-    ensures committed { commitments (handed late_and_wrong) 70 (new_timed (record defaults { limit = 16 }) three_instructions)
+    ensures committed { commitments (handed late_and_wrong) 70 (new_timed (record default_config { limit = 16 }) three_instructions)
         ≡ 22 ∷ 44 ∷ 66 ∷ [] }
-    ensures summary { summary_of (led_by (handed late_and_wrong) 70 (new_timed (record defaults { limit = 16 }) three_instructions))
+    ensures summary { summary_of (led_by (handed late_and_wrong) 70 (new_timed (record default_config { limit = 16 }) three_instructions))
         ≡ record {
           end = halt 0;
           count = 3;
@@ -204,9 +204,9 @@ pub fn a_wrong_claim_comes_before_the_watchdog()
 /// Where nothing is handed over, the watchdog flushes after 64 cycles and the instruction commits six
 /// cycles later: 70 for each, which is the bound.
 pub fn three_instructions_in_silence()
-    ensures committed { commitments silent_list 220 (new_timed defaults three_instructions)
+    ensures committed { commitments silent_list 220 (new_timed default_config three_instructions)
         ≡ 70 ∷ 140 ∷ 210 ∷ [] }
-    ensures summary { summary_of (led_by silent_list 220 (new_timed defaults three_instructions))
+    ensures summary { summary_of (led_by silent_list 220 (new_timed default_config three_instructions))
         ≡ record {
           end = halt 0;
           count = 3;
@@ -218,13 +218,13 @@ pub fn three_instructions_in_silence()
               ∷ record { cycle = 134; at = 1; cause = Silent 64 }
               ∷ record { cycle = 204; at = 2; cause = Silent 64 } ∷ [];
         } }
-    ensures state { (led_by silent_list 220 (new_timed defaults three_instructions)).arch
+    ensures state { (led_by silent_list 220 (new_timed default_config three_instructions)).arch
         ≡ steps 3 three_instructions }
 {}
 
 /// A program that never ends goes on in silence too.
 pub fn a_jump_to_itself_in_silence()
-    ensures summary { summary_of (led_by silent_list 140 (new_timed defaults jump_to_itself))
+    ensures summary { summary_of (led_by silent_list 140 (new_timed default_config jump_to_itself))
         ≡ record {
           end = 0;
           count = 2;
@@ -239,7 +239,7 @@ pub fn a_jump_to_itself_in_silence()
 
 /// A core falls silent for 200 cycles, and then goes on where the machine is.
 pub fn a_silence_of_200_cycles()
-    ensures summary { summary_of (led_by (hushed 5 204 scalar_list) 300 (new_timed defaults jump_to_itself))
+    ensures summary { summary_of (led_by (hushed 5 204 scalar_list) 300 (new_timed default_config jump_to_itself))
         ≡ record {
           end = 0;
           count = 96;

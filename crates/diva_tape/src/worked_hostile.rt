@@ -5,15 +5,15 @@
 ghost use Rattle.std.specs.Prelude.{◌≡◌, [], ◌∷◌};
 ghost use Rattle.diva_core.specs.declared.differences.Field.TheVariants.{Pc, Word};
 ghost use Rattle.diva_core.specs.declared.flushes.Cause.TheVariants.{Differs};
-ghost use Rattle.diva_core.specs.Timed.{new_timed};
+ghost use Rattle.diva_core.specs.Timed.{default_config, new_timed};
 ghost use Rattle.diva_isa.specs.End.{halt};
 ghost use Rattle.diva_tape.specs.Lists.{echo_list, flood_list};
 ghost use Rattle.diva_tape.specs.Noise.{noise_lists};
-ghost use Rattle.diva_tape.specs.Programs.{acceptances, defaults, handed, led_by, summary_of, three_instructions};
+ghost use Rattle.diva_tape.specs.Programs.{acceptances, handed, led_by, summary_of, three_instructions};
 
 /// Zeros have the first instruction's pc, and the word of none.
 pub fn three_instructions_in_a_flood()
-    ensures { summary_of (led_by flood_list 50 (new_timed defaults three_instructions))
+    ensures { summary_of (led_by flood_list 50 (new_timed default_config three_instructions))
         ≡ record {
           end = halt 0;
           count = 3;
@@ -29,9 +29,9 @@ pub fn three_instructions_in_a_flood()
 
 /// The first claim is right, the second one is the first again. Behind the flush comes the claim of the last instruction.
 pub fn three_instructions_with_an_echo()
-    ensures accepted { acceptances echo_list 20 (new_timed defaults three_instructions)
+    ensures accepted { acceptances echo_list 20 (new_timed default_config three_instructions)
         ≡ 1 ∷ 2 ∷ 3 ∷ 4 ∷ 5 ∷ 6 ∷ 7 ∷ 15 ∷ 16 ∷ 17 ∷ 18 ∷ 19 ∷ 20 ∷ [] }
-    ensures summary { summary_of (led_by echo_list 30 (new_timed defaults three_instructions))
+    ensures summary { summary_of (led_by echo_list 30 (new_timed default_config three_instructions))
         ≡ record {
           end = halt 0;
           count = 3;
@@ -55,7 +55,7 @@ pub fn three_instructions_in_noise()
       next = 0x57fe6c2d;
       end = 0xa3d95fa8;
     }) ∷ []) ∷ [] }
-    ensures summary { summary_of (led_by (handed (noise_lists 50 0)) 50 (new_timed defaults three_instructions))
+    ensures summary { summary_of (led_by (handed (noise_lists 50 0)) 50 (new_timed default_config three_instructions))
         ≡ record {
           end = halt 0;
           count = 3;

@@ -9,7 +9,7 @@ use Rattle.diva_cli.proofs.loading.load_machine_files.Goals as goal
 pub returns-in-Err-load_core-clause-stopped : goal.returns-in-Err-load_core-clause-stopped
 returns-in-Err-load_core-clause-stopped g c =
     subst (λ (s : Setup). Stops (g.F.Files.contents c.args.files.now) (g.F.Files.faults c.args.files.now) (g.F.Files.faults c.load_core.new.files) (machine_files s) c.in-Err-load_core.stop) c.setup.view_is
-    (at_tape (g.F.Files.contents c.args.files.now) (record { image = c.setup.inside.image; core = c.setup.inside.core; script = c.setup.inside.script; width = c.setup.inside.width; window = c.setup.inside.window; stores = c.setup.inside.stores; watchdog = c.setup.inside.watchdog }) _
+    (at_tape (g.F.Files.contents c.args.files.now) (record { image = c.setup.inside.image; core = c.setup.inside.core; script = c.setup.inside.script; config = c.setup.inside.config }) _
     c.in-Ok.ensures.holds
     (g.F.Files.contents c.load_image.new.files) (g.F.Files.contents c.load_script_if.new.files)
     (g.F.Files.faults c.args.files.now) (g.F.Files.faults c.load_script_if.new.files) (g.F.Files.faults c.load_core.new.files) _ _

@@ -1,7 +1,7 @@
 // How wide and deep the machine is.
 ghost use Rattle.std.specs.Prelude.{◌≡◌, ◌↔◌, IsSome, IfSome};
-ghost use Rattle.diva_core.specs.Timed.{Config};
-ghost use Rattle.diva_core.specs.Machine.{IsConfig};
+ghost use Rattle.diva_core.specs.Timed.{Config, default_config};
+ghost use Rattle.diva_core.specs.Machine.{IsConfig, config_in_range};
 
 use std::marker::Model;
 
@@ -29,12 +29,28 @@ impl Model for Config {
     ghost inverse = { λ z. record { width = z.width; window = z.window; stores = z.stores; limit = z.limit } };
 }
 
+impl Default for Config {
+    ghost is_default = { λ c. c ≡ default_config };
+
+    /// The numbers of a machine for which no others are asked: width 2, window 16, stores 4, limit 64.
+    fn default() -> Self {
+        Config {
+            width: 2,
+            window: 16,
+            stores: 4,
+            limit: 64,
+        }
+    }
+}
+
 impl Config {
     /// The machine's numbers `n` (width, 1 to 4), `q` (window, 8 to 64), `s` (stores, 1 to 6) and `w` (the
     /// watchdog's limit in cycles, 16 to 1024); `None` exactly where one of them is out of its range.
+    #[tactic(auto, unfolding(crate::specs::Machine::config_in_range))]
     pub fn new(n: u32, q: u32, s: u32, w: u32) -> Option<Config>
         ensures ranges { IsSome result ↔ IsConfig (record { width = n; window = q; stores = s; limit = w }) }
         ensures value { IfSome result (λ c. c ≡ record { width = n; window = q; stores = s; limit = w }) }
+        ensures checked { result ≡ config_in_range (record { width = n; window = q; stores = s; limit = w }) }
     {
         let in_range = (1..=4).contains(&n)
             && (8..=64).contains(&q)
@@ -52,26 +68,30 @@ impl Config {
         }
     }
 
-    pub(crate) fn width(&self) -> u32
+    /// The claims accepted and judged in a cycle at most.
+    pub fn width(&self) -> u32
         ensures value { result ≡ self.now.width }
         ensures config { IsConfig self.now }
     {
         self.width
     }
 
-    pub(crate) fn window(&self) -> u32
+    /// The claims pending at most.
+    pub fn window(&self) -> u32
         ensures { result ≡ self.now.window }
     {
         self.window
     }
 
-    pub(crate) fn stores(&self) -> u32
+    /// The undrained stores at most.
+    pub fn stores(&self) -> u32
         ensures { result ≡ self.now.stores }
     {
         self.stores
     }
 
-    pub(crate) fn limit(&self) -> u32
+    /// The watchdog's limit in cycles.
+    pub fn limit(&self) -> u32
         ensures { result ≡ self.now.limit }
     {
         self.limit
