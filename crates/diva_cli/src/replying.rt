@@ -21,10 +21,7 @@ pub(crate) fn reply_each<D: Core, S: Sink>(
 {
     for command in commands {
         let line = reply_to(m, core, command);
-        match sink.put(line.bytes()) {
-            Ok(()) => {}
-            Err(fault) => return Err(fault),
-        }
+        sink.put(line.bytes())?;
     }
     Ok(())
 }

@@ -21,10 +21,8 @@ pub(crate) fn write_line<S: Sink>(line: &Line, status: u8, sink: &mut S) -> Resu
     ensures { WritesLine line.now status
         (S.contents sink.old) (S.contents sink.new) (S.faults sink.old) (S.faults sink.new) result }
 {
-    match sink.put(line.bytes()) {
-        Ok(()) => Ok(status),
-        Err(_) => Err(Failure::Cut),
-    }
+    sink.put(line.bytes())?;
+    Ok(status)
 }
 
 /// Writes why the files of a job can't be used, and answers the status that goes with it. Where
@@ -88,21 +86,15 @@ pub(crate) fn write_soaked<S: Sink>(
     ensures { Puts (soak_text first.now.timed second.now.timed)
         (S.contents sink.old) (S.contents sink.new) (S.faults sink.old) (S.faults sink.new) result }
 {
-    match put_lines(
+    put_lines(
         sink,
         &[
             counts_line(SoakCore::Scalar, first),
             counts_line(SoakCore::Own, second),
             end_line(second.ended().number()),
         ],
-    ) {
-        Ok(()) => {}
-        Err(fault) => return Err(fault),
-    }
-    match write_output(second.output(), sink) {
-        Ok(()) => {}
-        Err(fault) => return Err(fault),
-    }
+    )?;
+    write_output(second.output(), sink)?;
     write_registers(&second.view(), sink)
 }
 
