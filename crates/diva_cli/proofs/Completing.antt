@@ -6,6 +6,9 @@ use Rattle.diva_outside.specs.Causes.{Rose}
 use Rattle.diva_outside.specs.Files.{Contents}
 use Rattle.diva_outside.specs.declared.files.What.{What}
 use Rattle.diva_outside.specs.declared.files.What.TheVariants.{Image, Script, Tape as TapeFile, Source, Commands}
+use Rattle.diva_isa.specs.End.{end_of}
+use Rattle.diva_isa.specs.declared.end.End.{End}
+use Rattle.diva_isa.specs.declared.end.End.TheVariants.{GoesOn, Halt, Trap}
 use Rattle.diva_core.specs.History.{Meaning}
 use Rattle.diva_core.specs.Timed.{Timed}
 use Rattle.diva_args.specs.declared.job.Job.{Job}
@@ -14,7 +17,7 @@ use Rattle.diva_cli.specs.declared.stop.Failure.{Failure}
 use Rattle.diva_cli.specs.declared.stop.Failure.TheVariants.{Cut, Memory}
 use Rattle.diva_cli.specs.Wanted.{Wanted, FileBytes, wanted, IsFaultless, HasFault}
 use Rattle.diva_cli.specs.Stops.{StopsAt, IsUnread, IsRefused, IsTooLong, HasFirstFault}
-use Rattle.diva_cli.specs.Runs.{EndsWith, halted, trapped, unfinished}
+use Rattle.diva_cli.specs.Runs.{EndsWith, end_status}
 use Rattle.diva_cli.specs.Texts.{HasText, CanEnd, IsDone}
 use Rattle.diva_cli.specs.Answers.{IsAnswer, misused, unread, refused, done}
 use Rattle.diva_cli.specs.Statuses.{IsHeld, AreHeld, CanWork, HasEnded}
@@ -22,15 +25,18 @@ use Rattle.diva_cli.specs.Parts.{Answers, status_of}
 
 -- ---- the statuses of a job whose text was written whole: a line for each command
 
-end_status : (last : Timed) (cycles status : ℕ) → EndsWith last cycles status → IsDone status
-end_status last cycles status (halted e h) = inl e
-end_status last cycles status (trapped e low high) = inr (inl e)
-end_status last cycles status (unfinished e on ran) = inr (inr e)
+done_by : (end : End) → IsDone (end_status end)
+done_by (Halt status) = inl refl
+done_by (Trap n) = inr (inl refl)
+done_by GoesOn = inr (inr refl)
+
+ends_done : (last : Timed) (cycles status : ℕ) → EndsWith last cycles status → IsDone status
+ends_done last cycles status h = subst IsDone (sym h.by_end) (done_by (end_of last.arch.end))
 
 can_end : {C : Type 0} (gives : Meaning C) (job : Job) (bytes : FileBytes) (core after : C) (status : ℕ) (text : List ℕ)
     → HasText gives job bytes core after (Some status) text → CanEnd job status
-can_end gives (Run options) bytes core after status text h = end_status h.last options.cycles status h.ended
-can_end gives (Tape options) bytes core after status text h = end_status h.last options.cycles status h.ended.ended
+can_end gives (Run options) bytes core after status text h = ends_done h.last options.cycles status h.ended
+can_end gives (Tape options) bytes core after status text h = ends_done h.last options.cycles status h.ended.ended
 can_end gives (Debug options) bytes core after status text h = h.whole.0
 can_end gives (Asm name) bytes core after status text h = h.alone.ended
 can_end gives (Dis name) bytes core after status text h = h.alone.ended

@@ -15,11 +15,10 @@ use Rattle.diva_core.specs.History.{Meaning}
 use Rattle.diva_args.specs.declared.job.Job.{Job}
 use Rattle.diva_cli.specs.declared.stop.Failure.{Failure}
 use Rattle.diva_cli.specs.declared.stop.Failure.TheVariants.{Cut, Memory}
-use Rattle.diva_cli.specs.Lines.{refused_line}
 use Rattle.diva_cli.specs.Wanted.{Wanted, FileBytes, AreSound, HasFault, wanted}
 use Rattle.diva_cli.specs.Stops.{CanBeUsed, StopsAt, IsRefused, IsTooLong, HasFirstFault}
 use Rattle.diva_cli.specs.Answers.{IsAnswer, misused, unread, refused, done}
-use Rattle.diva_cli.specs.Statuses.{HasMissing, IsHeld, IsHindered, MustRefuse}
+use Rattle.diva_cli.specs.Statuses.{HasMissing, IsHindered, MustRefuse}
 use Rattle.diva_cli.specs.Parts.{Answers, status_of}
 use Rattle.diva_cli.proofs.Completing.{held-refused, some_same}
 

@@ -1,6 +1,7 @@
 -- A tape of all that was handed over drives the machine to the same end.
 use Rattle.std.proofs.Common.{◌≡◌, ℕ, zero, suc, ◌+◌, ◌≤◌, Bool, true, false, List, [], ◌∷◌, ◌++◌, length, Option, Some, IsSome, Result, Ok, Err, OnOk, refl, sym, ◌∙◌, ap, subst, arith}
 use Rattle.std.specs.List.{All}
+use Rattle.diva_isa.specs.End.{end_of}
 use Rattle.diva_isa.specs.State.{State, goes_on}
 use Rattle.diva_isa.specs.declared.record.Record.{Record}
 use Rattle.diva_core.specs.Timed.{Timed, Config, new_timed}
@@ -28,11 +29,11 @@ use Rattle.diva_trace.specs.Text.{text_of}
 use Rattle.diva_cli.specs.declared.loading.Ready.{Ready}
 use Rattle.diva_cli.specs.Wanted.{FileBytes, tape_name}
 use Rattle.diva_cli.specs.Driven.{IsDriven, scripted_lists}
-use Rattle.diva_cli.specs.Runs.{IsRunOver, IsWhole, HasRun, AreRows, AreLists, asked_trace, shown_dump, start_in}
+use Rattle.diva_cli.specs.Runs.{IsRunOver, IsWhole, HasRun, AreRows, AreLists, end_status, asked_trace, shown_dump, start_in}
 use Rattle.diva_cli.specs.TapeTexts.{IsHandedFor, IsReplay, IsTapeOf}
 use Rattle.diva_cli.specs.Tasks.{IsWritten, PerformsBy, cycles_text, tape_line}
 use Rattle.diva_cli.specs.Parts.{IsReady, WritesWhole, WritesPart}
-use Rattle.diva_cli.proofs.Running.{SaysEnd, ends_with, run_over, over_lists, run_whole, each_new}
+use Rattle.diva_cli.proofs.Running.{ends_with, run_over, over_lists, run_whole, each_new}
 
 -- ---- lists of a tape, and then empty ones
 
@@ -156,7 +157,7 @@ module _ {C : Type 0} (gives : Meaning C) (options : TapeOptions) (bytes : FileB
   puts : Puts (tape_text p.lists) old new before now result
   puts = subst (λ (t : List ℕ). Puts t old new before now result) (tape_lines ready.machine.timed p.lists) p.done.put
 
-  pub wrote_tape : (status : ℕ) → SaysEnd status last.arch.end → result ≡ Ok tt → WritesWhole gives (Tape options) bytes core after old new status
+  pub wrote_tape : (status : ℕ) → status ≡ end_status (end_of last.arch.end) → result ≡ Ok tt → WritesWhole gives (Tape options) bytes core after old new status
   wrote_tape status says ok =
       let all : goes_on last.arch ≡ true → length p.lists ≡ cycles = subst (λ (r : Result (Unit {0}) SinkFailed). OnOk r (goes_on last.arch ≡ true → length p.lists ≡ cycles)) ok p.done.whole in
       let are : All IsList p.lists = subst (λ (r : Result (Unit {0}) SinkFailed). OnOk r (All IsList p.lists)) ok p.done.said in

@@ -1,5 +1,7 @@
 -- What holds of a run, whatever the core hands over, and what is written of it.
-use Rattle.std.proofs.Common.{◌≡◌, ◌⊎◌, ℕ, suc, ◌+◌, ◌-◌, ◌/◌, ◌≤◌, ◌<◌, Bool, true, false, List, [], ◌∷◌, ◌++◌, length, Option, Result, Ok, Err, OnOk, refl, inl, inr, sym, ◌∙◌, ap, subst, arith, eq-eqb}
+use Rattle.std.proofs.Common.{◌≡◌, ◌⊎◌, ℕ, suc, ◌+◌, ◌-◌, ◌/◌, ◌≤◌, ◌<◌, ◌==◌, ◌%◌, ◌^◌, nat_lt, cond, Bool, true, false, List, [], ◌∷◌, ◌++◌, length, Option, Result, Ok, Err, OnOk, refl, inl, inr, sym, ◌∙◌, ap, subst, arith, eq-eqb}
+use Rattle.diva_isa.specs.End.{end_of}
+use Rattle.diva_isa.specs.declared.end.End.TheVariants.{GoesOn, Halt, Trap}
 use Rattle.diva_isa.specs.State.{State, goes_on}
 use Rattle.diva_isa.specs.Step.{steps}
 use Rattle.diva_isa.specs.declared.record.Record.{Record}
@@ -43,7 +45,7 @@ use Rattle.diva_cli.specs.declared.loading.Ready.{Ready}
 use Rattle.diva_cli.specs.Wanted.{FileBytes}
 use Rattle.diva_cli.specs.Driven.{IsDriven, AreHanded, ByCalls, ByOther, scripted_lists, scripted_rule}
 use Rattle.diva_cli.proofs.Handing.{calls_made}
-use Rattle.diva_cli.specs.Runs.{IsRunFrom, IsRunOver, IsUnflushed, IsWhole, EndsWith, halted, trapped, unfinished, asked_trace, shown_dump, start_in}
+use Rattle.diva_cli.specs.Runs.{IsRunFrom, IsRunOver, IsUnflushed, IsWhole, EndsWith, end_status, asked_trace, shown_dump, start_in}
 use Rattle.diva_cli.specs.declared.tasks.Task.{Task}
 use Rattle.diva_cli.specs.Tasks.{AreHandedBy, Does, PerformsBy, cycles_text, run_task, trace_lines}
 use Rattle.diva_cli.specs.Parts.{IsReady, WritesWhole, WritesPart, core_for}
@@ -194,20 +196,17 @@ module _ {C : Type 0} (gives : Meaning C) (setup : Setup) (cycles : ℕ) (bytes 
 
 -- ---- how it ended
 
--- what the status says of the end
-pub record SaysEnd (status end : ℕ) : Type 0 where
-  pub halted_ : status ≡ 0 → 256 ≤ end
-  pub trapped_ : status ≡ 3 → (0 < end) × (end < 256)
-  pub goes_on_ : status ≡ 4 → end ≡ 0
-  pub one : (status ≡ 0) ⊎ ((status ≡ 3) ⊎ (status ≡ 4))
+-- 4 is the status of an end that is none
+unfinished : (none low : Bool) (n status : ℕ) → end_status (cond none GoesOn (cond low (Trap n) (Halt status))) ≡ 4 → none ≡ true
+unfinished true low n status h = refl
+unfinished false true n status h = absurd (omega arith)
+unfinished false false n status h = absurd (omega arith)
 
-pub ends_with : (setup : Setup) (cycles : ℕ) (start : State) (last : Timed) (status : ℕ) → IsWhole setup cycles start last → SaysEnd status last.arch.end → EndsWith last cycles status
-ends_with setup cycles start last status whole says = by says.one
-  where
-    by : (status ≡ 0) ⊎ ((status ≡ 3) ⊎ (status ≡ 4)) → EndsWith last cycles status
-    by (inl e) = halted e (says.halted_ e)
-    by (inr (inl e)) = let t = says.trapped_ e in trapped e t.0 t.1
-    by (inr (inr e)) = let on = says.goes_on_ e in unfinished e on (whole.all (eq-eqb last.arch.end 0 on))
+pub ends_with : (setup : Setup) (cycles : ℕ) (start : State) (last : Timed) (status : ℕ) → IsWhole setup cycles start last
+    → status ≡ end_status (end_of last.arch.end) → EndsWith last cycles status
+ends_with setup cycles start last status whole is =
+    let end = last.arch.end in
+    record { by_end = is; all = λ four. whole.all (unfinished (end == 0) (nat_lt end 256) (end - 1) (end % 2 ^ 8) (sym is ∙ four)) }
 
 -- ---- what is written of it, with commit lines or without
 
@@ -307,7 +306,7 @@ module _ {C : Type 0} (gives : Meaning C) (options : RunOptions) (bytes : FileBy
       puts_then _ _ old mid new before between now r (subst (λ (x : Result (Unit {0}) SinkFailed). Puts (asked_trace options.trace (start_in bytes) last.count) old mid before between x) ok puts_trace)
       (subst (λ (x : Option DumpRange). Puts (text_of last (shown_dump x)) mid new between now r) d puts)
 
-  pub wrote_run : result ≡ Ok tt → (status : ℕ) → SaysEnd status last.arch.end → Puts {E = SinkFailed} (text_of last (shown_dump dump)) mid new between now (Ok tt)
+  pub wrote_run : result ≡ Ok tt → (status : ℕ) → status ≡ end_status (end_of last.arch.end) → Puts {E = SinkFailed} (text_of last (shown_dump dump)) mid new between now (Ok tt)
       → WritesWhole gives (Run options) bytes core after old new status
   wrote_run ok status says puts =
       record {

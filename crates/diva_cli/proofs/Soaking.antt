@@ -14,6 +14,7 @@ use Rattle.diva_core.proofs.Ending.{same_end}
 use Rattle.diva_core.proofs.Turning.{IsHistory-run, length-lists_of}
 use Rattle.diva_machine.specs.declared.ends.Drive.{Drive}
 use Rattle.diva_machine.specs.declared.ends.Drive.TheVariants.{Ended, Budget}
+use Rattle.diva_faults.specs.Spoiled.{spoiled}
 use Rattle.diva_faults.proofs.Spoiling.{Turns-none}
 use Rattle.diva_ahead.specs.Ahead.{Ahead}
 use Rattle.diva_tape.specs.Scalar.{IsScalarCall, new_scalar}
@@ -23,11 +24,13 @@ use Rattle.diva_soak.specs.Halts.{HaltsWithin}
 use Rattle.diva_soak.proofs.Halting.{soak_halts}
 use Rattle.diva_trace.specs.Text.{soak_text}
 use Rattle.diva_args.specs.Options.{SoakOptions}
+use Rattle.diva_args.specs.declared.job.CoreChoice.{CoreChoice}
 use Rattle.diva_args.specs.declared.job.CoreChoice.TheVariants.{Own, Scalar}
 use Rattle.diva_args.specs.declared.job.Job.TheVariants.{Soak}
 use Rattle.diva_cli.specs.Wanted.{FileBytes}
 use Rattle.diva_cli.specs.SoakTexts.{HasSoaked, IsSoakRun, soak_cycles, soak_setup, soak_start}
-use Rattle.diva_cli.specs.Parts.{WritesPart, WritesWhole}
+use Rattle.diva_cli.specs.Driven.{AreHanded, ByTurns}
+use Rattle.diva_cli.specs.Parts.{Soaks, WritesPart, WritesWhole}
 use Rattle.diva_cli.proofs.Handing.{went_far}
 use Rattle.diva_cli.proofs.Running.{handed_for, run_from_start}
 
@@ -49,27 +52,20 @@ soak_new options = new_timed default_config (soak_start options)
 
 -- ---- a drive from there
 
--- it led to a machine that has ended, or that has run all the cycles
-pub record Soaks {D : Type 0} (gives : Meaning D) (options : SoakOptions) (core : D) (last : Timed) (after : D) : Type 0 where
-  pub turns : Turns gives (new_timed default_config (soak_start options)) core last after
-  pub most : last.cycles ≤ soak_cycles options.instructions
-  pub whole : goes_on last.arch ≡ true → last.cycles ≡ soak_cycles options.instructions
-
 pub drove :
-    {D : Type 0} (gives : Meaning D) (options : SoakOptions) (m : Timed) (core begun : D) (last : Timed) (after : D) (budget : ℕ) (r : Drive)
+    {D : Type 0} (gives : Meaning D) (options : SoakOptions) (m : Timed) (core : D) (last : Timed) (after : D) (budget : ℕ) (r : Drive)
     → m ≡ new_timed default_config (soak_start options)
-    → core ≡ begun
     → budget ≡ soak_cycles options.instructions
     → Turns gives m core last after
     → last.cycles ≤ m.cycles + budget
     → (r ≡ Ended) ↔ (goes_on last.arch ≡ false)
     → (r ≡ Budget) ↔ ((last.cycles ≡ m.cycles + budget) × (goes_on last.arch ≡ true))
-    → Soaks gives options begun last after
-drove gives options m core begun last after budget r is first all t within ended ran =
+    → Soaks gives options core last after
+drove gives options m core last after budget r is all t within ended ran =
     let far = went_far m last budget r within ended ran in
     let none : m.cycles ≡ 0 = ap (λ (n : Timed). n.cycles) is in
     record {
-      turns = subst (λ (n : Timed). Turns gives n begun last after) is (subst (λ d. Turns gives m d last after) first t);
+      turns = subst (λ (n : Timed). Turns gives n core last after) is t;
       most = (let w = far.most in omega arith);
       whole = λ on. (let w = far.whole on in omega arith);
     }
@@ -104,37 +100,47 @@ module _ {D : Type 0} (gives : Meaning D) (options : SoakOptions) (core : D) (la
 
 -- ---- the two runs
 
-pub own_run :
+-- it is a run by the core of a choice, where its lists are those of that core
+soak_run :
+    {C D : Type 0} (gives : Meaning C) (its : Meaning D) (options : SoakOptions) (choice : CoreChoice) (core after : C) (first : D) (last : Timed) (final : D)
+    (few : options.instructions ≤ 65536) (s : Soaks its options first last final)
+    → AreHanded gives choice [] [] (soak_new options) core (lists its options first last final few s) last after
+    → IsSoakRun gives options choice core last after
+soak_run gives its options choice core after first last final few s handed =
+    run_from_start gives (soak_setup choice) (soak_cycles options.instructions) [] [] (soak_start options) core last after sizes_fit
+    (record {
+      lists = lists its options first last final few s;
+      ran = led its options first last final few s;
+      each = (let e = each its options first last final few s in omega arith);
+      most = within its options first last final few s;
+      handed = handed;
+    })
+
+-- its turns are those of the core under a script that has no rows
+soak_turns :
+    {D : Type 0} (its : Meaning D) (options : SoakOptions) (first : D) (last : Timed) (final : D)
+    (few : options.instructions ≤ 65536) (s : Soaks its options first last final)
+    → ByTurns (spoiled [] its) (soak_new options) first (lists its options first last final few s) last final
+soak_turns its options first last final few s =
+    let t = Turns-none its (soak_new options) first last final s.turns in
+    record { history = t.turns.history; good = t.turns.good; in_order = sym t.same }
+
+own_run :
     {C : Type 0} (gives : Meaning C) (options : SoakOptions) (core : C) (last : Timed) (after : C)
     → options.instructions ≤ 65536 → Soaks gives options core last after
     → IsSoakRun gives options Own core last after
 own_run gives options core last after few s =
-    let t = Turns-none gives (soak_new options) core last after s.turns in
-    run_from_start gives (soak_setup Own) (soak_cycles options.instructions) [] [] (soak_start options) core last after sizes_fit
-    (record {
-      lists = lists gives options core last after few s;
-      ran = led gives options core last after few s;
-      each = (let e = each gives options core last after few s in omega arith);
-      most = within gives options core last after few s;
-      handed = record { history = t.turns.history; good = t.turns.good; in_order = sym t.same };
-    })
+    soak_run gives gives options Own core after core last after few s (soak_turns gives options core last after few s)
 
-pub scalar_run :
+scalar_run :
     {C : Type 0} (gives : Meaning C) (options : SoakOptions) (core : C) (last : Timed) (lead : Ahead)
     → options.instructions ≤ 65536 → Soaks IsScalarCall options new_scalar last lead
     → IsSoakRun gives options Scalar core last core
 scalar_run gives options core last lead few s =
-    let t = Turns-none IsScalarCall (soak_new options) new_scalar last lead s.turns in
-    run_from_start gives (soak_setup Scalar) (soak_cycles options.instructions) [] [] (soak_start options) core last core sizes_fit
-    (record {
-      lists = lists IsScalarCall options new_scalar last lead few s;
-      ran = led IsScalarCall options new_scalar last lead few s;
-      each = (let e = each IsScalarCall options new_scalar last lead few s in omega arith);
-      most = within IsScalarCall options new_scalar last lead few s;
-      handed = handed_for gives Scalar [] [] (soak_new options) core (lists IsScalarCall options new_scalar last lead few s) last core
-          (new_leads default_config (soak_start options) sizes_fit)
-          (record { final = lead; turns = record { history = t.turns.history; good = t.turns.good; in_order = sym t.same }; same = refl });
-    })
+    soak_run gives IsScalarCall options Scalar core core new_scalar last lead few s
+    (handed_for gives Scalar [] [] (soak_new options) core (lists IsScalarCall options new_scalar last lead few s) last core
+    (new_leads default_config (soak_start options) sizes_fit)
+    (record { final = lead; turns = soak_turns IsScalarCall options new_scalar last lead few s; same = refl }))
 
 -- ---- what is written of them
 

@@ -1,16 +1,18 @@
 -- What a command answers, from what was loaded for it and what was written of it.
-use Rattle.std.proofs.Common.{ℕ, List, Option, Some, Result, Ok, Err, refl}
+use Rattle.std.proofs.Common.{◌≡◌, ℕ, List, Option, Some, Result, Ok, Err, refl, sym, ◌∙◌, ap, subst}
 use Rattle.diva_outside.specs.Files.{Contents}
 use Rattle.diva_outside.specs.declared.files.What.{What}
 use Rattle.diva_core.specs.History.{Meaning}
+use Rattle.diva_args.specs.Options.{Setup}
 use Rattle.diva_args.specs.declared.job.Job.{Job}
+use Rattle.diva_cli.specs.declared.loading.Ready.{Ready}
 use Rattle.diva_cli.specs.declared.stop.Stop.{Stop}
 use Rattle.diva_cli.specs.declared.stop.Stop.TheVariants.{Memory, Unread, Refused}
 use Rattle.diva_cli.specs.declared.stop.Failure.{Failure}
 use Rattle.diva_cli.specs.declared.stop.Failure.TheVariants.{Cut, Memory as NoMemory}
-use Rattle.diva_cli.specs.Wanted.{FileBytes, AreSound, wanted}
+use Rattle.diva_cli.specs.Wanted.{Wanted, FileBytes, AreSound, machine_files, wanted}
 use Rattle.diva_cli.specs.Answers.{unread, refused, done}
-use Rattle.diva_cli.specs.Parts.{Stops, WritesStop, WritesText, Answers}
+use Rattle.diva_cli.specs.Parts.{HoldsReady, IsReady, Stops, WritesStop, WritesText, Answers}
 
 module _ {C : Type 0} (gives : Meaning C) (contents : Contents) (before now : What → ℕ) (core : C) (old new : Option (List ℕ)) (faults faults' : ℕ) where
   -- the files are sound, and the job's text was written
@@ -42,3 +44,25 @@ module _ {C : Type 0} (gives : Meaning C) (contents : Contents) (before now : Wh
   stop_answers job (Refused what kind place) (Err Cut) s w =
       record { rose = w.0; text = _; answer = refused (record { job = job; named = refl; first = s }) refl tt; written = w.1 }
   stop_answers job (Refused what kind place) (Err NoMemory) s w = absurd w
+
+  -- ---- a job whose files are those of a machine
+
+  -- they were loaded, and the job's text was written
+  pub ready_answers : (job : Job) (setup asked : Setup) (ready : Ready) (after : C) (result : Result ℕ Failure)
+      → setup ≡ asked → wanted job ≡ machine_files asked
+      → HoldsReady contents setup ready
+      → ((bytes : FileBytes) → IsReady asked bytes ready → WritesText gives job bytes core after old new faults faults' result)
+      → Answers gives (Some job) contents before now core after old new faults faults' result
+  ready_answers job setup asked ready after result same files held writes =
+      let h : HoldsReady contents asked ready = subst (λ (s : Setup). HoldsReady contents s ready) same held in
+      done_answers job h.bytes after result (subst (λ (ws : List Wanted). AreSound contents ws h.bytes) (sym files) h.sound) (writes h.bytes h.is)
+
+  -- the loading stopped, and a line was written of it
+  pub unready_answers : (job : Job) (setup asked : Setup) (stop : Stop) (result : Result ℕ Failure)
+      → setup ≡ asked → wanted job ≡ machine_files asked
+      → Stops contents before now (machine_files setup) stop
+      → WritesStop stop old new faults faults' result
+      → Answers gives (Some job) contents before now core core old new faults faults' result
+  unready_answers job setup asked stop result same files stopped wrote =
+      stop_answers job stop result
+      (subst (λ (ws : List Wanted). Stops contents before now ws stop) (ap (λ (s : Setup). machine_files s) same ∙ sym files) stopped) wrote

@@ -1,5 +1,5 @@
 -- What the parts of the program promise one another.
-use Rattle.std.specs.Prelude.{◌≡◌, ℕ, List, Option, Some, None, Result, Ok, Err}
+use Rattle.std.specs.Prelude.{◌≡◌, ◌≤◌, ℕ, true, List, Option, Some, None, Result, Ok, Err}
 use Rattle.std.specs.Io.KnownBytes.{Appends}
 use Rattle.diva_outside.specs.Causes.{Rose}
 use Rattle.diva_outside.specs.Files.{Contents}
@@ -7,9 +7,10 @@ use Rattle.diva_outside.specs.Sink.{AppendsPart}
 use Rattle.diva_outside.specs.Text.{Text}
 use Rattle.diva_outside.specs.declared.files.What.{What}
 use Rattle.diva_outside.specs.declared.files.What.TheVariants.{Script, Tape as TapeFile, Commands}
+use Rattle.diva_isa.specs.State.{goes_on}
 use Rattle.diva_isa.specs.declared.record.Record.{Record}
-use Rattle.diva_core.specs.Timed.{default_config, new_timed}
-use Rattle.diva_core.specs.History.{Meaning}
+use Rattle.diva_core.specs.Timed.{Timed, default_config, new_timed}
+use Rattle.diva_core.specs.History.{Meaning, Turns}
 use Rattle.diva_faults.specs.declared.rows.Row.{Row}
 use Rattle.diva_tape.specs.Scalar.{new_scalar}
 use Rattle.diva_args.specs.Options.{DebugOptions, Setup, SoakOptions}
@@ -29,7 +30,7 @@ use Rattle.diva_cli.specs.declared.stop.Failure.TheVariants.{Cut, Memory as NoMe
 use Rattle.diva_cli.specs.Lines.{unreadable_line, refused_line}
 use Rattle.diva_cli.specs.Wanted.{Wanted, FileBytes, IsSound, AreSound, file_if, machine_files, session_files, tape_name}
 use Rattle.diva_cli.specs.Runs.{AreRows, AreLists, start_in}
-use Rattle.diva_cli.specs.SoakTexts.{soak_start}
+use Rattle.diva_cli.specs.SoakTexts.{soak_cycles, soak_start}
 use Rattle.diva_cli.specs.Stops.{StopsAt, IsUnread, IsRefused}
 use Rattle.diva_cli.specs.Texts.{HasText}
 use Rattle.diva_cli.specs.Answers.{IsAnswer}
@@ -103,11 +104,18 @@ pub record HoldsSession (contents : Contents) (options : DebugOptions) (session 
   pub sound : AreSound contents (session_files options) bytes
   pub is : IsSession options bytes session
 
--- both machines are new and begin with the image of the seed, and so is the core of the first
+-- both machines are new and begin with the image of the seed, which is not too long, and the core of the first is new
 pub record IsSoakReady (options : SoakOptions) (ready : SoakReady) : Type 0 where
+  pub few : options.instructions ≤ 65536
   pub first : ready.first.timed ≡ new_timed default_config (soak_start options)
   pub second : ready.second.timed ≡ new_timed default_config (soak_start options)
   pub scalar : ready.scalar ≡ new_scalar
+
+-- turns of a core led from a new machine with the image of the seed to one that has ended, or that has run all the cycles
+pub record Soaks {D : Type 0} (gives : Meaning D) (options : SoakOptions) (core : D) (last : Timed) (after : D) : Type 0 where
+  pub turns : Turns gives (new_timed default_config (soak_start options)) core last after
+  pub most : last.cycles ≤ soak_cycles options.instructions
+  pub whole : goes_on last.arch ≡ true → last.cycles ≡ soak_cycles options.instructions
 
 -- ---- writing
 

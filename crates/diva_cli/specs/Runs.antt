@@ -4,6 +4,9 @@ use Rattle.diva_outside.specs.Text.{Text}
 use Rattle.diva_outside.specs.declared.files.What.TheVariants.{Image, Script, Tape as TapeFile}
 use Rattle.diva_image.specs.Images.{image_of}
 use Rattle.diva_isa.specs.State.{State, goes_on}
+use Rattle.diva_isa.specs.End.{end_of}
+use Rattle.diva_isa.specs.declared.end.End.{End}
+use Rattle.diva_isa.specs.declared.end.End.TheVariants.{GoesOn, Halt, Trap}
 use Rattle.diva_isa.specs.Step.{steps}
 use Rattle.diva_isa.specs.declared.record.Record.{Record}
 use Rattle.diva_core.specs.Timed.{Timed, new_timed, depth}
@@ -53,11 +56,16 @@ pub record IsWhole (setup : Setup) (cycles : ℕ) (start : State) (last : Timed)
   pub same : (n : ℕ) → EndsAfter n start → n * (setup.config.limit + depth) ≤ cycles
       → (last.arch ≡ steps n start) × (last.count ≡ n)
 
--- how a run ended, by its status: it halted, it trapped, or it goes on after exactly the cycles that were asked for
-pub data EndsWith (last : Timed) (cycles status : ℕ) : Type 0 where
-  halted : status ≡ 0 → 256 ≤ last.arch.end → EndsWith last cycles status
-  trapped : status ≡ 3 → 0 < last.arch.end → last.arch.end < 256 → EndsWith last cycles status
-  unfinished : status ≡ 4 → last.arch.end ≡ 0 → last.cycles ≡ cycles → EndsWith last cycles status
+-- the status by how a run ended: it halted, it trapped, or it goes on
+abbrev pub end_status : End → ℕ
+end_status (Halt status) = 0
+end_status (Trap n) = 3
+end_status GoesOn = 4
+
+-- a run ended with its status; one that goes on has run exactly the cycles that were asked for
+pub record EndsWith (last : Timed) (cycles status : ℕ) : Type 0 where
+  pub by_end : status ≡ end_status (end_of last.arch.end)
+  pub all : status ≡ 4 → last.cycles ≡ cycles
 
 -- ---- the files of a run
 

@@ -30,12 +30,7 @@ pub(crate) fn asm<F: Files, S: Sink, C: Core>(
         Ok(image) => image,
         Err(stop) => return write_stop(stop, sink),
     };
-    let bytes = match write(alloc, &image) {
-        Ok(bytes) => bytes,
-        Err(_) => return Err(Failure::Memory),
-    };
-    match sink.put(&bytes) {
-        Ok(()) => Ok(0),
-        Err(_) => Err(Failure::Cut),
-    }
+    let bytes = write(alloc, &image)?;
+    sink.put(&bytes)?;
+    Ok(0)
 }

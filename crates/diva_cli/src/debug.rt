@@ -61,8 +61,6 @@ fn debug_ready<S: Sink, C: Core>(
         script,
     } = ready;
     let task = Task::Debug(&commands);
-    match perform_by(&mut machine, in_use, &script, core, task, sink) {
-        Ok(()) => Ok(0),
-        Err(_) => Err(Failure::Cut),
-    }
+    perform_by(&mut machine, in_use, &script, core, task, sink)?;
+    Ok(0)
 }

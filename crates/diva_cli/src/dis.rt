@@ -31,10 +31,8 @@ pub(crate) fn dis<F: Files, S: Sink, C: Core>(
         Ok(listed) => listed,
         Err(stop) => return write_stop(stop, sink),
     };
-    match put_lines(&ListingLines { image: &listed }, sink) {
-        Ok(()) => Ok(0),
-        Err(_) => Err(Failure::Cut),
-    }
+    put_lines(&ListingLines { image: &listed }, sink)?;
+    Ok(0)
 }
 
 // The lines of an image: one for each word in which its payload has a byte.

@@ -1,7 +1,7 @@
 //! The whole program, over the files, the sink and the core that it is handed.
 //!
 //! - `program`: `top`, from the words to the status; `work` has an arm for each command;
-//! - `run`, `tape`, `debug`, `asm`, `dis`, `soak`: these commands;
+//! - `run` (with `tape`), `debug`, `asm`, `dis`, `soak`: these commands;
 //! - `loading`: the files of a job, loaded and read one after another;
 //! - `driving`: the core that the command line chose, and what is done with it and a machine;
 //! - `tasks`: the things that are done with a core and a machine, under a script;
@@ -35,7 +35,6 @@ mod soak;
 mod stop;
 mod streaming;
 mod sure;
-mod tape;
 mod tasks;
 mod writing;
 

@@ -58,18 +58,13 @@ pub(crate) fn make_ready<F: Files>(
         image,
         script,
         core,
-    } = match load_machine_files(alloc, files, setup) {
-        Ok(loaded) => loaded,
-        Err(stop) => return Err(stop),
-    };
-    match Machine::new(alloc, &image, config) {
-        Ok(machine) => Ok(Ready {
-            machine,
-            core,
-            script,
-        }),
-        Err(_) => Err(Stop::Memory),
-    }
+    } = load_machine_files(alloc, files, setup)?;
+    let machine = Machine::new(alloc, &image, config)?;
+    Ok(Ready {
+        machine,
+        core,
+        script,
+    })
 }
 
 /// What the command `debug` needs.
@@ -97,14 +92,9 @@ pub(crate) fn make_session<F: Files>(
     ensures stopped { IfErr result (λ stop. Stops (F.contents files.old) (F.faults files.old)
         (F.faults files.new) (session_files options.now) stop) }
 {
-    let ready = match make_ready(alloc, files, &options.setup) {
-        Ok(ready) => ready,
-        Err(stop) => return Err(stop),
-    };
-    match load_commands(alloc, files, &options.commands) {
-        Ok(commands) => Ok(SessionReady { ready, commands }),
-        Err(stop) => Err(stop),
-    }
+    let ready = make_ready(alloc, files, &options.setup)?;
+    let commands = load_commands(alloc, files, &options.commands)?;
+    Ok(SessionReady { ready, commands })
 }
 
 /// What was read of the files of a machine.
@@ -126,18 +116,9 @@ fn load_machine_files<F: Files>(alloc: Global, files: &mut F, setup: &Setup) -> 
     ensures stopped { IfErr result (λ stop. Stops (F.contents files.old) (F.faults files.old)
         (F.faults files.new) (machine_files setup.now) stop) }
 {
-    let image = match load_image(alloc, files, &setup.image) {
-        Ok(image) => image,
-        Err(stop) => return Err(stop),
-    };
-    let script = match load_script_if(alloc, files, &setup.script) {
-        Ok(script) => script,
-        Err(stop) => return Err(stop),
-    };
-    let core = match load_core(alloc, files, &setup.core) {
-        Ok(core) => core,
-        Err(stop) => return Err(stop),
-    };
+    let image = load_image(alloc, files, &setup.image)?;
+    let script = load_script_if(alloc, files, &setup.script)?;
+    let core = load_core(alloc, files, &setup.core)?;
     Ok(Loaded {
         image,
         script,
@@ -158,17 +139,10 @@ pub(crate) fn load_image<F: Files>(
     ensures stopped { IfErr result (λ stop. Stops (F.contents files.old) (F.faults files.old)
         (F.faults files.new) (file What.Image name.now ∷ []) stop) }
 {
-    let bytes = match load(alloc, files, What::Image, name) {
-        Ok(bytes) => bytes,
-        Err(stop) => return Err(stop),
-    };
+    let bytes = load(alloc, files, What::Image, name)?;
     match read(alloc, &bytes) {
         Ok(image) => Ok(image),
-        Err(ImageFault::Bad { kind, place }) => Err(Stop::Refused {
-            what: What::Image,
-            kind,
-            place: u64::from(place),
-        }),
+        Err(ImageFault::Bad { kind, place }) => Err(Stop::refused(What::Image, kind, place.into())),
         Err(ImageFault::Memory) => Err(Stop::Memory),
     }
 }
@@ -186,17 +160,10 @@ pub(crate) fn load_source<F: Files>(
     ensures stopped { IfErr result (λ stop. Stops (F.contents files.old) (F.faults files.old)
         (F.faults files.new) (file What.Source name.now ∷ []) stop) }
 {
-    let bytes = match load(alloc, files, What::Source, name) {
-        Ok(bytes) => bytes,
-        Err(stop) => return Err(stop),
-    };
+    let bytes = load(alloc, files, What::Source, name)?;
     match assemble(alloc, &bytes) {
         Ok(image) => Ok(image),
-        Err(AsmFault::Bad { line, kind }) => Err(Stop::Refused {
-            what: What::Source,
-            kind,
-            place: line,
-        }),
+        Err(AsmFault::Bad { line, kind }) => Err(Stop::refused(What::Source, kind, line)),
         Err(AsmFault::Memory) => Err(Stop::Memory),
     }
 }
@@ -228,17 +195,10 @@ fn load_script<F: Files>(alloc: Global, files: &mut F, name: &FileName) -> Resul
     ensures stopped { IfErr result (λ stop. Stops (F.contents files.old) (F.faults files.old)
         (F.faults files.new) (file What.Script name.now ∷ []) stop) }
 {
-    let bytes = match load(alloc, files, What::Script, name) {
-        Ok(bytes) => bytes,
-        Err(stop) => return Err(stop),
-    };
+    let bytes = load(alloc, files, What::Script, name)?;
     match Script::read(alloc, &bytes) {
         Ok(script) => Ok(script),
-        Err(ScriptFault::Bad { line, kind }) => Err(Stop::Refused {
-            what: What::Script,
-            kind,
-            place: line,
-        }),
+        Err(ScriptFault::Bad { line, kind }) => Err(Stop::refused(What::Script, kind, line)),
         Err(ScriptFault::Memory) => Err(Stop::Memory),
     }
 }
@@ -254,18 +214,15 @@ fn load_core<F: Files>(alloc: Global, files: &mut F, choice: &CoreChoice) -> Res
     match choice {
         CoreChoice::Own => Ok(CoreInUse::Own),
         CoreChoice::Lockstep => Ok(CoreInUse::Lockstep),
-        CoreChoice::Scalar => match Scalar::new(alloc) {
-            Ok(scalar) => Ok(CoreInUse::Scalar(scalar)),
-            Err(_) => Err(Stop::Memory),
-        },
+        CoreChoice::Scalar => Ok(CoreInUse::Scalar(Scalar::new(alloc)?)),
         CoreChoice::Silent => Ok(CoreInUse::Silent),
         CoreChoice::Flood => Ok(CoreInUse::Flood),
         CoreChoice::Echo => Ok(CoreInUse::Echo),
         CoreChoice::Noise => Ok(CoreInUse::Noise(Noise::new(0))),
-        CoreChoice::Tape(name) => match load_tape(alloc, files, name) {
-            Ok(tape) => Ok(CoreInUse::Tape(TapeCore::new(tape))),
-            Err(stop) => Err(stop),
-        },
+        CoreChoice::Tape(name) => {
+            let tape = load_tape(alloc, files, name)?;
+            Ok(CoreInUse::Tape(TapeCore::new(tape)))
+        }
     }
 }
 
@@ -278,17 +235,10 @@ fn load_tape<F: Files>(alloc: Global, files: &mut F, name: &FileName) -> Result<
     ensures stopped { IfErr result (λ stop. Stops (F.contents files.old) (F.faults files.old)
         (F.faults files.new) (file What.Tape name.now ∷ []) stop) }
 {
-    let bytes = match load(alloc, files, What::Tape, name) {
-        Ok(bytes) => bytes,
-        Err(stop) => return Err(stop),
-    };
+    let bytes = load(alloc, files, What::Tape, name)?;
     match Tape::read(alloc, &bytes) {
         Ok(tape) => Ok(tape),
-        Err(TapeFault::Bad { line, kind }) => Err(Stop::Refused {
-            what: What::Tape,
-            kind,
-            place: line,
-        }),
+        Err(TapeFault::Bad { line, kind }) => Err(Stop::refused(What::Tape, kind, line)),
         Err(TapeFault::Memory) => Err(Stop::Memory),
     }
 }
@@ -308,17 +258,10 @@ fn load_commands<F: Files>(
     ensures stopped { IfErr result (λ stop. Stops (F.contents files.old) (F.faults files.old)
         (F.faults files.new) (file What.Commands name.now ∷ []) stop) }
 {
-    let bytes = match load(alloc, files, What::Commands, name) {
-        Ok(bytes) => bytes,
-        Err(stop) => return Err(stop),
-    };
+    let bytes = load(alloc, files, What::Commands, name)?;
     match commands(alloc, &bytes) {
         Ok(commands) => Ok(commands),
-        Err(CommandFault::Bad { line, kind }) => Err(Stop::Refused {
-            what: What::Commands,
-            kind,
-            place: line,
-        }),
+        Err(CommandFault::Bad { line, kind }) => Err(Stop::refused(What::Commands, kind, line)),
         Err(CommandFault::Memory) => Err(Stop::Memory),
     }
 }
@@ -340,11 +283,7 @@ fn load<F: Files>(
     match files.load(alloc, what, name.as_str(), FILE_LIMIT) {
         Ok(bytes) => Ok(bytes),
         Err(LoadFault::Failed) => Err(Stop::Unread(what)),
-        Err(LoadFault::TooLong) => Err(Stop::Refused {
-            what,
-            kind: 0,
-            place: FILE_LIMIT as u64,
-        }),
+        Err(LoadFault::TooLong) => Err(Stop::refused(what, 0, FILE_LIMIT as u64)),
         Err(LoadFault::Memory) => Err(Stop::Memory),
     }
 }

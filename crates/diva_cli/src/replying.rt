@@ -21,10 +21,7 @@ pub(crate) fn reply_each<D: Core, S: Sink>(
 {
     for command in commands {
         let line = reply_to(m, core, command);
-        match put_line(&line, sink) {
-            Ok(()) => {}
-            Err(fault) => return Err(fault),
-        }
+        put_line(&line, sink)?;
     }
     Ok(())
 }

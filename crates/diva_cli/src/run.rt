@@ -1,6 +1,6 @@
-// The command `run`: it reads its files with neither core nor sink in its hands, and then drives a machine.
+// The commands `run` and `tape`: each reads its files with neither core nor sink in its hands, and then drives a machine.
 ghost use Rattle.std.specs.Prelude.{◌≡◌, Some, IsErrOf};
-ghost use Rattle.diva_args.specs.declared.job.Job.TheVariants.{Run};
+ghost use Rattle.diva_args.specs.declared.job.Job.TheVariants.{Run, Tape};
 ghost use Rattle.diva_core.specs.Machine.{IsConfig};
 ghost use Rattle.diva_cli.specs.Wanted.{FileBytes};
 ghost use Rattle.diva_cli.specs.Tasks.{run_task};
@@ -11,7 +11,7 @@ use crate::loading::{Ready, make_ready};
 use crate::stop::Failure;
 use crate::tasks::Task;
 use crate::writing::{end_status, write_finished, write_stop};
-use diva_args::RunOptions;
+use diva_args::{RunOptions, TapeOptions};
 use diva_core::Core;
 use diva_outside::{Files, Sink};
 use std::alloc::Global;
@@ -56,14 +56,9 @@ fn run_ready<S: Sink, C: Core>(
         script,
     } = ready;
     let task = run_task(options.trace, options.cycles);
-    match perform_by(&mut machine, in_use, &script, core, task, sink) {
-        Ok(()) => {}
-        Err(_) => return Err(Failure::Cut),
-    }
-    match write_finished(&machine, options.dump, sink) {
-        Ok(()) => Ok(end_status(&machine)),
-        Err(_) => Err(Failure::Cut),
-    }
+    perform_by(&mut machine, in_use, &script, core, task, sink)?;
+    write_finished(&machine, options.dump, sink)?;
+    Ok(end_status(&machine))
 }
 
 /// What is done for a run. Nothing watches the turns of one without commit lines.
@@ -75,4 +70,48 @@ fn run_task<'a>(trace: bool, cycles: u64) -> Task<'a>
     } else {
         Task::Quiet(cycles)
     }
+}
+
+/// Runs an image, and writes what was handed over in each cycle, as it goes. All memory is taken
+/// before the core is asked and before anything is written.
+pub(crate) fn tape<F: Files, S: Sink, C: Core>(
+    alloc: Global,
+    options: TapeOptions,
+    files: &mut F,
+    sink: &mut S,
+    core: &mut C,
+) -> Result<u8, Failure>
+    ensures answers { Answers C.gives (Some (Tape options)) (F.contents files.old) (F.faults files.old)
+        (F.faults files.new) core.old core.new (S.contents sink.old) (S.contents sink.new)
+        (S.faults sink.old) (S.faults sink.new) result }
+    ensures unput { IsErrOf result Failure.Memory → sink.new ≡ sink.old }
+{
+    match make_ready(alloc, files, &options.setup) {
+        Ok(ready) => tape_ready(ready, options, sink, core),
+        Err(stop) => write_stop(stop, sink),
+    }
+}
+
+/// Drives a new machine, and writes what is handed over to it.
+fn tape_ready<S: Sink, C: Core>(
+    ready: Ready,
+    options: TapeOptions,
+    sink: &mut S,
+    core: &mut C,
+) -> Result<u8, Failure>
+    requires new { ready.machine.timed.cycles ≡ 0 }
+    requires fits { IsConfig options.setup.config }
+    ensures writes { (bytes : FileBytes) → IsReady options.setup bytes ready
+        → WritesText C.gives (Tape options) bytes core.old core.new
+        (S.contents sink.old) (S.contents sink.new) (S.faults sink.old) (S.faults sink.new) result }
+    ensures unput { IsErrOf result Failure.Memory → sink.new ≡ sink.old }
+{
+    let Ready {
+        mut machine,
+        core: in_use,
+        script,
+    } = ready;
+    let task = Task::Tape(options.cycles);
+    perform_by(&mut machine, in_use, &script, core, task, sink)?;
+    Ok(end_status(&machine))
 }

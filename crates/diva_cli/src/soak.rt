@@ -1,10 +1,12 @@
 // The command `soak`: it makes the image of a seed and two machines that begin with it, and drives one under a new `Scalar` and one
 // under the core that is handed in.
 ghost use Rattle.std.specs.Prelude.{◌≡◌, IfOk, IsErrOf, Some};
+ghost use Rattle.diva_core.specs.Timed.{default_config, new_timed};
+ghost use Rattle.diva_tape.specs.Scalar.{IsScalarCall};
 ghost use Rattle.diva_args.specs.declared.job.Job.TheVariants.{Soak};
-ghost use Rattle.diva_cli.specs.SoakTexts.{soak_cycles};
+ghost use Rattle.diva_cli.specs.SoakTexts.{soak_cycles, soak_start};
 ghost use Rattle.diva_cli.specs.Wanted.{FileBytes};
-ghost use Rattle.diva_cli.specs.Parts.{Answers, IsSoakReady, WritesText};
+ghost use Rattle.diva_cli.specs.Parts.{Answers, IsSoakReady, Soaks, WritesText};
 
 use crate::stop::Failure;
 use crate::writing::write_soaked;
@@ -30,10 +32,8 @@ pub(crate) fn soak<F: Files, S: Sink, C: Core>(
         (S.faults sink.old) (S.faults sink.new) result }
     ensures unput { IsErrOf result Failure.Memory → sink.new ≡ sink.old }
 {
-    match make_soak(alloc, &options) {
-        Ok(ready) => soak_ready(ready, options, sink, core),
-        Err(_) => Err(Failure::Memory),
-    }
+    let ready = make_soak(alloc, &options)?;
+    soak_ready(ready, options, sink, core)
 }
 
 /// What the command needs, with all memory that is ever taken.
@@ -61,7 +61,7 @@ fn make_soak(alloc: Global, options: &SoakOptions) -> Result<SoakReady, AllocErr
 
 /// Drives both machines to their ends, and then writes what they came to.
 fn soak_ready<S: Sink, C: Core>(
-    ready: SoakReady,
+    mut ready: SoakReady,
     options: SoakOptions,
     sink: &mut S,
     core: &mut C,
@@ -71,18 +71,27 @@ fn soak_ready<S: Sink, C: Core>(
         (S.contents sink.old) (S.contents sink.new) (S.faults sink.old) (S.faults sink.new) result }
     ensures unput { IsErrOf result Failure.Memory → sink.new ≡ sink.old }
 {
-    let SoakReady {
-        mut first,
-        mut second,
-        mut scalar,
-    } = ready;
-    let cycles = soak_cycles(options.instructions);
-    drive(&mut first, &mut scalar, cycles);
-    drive(&mut second, core, cycles);
-    match write_soaked(&first, &second, sink) {
-        Ok(()) => Ok(0),
-        Err(_) => Err(Failure::Cut),
-    }
+    drive_both(&mut ready, &options, core);
+    write_soaked(&ready.first, &ready.second, sink)?;
+    Ok(0)
+}
+
+/// Drives both machines to their ends: the first under its `Scalar`, and then the second under the core that is handed in.
+fn drive_both<C: Core>(ready: &mut SoakReady, options: &SoakOptions, core: &mut C)
+    requires { IsSoakReady options.now ready.old }
+    ensures under_scalar { Soaks IsScalarCall options.now ready.old.scalar ready.new.first.timed ready.new.scalar }
+    ensures under_own { Soaks C.gives options.now core.old ready.new.second.timed core.new }
+{
+    drive_new(&mut ready.first, &mut ready.scalar, options);
+    drive_new(&mut ready.second, core, options);
+}
+
+/// Drives a new machine to its end.
+fn drive_new<D: Core>(machine: &mut Machine, core: &mut D, options: &SoakOptions)
+    requires { machine.old.timed ≡ new_timed default_config (soak_start options.now) }
+    ensures { Soaks D.gives options.now core.old machine.new.timed core.new }
+{
+    drive(machine, core, soak_cycles(options.instructions));
 }
 
 /// The cycles in which a machine ends for sure whose image has so many drawn instructions: W + 6 for each that may commit, W being

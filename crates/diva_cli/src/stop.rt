@@ -1,5 +1,8 @@
 // Why a job is not done, and why there is no whole answer.
-use diva_outside::What;
+ghost use Rattle.std.specs.Prelude.{◌≡◌};
+
+use diva_outside::{SinkFailed, What};
+use std::alloc::AllocError;
 
 /// Why the files of a job can't all be used. Nothing was written yet, and no core was asked.
 #[derive(Clone, Copy, Debug)]
@@ -18,6 +21,25 @@ pub(crate) enum Stop {
     },
 }
 
+impl Stop {
+    /// The file that this is for is refused, by the number of its first fault and the place of it.
+    pub(crate) fn refused(what: What, kind: u8, place: u64) -> Stop
+        ensures { result ≡ Stop.Refused what kind place }
+    {
+        Stop::Refused { what, kind, place }
+    }
+}
+
+impl From<AllocError> for Stop {
+    ghost use Rattle.diva_cli.specs.declared.stop.Stop.TheVariants.{Memory};
+
+    ghost from_gives = { λ _ stop. stop ≡ Memory };
+
+    fn from(_: AllocError) -> Self {
+        Stop::Memory
+    }
+}
+
 /// Why there is no whole answer.
 #[derive(Clone, Copy, Debug)]
 pub(crate) enum Failure {
@@ -25,4 +47,24 @@ pub(crate) enum Failure {
     Cut,
     /// Memory ran out, and nothing was written.
     Memory,
+}
+
+impl From<AllocError> for Failure {
+    ghost use Rattle.diva_cli.specs.declared.stop.Failure.TheVariants.{Memory};
+
+    ghost from_gives = { λ _ failure. failure ≡ Memory };
+
+    fn from(_: AllocError) -> Self {
+        Failure::Memory
+    }
+}
+
+impl From<SinkFailed> for Failure {
+    ghost use Rattle.diva_cli.specs.declared.stop.Failure.TheVariants.{Cut};
+
+    ghost from_gives = { λ _ failure. failure ≡ Cut };
+
+    fn from(_: SinkFailed) -> Self {
+        Failure::Cut
+    }
 }

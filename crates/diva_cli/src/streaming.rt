@@ -88,10 +88,7 @@ fn write_list<S: Sink>(list: &Claims, sink: &mut S) -> Result<(), SinkFailed>
     ensures says { OnOk result (IsList list.now) }
 {
     for (place, claim) in list.as_slice().iter().enumerate() {
-        match put_line(&tape_piece(claim, place == 0), sink) {
-            Ok(()) => {}
-            Err(fault) => return Err(fault),
-        }
+        put_line(&tape_piece(claim, place == 0), sink)?;
     }
     sink.put(b"\n")
 }
@@ -117,10 +114,7 @@ pub(crate) fn drive_writing<D: Core, W: CycleWriter, S: Sink>(
     for _ in 0..budget {
         let first = m.count();
         turn(m, core, &mut list);
-        match writer.write(first, m.last(), &list, sink) {
-            Ok(()) => {}
-            Err(fault) => return Err(fault),
-        }
+        writer.write(first, m.last(), &list, sink)?;
         if !m.goes_on() {
             return Ok(());
         }

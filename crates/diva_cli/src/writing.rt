@@ -1,10 +1,11 @@
 // What is written, and the status that goes with it. No memory is taken.
-ghost use Rattle.std.specs.Prelude.{◌≡◌, ◌⊎◌, ◌+◌, ◌≤◌, ◌<◌, ◌^◌, IsErrOf};
+ghost use Rattle.std.specs.Prelude.{◌≡◌, ◌+◌, ◌≤◌, ◌^◌, IsErrOf};
 ghost use Rattle.std.specs.Option.{ForSome};
+ghost use Rattle.diva_isa.specs.End.{end_of};
 ghost use Rattle.diva_trace.specs.Text.{soak_text, text_of};
 ghost use Rattle.diva_trace.specs.Lines.{soak_line};
 ghost use Rattle.diva_outside.specs.Sink.{Puts};
-ghost use Rattle.diva_cli.specs.Runs.{shown_dump};
+ghost use Rattle.diva_cli.specs.Runs.{end_status, shown_dump};
 ghost use Rattle.diva_cli.specs.Parts.{WritesLine, WritesStop};
 
 use crate::lines::{refused_line, unreadable_line};
@@ -21,10 +22,8 @@ pub(crate) fn write_line<S: Sink>(line: &Line, status: u8, sink: &mut S) -> Resu
     ensures { WritesLine line.now status
         (S.contents sink.old) (S.contents sink.new) (S.faults sink.old) (S.faults sink.new) result }
 {
-    match put_line(line, sink) {
-        Ok(()) => Ok(status),
-        Err(_) => Err(Failure::Cut),
-    }
+    put_line(line, sink)?;
+    Ok(status)
 }
 
 /// Writes why the files of a job can't be used, and answers the status that goes with it. Where
@@ -88,21 +87,15 @@ pub(crate) fn write_soaked<S: Sink>(
     ensures { Puts (soak_text first.now.timed second.now.timed)
         (S.contents sink.old) (S.contents sink.new) (S.faults sink.old) (S.faults sink.new) result }
 {
-    match put_lines(
+    put_lines(
         &[
             counts_line(SoakCore::Scalar, first),
             counts_line(SoakCore::Own, second),
             end_line_of(second.ended()),
         ],
         sink,
-    ) {
-        Ok(()) => {}
-        Err(fault) => return Err(fault),
-    }
-    match write_output(second.output(), sink) {
-        Ok(()) => {}
-        Err(fault) => return Err(fault),
-    }
+    )?;
+    write_output(second.output(), sink)?;
     write_registers(&second.view(), sink)
 }
 
@@ -116,11 +109,7 @@ fn counts_line(core: SoakCore, machine: &Machine) -> Line
 /// The status that says how a machine ended: 0 where it halted, 3 where it trapped, 4 where it goes
 /// on.
 pub(crate) fn end_status(machine: &Machine) -> u8
-    ensures halted { result ≡ 0 → 256 ≤ machine.now.timed.arch.end }
-    ensures trapped { result ≡ 3
-        → (0 < machine.now.timed.arch.end) × (machine.now.timed.arch.end < 256) }
-    ensures goes_on { result ≡ 4 → machine.now.timed.arch.end ≡ 0 }
-    ensures one { (result ≡ 0) ⊎ ((result ≡ 3) ⊎ (result ≡ 4)) }
+    ensures { result ≡ end_status (end_of machine.now.timed.arch.end) }
 {
     match machine.ended() {
         End::Halt(_) => 0,

@@ -1,12 +1,14 @@
 -- What is written are the replies of the machine that was moved.
-use Rattle.std.proofs.Common.{Ok, Err, refl}
+use Rattle.std.proofs.Common.{Ok, refl}
+use Rattle.std.proofs.lemmas.Result.{err_from_is_err_and}
 use Rattle.diva_cli.proofs.Commanding.{wrote_replies, cut_replies}
 use Rattle.diva_cli.proofs.debug.debug_ready.Goals as goal
 
-pub returns-in-Ok-clause-writes : goal.returns-in-Ok-clause-writes
-returns-in-Ok-clause-writes g c = λ bytes is.
-    wrote_replies g.C.Core.gives c.args.options bytes c.args.session _ _ _ _ _ _ _ (Ok tt) c.requires.fits is c.deref.result.now c.deref.ensures.value c.in-Ok.ensures refl
+pub returns-in_err-perform_by-clause-writes : goal.returns-in_err-perform_by-clause-writes
+returns-in_err-perform_by-clause-writes g c = λ bytes is.
+    let p = err_from_is_err_and c.from_residual.result c.from_residual.ensures.1 in
+    rw (p.1, p.2) (cut_replies g.C.Core.gives c.args.options bytes c.args.session _ _ _ _ _ _ _ _ c.requires.fits is c.deref.result.now c.deref.ensures.value c.in_err-perform_by.ensures _ refl)
 
 pub returns-clause-writes : goal.returns-clause-writes
 returns-clause-writes g c = λ bytes is.
-    cut_replies g.C.Core.gives c.args.options bytes c.args.session _ _ _ _ _ _ _ (Err c.in-Err.field-0) c.requires.fits is c.deref.result.now c.deref.ensures.value c.in-Err.ensures c.in-Err.field-0 refl
+    wrote_replies g.C.Core.gives c.args.options bytes c.args.session _ _ _ _ _ _ _ (Ok tt) c.requires.fits is c.deref.result.now c.deref.ensures.value c.in_ok-perform_by.ensures refl

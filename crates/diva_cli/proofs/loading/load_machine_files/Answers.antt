@@ -1,18 +1,20 @@
 -- The image and the script can be used, and the loading stops at the tape.
 use Rattle.std.proofs.Common.{◌∙◌, arith, subst}
+use Rattle.std.proofs.lemmas.Result.{err_from_is_err_and}
 use Rattle.diva_args.specs.Options.{Setup}
 use Rattle.diva_cli.specs.Wanted.{machine_files}
 use Rattle.diva_cli.specs.Parts.{Stops}
 use Rattle.diva_cli.proofs.Stopping.{at_tape}
 use Rattle.diva_cli.proofs.loading.load_machine_files.Goals as goal
 
-pub returns-in-Err-load_core-clause-stopped : goal.returns-in-Err-load_core-clause-stopped
-returns-in-Err-load_core-clause-stopped g c =
-    subst (λ (s : Setup). Stops (g.F.Files.contents c.args.files.now) (g.F.Files.faults c.args.files.now) (g.F.Files.faults c.load_core.new.files) (machine_files s) c.in-Err-load_core.stop) c.setup.view_is
+pub returns-in_err-core-clause-stopped : goal.returns-in_err-core-clause-stopped
+returns-in_err-core-clause-stopped g c =
+    let p = err_from_is_err_and c.from_residual-in_err-core.result c.from_residual-in_err-core.ensures.1 in
+    rw (p.1, p.2) (subst (λ (s : Setup). Stops (g.F.Files.contents c.args.files.now) (g.F.Files.faults c.args.files.now) (g.F.Files.faults c.load_core.new.files) (machine_files s) c.in_err-core.field-0.0) c.setup.view_is
     (at_tape (g.F.Files.contents c.args.files.now) (record { image = c.setup.inside.image; core = c.setup.inside.core; script = c.setup.inside.script; config = c.setup.inside.config }) _
-    c.in-Ok.ensures.holds
+    c.in_ok-image.ensures.holds
     (g.F.Files.contents c.load_image.new.files) (g.F.Files.contents c.load_script_if.new.files)
     (g.F.Files.faults c.args.files.now) (g.F.Files.faults c.load_script_if.new.files) (g.F.Files.faults c.load_core.new.files) _ _
     c.load_image.ensures.stays (c.load_script_if.ensures.stays ∙ c.load_image.ensures.stays)
     (λ w. let a = c.load_image.ensures.later w in let b = c.load_script_if.ensures.later w in omega arith)
-    c.in-Ok-load_script_if.ensures.holds c.in-Err-load_core.ensures.stopped)
+    c.in_ok-script.ensures.holds c.in_err-core.ensures.stopped))

@@ -1,6 +1,7 @@
 -- One reply more.
 use Rattle.std.proofs.Common.{◌≡◌, ◌+◌, ◌∙◌, length, slice_get, Some, refl, ap, sym, arith, subst}
 use Rattle.std.proofs.lemmas.Option.{slice_get_read}
+use Rattle.std.proofs.lemmas.Result.{err_from_is_err_and}
 use Rattle.diva_core.specs.Timed.{Config}
 use Rattle.diva_debug.specs.Moves.{IsShort}
 use Rattle.diva_cli.proofs.Commanding.{cycles-fit, cycles-more, replied, replies_more, replies_none}
@@ -23,20 +24,21 @@ loop-command-preserved g c =
     let reply = c.reply_to-line.ensures in
     let at : slice_get c.args.commands.now c.loop-command.command-index ≡ Some c.command-item.result = slice_get_read c.args.commands.now (length c.args.commands.now) c.loop-command.command-index c.command-item.result refl c.loop-command-test.true c.command-item.is in
     record {
-      replies = replies_more g.D.Core.gives _ c.loop-command.command-index _ _ _ _ _ _ _ _ _ _ c.command-item.result _ _ _ _ inv.replies at reply.drives.turns reply.moved reply.at_once reply.reply c.in-Ok.ensures;
+      replies = replies_more g.D.Core.gives _ c.loop-command.command-index _ _ _ _ _ _ _ _ _ _ c.command-item.result _ _ _ _ inv.replies at reply.drives.turns reply.moved reply.at_once reply.reply c.in_ok-put_line.ensures;
       within = cycles-more c.loop-command.m.timed.cycles _ c.loop-command.command-index _ c.loop-command.m.timed.config.limit _ inv.within (ap (λ (z : Config). z.limit) inv.config) reply.million;
       config = reply.config ∙ inv.config;
     }
 
-pub returns-in-Err : goal.returns-in-Err
-returns-in-Err g c =
+pub returns-in_err-put_line : goal.returns-in_err-put_line
+returns-in_err-put_line g c =
     let inv = c.loop-command.invariant in
     let reply = c.reply_to-line.ensures in
     let at : slice_get c.args.commands.now c.loop-command.command-index ≡ Some c.command-item.result = slice_get_read c.args.commands.now (length c.args.commands.now) c.loop-command.command-index c.command-item.result refl c.loop-command-test.true c.command-item.is in
-    replied g.D.Core.gives _ (c.loop-command.command-index + 1) _ _ _ _ _ _ _ _ _
-    (replies_more g.D.Core.gives _ c.loop-command.command-index _ _ _ _ _ _ _ _ _ _ c.command-item.result _ _ _ _ inv.replies at reply.drives.turns reply.moved reply.at_once reply.reply c.in-Err.ensures)
+    let failed = err_from_is_err_and c.from_residual.result c.from_residual.ensures.1 in
+    rw failed.1 (replied g.D.Core.gives _ (c.loop-command.command-index + 1) _ _ _ _ _ _ _ _ _
+    (replies_more g.D.Core.gives _ c.loop-command.command-index _ _ _ _ _ _ _ _ _ _ c.command-item.result _ _ _ _ inv.replies at reply.drives.turns reply.moved reply.at_once reply.reply c.in_err-put_line.ensures)
     (cycles-more c.loop-command.m.timed.cycles _ c.loop-command.command-index _ c.loop-command.m.timed.config.limit _ inv.within (ap (λ (z : Config). z.limit) inv.config) reply.million)
-    tt
+    tt)
 
 pub returns : goal.returns
 returns g c =

@@ -1,6 +1,7 @@
 -- One claim more was put, or a prefix of it; and the line feed.
 use Rattle.std.proofs.Common.{◌≡◌, ◌<◌, ◌==◌, ℕ, List, length, get_or, ap, subst, codes, arith}
 use Rattle.std.proofs.lemmas.List.Elements.{All-more}
+use Rattle.std.proofs.lemmas.Result.{err_from_is_err_and}
 use Rattle.diva_isa.specs.declared.record.Record.{Record}
 use Rattle.diva_outside.proofs.Sinks.{puts_then, puts_cut}
 use Rattle.diva_tape.specs.TapeText.{IsClaim, piece_text}
@@ -19,18 +20,19 @@ loop-place-preserved g c =
     let inside : i < length c.args.list.now = (let e = ap (λ (l : List Record). length l) same in omega arith) in
     let text : c.tape_piece.result ≡ piece_text (get_or c.args.list.now i none) (i == 0) = subst (λ (l : List Record). c.tape_piece.result ≡ piece_text (get_or l i none) (i == 0)) same c.tape_piece.ensures.text in
     record {
-      put = rw (pieces_more c.args.list.now i none inside, ← text) (puts_then _ _ _ _ _ _ _ _ _ inv.put c.in-Ok.ensures);
+      put = rw (pieces_more c.args.list.now i none inside, ← text) (puts_then _ _ _ _ _ _ _ _ _ inv.put c.in_ok-put_line.ensures);
       claims = All-more IsClaim c.args.list.now i none inside inv.claims (subst (λ (l : List Record). IsClaim (get_or l i none)) same c.tape_piece.ensures.numbers);
     }
 
-pub returns-in-Err-clause-put : goal.returns-in-Err-clause-put
-returns-in-Err-clause-put g c =
+pub returns-in_err-put_line-clause-put : goal.returns-in_err-put_line-clause-put
+returns-in_err-put_line-clause-put g c =
     let i : ℕ = c.loop-place.place in
     let same = c.as_slice-claim-items.ensures.value in
     let inside : i < length c.args.list.now = (let e = ap (λ (l : List Record). length l) same in omega arith) in
     let text : c.tape_piece.result ≡ piece_text (get_or c.args.list.now i none) (i == 0) = subst (λ (l : List Record). c.tape_piece.result ≡ piece_text (get_or l i none) (i == 0)) same c.tape_piece.ensures.text in
-    rw (pieces_parts c.args.list.now i none (codes "\n") inside, ← text)
-    (puts_cut _ _ _ _ _ _ _ (puts_then _ _ _ _ _ _ _ _ _ c.loop-place.invariant.put c.in-Err.ensures))
+    let failed = err_from_is_err_and c.from_residual.result c.from_residual.ensures.1 in
+    rw (failed.1, pieces_parts c.args.list.now i none (codes "\n") inside, ← text)
+    (puts_cut _ _ _ _ _ _ _ (puts_then _ _ _ _ _ _ _ _ _ c.loop-place.invariant.put c.in_err-put_line.ensures))
 
 pub returns-clause-put : goal.returns-clause-put
 returns-clause-put g c =

@@ -1,6 +1,7 @@
 -- What was put where a part of the text fails, and where none does.
 use Rattle.std.proofs.Common.{◌≡◌, ◌∙◌, ℕ, List, [], ◌∷◌, ◌++◌, Option, Result, ap, subst, append-nil, append_assoc}
 use Rattle.std.specs.List.{concat}
+use Rattle.std.proofs.lemmas.Result.{err_from_is_err_and}
 use Rattle.diva_isa.specs.State.{State}
 use Rattle.diva_outside.specs.Sink.{Puts}
 use Rattle.diva_outside.proofs.Sinks.{puts_then, puts_cut}
@@ -16,20 +17,22 @@ three a b d a' b' d' old new before now result p q r puts =
     let joined : concat (a' ∷ b' ∷ d' ∷ []) ≡ a ++ b ++ d = rw (p, q, r) (simp (append-nil, append_assoc)) in
     subst (λ (text : List ℕ). Puts text old new before now result) joined puts
 
-pub returns-in-Err : goal.returns-in-Err
-returns-in-Err g c =
-    puts_cut _ _ _ _ _ _ _ (puts_cut _ _ _ _ _ _ _
-    (three _ _ _ _ _ _ _ _ _ _ _ c.counts_line.ensures c.counts_line-2.ensures (c.end_line_of.ensures ∙ ap end_line_of c.ended.ensures.value) c.in-Err.ensures))
+pub returns-in_err-put_lines : goal.returns-in_err-put_lines
+returns-in_err-put_lines g c =
+    let failed = err_from_is_err_and c.from_residual.result c.from_residual.ensures.1 in
+    rw failed.1 (puts_cut _ _ _ _ _ _ _ (puts_cut _ _ _ _ _ _ _
+    (three _ _ _ _ _ _ _ _ _ _ _ c.counts_line.ensures c.counts_line-2.ensures (c.end_line_of.ensures ∙ ap end_line_of c.ended.ensures.value) c.in_err-put_lines.ensures)))
 
-pub returns-in-Err-write_output : goal.returns-in-Err-write_output
-returns-in-Err-write_output g c =
-    let head = three _ _ _ _ _ _ _ _ _ _ _ c.counts_line.ensures c.counts_line-2.ensures (c.end_line_of.ensures ∙ ap end_line_of c.ended.ensures.value) c.in-Ok.ensures in
-    puts_cut _ _ _ _ _ _ _ (puts_then _ _ _ _ _ _ _ _ _ head (rw c.output.ensures.bytes at c.in-Err-write_output.ensures))
+pub returns-in_err-write_output : goal.returns-in_err-write_output
+returns-in_err-write_output g c =
+    let head = three _ _ _ _ _ _ _ _ _ _ _ c.counts_line.ensures c.counts_line-2.ensures (c.end_line_of.ensures ∙ ap end_line_of c.ended.ensures.value) c.in_ok-put_lines.ensures in
+    let failed = err_from_is_err_and c.from_residual-in_err-write_output.result c.from_residual-in_err-write_output.ensures.1 in
+    rw failed.1 (puts_cut _ _ _ _ _ _ _ (puts_then _ _ _ _ _ _ _ _ _ head (rw c.output.ensures.bytes at c.in_err-write_output.ensures)))
 
 pub returns : goal.returns
 returns g c =
-    let head = three _ _ _ _ _ _ _ _ _ _ _ c.counts_line.ensures c.counts_line-2.ensures (c.end_line_of.ensures ∙ ap end_line_of c.ended.ensures.value) c.in-Ok.ensures in
+    let head = three _ _ _ _ _ _ _ _ _ _ _ c.counts_line.ensures c.counts_line-2.ensures (c.end_line_of.ensures ∙ ap end_line_of c.ended.ensures.value) c.in_ok-put_lines.ensures in
     puts_then _ _ _ _ _ _ _ _ _
-    (puts_then _ _ _ _ _ _ _ _ _ head (rw c.output.ensures.bytes at c.in-Ok-write_output.ensures))
+    (puts_then _ _ _ _ _ _ _ _ _ head (rw c.output.ensures.bytes at c.in_ok-write_output.ensures))
     (subst (λ (s : State). Puts (registers_text s.regs s.pc) (g.S.Sink.contents c.write_output.new.sink) (g.S.Sink.contents c.write_registers.new.sink)
     (g.S.Sink.faults c.write_output.new.sink) (g.S.Sink.faults c.write_registers.new.sink) c.write_registers.result) c.view.ensures.shows c.write_registers.ensures)
