@@ -1,10 +1,11 @@
 -- What the commit phase tells.
-use Rattle.std.proofs.Common.{◌≡◌, ◌+◌, ◌<◌, ◌==◌, ◌&&◌, Bool, true, false, not, refl, sym, ap, ◌∙◌, arith}
+use Rattle.std.proofs.Common.{◌≡◌, ◌+◌, ◌<◌, ◌==◌, ◌&&◌, Bool, true, false, not, cond, if◌then◌else◌, List, [], ◌++◌, map, take, append-nil, refl, sym, ap, ◌∙◌, arith}
 use Rattle.std.proofs.lemmas.Bool.{eq-eqb, eqb-true, false_from_ne_true}
 use Rattle.diva_isa.specs.State.{goes_on}
+use Rattle.diva_isa.specs.declared.record.Record.{Record}
 use Rattle.diva_core.specs.declared.flushes.Cause.{Cause}
-use Rattle.diva_core.specs.Timed.{Timed}
-use Rattle.diva_core.specs.Cycle.{committed, flushed, past_front}
+use Rattle.diva_core.specs.Timed.{Timed, PendingClaim, room_of}
+use Rattle.diva_core.specs.Cycle.{accepted_in, accepts, committed, flushed, past_front}
 use Rattle.diva_machine.specs.declared.phases.CommitPhase.{CommitPhase}
 use Rattle.diva_machine.specs.Machine.{Tells}
 
@@ -32,6 +33,17 @@ tells_nothing m on =
       committed = ap not (sym (eq-eqb m.count m.count refl));
       accepting = sym (ap (λ (g : Bool). g && (m.flushes == m.flushes)) on ∙ eq-eqb m.flushes m.flushes refl);
     }
+
+-- the claims that are accepted become pending
+accepted_by : (c : Bool) (n : Timed) (claims : List Record) → n.pending ++ map (accepted_in n.cycles) (cond c claims []) ≡ cond c (n.pending ++ map (accepted_in n.cycles) claims) n.pending
+accepted_by true n claims = refl
+accepted_by false n claims = append-nil n.pending
+
+pub accepts_is : (before n : Timed) (admitted list : List Record) (b : Bool) → admitted ≡ take (room_of before) list → b ≡ (goes_on n.arch && (n.flushes == before.flushes))
+    → record n { pending = n.pending ++ map (accepted_in n.cycles) (if b then admitted else []) } ≡ accepts before list n
+unfolding accepts
+accepts_is before n admitted list b is may =
+    ap (λ (p : List PendingClaim). record n { pending = p }) (rw (is, may) (accepted_by (goes_on n.arch && (n.flushes == before.flushes)) n (take (room_of before) list)))
 
 is_more : (b n : Timed) → b.count < n.count → true ≡ not (n.count == b.count)
 is_more b n more = ap not (sym (false_from_ne_true (n.count == b.count) (λ t. let e = eqb-true n.count b.count t in omega arith)))

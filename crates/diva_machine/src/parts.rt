@@ -456,20 +456,18 @@ impl Parts {
         }
     }
 
-    /// Phase 4: the admitted claims become pending, where the commit phase lets them be accepted.
-    #[tactic(auto, unfolding(diva_core::specs::Cycle::accepts))]
-    fn accept(&mut self, admitted: &[Claim], accepting: bool)
-        requires { length self.old.timed.pending + length admitted.now ≤ self.old.timed.config.window }
-        ensures timed { (before : Timed) (list : List Record)
-            → admitted.now ≡ take (room_of before) list
-            → accepting ≡ (goes_on self.old.timed.arch && (self.old.timed.flushes == before.flushes))
-            → self.new.timed ≡ accepts before list self.old.timed }
+    /// Phase 4: claims become pending.
+    fn accept(&mut self, accepted: &[Claim])
+        requires { length self.old.timed.pending + length accepted.now ≤ self.old.timed.config.window }
+        ensures timed { self.new.timed ≡ record self.old.timed {
+          pending = self.old.timed.pending ++ map (accepted_in self.old.timed.cycles) accepted.now;
+        } }
         ensures rest { self.new ≡ record self.old { timed = self.new.timed; entries = self.new.entries } }
         ensures staged { IsStaged self.old.timed.cycles self.old → IsStaged self.new.timed.cycles self.new }
         ensures solo { IsSoloFilled self.old.timed.cycles self.old → IsSoloFilled self.new.timed.cycles self.new }
     {
-        if accepting && !admitted.is_empty() {
-            accept_all(&mut self.pending, admitted, self.cycles);
+        if !accepted.is_empty() {
+            accept_all(&mut self.pending, accepted, self.cycles);
         }
     }
 
@@ -514,8 +512,9 @@ impl Parts {
         self.cycles += 1;
         self.drain();
         let phase = self.commits();
+        let accepted = phase.accepted(admitted);
         self.advance();
-        self.accept(admitted, phase.accepting);
+        self.accept(accepted);
         self.watch(phase.committed);
     }
 }

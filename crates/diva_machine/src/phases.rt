@@ -1,4 +1,7 @@
 // What the phases of a cycle tell each other.
+ghost use Rattle.std.specs.Prelude.{◌≡◌, ◌≤◌, [], length, if◌then◌else◌};
+
+use diva_core::Claim;
 
 /// What became of the front claim.
 #[derive(Clone, Copy, Debug, PartialEq, Eq)]
@@ -20,4 +23,15 @@ pub(crate) struct CommitPhase {
     pub committed: bool,
     /// Whether claims may be accepted: the machine neither flushed nor ended.
     pub accepting: bool,
+}
+
+impl CommitPhase {
+    /// Those of the admitted claims that may be accepted: all, or none.
+    #[inline(always)]
+    pub fn accepted<'a>(&self, admitted: &'a [Claim]) -> &'a [Claim]
+        ensures accepted { result.now ≡ (if self.now.accepting then admitted.now else []) }
+        ensures few { length result.now ≤ length admitted.now }
+    {
+        if self.accepting { admitted } else { &[] }
+    }
 }

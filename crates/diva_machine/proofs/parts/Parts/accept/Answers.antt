@@ -9,6 +9,6 @@ returns-then-not-is_empty-clause-staged c = λ s.
     record {
       waits = refl;
       checked = c.accept_all.ensures.checked c.self.inside.arch.state t.checked;
-      ordered = rw c.accept_all.ensures.items (order_more 0 c.self.inside.cycles (map pending_claim_of c.self.inside.pending.items) c.args.admitted.now t.ordered);
-      passed = rw c.accept_all.ensures.items (t.passed ∙ sym (passed_more c.self.inside.cycles (map pending_claim_of c.self.inside.pending.items) c.args.admitted.now));
+      ordered = rw c.accept_all.ensures.items (order_more 0 c.self.inside.cycles (map pending_claim_of c.self.inside.pending.items) c.args.accepted.now t.ordered);
+      passed = rw c.accept_all.ensures.items (t.passed ∙ sym (passed_more c.self.inside.cycles (map pending_claim_of c.self.inside.pending.items) c.args.accepted.now));
     }

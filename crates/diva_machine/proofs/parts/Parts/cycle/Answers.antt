@@ -1,12 +1,14 @@
-use Rattle.std.proofs.Common.{◌≡◌, ◌-◌, ◌==◌, ◌&&◌, true, not, ap, sym, ◌∙◌, [], refl}
+use Rattle.std.proofs.Common.{◌≡◌, ◌-◌, ◌==◌, ◌&&◌, true, not, ap, sym, ◌∙◌, List, [], ◌++◌, map, refl}
 use Rattle.std.proofs.Math.Bool.{not-not}
 use Rattle.diva_isa.specs.State.{goes_on}
+use Rattle.diva_isa.specs.declared.record.Record.{Record}
 use Rattle.diva_core.specs.Timed.{Timed}
-use Rattle.diva_core.specs.Cycle.{accepts, begun, commits, cycle_of, drained, watched}
+use Rattle.diva_core.specs.Cycle.{accepted_in, accepts, begun, commits, cycle_of, drained, watched}
 use Rattle.diva_core.specs.Headline.{dues}
 use Rattle.diva_machine.specs.Staged.{Parts}
 use Rattle.diva_machine.proofs.Staging.{staged_begun}
 use Rattle.diva_machine.proofs.Fronts.{watched-count, accepts-count}
+use Rattle.diva_machine.proofs.Telling.{accepts_is}
 use Rattle.diva_machine.proofs.parts.Parts.cycle.Goals as goal
 
 pub commits-phase-requires-clause-staged : goal.commits-phase-requires-clause-staged
@@ -21,17 +23,19 @@ begins c =
     let next = λ (z : Parts). drained (begun z.timed) in ap (λ (z : Parts). z.timed) c.drain.ensures ∙ ap next c.self.view_is ∙ ap next c.forget_last.ensures
 
 -- phase 2 has told whether claims are accepted
-opens : (c : goal.After-watch) → c.commits-phase.result.accepting ≡ (goes_on c.advance.new.self.timed.arch && (c.advance.new.self.timed.flushes == c.args.self.now.timed.flushes))
+opens : (c : goal.After-watch) → c.commits-phase.result.accepting ≡ (goes_on c.commits-phase.new.self.timed.arch && (c.commits-phase.new.self.timed.flushes == c.args.self.now.timed.flushes))
 unfolding drained
 opens c =
     c.commits-phase.ensures.tells.accepting
     ∙ ap (λ (m : Timed). goes_on c.commits-phase.new.self.timed.arch && (c.commits-phase.new.self.timed.flushes == m.flushes)) (begins c)
-    ∙ sym (ap (λ (z : Parts). goes_on z.timed.arch && (z.timed.flushes == c.args.self.now.timed.flushes)) c.advance.ensures.rest)
 
 admits : (c : goal.After-watch) → c.accept.new.self.timed ≡ accepts c.args.self.now.timed c.args.list.now c.commits-phase.new.self.timed
 admits c =
-    c.accept.ensures.timed c.args.self.now.timed c.args.list.now c.admitted-admitted.ensures.value (opens c)
-    ∙ ap (λ (z : Parts). accepts c.args.self.now.timed c.args.list.now z.timed) c.advance.ensures.rest
+    let n : Timed = c.commits-phase.new.self.timed in
+    c.accept.ensures.timed
+    ∙ ap (λ (z : Parts). record z.timed { pending = z.timed.pending ++ map (accepted_in z.timed.cycles) c.accepted-accepted.result.now }) c.advance.ensures.rest
+    ∙ ap (λ (claims : List Record). record n { pending = n.pending ++ map (accepted_in n.cycles) claims }) c.accepted-accepted.ensures.accepted
+    ∙ accepts_is c.args.self.now.timed n c.admitted-admitted.result.now c.args.list.now c.commits-phase.result.accepting c.admitted-admitted.ensures.value (opens c)
 
 -- the instructions that were counted are those whose records came due
 comes-due : (c : goal.After-watch) → c.accept.new.self.last ≡ dues (c.accept.new.self.timed.count - c.args.self.now.timed.count) c.args.self.now.timed.arch
