@@ -9,7 +9,7 @@ use Rattle.std.specs.Str.{bytes_eq}
 use Rattle.std.proofs.lemmas.Grind.{common_steps}
 use Rattle.diva_asm.specs.Operands.{is_within, registers, register_of, number_of, number_in, place_of, Place}
 use Rattle.diva_asm.specs.Mnemonics.{operands_of}
-use Rattle.diva_outside.specs.NextWords.{and_then}
+use Rattle.diva_outside.specs.Steps.{and_then}
 use Rattle.diva_asm.specs.Statements.{opens, closes, has_shape, have_shapes, with_operand, with_operands, no_operands}
 use Rattle.diva_asm.specs.Reads.{Use, unused, with_use, uses, Keeps, IsRead}
 use Rattle.diva_asm.specs.declared.fault.Kind.{Kind}

@@ -1,11 +1,11 @@
 -- Steps that stop, and labels one by one.
 use Rattle.std.proofs.Common.{◌≡◌, refl, sym, subst, ◌∙◌, ap, List, ℕ, []}
 use Rattle.std.specs.Prelude.{Result, Ok, Err}
+use Rattle.diva_outside.specs.Steps.{and_then}
 use Rattle.diva_outside.specs.Text.{Text}
 use Rattle.diva_asm.specs.Gives.{Gives, Appends}
 use Rattle.diva_asm.specs.declared.fault.Stop.{Stop}
 use Rattle.diva_asm.specs.declared.fault.Stop.TheVariants.{Fault, Memory}
-use Rattle.diva_outside.specs.NextWords.{and_then}
 use Rattle.diva_asm.specs.Texts.{labels_of, onto_names}
 use Rattle.diva_asm.specs.Laying.{with_label, with_labels, with_text, with_statement_of}
 use Rattle.diva_asm.specs.declared.fault.Kind.{Kind}

@@ -9,7 +9,7 @@ use Rattle.diva_decode.specs.Table.Format.{U, J, B}
 use Rattle.diva_decode.specs.declared.op.Op.{Op}
 use Rattle.diva_decode.specs.declared.op.Op.TheVariants.{Lui, Addi, Jal, Jalr}
 use Rattle.diva_decode.specs.declared.instr.Instr.{Instr}
-use Rattle.diva_outside.specs.NextWords.{and_then, fault_by}
+use Rattle.diva_outside.specs.Steps.{and_then, fault_by}
 use Rattle.diva_outside.specs.Text.{Text}
 use Rattle.diva_asm.specs.Kinds.{number_of_kind}
 use Rattle.diva_asm.specs.Labels.{Labels, address_of}

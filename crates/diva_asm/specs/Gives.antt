@@ -1,7 +1,7 @@
 -- What the calls give where memory does not run out.
 use Rattle.std.specs.Prelude.{◌≡◌, ◌++◌, List, ℕ, ⊤, Result, Ok, Err}
 use Rattle.diva_outside.specs.Lines.{LineFault}
-use Rattle.diva_outside.specs.NextWords.{and_then}
+use Rattle.diva_outside.specs.Steps.{and_then}
 use Rattle.diva_asm.specs.Kinds.{number_of_kind}
 use Rattle.diva_asm.specs.declared.fault.Kind.{Kind}
 use Rattle.diva_asm.specs.declared.fault.Stop.{Stop}

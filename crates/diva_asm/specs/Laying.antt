@@ -2,7 +2,7 @@
 use Rattle.std.specs.Prelude.{ℕ, ◌+◌, ◌%◌, ◌^◌, ◌==◌, ◌&&◌, ◌||◌, not, nat_lt, Bool, true, false, List, [], ◌∷◌, length, Option, Some, None, Result, Ok, Err, neg_ℤ, pos, is_some, if◌then◌else◌}
 use Rattle.std.specs.Int.{cast_signed, w32}
 use Rattle.std.specs.Option.{unwrap_or}
-use Rattle.diva_outside.specs.NextWords.{and_then, fault_by}
+use Rattle.diva_outside.specs.Steps.{and_then, fault_by}
 use Rattle.diva_outside.specs.Text.{Text}
 use Rattle.diva_asm.specs.Kinds.{number_of_kind}
 use Rattle.diva_asm.specs.Labels.{address_of, with_address}

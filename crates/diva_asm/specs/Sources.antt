@@ -5,7 +5,7 @@ use Rattle.std.specs.Option.{ok_or, unwrap_or}
 use Rattle.diva_image.specs.Images.{image_from}
 use Rattle.diva_image.specs.Layout.{Layout}
 use Rattle.diva_outside.specs.Lines.{LineFault, lines_of, over_lines}
-use Rattle.diva_outside.specs.NextWords.{and_then}
+use Rattle.diva_outside.specs.Steps.{and_then}
 use Rattle.diva_outside.specs.Text.{Text}
 use Rattle.diva_asm.specs.Kinds.{number_of_kind}
 use Rattle.diva_asm.specs.Laying.{nothing_laid, with_line}

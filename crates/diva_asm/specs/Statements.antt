@@ -2,7 +2,7 @@
 use Rattle.std.specs.Prelude.{ℕ, ◌==◌, ◌&&◌, not, nat_eq, Bool, true, false, List, [], ◌∷◌, length, take, drop, codes, Option, Some, None, Result, Ok, Err, pos, neg_ℤ, if◌then◌else◌}
 use Rattle.std.specs.List.{starts_with, ends_with, before_first, after_first, count_by, position_or_len}
 use Rattle.std.specs.Option.{ok_or}
-use Rattle.diva_outside.specs.NextWords.{and_then}
+use Rattle.diva_outside.specs.Steps.{and_then}
 use Rattle.diva_outside.specs.Text.{Text}
 use Rattle.diva_asm.specs.Texts.{trim, ends_mnemonic, operand_texts}
 use Rattle.diva_asm.specs.Operands.{register_of, number_in, place_of}

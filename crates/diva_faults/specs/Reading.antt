@@ -6,7 +6,8 @@ use Rattle.std.specs.Str.{bytes_eq}
 use Rattle.diva_core.specs.declared.differences.Field.{Field}
 use Rattle.diva_core.specs.Difference.{all_fields}
 use Rattle.diva_outside.specs.Lines.{LineFault, lines_of, over_lines}
-use Rattle.diva_outside.specs.NextWords.{and_then, fault_by, first_hex, first_number, no_more, with_first}
+use Rattle.diva_outside.specs.NextWords.{first_hex, first_number, no_more, with_first}
+use Rattle.diva_outside.specs.Steps.{and_then, fault_by}
 use Rattle.diva_outside.specs.Text.{Text}
 use Rattle.diva_outside.specs.Words.{words_of}
 use Rattle.diva_faults.specs.declared.fault.Kind.{Kind}

@@ -10,5 +10,6 @@ pub mod NextWords
 pub mod Numbers
 pub mod Sink
 pub mod StdSink
+pub mod Steps
 pub mod Text
 pub mod Words

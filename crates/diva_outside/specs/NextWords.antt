@@ -2,21 +2,10 @@
 use Rattle.std.specs.Prelude.{ℕ, ◌≤◌, ◌&&◌, nat_le, List, [], ◌∷◌, Option, Some, None, option_and_then, Result, Ok, Err, if◌then◌else◌}
 use Rattle.std.specs.Option.{ok_or}
 use Rattle.diva_outside.specs.Numbers.{decimal_of, hex_of}
+use Rattle.diva_outside.specs.Steps.{and_then}
 use Rattle.diva_outside.specs.Text.{Text}
 use Rattle.diva_outside.specs.declared.next_words.WordFault.{WordFault}
 use Rattle.diva_outside.specs.declared.next_words.WordFault.TheVariants.{Count, Unreadable}
-
--- ---- what is read, or a fault
-
--- what the next step makes of it, where this one found no fault
-abbrev pub and_then : {A B E : Type 0} → Result A E → (A → Result B E) → Result B E
-and_then (Ok value) next = next value
-and_then (Err fault) next = Err fault
-
--- the fault by the name that a rule gives it
-abbrev pub fault_by : {A E F : Type 0} → (E → F) → Result A E → Result A F
-fault_by name (Ok value) = Ok value
-fault_by name (Err fault) = Err (name fault)
 
 -- ---- one word
 

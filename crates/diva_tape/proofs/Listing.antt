@@ -5,12 +5,12 @@ use Rattle.std.specs.Option.{ok_or}
 use Rattle.std.proofs.lemmas.Bool.Decides.{nat_tests}
 use Rattle.diva_isa.specs.declared.record.Record.{Record}
 use Rattle.diva_outside.specs.Numbers.{hex_of}
+use Rattle.diva_outside.specs.Steps.{and_then}
 use Rattle.diva_outside.specs.Text.{Text}
 use Rattle.diva_outside.specs.Words.{words_of}
 use Rattle.diva_tape.specs.declared.fault.Kind.{Kind}
 use Rattle.diva_tape.specs.declared.fault.Kind.TheVariants.{Word, NumberCount, ClaimCount}
 use Rattle.diva_tape.specs.LineParts.{claim_in}
-use Rattle.diva_outside.specs.NextWords.{and_then}
 use Rattle.diva_tape.specs.Tapes.{all_by, list_from, record_from}
 
 abbrev pub numbers_in : Text → Option (List ℕ)

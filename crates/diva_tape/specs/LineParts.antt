@@ -3,8 +3,8 @@ use Rattle.std.specs.Prelude.{List, [], Option, Some, None, Result, Ok}
 use Rattle.std.specs.List.{slice_split}
 use Rattle.std.specs.Option.{ok_or}
 use Rattle.diva_isa.specs.declared.record.Record.{Record}
-use Rattle.diva_outside.specs.NextWords.{and_then}
 use Rattle.diva_outside.specs.Numbers.{hex_of}
+use Rattle.diva_outside.specs.Steps.{and_then}
 use Rattle.diva_outside.specs.Text.{Text}
 use Rattle.diva_outside.specs.Words.{words_of}
 use Rattle.diva_tape.specs.declared.fault.Kind.{Kind}

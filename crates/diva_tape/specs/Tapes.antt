@@ -4,8 +4,8 @@ use Rattle.std.specs.List.{before_first, slice_split}
 use Rattle.std.specs.Option.{ok_or}
 use Rattle.diva_isa.specs.declared.record.Record.{Record}
 use Rattle.diva_outside.specs.Lines.{LineFault, lines_of, over_lines}
-use Rattle.diva_outside.specs.NextWords.{and_then, fault_by}
 use Rattle.diva_outside.specs.Numbers.{hex_of}
+use Rattle.diva_outside.specs.Steps.{and_then, fault_by}
 use Rattle.diva_outside.specs.Text.{Text}
 use Rattle.diva_outside.specs.Words.{begins_comment, words_of}
 use Rattle.diva_tape.specs.declared.fault.Kind.{Kind}

@@ -1,5 +1,5 @@
 use Rattle.std.proofs.Common.{◌∙◌, ap}
-use Rattle.diva_outside.specs.NextWords.{and_then}
+use Rattle.diva_outside.specs.Steps.{and_then}
 use Rattle.diva_asm.specs.Laying.{with_label, with_text, with_statement_of}
 use Rattle.diva_asm.proofs.Stopping.{text_more, text_ends, stopped, given}
 use Rattle.diva_asm.proofs.laying.Laid.with_line.Goals as goal
