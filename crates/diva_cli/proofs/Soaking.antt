@@ -21,7 +21,7 @@ use Rattle.diva_tape.proofs.Pacing.{scalar_ends, scalar_unflushed}
 use Rattle.diva_soak.specs.Halts.{HaltsWithin}
 use Rattle.diva_soak.proofs.Halting.{soak_halts}
 use Rattle.diva_trace.specs.Text.{soak_text}
-use Rattle.diva_args.specs.Options.{SoakOptions}
+use Rattle.diva_args.specs.Options.{SoakOptions, longest_soak}
 use Rattle.diva_args.specs.declared.job.CoreChoice.TheVariants.{Own, Scalar}
 use Rattle.diva_args.specs.declared.job.Job.TheVariants.{Soak}
 use Rattle.diva_cli.specs.Wanted.{FileBytes}
@@ -74,7 +74,7 @@ drove gives options m core begun last after budget r is first all t within ended
     }
 
 module _ {D : Type 0} (gives : Meaning D) (options : SoakOptions) (core : D) (last : Timed) (after : D)
-    (few : options.instructions ≤ 65536) (s : Soaks gives options core last after) where
+    (few : options.instructions ≤ longest_soak) (s : Soaks gives options core last after) where
   abbrev lists : List (List Record)
   lists = lists_of s.turns.history
 
@@ -105,7 +105,7 @@ module _ {D : Type 0} (gives : Meaning D) (options : SoakOptions) (core : D) (la
 
 pub own_run :
     {C : Type 0} (gives : Meaning C) (options : SoakOptions) (core : C) (last : Timed) (after : C)
-    → options.instructions ≤ 65536 → Soaks gives options core last after
+    → options.instructions ≤ longest_soak → Soaks gives options core last after
     → IsSoakRun gives options Own core last after
 own_run gives options core last after few s =
     let t = Turns-none gives (soak_new options) core last after s.turns in
@@ -120,7 +120,7 @@ own_run gives options core last after few s =
 
 pub scalar_run :
     {C : Type 0} (gives : Meaning C) (options : SoakOptions) (core : C) (last : Timed) (lead : Ahead)
-    → options.instructions ≤ 65536 → Soaks IsScalarCall options new_scalar last lead
+    → options.instructions ≤ longest_soak → Soaks IsScalarCall options new_scalar last lead
     → IsSoakRun gives options Scalar core last core
 scalar_run gives options core last lead few s =
     let t = Turns-none IsScalarCall (soak_new options) new_scalar last lead s.turns in
@@ -138,7 +138,7 @@ scalar_run gives options core last lead few s =
 -- ---- what is written of them
 
 module _ {C : Type 0} (gives : Meaning C) (options : SoakOptions) (bytes : FileBytes) (core : C) (lead : Ahead) (first second : Timed) (after : C)
-    (few : options.instructions ≤ 65536) (one : Soaks IsScalarCall options new_scalar first lead) (two : Soaks gives options core second after)
+    (few : options.instructions ≤ longest_soak) (one : Soaks IsScalarCall options new_scalar first lead) (two : Soaks gives options core second after)
     (old new : Option (List ℕ)) (before now : ℕ) where
   abbrev first_end : (first.arch ≡ steps (soak_halts options.seed options.instructions few).after (soak_start options)) × (first.count ≡ (soak_halts options.seed options.instructions few).after)
   first_end = at_end IsScalarCall options new_scalar first lead few one
