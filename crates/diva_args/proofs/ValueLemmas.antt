@@ -4,12 +4,12 @@ use Rattle.std.specs.Prelude.{option_and_then}
 use Rattle.std.specs.List.{after_first, before_first, position_or_len}
 use Rattle.std.proofs.lemmas.List.{drop_all}
 use Rattle.diva_outside.specs.Numbers.{decimal_of, hex_of}
-use Rattle.diva_args.specs.Options.{DumpRange}
+use Rattle.diva_args.specs.Options.{DumpRange, most_dumped}
 use Rattle.diva_args.specs.Values.{dump_at, dump_range_of, is_colon, number_in_range}
 
 -- what an address and the text of a length give
 abbrev with_length : List ℕ → ℕ → Option DumpRange
-with_length text addr = option_and_then (dump_at addr) (number_in_range 1 4096 text)
+with_length text addr = option_and_then (dump_at addr) (number_in_range 1 most_dumped text)
 
 -- the empty text is not a length
 no_length : (addr : Option ℕ) → option_and_then (with_length []) addr ≡ None

@@ -9,7 +9,7 @@ use Rattle.clap.specs.Kinds.{Kinds}
 use Rattle.diva_core.specs.Timed.{Config, default_config}
 use Rattle.diva_core.specs.Machine.{config_in_range}
 use Rattle.diva_args.specs.Command.{diva}
-use Rattle.diva_args.specs.Options.{DebugOptions, DumpRange, RunOptions, Setup, SoakOptions, TapeOptions}
+use Rattle.diva_args.specs.Options.{DebugOptions, DumpRange, RunOptions, Setup, SoakOptions, TapeOptions, default_cycles, longest_soak, most_cycles}
 use Rattle.diva_args.specs.Values.{core_of, dump_of, given_number, is_set_by, number_of, number_or}
 use Rattle.diva_args.specs.declared.job.CoreChoice.{CoreChoice}
 use Rattle.diva_args.specs.declared.job.Job.{Job}
@@ -65,7 +65,7 @@ wide_from value = setup_from (number_or default_config.width (value (codes "widt
 
 -- the cycles to run at most
 unfoldable pub cycles_from : (Text → Option Text) → Option ℕ
-cycles_from value = number_of 1 1000000000 1000000 (value (codes "cycles"))
+cycles_from value = number_of 1 most_cycles default_cycles (value (codes "cycles"))
 
 abbrev pub run_with : Option Setup → Option ℕ → Bool → Option (Option DumpRange) → Option RunOptions
 run_with setup cycles trace dump = option_and_then (λ s. option_and_then (λ c. option_map (λ d.
@@ -98,7 +98,7 @@ soak_with seed instructions = option_and_then (λ s. option_map (λ n.
 
 -- `soak`
 unfoldable pub soak_from : (Text → Option Text) → Option SoakOptions
-soak_from value = soak_with (given_number 0 4294967295 (value (codes "SEED"))) (given_number 1 65536 (value (codes "LENGTH")))
+soak_from value = soak_with (given_number 0 4294967295 (value (codes "SEED"))) (given_number 1 longest_soak (value (codes "LENGTH")))
 
 -- the job of the command of this name
 abbrev pub job_from : Text → (Text → Option Text) → Option Job

@@ -8,10 +8,14 @@ pub record DumpRange : Type 0 where
   pub addr : ℕ
   pub len : ℕ
 
+-- the most bytes of memory that are shown
+abbrev pub most_dumped : ℕ
+most_dumped = 4096
+
 -- 1 to 4,096 bytes, that end at 2^32 at most
 pub record IsDump (addr len : ℕ) : Type 0 where
   pub len_low : 1 ≤ len
-  pub len_high : len ≤ 4096
+  pub len_high : len ≤ most_dumped
   pub end : addr + len ≤ 2 ^ 32
 
 -- what commands have in common that run an image: the image, the core, the script, and the numbers of the machine
@@ -21,10 +25,17 @@ pub record Setup : Type 0 where
   pub script : Option (List ℕ)
   pub config : Config
 
+-- the most cycles that a run can be given, and those of a run for which none are asked
+abbrev pub most_cycles : ℕ
+most_cycles = 1000000000
+
+abbrev pub default_cycles : ℕ
+default_cycles = 1000000
+
 -- the range of the cycles to run at most
 pub record IsBudget (cycles : ℕ) : Type 0 where
   pub low : 1 ≤ cycles
-  pub high : cycles ≤ 1000000000
+  pub high : cycles ≤ most_cycles
 
 -- `run IMAGE` with its options
 pub record RunOptions : Type 0 where
@@ -48,7 +59,11 @@ pub record SoakOptions : Type 0 where
   pub seed : ℕ
   pub instructions : ℕ
 
+-- the most instructions that are drawn
+abbrev pub longest_soak : ℕ
+longest_soak = 65536
+
 -- the range of that number
 pub record IsSoak (instructions : ℕ) : Type 0 where
   pub low : 1 ≤ instructions
-  pub high : instructions ≤ 65536
+  pub high : instructions ≤ longest_soak

@@ -5,7 +5,7 @@ use Rattle.std.specs.List.{before_first, after_first}
 use Rattle.std.specs.Str.{bytes_eq}
 use Rattle.clap.specs.Walk.{Text}
 use Rattle.diva_outside.specs.Numbers.{decimal_of, hex_of}
-use Rattle.diva_args.specs.Options.{DumpRange}
+use Rattle.diva_args.specs.Options.{DumpRange, most_dumped}
 use Rattle.diva_args.specs.declared.job.CoreChoice.{CoreChoice}
 use Rattle.diva_args.specs.declared.job.CoreChoice.TheVariants.{Own, Lockstep, Scalar, Silent, Flood, Echo, Noise, Tape}
 
@@ -66,7 +66,7 @@ dump_at addr len =
 -- `ADDR:LEN`, a hex number and a decimal one from 1 to 4096
 unfoldable pub dump_range_of : Text → Option DumpRange
 dump_range_of word = option_and_then (λ addr. option_and_then (dump_at addr)
-    (number_in_range 1 4096 (after_first is_colon word))) (hex_of (before_first is_colon word))
+    (number_in_range 1 most_dumped (after_first is_colon word))) (hex_of (before_first is_colon word))
 
 -- the memory of `--dump`, if it is given
 abbrev pub dump_of : Option Text → Option (Option DumpRange)

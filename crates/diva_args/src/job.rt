@@ -3,6 +3,18 @@ use crate::file_name::FileName;
 use diva_core::Config;
 use std::marker::Model;
 
+/// The most cycles that a run can be given.
+pub(crate) const MOST_CYCLES: u32 = 1_000_000_000;
+
+/// The cycles of a run for which none are asked.
+pub(crate) const DEFAULT_CYCLES: u32 = 1_000_000;
+
+/// The most bytes of memory that are shown.
+pub(crate) const MOST_DUMPED: u32 = 4096;
+
+/// The most instructions that are drawn for `soak`.
+pub(crate) const LONGEST_SOAK: u32 = 65_536;
+
 /// A command with its options. On the command line, numbers are spelled with 1 to 10 decimal digits.
 #[derive(Debug, Drop)]
 pub enum Job {

@@ -13,7 +13,10 @@ ghost use Rattle.diva_core.specs.Machine.{IsConfig};
 use crate::command::command;
 use crate::fault::ArgsFault;
 use crate::file_name::FileName;
-use crate::job::{DebugOptions, Job, RunOptions, Setup, SoakOptions, TapeOptions};
+use crate::job::{
+    DEFAULT_CYCLES, DebugOptions, Job, LONGEST_SOAK, MOST_CYCLES, RunOptions, Setup, SoakOptions,
+    TapeOptions,
+};
 use crate::values::{core, dump, number, number_within};
 use clap::ArgMatches;
 use diva_core::Config;
@@ -148,7 +151,7 @@ fn soak(found: &ArgMatches<'_>) -> Result<SoakOptions, ArgsFault>
     let Some(seed) = number_of(found, "SEED", 0, u32::MAX) else {
         return Err(ArgsFault::Usage);
     };
-    let Some(instructions) = number_of(found, "LENGTH", 1, 65_536) else {
+    let Some(instructions) = number_of(found, "LENGTH", 1, LONGEST_SOAK) else {
         return Err(ArgsFault::Usage);
     };
     Ok(SoakOptions { seed, instructions })
@@ -221,7 +224,7 @@ fn cycles(found: &ArgMatches<'_>) -> Option<u64>
     ensures value { result ≡ cycles_from (values_of (rows_of (found_of found.now))) }
     ensures in_range { IfSome result IsBudget }
 {
-    let cycles = number(text_of(found, "cycles"), 1, 1_000_000_000, 1_000_000)?;
+    let cycles = number(text_of(found, "cycles"), 1, MOST_CYCLES, DEFAULT_CYCLES)?;
     Some(u64::from(cycles))
 }
 

@@ -4,7 +4,7 @@ ghost use Rattle.diva_args.specs.Values.{core_named, core_of, dump_of, dump_rang
 
 use crate::fault::ArgsFault;
 use crate::file_name::FileName;
-use crate::job::{CoreChoice, DumpRange};
+use crate::job::{CoreChoice, DumpRange, MOST_DUMPED};
 use diva_outside::{decimal, hex};
 use std::alloc::Global;
 
@@ -92,7 +92,7 @@ fn dump_range(word: &str) -> Option<DumpRange>
 {
     let (addr, len) = word.split_once(':')?;
     let addr = hex(addr.as_bytes())?;
-    let len = number_within(len, 1, 4096)?;
+    let len = number_within(len, 1, MOST_DUMPED)?;
     if u64::from(addr) + u64::from(len) <= 1 << 32 {
         Some(DumpRange { addr, len })
     } else {

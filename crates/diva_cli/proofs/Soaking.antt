@@ -23,7 +23,7 @@ use Rattle.diva_tape.proofs.Pacing.{scalar_ends, scalar_unflushed}
 use Rattle.diva_soak.specs.Halts.{HaltsWithin}
 use Rattle.diva_soak.proofs.Halting.{soak_halts}
 use Rattle.diva_trace.specs.Text.{soak_text}
-use Rattle.diva_args.specs.Options.{SoakOptions}
+use Rattle.diva_args.specs.Options.{SoakOptions, longest_soak}
 use Rattle.diva_args.specs.declared.job.CoreChoice.{CoreChoice}
 use Rattle.diva_args.specs.declared.job.CoreChoice.TheVariants.{Own, Scalar}
 use Rattle.diva_args.specs.declared.job.Job.TheVariants.{Soak}
@@ -71,7 +71,7 @@ drove gives options m core last after budget r is all t within ended ran =
     }
 
 module _ {D : Type 0} (gives : Meaning D) (options : SoakOptions) (core : D) (last : Timed) (after : D)
-    (few : options.instructions ≤ 65536) (s : Soaks gives options core last after) where
+    (few : options.instructions ≤ longest_soak) (s : Soaks gives options core last after) where
   abbrev lists : List (List Record)
   lists = lists_of s.turns.history
 
@@ -103,7 +103,7 @@ module _ {D : Type 0} (gives : Meaning D) (options : SoakOptions) (core : D) (la
 -- it is a run by the core of a choice, where its lists are those of that core
 soak_run :
     {C D : Type 0} (gives : Meaning C) (its : Meaning D) (options : SoakOptions) (choice : CoreChoice) (core after : C) (first : D) (last : Timed) (final : D)
-    (few : options.instructions ≤ 65536) (s : Soaks its options first last final)
+    (few : options.instructions ≤ longest_soak) (s : Soaks its options first last final)
     → AreHanded gives choice [] [] (soak_new options) core (lists its options first last final few s) last after
     → IsSoakRun gives options choice core last after
 soak_run gives its options choice core after first last final few s handed =
@@ -119,7 +119,7 @@ soak_run gives its options choice core after first last final few s handed =
 -- its turns are those of the core under a script that has no rows
 soak_turns :
     {D : Type 0} (its : Meaning D) (options : SoakOptions) (first : D) (last : Timed) (final : D)
-    (few : options.instructions ≤ 65536) (s : Soaks its options first last final)
+    (few : options.instructions ≤ longest_soak) (s : Soaks its options first last final)
     → ByTurns (spoiled [] its) (soak_new options) first (lists its options first last final few s) last final
 soak_turns its options first last final few s =
     let t = Turns-none its (soak_new options) first last final s.turns in
@@ -127,14 +127,14 @@ soak_turns its options first last final few s =
 
 own_run :
     {C : Type 0} (gives : Meaning C) (options : SoakOptions) (core : C) (last : Timed) (after : C)
-    → options.instructions ≤ 65536 → Soaks gives options core last after
+    → options.instructions ≤ longest_soak → Soaks gives options core last after
     → IsSoakRun gives options Own core last after
 own_run gives options core last after few s =
     soak_run gives gives options Own core after core last after few s (soak_turns gives options core last after few s)
 
 scalar_run :
     {C : Type 0} (gives : Meaning C) (options : SoakOptions) (core : C) (last : Timed) (lead : Ahead)
-    → options.instructions ≤ 65536 → Soaks IsScalarCall options new_scalar last lead
+    → options.instructions ≤ longest_soak → Soaks IsScalarCall options new_scalar last lead
     → IsSoakRun gives options Scalar core last core
 scalar_run gives options core last lead few s =
     soak_run gives IsScalarCall options Scalar core core new_scalar last lead few s
@@ -145,7 +145,7 @@ scalar_run gives options core last lead few s =
 -- ---- what is written of them
 
 module _ {C : Type 0} (gives : Meaning C) (options : SoakOptions) (bytes : FileBytes) (core : C) (lead : Ahead) (first second : Timed) (after : C)
-    (few : options.instructions ≤ 65536) (one : Soaks IsScalarCall options new_scalar first lead) (two : Soaks gives options core second after)
+    (few : options.instructions ≤ longest_soak) (one : Soaks IsScalarCall options new_scalar first lead) (two : Soaks gives options core second after)
     (old new : Option (List ℕ)) (before now : ℕ) where
   abbrev first_end : (first.arch ≡ steps (soak_halts options.seed options.instructions few).after (soak_start options)) × (first.count ≡ (soak_halts options.seed options.instructions few).after)
   first_end = at_end IsScalarCall options new_scalar first lead few one
