@@ -7,7 +7,7 @@ use Rattle.std.proofs.lemmas.List.{length-replicate}
 use Rattle.diva_decode.specs.declared.instr.Instr.{Instr}
 use Rattle.diva_decode.specs.Table.{row_of}
 use Rattle.diva_memory.specs.Bytes.{Bytes, low_bytes, put_all}
-use Rattle.diva_isa.specs.State.{State, goes_on, memory_of, word_of}
+use Rattle.diva_isa.specs.State.{State, goes_on, memory_of, word_of, output_limit}
 use Rattle.diva_isa.specs.Kind.{kind, size}
 use Rattle.diva_isa.specs.Step.{apply, effect_of, record_fetched, outcome, record_of, record_by, source1, source2, address_of, step, steps, with_effect}
 use Rattle.diva_isa.specs.declared.kind.Kind.{Kind}
@@ -25,7 +25,7 @@ use Rattle.diva_ahead.proofs.Handing.{behind, behind_pc, behind_regs, regs_after
 -- ---- a record depends on no end, and of the output on its length alone, up to where it is full
 
 abbrev pub full : ℕ → ℕ
-full n = min n 65536
+full n = min n output_limit
 
 abbrev pub other : State → List ℕ → ℕ → State
 other s o e = record s { output = o; end = e }
@@ -58,7 +58,7 @@ source2_other Fence s o e i = refl
 source2_other Ecall s o e i = refl
 source2_other Ebreak s o e i = refl
 
-same_room : (m n : ℕ) → full m ≡ full n → nat_lt m 65536 ≡ nat_lt n 65536
+same_room : (m n : ℕ) → full m ≡ full n → nat_lt m output_limit ≡ nat_lt n output_limit
 same_room m n h = grind (arith, nat_tests)
 
 outcome_other : (k : Kind) (s : State) (o : List ℕ) (e : ℕ) (i : Instr) (pc a b addr : ℕ) → full (length o) ≡ full (length s.output) → outcome k (other s o e) i pc a b addr ≡ outcome k s i pc a b addr

@@ -13,7 +13,7 @@ use Rattle.diva_core.specs.declared.flushes.Cause.{Cause}
 use Rattle.diva_core.specs.declared.flushes.Cause.TheVariants.{Differs, Silent}
 use Rattle.diva_core.specs.Difference.{field_of}
 use Rattle.diva_core.proofs.Differing.{difference-some}
-use Rattle.diva_core.specs.Timed.{Timed}
+use Rattle.diva_core.specs.Timed.{Timed, rows_kept}
 use Rattle.diva_core.specs.Cycle.{cycle_of, run_of, kept, number, is_silent}
 use Rattle.diva_core.specs.Machine.{IsMachine}
 use Rattle.diva_core.specs.Headline.{Rises, SameLog, AddsRow, AddsRows, HasRows, AreRowsOf, IsRowOf, IsRowSince, IsCause, HasCause, newest_of, is_silent_row}
@@ -41,11 +41,11 @@ take-twice n xs ys =
       | inr h ↦ take-append-le n (take n xs) ys (rw length-take (omega arith)) ∙ take_all n (take n xs) (rw length-take (omega arith)) ∙ sym (take-append-le n xs ys h)
     ]
 
-kept-take : (rows : List FlushRow) (row : FlushRow) → length rows ≤ 1024 → kept rows row ≡ take 1024 (rows ++ row ∷ [])
+kept-take : (rows : List FlushRow) (row : FlushRow) → length rows ≤ rows_kept → kept rows row ≡ take rows_kept (rows ++ row ∷ [])
 kept-take rows row few =
-    cond_both (nat_lt (length rows) 1024) _ _ (λ z. z ≡ take 1024 (rows ++ row ∷ []))
-    (λ t. let l = ltb-true (length rows) 1024 t in sym (take_all 1024 (rows ++ row ∷ []) (rw length-append (omega arith))))
-    (λ f. let l = ltb-false (length rows) 1024 f in sym (take-append-le 1024 rows (row ∷ []) (omega arith) ∙ take_all 1024 rows few))
+    cond_both (nat_lt (length rows) rows_kept) _ _ (λ z. z ≡ take rows_kept (rows ++ row ∷ []))
+    (λ t. let l = ltb-true (length rows) rows_kept t in sym (take_all rows_kept (rows ++ row ∷ []) (rw length-append (omega arith))))
+    (λ f. let l = ltb-false (length rows) rows_kept f in sym (take-append-le rows_kept rows (row ∷ []) (omega arith) ∙ take_all rows_kept rows few))
 
 cause-since : (m last : Timed) (at : ℕ) (cause : Cause) → at ≡ last.count → IsCause m last cause → HasCause m.arch m.config.limit (at - m.count) cause
 cause-since m last at (Differs d) e c =
@@ -59,10 +59,10 @@ row-since m last row r a =
 
 -- ---- what stands in the log
 
-same-has : (m last : Timed) → length m.rows ≤ 1024 → SameLog m last → HasRows m [] last
+same-has : (m last : Timed) → length m.rows ≤ rows_kept → SameLog m last → HasRows m [] last
 same-has m last few s =
     record {
-      rows = s.rows ∙ sym (ap (take 1024) (append-nil m.rows) ∙ take_all 1024 m.rows few);
+      rows = s.rows ∙ sym (ap (take rows_kept) (append-nil m.rows) ∙ take_all rows_kept m.rows few);
       newest = s.newest;
       flushes = s.flushes ∙ (omega arith);
       silent = s.silent ∙ (omega arith);
@@ -74,7 +74,7 @@ silent-one row = go (is_silent row.cause)
     go : (b : Bool) → (if b then 1 else 0) ≡ 0 + (if b then 1 else 0)
     go b = omega arith
 
-one-has : (m last : Timed) (row : FlushRow) → length m.rows ≤ 1024 → IsRowOf m last row → HasRows m (row ∷ []) last
+one-has : (m last : Timed) (row : FlushRow) → length m.rows ≤ rows_kept → IsRowOf m last row → HasRows m (row ∷ []) last
 one-has m last row few a =
     record {
       rows = a.has.rows ∙ kept-take m.rows row few;
@@ -86,7 +86,7 @@ one-has m last row few a =
 HasRows-trans : (m mid last : Timed) (first more : List FlushRow) → HasRows m first mid → HasRows mid more last → HasRows m (first ++ more) last
 HasRows-trans m mid last first more a b =
     record {
-      rows = b.rows ∙ ap (λ xs. take 1024 (xs ++ more)) a.rows ∙ take-twice 1024 (m.rows ++ first) more ∙ ap (take 1024) (append_assoc m.rows first more);
+      rows = b.rows ∙ ap (λ xs. take rows_kept (xs ++ more)) a.rows ∙ take-twice rows_kept (m.rows ++ first) more ∙ ap (take rows_kept) (append_assoc m.rows first more);
       newest = b.newest ∙ ap (λ o. newest_of o more) a.newest ∙ sym (newest-append m.newest first more);
       flushes = rw length-append (let e = a.flushes in let f = b.flushes in omega arith);
       silent = rw count-append (let e = a.silent in let f = b.silent in omega arith);

@@ -7,7 +7,7 @@ use Rattle.diva_isa.specs.State.{State, goes_on}
 use Rattle.diva_isa.specs.declared.record.Record.{Record}
 use Rattle.diva_isa.specs.Step.{record_of, step, steps}
 use Rattle.diva_core.specs.Difference.{field_of}
-use Rattle.diva_core.specs.Timed.{Timed, PendingClaim, room_of, is_due}
+use Rattle.diva_core.specs.Timed.{Timed, PendingClaim, room_of, is_due, depth}
 use Rattle.diva_core.specs.Cycle.{cycle_of, accepted_in}
 use Rattle.diva_core.specs.Machine.{IsMachine, ArePast}
 use Rattle.diva_core.specs.Right.{AreDue, IsRight, wait_by, claim_of, IsCalmRunning, IsCalm, StaysCalm}
@@ -62,7 +62,7 @@ AreDueFrom-more b list k rest h a r =
     lengths k rest h = let e = length-commits k b.arch (b.cycles + 1) b.pending rest h in omega arith
 
 -- the wait of a machine in which the front claim was accepted in the past
-wait-most : (m : Timed) (xs : List PendingClaim) → ArePast m.cycles xs → wait_by m xs ≤ 7
+wait-most : (m : Timed) (xs : List PendingClaim) → ArePast m.cycles xs → wait_by m xs ≤ depth + 1
 wait-most m [] a = omega arith
 wait-most m (p ∷ xs) a = let e = a.0 in omega arith
 
@@ -77,7 +77,7 @@ no-difference b n r a =
 AreDueFrom-at : (s t : State) (xs ys : List PendingClaim) → s ≡ t → xs ≡ ys → AreDueFrom t (map claim_of ys) → AreDueFrom s (map claim_of xs)
 AreDueFrom-at s t xs ys e f a = rw (e, f) a
 
-pub wait-least : (b : Timed) (xs : List PendingClaim) → ((p : PendingClaim) (rest : List PendingClaim) → xs ≡ p ∷ rest → b.cycles + 1 < p.cycle + 6) → 2 ≤ wait_by b xs
+pub wait-least : (b : Timed) (xs : List PendingClaim) → ((p : PendingClaim) (rest : List PendingClaim) → xs ≡ p ∷ rest → b.cycles + 1 < p.cycle + depth) → 2 ≤ wait_by b xs
 wait-least b [] young = omega arith
 wait-least b (p ∷ rest) young = let y = young p rest refl in omega arith
 
@@ -85,8 +85,8 @@ wait-least b (p ∷ rest) young = let y = young p rest refl in omega arith
 wait-after :
     (b n : Timed) (xs : List PendingClaim) (zs : List Record) (limit : ℕ)
     → n.cycles ≡ b.cycles + 1
-    → ((p : PendingClaim) (rest : List PendingClaim) → xs ≡ p ∷ rest → b.cycles + 1 < p.cycle + 6)
-    → (xs ≡ [] → zs ≡ [] → b.idle + 7 < limit)
+    → ((p : PendingClaim) (rest : List PendingClaim) → xs ≡ p ∷ rest → b.cycles + 1 < p.cycle + depth)
+    → (xs ≡ [] → zs ≡ [] → b.idle + (depth + 1) < limit)
     → b.idle + wait_by b xs ≤ limit
     → b.idle + 1 + wait_by n (xs ++ map (accepted_in (b.cycles + 1)) zs) ≤ limit
 wait-after b n [] [] limit c young empty w = let h = empty refl refl in omega arith
@@ -101,12 +101,12 @@ take-none zero list h e = absurd (omega arith)
 take-none (suc r) [] h e = refl
 take-none (suc r) (p ∷ list) h e = absurd (grind arith)
 
-due-is : (b : Timed) → IsMachine b → b.solo ≡ None → goes_on b.arch ≡ true → b.pending ≡ [] → b.config.limit ≤ b.idle + 7 → is_due b ≡ true
-due-is b inv none on e h = rw (le-leb b.config.limit (b.idle + 7) h, lt-ltb 0 (room_of b) (room-some b inv none on e), e) refl
+due-is : (b : Timed) → IsMachine b → b.solo ≡ None → goes_on b.arch ≡ true → b.pending ≡ [] → b.config.limit ≤ b.idle + (depth + 1) → is_due b ≡ true
+due-is b inv none on e h = rw (le-leb b.config.limit (b.idle + (depth + 1)) h, lt-ltb 0 (room_of b) (room-some b inv none on e), e) refl
 
-not-due : (b : Timed) (list : List Record) → IsMachine b → goes_on b.arch ≡ true → b.solo ≡ None → IsRight b list → b.pending ≡ [] → take (room_of b) list ≡ [] → b.idle + 7 < b.config.limit
+not-due : (b : Timed) (list : List Record) → IsMachine b → goes_on b.arch ≡ true → b.solo ≡ None → IsRight b list → b.pending ≡ [] → take (room_of b) list ≡ [] → b.idle + (depth + 1) < b.config.limit
 not-due b list inv on none right e t =
-    elim (cases_lt (b.idle + 7) b.config.limit) [
+    elim (cases_lt (b.idle + (depth + 1)) b.config.limit) [
       | inl h ↦ h
       | inr h ↦ absurd (right.prompt (due-is b inv none on e h) (take-none (room_of b) list (room-some b inv none on e) t))
     ]
@@ -151,7 +151,7 @@ pub record Fresh (n : Timed) : Type 0 where
   pub calm : IsCalm n
   pub pending : n.pending ≡ []
 
-fresh-cases : (b : Timed) (list : List Record) (n : Timed) (start : ℕ) → IsMachine n → b.solo ≡ Some start → b.cycles + 1 ≡ start + 6 → Cycled b list n → Fresh n
+fresh-cases : (b : Timed) (list : List Record) (n : Timed) (start : ℕ) → IsMachine n → b.solo ≡ Some start → b.cycles + 1 ≡ start + depth → Cycled b list n → Fresh n
 fresh-cases b list n start after some sixth (idled r) = absurd (none-some _ (sym r.was ∙ some))
 fresh-cases b list n start after some sixth (ran r) = absurd (none-some _ (sym r.was ∙ some))
 fresh-cases b list n start after some sixth (barks r) = absurd (none-some _ (sym r.was ∙ some))
@@ -164,7 +164,7 @@ fresh-cases b list n start after some sixth (finished r) =
       calm = λ still. record { running = r.solo; claims = due_at _ _ (subst (λ xs. AreDueFrom n.arch (map claim_of xs)) (sym r.pending) tt); waits = (let i = r.idle in omega arith) };
       pending = r.pending;
     }
-fresh-cases b list n start after some sixth (waited r) = absurd (r.early (sixth ∙ ap (λ z. z + 6) (same_Some _ _ (sym some ∙ r.since))))
+fresh-cases b list n start after some sixth (waited r) = absurd (r.early (sixth ∙ ap (λ z. z + depth) (same_Some _ _ (sym some ∙ r.since))))
 
-pub solo_fresh : (m : Timed) (list : List Record) (start : ℕ) → IsMachine m → goes_on m.arch ≡ true → m.solo ≡ Some start → m.cycles + 1 ≡ start + 6 → Fresh (cycle_of m list)
+pub solo_fresh : (m : Timed) (list : List Record) (start : ℕ) → IsMachine m → goes_on m.arch ≡ true → m.solo ≡ Some start → m.cycles + 1 ≡ start + depth → Fresh (cycle_of m list)
 solo_fresh m list start inv on some sixth = fresh-cases m list _ start (stays m list inv) some sixth (cycled m list inv on)

@@ -3,7 +3,7 @@ use Rattle.std.proofs.Common.{◌≡◌, ℕ, zero, suc, ◌+◌, ◌-◌, ◌�
 use Rattle.diva_isa.specs.State.{State}
 use Rattle.diva_isa.specs.declared.record.Record.{Record}
 use Rattle.diva_isa.specs.Step.{record_of, step, steps}
-use Rattle.diva_core.specs.Timed.{Timed, PendingClaim}
+use Rattle.diva_core.specs.Timed.{Timed, PendingClaim, depth}
 use Rattle.diva_core.specs.Headline.{dues, AreClaims, ByClaims, BySolo}
 use Rattle.diva_core.proofs.Steps.{steps-shift}
 
@@ -11,7 +11,7 @@ use Rattle.diva_core.proofs.Steps.{steps-shift}
 abbrev pub Commits : ℕ → State → ℕ → List PendingClaim → List PendingClaim → Type 0
 Commits zero s cycle waiting rest = rest ≡ waiting
 Commits (suc k) s cycle [] rest = ⊥
-Commits (suc k) s cycle (p ∷ waiting) rest = (p.claim ≡ record_of s) × (p.cycle + 6 ≤ cycle) × Commits k (step s) cycle waiting rest
+Commits (suc k) s cycle (p ∷ waiting) rest = (p.claim ≡ record_of s) × (p.cycle + depth ≤ cycle) × Commits k (step s) cycle waiting rest
 
 -- what commits between two machines are claims, or one instruction that ran solo
 pub record CommitsClaims (m last : Timed) : Type 0 where
@@ -21,7 +21,7 @@ pub record CommitsClaims (m last : Timed) : Type 0 where
 pub record CommitsItself (m last : Timed) : Type 0 where
   pub start : ℕ
   pub since : m.solo ≡ Some start
-  pub sixth : m.cycles + 1 ≡ start + 6
+  pub sixth : m.cycles + 1 ≡ start + depth
   pub one : last.count ≡ m.count + 1
 
 -- one due record more

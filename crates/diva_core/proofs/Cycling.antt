@@ -10,7 +10,7 @@ use Rattle.diva_core.specs.declared.flushes.Cause.{Cause}
 use Rattle.diva_core.specs.declared.flushes.Cause.TheVariants.{Differs, Silent}
 use Rattle.diva_core.specs.Difference.{first_difference}
 use Rattle.diva_isa.specs.State.{goes_on}
-use Rattle.diva_core.specs.Timed.{Timed, PendingClaim, room_of}
+use Rattle.diva_core.specs.Timed.{Timed, PendingClaim, room_of, depth}
 use Rattle.diva_core.specs.Cycle.{commits, judged, by_solo, flushed, drained, begun, accepts, accepted, accepted_in, barked, counted, watched, cycle_of}
 use Rattle.diva_core.specs.Machine.{IsMachine, Lives, IsSolo}
 use Rattle.diva_core.specs.Headline.{SameLog, HasRow}
@@ -29,7 +29,7 @@ pub record Base (b n : Timed) (k : ℕ) : Type 0 where
 
 -- the front claim is not ready in the coming cycle
 abbrev pub IsYoung : Timed → Type 0
-IsYoung b = (p : PendingClaim) (rest : List PendingClaim) → b.pending ≡ p ∷ rest → b.cycles + 1 < p.cycle + 6
+IsYoung b = (p : PendingClaim) (rest : List PendingClaim) → b.pending ≡ p ∷ rest → b.cycles + 1 < p.cycle + depth
 
 abbrev pub taken : Timed → List Record → List PendingClaim
 taken b list = map (accepted_in (b.cycles + 1)) (take (room_of b) list)
@@ -78,7 +78,7 @@ pub record Differed (b n : Timed) : Type 0 where
   pub d : Diff
   pub log : HasRow b n (record { cycle = b.cycles + 1; at = n.count; cause = Differs d })
   pub first : first_difference p.claim (record_of n.arch) ≡ Some d
-  pub ready : p.cycle + 6 ≤ b.cycles + 1
+  pub ready : p.cycle + depth ≤ b.cycles + 1
   pub claims : Commits k b.arch (b.cycles + 1) b.pending (p ∷ rest)
   pub was : b.solo ≡ None
   pub solo : n.solo ≡ Some (b.cycles + 1)
@@ -104,7 +104,7 @@ pub record Ended (b n : Timed) : Type 0 where
 pub record Finished (b n : Timed) : Type 0 where
   pub start : ℕ
   pub since : b.solo ≡ Some start
-  pub sixth : b.cycles + 1 ≡ start + 6
+  pub sixth : b.cycles + 1 ≡ start + depth
   pub base : Base b n 1
   pub log : SameLog b n
   pub solo : n.solo ≡ None
@@ -115,7 +115,7 @@ pub record Finished (b n : Timed) : Type 0 where
 pub record Waited (b n : Timed) : Type 0 where
   pub start : ℕ
   pub since : b.solo ≡ Some start
-  pub early : b.cycles + 1 ≡ start + 6 → ⊥
+  pub early : b.cycles + 1 ≡ start + depth → ⊥
   pub base : Base b n 0
   pub log : SameLog b n
   pub solo : n.solo ≡ Some start
@@ -197,18 +197,18 @@ young b inv none c f p rest e =
     let one : b.config.width ≡ suc (b.config.width - 1) = (let low = inv.config.width_low in omega arith) in
     let o : b.owed - 1 < b.config.stores = owed-drained b inv in
     let same : commits (drained (begun b)) ≡ judged (suc (b.config.width - 1)) (drained (begun b)) = ap (by_solo (drained (begun b))) none ∙ ap (λ n. judged n (drained (begun b))) one in
-    young-by (nat_le (p.cycle + 6) (b.cycles + 1)) refl
+    young-by (nat_le (p.cycle + depth) (b.cycles + 1)) refl
     (λ t. front-judged (b.config.width - 1) (drained (begun b)) p rest e t o)
     (ap (λ z. z.count) (sym same) ∙ c)
     (ap (λ z. z.flushes) (sym same) ∙ f)
   where
     young-by :
         (t : Bool)
-        → nat_le (p.cycle + 6) (b.cycles + 1) ≡ t
-        → (nat_le (p.cycle + 6) (b.cycles + 1) ≡ true → (b.count < (judged (suc (b.config.width - 1)) (drained (begun b))).count) ⊎ (b.flushes < (judged (suc (b.config.width - 1)) (drained (begun b))).flushes))
+        → nat_le (p.cycle + depth) (b.cycles + 1) ≡ t
+        → (nat_le (p.cycle + depth) (b.cycles + 1) ≡ true → (b.count < (judged (suc (b.config.width - 1)) (drained (begun b))).count) ⊎ (b.flushes < (judged (suc (b.config.width - 1)) (drained (begun b))).flushes))
         → (judged (suc (b.config.width - 1)) (drained (begun b))).count ≡ b.count + 0
         → (judged (suc (b.config.width - 1)) (drained (begun b))).flushes ≡ b.flushes
-        → b.cycles + 1 < p.cycle + 6
+        → b.cycles + 1 < p.cycle + depth
     young-by false is rises c2 f2 = leb-false _ _ is
     young-by true is rises c2 f2 = absurd (elim (rises is) [ inl h ↦ omega arith | inr h ↦ omega arith ])
 

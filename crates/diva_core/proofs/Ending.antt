@@ -4,7 +4,7 @@ use Rattle.std.proofs.lemmas.Bool.{cases_Bool, cases_lt, true≢false}
 use Rattle.diva_isa.specs.State.{State, goes_on}
 use Rattle.diva_isa.specs.declared.record.Record.{Record}
 use Rattle.diva_isa.specs.Step.{steps}
-use Rattle.diva_core.specs.Timed.{Timed, Config, new_timed}
+use Rattle.diva_core.specs.Timed.{Timed, Config, new_timed, depth}
 use Rattle.diva_core.specs.Cycle.{cycle_of, run_of}
 use Rattle.diva_core.specs.Machine.{IsMachine, IsConfig}
 use Rattle.diva_core.specs.Headline.{Rises, EndsAfter}
@@ -81,7 +81,7 @@ pub same_end :
     → IsConfig z
     → (goes_on (run_of (new_timed z s) lists).arch ≡ true → length lists ≡ budget)
     → EndsAfter n s
-    → n * (z.limit + 6) ≤ budget
+    → n * (z.limit + depth) ≤ budget
     → ((run_of (new_timed z s) lists).arch ≡ steps n s) × ((run_of (new_timed z s) lists).count ≡ n)
 same_end z s lists n budget ok whole ends long =
     elim (cases_Bool (goes_on (run_of (new_timed z s) lists).arch)) [

@@ -5,7 +5,7 @@ use Rattle.diva_isa.specs.State.{State, goes_on}
 use Rattle.diva_isa.specs.declared.record.Record.{Record}
 use Rattle.diva_isa.specs.Step.{record_of}
 use Rattle.diva_core.specs.Difference.{field_of}
-use Rattle.diva_core.specs.Timed.{Timed, PendingClaim}
+use Rattle.diva_core.specs.Timed.{Timed, PendingClaim, depth}
 use Rattle.diva_core.specs.Cycle.{cycle_of}
 use Rattle.diva_core.specs.Machine.{IsMachine}
 use Rattle.diva_core.specs.Headline.{IsJudged}
@@ -36,7 +36,7 @@ judged-differed b n p rest zero r none e =
 judged-differed b n p rest (suc k) r more e =
     rose b n p k rest (r.p ∷ r.rest) (b.cycles + 1) (subst (Base b n) more r.base) e (subst (λ k. Commits k b.arch (b.cycles + 1) b.pending (r.p ∷ r.rest)) more r.claims)
 
-judged-cases : (b : Timed) (list : List Record) (n : Timed) (p : PendingClaim) (rest : List PendingClaim) → b.solo ≡ None → b.pending ≡ p ∷ rest → p.cycle + 6 ≤ b.cycles + 1 → Cycled b list n → IsJudged b n p
+judged-cases : (b : Timed) (list : List Record) (n : Timed) (p : PendingClaim) (rest : List PendingClaim) → b.solo ≡ None → b.pending ≡ p ∷ rest → p.cycle + depth ≤ b.cycles + 1 → Cycled b list n → IsJudged b n p
 judged-cases b list n p rest none e ready (idled r) = absurd (let y = r.young p rest e in omega arith)
 judged-cases b list n p rest none e ready (ran r) = rose b n p r.k rest r.rest (b.cycles + 1) r.base e r.claims
 judged-cases b list n p rest none e ready (barks r) = absurd (let y = r.young p rest e in omega arith)
@@ -45,14 +45,14 @@ judged-cases b list n p rest none e ready (ended r) = rose b n p r.k rest r.rest
 judged-cases b list n p rest none e ready (finished r) = absurd (none-some _ (sym none ∙ r.since))
 judged-cases b list n p rest none e ready (waited r) = absurd (none-some _ (sym none ∙ r.since))
 
-pub front_judged : (m : Timed) (list : List Record) (p : PendingClaim) (rest : List PendingClaim) → IsMachine m → goes_on m.arch ≡ true → m.solo ≡ None → m.pending ≡ p ∷ rest → p.cycle + 6 ≤ m.cycles + 1 → IsJudged m (cycle_of m list) p
+pub front_judged : (m : Timed) (list : List Record) (p : PendingClaim) (rest : List PendingClaim) → IsMachine m → goes_on m.arch ≡ true → m.solo ≡ None → m.pending ≡ p ∷ rest → p.cycle + depth ≤ m.cycles + 1 → IsJudged m (cycle_of m list) p
 front_judged m list p rest inv on none e ready = judged-cases m list _ p rest none e ready (cycled m list inv on)
 
-pub sixth-cases : (b : Timed) (list : List Record) (n : Timed) (start : ℕ) → b.solo ≡ Some start → b.cycles + 1 ≡ start + 6 → Cycled b list n → (n.count ≡ b.count + 1) × (n.solo ≡ None)
+pub sixth-cases : (b : Timed) (list : List Record) (n : Timed) (start : ℕ) → b.solo ≡ Some start → b.cycles + 1 ≡ start + depth → Cycled b list n → (n.count ≡ b.count + 1) × (n.solo ≡ None)
 sixth-cases b list n start some sixth (idled r) = absurd (none-some _ (sym r.was ∙ some))
 sixth-cases b list n start some sixth (ran r) = absurd (none-some _ (sym r.was ∙ some))
 sixth-cases b list n start some sixth (barks r) = absurd (none-some _ (sym r.was ∙ some))
 sixth-cases b list n start some sixth (differed r) = absurd (none-some _ (sym r.was ∙ some))
 sixth-cases b list n start some sixth (ended r) = absurd (none-some _ (sym r.was ∙ some))
 sixth-cases b list n start some sixth (finished r) = (r.base.counted, r.solo)
-sixth-cases b list n start some sixth (waited r) = absurd (r.early (sixth ∙ ap (λ z. z + 6) (same_Some _ _ (sym some ∙ r.since))))
+sixth-cases b list n start some sixth (waited r) = absurd (r.early (sixth ∙ ap (λ z. z + depth) (same_Some _ _ (sym some ∙ r.since))))

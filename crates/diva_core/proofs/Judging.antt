@@ -7,7 +7,7 @@ use Rattle.diva_isa.specs.Step.{record_of, step, steps}
 use Rattle.diva_core.specs.declared.differences.Diff.{Diff}
 use Rattle.diva_core.specs.declared.flushes.Cause.TheVariants.{Differs}
 use Rattle.diva_core.specs.Difference.{first_difference}
-use Rattle.diva_core.specs.Timed.{Timed, PendingClaim}
+use Rattle.diva_core.specs.Timed.{Timed, PendingClaim, depth}
 use Rattle.diva_core.specs.Cycle.{Judgement, judged, by_front, by_difference, by_judgement, judgement_of, past_front, committed, flushed, puts_store, number}
 use Rattle.diva_core.specs.Headline.{SameLog, HasRow}
 use Rattle.diva_core.proofs.Commits.{Commits}
@@ -17,11 +17,11 @@ use Rattle.diva_core.proofs.Differing.{difference-none}
 -- R holds while at most so many claims more are judged, and Q where the judging stops
 pub record Judges (R : ℕ → Timed → Type 0) (Q : Timed → Type 0) : Type 0 where
   pub stop : (n : ℕ) (m : Timed) → R n m → Q m
-  pub flush : (n : ℕ) (m : Timed) (p : PendingClaim) (rest : List PendingClaim) (d : Diff) → m.pending ≡ p ∷ rest → nat_le (p.cycle + 6) m.cycles ≡ true → first_difference p.claim (record_of m.arch) ≡ Some d → R n m → Q (flushed m (Differs d))
+  pub flush : (n : ℕ) (m : Timed) (p : PendingClaim) (rest : List PendingClaim) (d : Diff) → m.pending ≡ p ∷ rest → nat_le (p.cycle + depth) m.cycles ≡ true → first_difference p.claim (record_of m.arch) ≡ Some d → R n m → Q (flushed m (Differs d))
   pub commit :
       (n : ℕ) (m : Timed) (p : PendingClaim) (rest : List PendingClaim)
       → m.pending ≡ p ∷ rest
-      → nat_le (p.cycle + 6) m.cycles ≡ true
+      → nat_le (p.cycle + depth) m.cycles ≡ true
       → first_difference p.claim (record_of m.arch) ≡ None
       → (puts_store (record_of m.arch) && (m.owed == m.config.stores)) ≡ false
       → R (suc n) m
@@ -41,7 +41,7 @@ Judges-first_difference :
     → (m : Timed) (p : PendingClaim) (rest : List PendingClaim) (o : Option Diff)
     → first_difference p.claim (record_of m.arch) ≡ o
     → m.pending ≡ p ∷ rest
-    → nat_le (p.cycle + 6) m.cycles ≡ true
+    → nat_le (p.cycle + depth) m.cycles ≡ true
     → R (suc n) m
     → Q (by_judgement m (judged n (past_front m)) (by_difference m o))
 Judges-first_difference R Q j n ih m p rest (Some d) same e ready r = j.flush (suc n) m p rest d e ready same r
@@ -64,7 +64,7 @@ Judges-front :
     → Q (by_judgement m (judged n (past_front m)) (by_front m pending))
 Judges-front R Q j n ih m [] e r = j.stop (suc n) m r
 Judges-front R Q j n ih m (p ∷ rest) e r =
-    cond_both (nat_le (p.cycle + 6) m.cycles) _ _ (λ (w : Judgement). Q (by_judgement m (judged n (past_front m)) w))
+    cond_both (nat_le (p.cycle + depth) m.cycles) _ _ (λ (w : Judgement). Q (by_judgement m (judged n (past_front m)) w))
     (λ ready. Judges-first_difference R Q j n ih m p rest (first_difference p.claim (record_of m.arch)) refl e ready r)
     (λ young. j.stop (suc n) m r)
 
@@ -103,7 +103,7 @@ pub record Flushing (b m : Timed) : Type 0 where
   pub d : Diff
   pub log : HasRow b m (record { cycle = b.cycles; at = m.count; cause = Differs d })
   pub first : first_difference p.claim (record_of m.arch) ≡ Some d
-  pub ready : p.cycle + 6 ≤ b.cycles
+  pub ready : p.cycle + depth ≤ b.cycles
   pub claims : Commits k b.arch b.cycles b.pending (p ∷ rest)
   pub solo : m.solo ≡ Some b.cycles
   pub pending : m.pending ≡ []
@@ -125,11 +125,11 @@ pub data Outcome (b m : Timed) : Type 0 where
   flushing : Flushing b m → Outcome b m
   ending : Ending b m → Outcome b m
 
-Commits-more : (k : ℕ) (s : State) (c : ℕ) (waiting : List PendingClaim) (p : PendingClaim) (rest : List PendingClaim) → Commits k s c waiting (p ∷ rest) → p.claim ≡ record_of (steps k s) → p.cycle + 6 ≤ c → Commits (suc k) s c waiting rest
+Commits-more : (k : ℕ) (s : State) (c : ℕ) (waiting : List PendingClaim) (p : PendingClaim) (rest : List PendingClaim) → Commits k s c waiting (p ∷ rest) → p.claim ≡ record_of (steps k s) → p.cycle + depth ≤ c → Commits (suc k) s c waiting rest
 Commits-more zero s c [] p rest h e ready = absurd (grind arith)
 Commits-more zero s c (q ∷ waiting) p rest h e ready =
     let same : p ≡ q = ap (λ xs. get_or xs 0 p) h in
-    (ap (λ z. z.claim) (sym same) ∙ e, subst (λ z. z.cycle + 6 ≤ c) same ready, ap (drop 1) h)
+    (ap (λ z. z.claim) (sym same) ∙ e, subst (λ z. z.cycle + depth ≤ c) same ready, ap (drop 1) h)
 Commits-more (suc k) s c [] p rest h e ready = h
 Commits-more (suc k) s c (q ∷ waiting) p rest h e ready = (h.0, h.1, Commits-more k (step s) c waiting p rest h.2 (e ∙ ap record_of (sym (steps-shift k s))) ready)
 
@@ -167,7 +167,7 @@ Still-start b none on owed =
       on = on;
     }
 
-Flushing-from : (b m : Timed) (p : PendingClaim) (rest : List PendingClaim) (d : Diff) → m.pending ≡ p ∷ rest → nat_le (p.cycle + 6) m.cycles ≡ true → first_difference p.claim (record_of m.arch) ≡ Some d → Still b m → Flushing b (flushed m (Differs d))
+Flushing-from : (b m : Timed) (p : PendingClaim) (rest : List PendingClaim) (d : Diff) → m.pending ≡ p ∷ rest → nat_le (p.cycle + depth) m.cycles ≡ true → first_difference p.claim (record_of m.arch) ≡ Some d → Still b m → Flushing b (flushed m (Differs d))
 unfolding flushed
 Flushing-from b m p rest d e ready differs r =
     record {
@@ -190,7 +190,7 @@ Flushing-from b m p rest d e ready differs r =
       on = r.on;
     }
 
-claims-commit : (b m : Timed) (p : PendingClaim) (rest : List PendingClaim) → m.pending ≡ p ∷ rest → nat_le (p.cycle + 6) m.cycles ≡ true → first_difference p.claim (record_of m.arch) ≡ None → (r : Still b m) → Commits (suc r.k) b.arch b.cycles b.pending rest
+claims-commit : (b m : Timed) (p : PendingClaim) (rest : List PendingClaim) → m.pending ≡ p ∷ rest → nat_le (p.cycle + depth) m.cycles ≡ true → first_difference p.claim (record_of m.arch) ≡ None → (r : Still b m) → Commits (suc r.k) b.arch b.cycles b.pending rest
 claims-commit b m p rest e ready same r =
     Commits-more r.k b.arch b.cycles b.pending p rest
     (rw e at r.claims)
@@ -203,7 +203,7 @@ past-on m p rest e on = ap (λ (b : Bool). if b then drop 1 m.pending else []) o
 Still-commit :
     (b m : Timed) (p : PendingClaim) (rest : List PendingClaim)
     → m.pending ≡ p ∷ rest
-    → nat_le (p.cycle + 6) m.cycles ≡ true
+    → nat_le (p.cycle + depth) m.cycles ≡ true
     → first_difference p.claim (record_of m.arch) ≡ None
     → (puts_store (record_of m.arch) && (m.owed == m.config.stores)) ≡ false
     → (r : Still b m)
@@ -224,7 +224,7 @@ Still-commit b m p rest e ready same free r few on =
 Ending-commit :
     (b m : Timed) (p : PendingClaim) (rest : List PendingClaim)
     → m.pending ≡ p ∷ rest
-    → nat_le (p.cycle + 6) m.cycles ≡ true
+    → nat_le (p.cycle + depth) m.cycles ≡ true
     → first_difference p.claim (record_of m.arch) ≡ None
     → (puts_store (record_of m.arch) && (m.owed == m.config.stores)) ≡ false
     → (r : Still b m)
@@ -285,7 +285,7 @@ by_difference-judged n m None free =
 pub front-judged :
     (n : ℕ) (m : Timed) (p : PendingClaim) (rest : List PendingClaim)
     → m.pending ≡ p ∷ rest
-    → nat_le (p.cycle + 6) m.cycles ≡ true
+    → nat_le (p.cycle + depth) m.cycles ≡ true
     → m.owed < m.config.stores
     → (m.count < (judged (suc n) m).count) ⊎ (m.flushes < (judged (suc n) m).flushes)
 front-judged n m p rest e ready free =

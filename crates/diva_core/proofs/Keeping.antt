@@ -7,7 +7,7 @@ use Rattle.diva_isa.specs.State.{State, goes_on}
 use Rattle.diva_isa.specs.declared.record.Record.{Record}
 use Rattle.diva_isa.specs.Step.{step}
 use Rattle.diva_core.specs.declared.flushes.FlushRow.{FlushRow}
-use Rattle.diva_core.specs.Timed.{Timed, PendingClaim, room_of}
+use Rattle.diva_core.specs.Timed.{Timed, PendingClaim, room_of, depth, rows_kept}
 use Rattle.diva_core.specs.Cycle.{cycle_of, kept, accepted_in, is_silent}
 use Rattle.diva_core.proofs.Phases.{number-least}
 use Rattle.diva_core.specs.Machine.{IsMachine, Lives, IsSolo, ArePast}
@@ -46,10 +46,10 @@ room-fits b = cond_both (is_none b.solo && goes_on b.arch) _ _ (λ r. r ≤ b.co
 taken-fits : (b : Timed) (list : List Record) → length (taken b list) ≤ b.config.window - length b.pending
 taken-fits b list = rw (length-map, length-take) (let h = room-fits b in omega arith)
 
-kept-fits : (rows : List FlushRow) (row : FlushRow) → length rows ≤ 1024 → length (kept rows row) ≤ 1024
-kept-fits rows row h = cond_both (nat_lt (length rows) 1024) _ _ (λ r. length r ≤ 1024) (λ t. rw length-append (let l = ltb-true (length rows) 1024 t in omega arith)) (λ f. h)
+kept-fits : (rows : List FlushRow) (row : FlushRow) → length rows ≤ rows_kept → length (kept rows row) ≤ rows_kept
+kept-fits rows row h = cond_both (nat_lt (length rows) rows_kept) _ _ (λ r. length r ≤ rows_kept) (λ t. rw length-append (let l = ltb-true (length rows) rows_kept t in omega arith)) (λ f. h)
 
-rows-fit : (b n : Timed) → length b.rows ≤ 1024 → SameLog b n ⊎ AddsRow b n → length n.rows ≤ 1024
+rows-fit : (b n : Timed) → length b.rows ≤ rows_kept → SameLog b n ⊎ AddsRow b n → length n.rows ≤ rows_kept
 rows-fit b n h (inl s) = rw s.rows h
 rows-fit b n h (inr a) = rw a.is.has.rows (kept-fits b.rows a.row h)
 
@@ -156,7 +156,7 @@ machine-cases b list n inv (waited r) pace =
     let started = a.started in
     let soon = a.soon in
     let was = a.idled in
-    let early : b.cycles + 1 ≢ r.start + 6 = r.early in
+    let early : b.cycles + 1 ≢ r.start + depth = r.early in
     IsMachine-empty b n 0 inv r.base (inl r.log) (subst (Lives n) (sym r.solo) (record { empty = r.pending; started = omega arith; soon = omega arith; idled = omega arith })) r.pending pace
 
 paces-cases : (b : Timed) (list : List Record) (n : Timed) → IsMachine b → goes_on b.arch ≡ true → Cycled b list n → Paces n

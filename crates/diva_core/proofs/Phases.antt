@@ -5,7 +5,7 @@ use Rattle.std.proofs.lemmas.Bool.{cond_both, leb-true, leb-false, eqb-true, eqb
 use Rattle.diva_isa.specs.Step.{record_of}
 use Rattle.diva_core.specs.declared.flushes.Cause.TheVariants.{Silent}
 use Rattle.diva_isa.specs.State.{goes_on}
-use Rattle.diva_core.specs.Timed.{Timed}
+use Rattle.diva_core.specs.Timed.{Timed, depth}
 use Rattle.diva_core.specs.Cycle.{committed, flushed, puts_store, number, commits, by_solo, barked}
 use Rattle.diva_core.specs.Headline.{SameLog}
 use Rattle.diva_core.proofs.Steps.{step-on}
@@ -15,7 +15,7 @@ use Rattle.diva_core.proofs.Judging.{Moved, Outcome, judged-outcome}
 pub record Alone (b m : Timed) : Type 0 where
   pub start : ℕ
   pub since : b.solo ≡ Some start
-  pub sixth : b.cycles ≡ start + 6
+  pub sixth : b.cycles ≡ start + depth
   pub moved : Moved b m 1
   pub log : SameLog b m
   pub solo : m.solo ≡ None
@@ -25,7 +25,7 @@ pub record Alone (b m : Timed) : Type 0 where
 pub record Waits (b m : Timed) : Type 0 where
   pub start : ℕ
   pub since : b.solo ≡ Some start
-  pub early : b.cycles ≡ start + 6 → ⊥
+  pub early : b.cycles ≡ start + depth → ⊥
   pub same : m ≡ b
 
 pub data Second (b m : Timed) : Type 0 where
@@ -37,7 +37,7 @@ pub number-least : (b : Bool) → number b ≤ 1
 number-least true = omega arith
 number-least false = omega arith
 
-Alone-commit : (b : Timed) (start : ℕ) → b.solo ≡ Some start → b.cycles ≡ start + 6 → goes_on b.arch ≡ true → b.owed < b.config.stores → 1 ≤ b.config.width → Alone b (committed (record b { solo = None }) (record_of b.arch))
+Alone-commit : (b : Timed) (start : ℕ) → b.solo ≡ Some start → b.cycles ≡ start + depth → goes_on b.arch ≡ true → b.owed < b.config.stores → 1 ≤ b.config.width → Alone b (committed (record b { solo = None }) (record_of b.arch))
 unfolding committed
 Alone-commit b start since sixth on free few =
     record {
@@ -53,7 +53,7 @@ Alone-commit b start since sixth on free few =
 by_solo-second : (b : Timed) (o : Option ℕ) → b.solo ≡ o → goes_on b.arch ≡ true → b.owed < b.config.stores → 1 ≤ b.config.width → Second b (by_solo b o)
 by_solo-second b None e on free few = judging e (judged-outcome b e on (omega arith))
 by_solo-second b (Some start) e on free few =
-    cond_both (b.cycles == start + 6) _ _ (Second b)
+    cond_both (b.cycles == start + depth) _ _ (Second b)
     (λ t. alone (Alone-commit b start e (eqb-true _ _ t) on free few))
     (λ f. waits (record { start = start; since = e; early = eqb-false _ _ f; same = refl }))
 

@@ -4,7 +4,7 @@ use Rattle.std.proofs.Math.Nat.{div-lt_iff_lt-mul}
 use Rattle.diva_isa.specs.declared.record.Record.{Record}
 use Rattle.diva_isa.specs.Step.{steps}
 use Rattle.diva_isa.specs.State.{goes_on}
-use Rattle.diva_core.specs.Timed.{Timed}
+use Rattle.diva_core.specs.Timed.{Timed, depth}
 use Rattle.diva_core.specs.Cycle.{cycle_of, run_of}
 use Rattle.diva_core.specs.Machine.{IsMachine, stalled}
 use Rattle.diva_core.specs.Headline.{Rises, HasPace}
@@ -64,7 +64,7 @@ within (list ∷ rest) m inv on =
     (stalls m list inv on)
 
 -- every W + 6 cycles from a machine that goes on raise the count
-pub progress : (m : Timed) (lists : List (List Record)) → IsMachine m → goes_on m.arch ≡ true → m.config.limit + 6 ≤ length lists → m.count < (run_of m lists).count
+pub progress : (m : Timed) (lists : List (List Record)) → IsMachine m → goes_on m.arch ≡ true → m.config.limit + depth ≤ length lists → m.count < (run_of m lists).count
 progress m lists inv on long = elim (within lists m inv on) [ inl h ↦ h | inr h ↦ absurd (omega arith) ]
 
 -- ---- the pace
@@ -74,5 +74,5 @@ pub has_pace : (m : Timed) → IsMachine m → HasPace m
 has_pace m inv =
     let top = most m inv in
     let p = inv.pace in
-    let low : m.cycles / (m.config.limit + 6) < m.count + 1 = (div-lt_iff_lt-mul {k = m.config.limit + 6} (omega arith)).1 (omega arith) in
+    let low : m.cycles / (m.config.limit + depth) < m.count + 1 = (div-lt_iff_lt-mul {k = m.config.limit + depth} (omega arith)).1 (omega arith) in
     omega arith

@@ -5,7 +5,7 @@ use Rattle.std.proofs.lemmas.Bool.{cases_Bool, cases_lt, true≢false}
 use Rattle.diva_isa.specs.State.{State, goes_on}
 use Rattle.diva_isa.specs.declared.record.Record.{Record}
 use Rattle.diva_isa.specs.Step.{steps}
-use Rattle.diva_core.specs.Timed.{Timed, Config, new_timed}
+use Rattle.diva_core.specs.Timed.{Timed, Config, new_timed, depth}
 use Rattle.diva_core.specs.Cycle.{cycle_of, run_of}
 use Rattle.diva_core.specs.Machine.{IsMachine, IsConfig, stalled}
 use Rattle.diva_core.specs.Headline.{KeepsPace}
@@ -18,19 +18,19 @@ use Rattle.diva_core.proofs.Starting.{new-machine, headline}
 
 -- how far a machine has come
 abbrev far : Timed → ℕ
-far m = m.count * (m.config.limit + 6) + stalled m
+far m = m.count * (m.config.limit + depth) + stalled m
 
 far-rise : (b n : Timed) → IsMachine b → n.config ≡ b.config → (b.count < n.count) ⊎ Stalls b n → far b < far n
 far-rise b n inv z (inl h) =
     let l : n.config.limit ≡ b.config.limit = ap (λ x. x.limit) z in
     let top = most b inv in
-    let p : (b.count + 1) * (b.config.limit + 6) ≤ n.count * (b.config.limit + 6) = mul-le-mul_right (b.config.limit + 6) (omega arith) in
-    let q : n.count * (b.config.limit + 6) ≡ n.count * (n.config.limit + 6) = ap (λ x. n.count * (x + 6)) (sym l) in
+    let p : (b.count + 1) * (b.config.limit + depth) ≤ n.count * (b.config.limit + depth) = mul-le-mul_right (b.config.limit + depth) (omega arith) in
+    let q : n.count * (b.config.limit + depth) ≡ n.count * (n.config.limit + depth) = ap (λ x. n.count * (x + depth)) (sym l) in
     omega arith
 far-rise b n inv z (inr s) =
     let l : n.config.limit ≡ b.config.limit = ap (λ x. x.limit) z in
     let longer = s.longer in
-    let q : n.count * (n.config.limit + 6) ≡ b.count * (b.config.limit + 6) = ap (λ c. c * (n.config.limit + 6)) s.same ∙ ap (λ x. b.count * (x + 6)) l in
+    let q : n.count * (n.config.limit + depth) ≡ b.count * (b.config.limit + depth) = ap (λ c. c * (n.config.limit + depth)) s.same ∙ ap (λ x. b.count * (x + depth)) l in
     omega arith
 
 pub run-off : (lists : List (List Record)) (m : Timed) → goes_on m.arch ≡ false → run_of m lists ≡ m
@@ -59,9 +59,9 @@ run-pace m lists inv d long =
     let z : n.config.limit ≡ m.config.limit = ap (λ x. x.limit) (run-config m lists inv) in
     let top : stalled n ≤ n.config.limit + 5 = most n (run-stays m lists inv) in
     let f : far m + n.cycles ≤ far n + m.cycles = run-far lists m inv in
-    let q : n.count * (n.config.limit + 6) ≡ n.count * (m.config.limit + 6) = ap (λ x. n.count * (x + 6)) z in
+    let q : n.count * (n.config.limit + depth) ≡ n.count * (m.config.limit + depth) = ap (λ x. n.count * (x + depth)) z in
     elim (cases_lt n.count (m.count + d)) [
-      | inl h ↦ absurd (let p : (n.count + 1) * (m.config.limit + 6) ≤ (m.count + d) * (m.config.limit + 6) = mul-le-mul_right (m.config.limit + 6) (omega arith) in omega arith)
+      | inl h ↦ absurd (let p : (n.count + 1) * (m.config.limit + depth) ≤ (m.count + d) * (m.config.limit + depth) = mul-le-mul_right (m.config.limit + depth) (omega arith) in omega arith)
       | inr h ↦ h
     ]
 
@@ -89,7 +89,7 @@ ends-going s t n c e off more =
     ends-by (inr h) f = steps-past n c s h off
 
 -- where the table ends after n instructions, n times W + 6 cycles lead to that end, whatever is handed over
-pub sameness : (z : Config) (s : State) (lists : List (List Record)) (n : ℕ) → IsConfig z → goes_on (steps n s) ≡ false → n * (z.limit + 6) ≤ length lists → (run_of (new_timed z s) lists).arch ≡ steps n s
+pub sameness : (z : Config) (s : State) (lists : List (List Record)) (n : ℕ) → IsConfig z → goes_on (steps n s) ≡ false → n * (z.limit + depth) ≤ length lists → (run_of (new_timed z s) lists).arch ≡ steps n s
 sameness z s lists n ok off long =
     ends-going s (run_of (new_timed z s) lists).arch n (run_of (new_timed z s) lists).count (headline z s lists ok) off (λ on.
     let all = run-cycles lists (new_timed z s) (new-machine z s ok) on in

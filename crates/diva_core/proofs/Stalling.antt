@@ -3,7 +3,7 @@ use Rattle.std.proofs.Common.{◌≡◌, ℕ, zero, suc, ◌+◌, ◌-◌, ◌*�
 use Rattle.std.proofs.Math.Nat.{mul-le-mul_right}
 use Rattle.diva_isa.specs.declared.record.Record.{Record}
 use Rattle.diva_isa.specs.State.{goes_on}
-use Rattle.diva_core.specs.Timed.{Timed}
+use Rattle.diva_core.specs.Timed.{Timed, depth}
 use Rattle.diva_core.specs.Cycle.{cycle_of}
 use Rattle.diva_core.specs.Machine.{IsMachine, Lives, IsSolo, stalled, stalled_since}
 use Rattle.diva_core.proofs.Cycling.{Cycled, cycled, Base, idled, ran, barks, differed, ended, finished, waited}
@@ -60,16 +60,16 @@ most m inv = stalled-most m m.solo inv.lives inv.config.limit_low
 -- ---- the pace
 
 abbrev pub Paces : Timed → Type 0
-Paces m = m.cycles ≤ m.count * (m.config.limit + 6) + stalled m
+Paces m = m.cycles ≤ m.count * (m.config.limit + depth) + stalled m
 
 pace-rise : (b n : Timed) → IsMachine b → n.config ≡ b.config → n.cycles ≡ b.cycles + 1 → b.count < n.count → Paces b → Paces n
 pace-rise b n inv z c rise h =
     let l : n.config.limit ≡ b.config.limit = ap (λ x. x.limit) z in
     let top = most b inv in
-    let p : (b.count + 1) * (b.config.limit + 6) ≤ n.count * (b.config.limit + 6) = mul-le-mul_right (b.config.limit + 6) (let r = rise in omega arith) in
+    let p : (b.count + 1) * (b.config.limit + depth) ≤ n.count * (b.config.limit + depth) = mul-le-mul_right (b.config.limit + depth) (let r = rise in omega arith) in
     rw (l, c) (omega arith)
 
-pace_numbers : (cycles count limit stalled cycles' count' limit' stalled' : ℕ) → limit' ≡ limit → cycles' ≡ cycles + 1 → count' ≡ count → stalled < stalled' → cycles ≤ count * (limit + 6) + stalled → cycles' ≤ count' * (limit' + 6) + stalled'
+pace_numbers : (cycles count limit stalled cycles' count' limit' stalled' : ℕ) → limit' ≡ limit → cycles' ≡ cycles + 1 → count' ≡ count → stalled < stalled' → cycles ≤ count * (limit + depth) + stalled → cycles' ≤ count' * (limit' + depth) + stalled'
 pace_numbers cycles count limit stalled cycles' count' limit' stalled' l c n s h = rw (l, c, n) (omega arith)
 
 pace-stall : (b n : Timed) → n.config ≡ b.config → n.cycles ≡ b.cycles + 1 → Stalls b n → Paces b → Paces n

@@ -3,7 +3,7 @@ use Rattle.std.proofs.Common.{◌≡◌, ◌+◌, ◌/◌, ◌≤◌, List, ap, 
 use Rattle.diva_isa.specs.State.{State}
 use Rattle.diva_isa.specs.declared.record.Record.{Record}
 use Rattle.diva_isa.specs.Step.{steps}
-use Rattle.diva_core.specs.Timed.{Config, new_timed}
+use Rattle.diva_core.specs.Timed.{Config, new_timed, depth}
 use Rattle.diva_core.specs.Cycle.{run_of}
 use Rattle.diva_core.specs.Machine.{IsMachine, IsConfig}
 use Rattle.diva_core.specs.Headline.{Rises, HasPace}
@@ -18,7 +18,7 @@ headline z s lists ok =
     let r : Rises (new_timed z s) (run_of (new_timed z s) lists) = run-rises (new_timed z s) lists (new-machine z s ok) in
     r.stepped ∙ ap (λ k. steps k s) (omega arith)
 
-pub pace_of_run : (z : Config) (s : State) (lists : List (List Record)) → IsConfig z → (run_of (new_timed z s) lists).cycles / (z.limit + 6) ≤ (run_of (new_timed z s) lists).count
+pub pace_of_run : (z : Config) (s : State) (lists : List (List Record)) → IsConfig z → (run_of (new_timed z s) lists).cycles / (z.limit + depth) ≤ (run_of (new_timed z s) lists).count
 pace_of_run z s lists ok =
     let p : HasPace (run_of (new_timed z s) lists) = has_pace _ (run-stays (new_timed z s) lists (new-machine z s ok)) in
     rw (run-config (new_timed z s) lists (new-machine z s ok)) at p

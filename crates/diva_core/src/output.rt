@@ -1,6 +1,8 @@
 // The bytes that the program put.
 ghost use Rattle.std.specs.Prelude.{◌≡◌, ◌<◌, ◌≤◌, [], ◌∷◌, ◌++◌, length, IfOk};
+ghost use Rattle.diva_isa.specs.State.{output_limit};
 
+use diva_isa::OUTPUT_LIMIT;
 use std::alloc::{AllocError, Global};
 use std::marker::Model;
 
@@ -12,31 +14,29 @@ pub struct Output {
 
 impl Model for Output {
     ghost use Rattle.std.specs.Prelude.{ℕ, List, ◌≤◌, length, vec_capacity};
+    ghost use Rattle.diva_isa.specs.State.{output_limit};
 
     ghost Value = { List ℕ };
 
     ghost view = { λ o. o.bytes.items };
 
-    ghost invariant = { λ o. (65536 ≤ vec_capacity o.bytes) × (length o.bytes.items ≤ 65536) };
+    ghost invariant = { λ o. (output_limit ≤ vec_capacity o.bytes) × (length o.bytes.items ≤ output_limit) };
 }
 
 impl Output {
-    /// The most bytes that an output holds.
-    pub const MOST: usize = 65_536;
-
     /// An empty output. The one error is that memory runs out.
     pub fn new(alloc: Global) -> Result<Self, AllocError>
         ensures { IfOk result (λ o. o ≡ []) }
     {
         Ok(Output {
-            bytes: Vec::with_capacity(alloc, Self::MOST)?,
+            bytes: Vec::with_capacity(alloc, OUTPUT_LIMIT as usize)?,
         })
     }
 
     /// How many bytes were put: at most 65,536.
     pub fn len(&self) -> u32
         ensures len { result ≡ length self.now }
-        ensures most { result ≤ 65536 }
+        ensures most { result ≤ output_limit }
     {
         self.bytes.len() as u32
     }
@@ -44,14 +44,14 @@ impl Output {
     /// The bytes, in order.
     pub fn bytes(&self) -> &[u8]
         ensures value { result.now ≡ self.now }
-        ensures most { length result.now ≤ 65536 }
+        ensures most { length result.now ≤ output_limit }
     {
         &self.bytes
     }
 
     /// Puts a byte behind the others.
     pub fn push(&mut self, byte: u8)
-        requires { length self.old < 65536 }
+        requires { length self.old < output_limit }
         ensures { self.new ≡ self.old ++ byte ∷ [] }
     {
         let _ = self.bytes.push(byte);

@@ -1,6 +1,6 @@
 // The committed state as a core sees it.
 ghost use Rattle.std.specs.Prelude.{◌≡◌, ◌<◌, ◌≤◌, ◌%◌, length};
-ghost use Rattle.diva_isa.specs.State.{State, reg_of, byte_of, word_of};
+ghost use Rattle.diva_isa.specs.State.{State, reg_of, byte_of, word_of, output_limit};
 ghost use Rattle.diva_storeq.specs.Stores.{laid};
 
 use crate::output::Output;
@@ -126,7 +126,7 @@ impl View<'_> {
     #[inline(always)]
     pub fn out_len(&self) -> u32
         ensures len { result ≡ length self.now.output }
-        ensures most { result ≤ 65536 }
+        ensures most { result ≤ output_limit }
     {
         self.output.len()
     }

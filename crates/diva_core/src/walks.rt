@@ -2,7 +2,7 @@
 //
 // Each begins with what the state has before them, and tells what it has after them.
 ghost use Rattle.std.specs.Prelude.{◌≡◌, ◌+◌, ◌<◌, ◌≤◌, ◌%◌, ℕ, length, None, Some, IfSome};
-ghost use Rattle.diva_isa.specs.State.{State, byte_of, reg_of, word_of};
+ghost use Rattle.diva_isa.specs.State.{State, byte_of, reg_of, word_of, output_limit};
 ghost use Rattle.diva_isa.specs.Step.{effect_of, with_effect};
 ghost use Rattle.diva_core.specs.Entries.{IsDecoded};
 ghost use Rattle.diva_core.specs.Older.{older, with_claims, HasBytes};
@@ -130,7 +130,7 @@ impl Pending {
     #[inline(never)]
     pub(crate) fn out_len_after(&self, count: usize, len: u32) -> u32
         requires count { count ≤ length self.now.items }
-        requires most { len ≤ 65536 }
+        requires most { len ≤ output_limit }
         ensures { (s : State) → length s.output ≡ len
             → length (with_claims s (older self.now.items count)).output ≡ result }
     {

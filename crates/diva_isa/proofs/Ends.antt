@@ -6,7 +6,7 @@ use Rattle.diva_decode.specs.Table.{row_of}
 use Rattle.diva_isa.specs.declared.trap.Trap.TheVariants.{InstructionMisaligned, LoadMisaligned, StoreMisaligned, CallNotServed, OutputFull}
 use Rattle.diva_isa.specs.Alu.{is_taken}
 use Rattle.diva_isa.specs.Kind.{kind, size}
-use Rattle.diva_isa.specs.State.{State, number_of, word_of}
+use Rattle.diva_isa.specs.State.{State, number_of, word_of, output_limit}
 use Rattle.diva_isa.specs.End.{IsEnd, halt, trap}
 use Rattle.diva_isa.specs.Step.{address_of, call, ended, record_fetched, continues, imm, loaded, outcome, outcome_of, record_of, source1_of, source2_of, stored, jumps_to}
 use Rattle.diva_isa.specs.declared.kind.Kind.{Kind}
@@ -41,8 +41,8 @@ end_call s pc a b =
     let full = ended pc (trap OutputFull) in
     let halts = ended pc (halt (b % 2 ^ 8)) in
     let unknown = ended pc (trap CallNotServed) in
-    either (a == 1) (if nat_lt (length s.output) 65536 then put else full) (if a == 93 then halts else unknown)
-    (either (nat_lt (length s.output) 65536) put full (small 0 (omega arith)) (small 10 (omega arith)))
+    either (a == 1) (if nat_lt (length s.output) output_limit then put else full) (if a == 93 then halts else unknown)
+    (either (nat_lt (length s.output) output_limit) put full (small 0 (omega arith)) (small 10 (omega arith)))
     (either (a == 93) halts unknown (halted (b % 2 ^ 8) (omega arith)) (small 9 (omega arith)))
 
 end_outcome : (k : Kind) (s : State) (i : Instr) (pc a b addr : ℕ) → IsEnd (outcome k s i pc a b addr).end

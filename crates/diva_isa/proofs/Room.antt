@@ -8,7 +8,7 @@ use Rattle.diva_decode.specs.Table.{row_of}
 use Rattle.diva_memory.specs.Bytes.{Bytes, IsInside, byte_at, number_at}
 use Rattle.diva_memory.proofs.Writing.{byte_within}
 use Rattle.diva_isa.specs.declared.trap.Trap.TheVariants.{StoreMisaligned}
-use Rattle.diva_isa.specs.State.{State, memory_of, number_of, word_of}
+use Rattle.diva_isa.specs.State.{State, memory_of, number_of, word_of, output_limit}
 use Rattle.diva_isa.specs.Kind.{kind, size}
 use Rattle.diva_isa.specs.declared.kind.Kind.{Kind}
 use Rattle.diva_isa.specs.declared.kind.Kind.TheVariants.{Lui, Auipc, Jal, Jalr, Branch, Load, Store, OpImm, OpReg, Fence, Ecall, Ebreak}
@@ -43,10 +43,10 @@ aligned : (c : Bool) (pc b n : ℕ) (o : Option ℕ) → (cond c (stored pc b n 
 aligned true pc b n o e P f = stored_there pc b n o e P f
 aligned false pc b n o e P f = absurd (omega arith)
 
-call_has_room : (s : State) (pc a b : ℕ) → (call s pc a b).end ≡ 0 → (a == 1) ≡ true → length s.output < 65536
+call_has_room : (s : State) (pc a b : ℕ) → (call s pc a b).end ≡ 0 → (a == 1) ≡ true → length s.output < output_limit
 call_has_room s pc a b e one = grind (arith, nat_tests)
 
-put_has_room : (c : Bool) (s : State) (byte : ℕ) → (c ≡ true → length s.output < 65536) → HasRoom s (if c then Puts byte else Nothing)
+put_has_room : (c : Bool) (s : State) (byte : ℕ) → (c ≡ true → length s.output < output_limit) → HasRoom s (if c then Puts byte else Nothing)
 put_has_room true s byte h = h refl
 put_has_room false s byte h = tt
 

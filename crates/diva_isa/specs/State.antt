@@ -11,6 +11,10 @@ pub record State : Type 0 where
   -- 0 where the machine goes on, 1 + a trap's number, or 256 + the status of a halt (End.antt)
   pub end : ℕ
 
+-- the most bytes that the output holds
+abbrev pub output_limit : ℕ
+output_limit = 65536
+
 abbrev pub reg_of : State → ℕ → ℕ
 reg_of s n = slice_index s.regs n
 

@@ -47,7 +47,7 @@ use Rattle.diva_decode.specs.declared.op.Op.{Op}
 use Rattle.diva_decode.specs.declared.instr.Instr.{Instr}
 use Rattle.diva_decode.specs.Table.{row_of}
 use Rattle.diva_memory.specs.Bytes.{IsInside, put_all, low_bytes}
-use Rattle.diva_isa.specs.State.{State, reg_of, memory_of, number_of, word_of, goes_on}
+use Rattle.diva_isa.specs.State.{State, reg_of, memory_of, number_of, word_of, goes_on, output_limit}
 use Rattle.diva_isa.specs.Alu.{alu, is_taken, extended}
 use Rattle.diva_isa.specs.Kind.{kind, size}
 use Rattle.diva_isa.specs.Regs.{with_reg}
@@ -146,7 +146,7 @@ store s pc addr b n = if addr % n == 0 then stored pc b n (number_of s n addr) e
 -- a call for service 1 puts the low byte of b, where the output has room, and one for 93 halts with it; no other is served
 abbrev pub call : State → (pc a b : ℕ) → Outcome
 call s pc a b =
-    if a == 1 then (if nat_lt (length s.output) 65536 then continues pc (b % 2 ^ 8) else ended pc (trap OutputFull))
+    if a == 1 then (if nat_lt (length s.output) output_limit then continues pc (b % 2 ^ 8) else ended pc (trap OutputFull))
     else (if a == 93 then ended pc (halt (b % 2 ^ 8)) else ended pc (trap CallNotServed))
 
 -- what an instruction at pc comes to, where a and b are what it reads and addr is its address
@@ -270,4 +270,4 @@ abbrev pub HasRoom : State → Effect → Type 0
 HasRoom s Nothing = ⊤
 HasRoom s (Writes rd value) = ⊤
 HasRoom s (Stores width addr value) = IsInside (memory_of s) addr (size width)
-HasRoom s (Puts byte) = length s.output < 65536
+HasRoom s (Puts byte) = length s.output < output_limit

@@ -4,7 +4,7 @@ ghost use Rattle.std.specs.Prelude.{◌≡◌, ◌+◌, ◌-◌, ◌<◌, ◌≤
 ghost use Rattle.diva_memory.specs.Bytes.{IsInside};
 ghost use Rattle.diva_isa.specs.Kind.{size};
 ghost use Rattle.diva_isa.specs.Plain.{done};
-ghost use Rattle.diva_isa.specs.State.{GoesOn, byte_of, goes_on, memory_of, reg_of};
+ghost use Rattle.diva_isa.specs.State.{GoesOn, byte_of, goes_on, memory_of, reg_of, output_limit};
 ghost use Rattle.diva_isa.specs.Step.{HasRoom, apply, effect_of, record_of, step, steps, with_bytes, with_effect};
 
 use crate::due::record_of;
@@ -31,6 +31,7 @@ pub struct Plain {
 impl Model for Plain {
     ghost use Rattle.std.specs.Prelude.{◌≤◌, length, vec_capacity};
     ghost use Rattle.diva_isa.specs.Plain.{Plain};
+    ghost use Rattle.diva_isa.specs.State.{output_limit};
 
     ghost Value = { Plain };
 
@@ -39,7 +40,7 @@ impl Model for Plain {
       count = p.count;
     } };
 
-    ghost invariant = { λ p. (65536 ≤ vec_capacity p.output) × (length p.output.items ≤ 65536) };
+    ghost invariant = { λ p. (output_limit ≤ vec_capacity p.output) × (length p.output.items ≤ output_limit) };
 }
 
 impl Look for Plain {
@@ -165,7 +166,7 @@ impl Plain {
     /// What was put, at most 65,536 bytes.
     pub fn output(&self) -> &[u8]
         ensures bytes { result.now ≡ self.now.state.output }
-        ensures few { length result.now ≤ 65536 }
+        ensures few { length result.now ≤ output_limit }
     {
         &self.output
     }
@@ -201,7 +202,7 @@ impl Plain {
     }
 
     fn put(&mut self, byte: u8)
-        requires { length self.old.state.output < 65536 }
+        requires { length self.old.state.output < output_limit }
         ensures state { self.new.state ≡ with_effect self.old.state (Effect.Puts byte) }
         ensures count { self.new.count ≡ self.old.count }
     {

@@ -10,7 +10,7 @@ use Rattle.diva_core.specs.declared.differences.Diff.{Diff}
 use Rattle.diva_core.specs.declared.flushes.Cause.TheVariants.{Differs}
 use Rattle.diva_core.specs.declared.pending.Entry.{Entry}
 use Rattle.diva_core.specs.Difference.{first_difference}
-use Rattle.diva_core.specs.Timed.{Timed, PendingClaim}
+use Rattle.diva_core.specs.Timed.{Timed, PendingClaim, depth}
 use Rattle.diva_core.specs.Cycle.{Judgement, Commit, Flush, Wait, judged, judgement_of, by_front, by_difference, by_judgement, past_front, flushed, puts_store, accepts, counted, watched}
 use Rattle.diva_core.specs.Headline.{dues, SameLog}
 use Rattle.diva_core.proofs.Judging.{judged-none, past-off}
@@ -30,16 +30,16 @@ pub front_young : (m : Timed) (xs : List PendingClaim) → 1 ≤ m.cycles → pa
 front_young m [] some h = refl
 front_young m (p ∷ xs) some h =
     elim (cases_lt (m.cycles - 1) (p.cycle + 5)) [
-      | inl young ↦ rw (lt-leb (p.cycle + 6) m.cycles (omega arith)) refl
+      | inl young ↦ rw (lt-leb (p.cycle + depth) m.cycles (omega arith)) refl
       | inr old ↦ absurd (suc-ne-zero _ (rw (le-leb _ _ old) at h))
     ]
 
-module _ (m : Timed) (items : List Entry) (e : Entry) (first : slice_get items 0 ≡ Some e) (waits : m.pending ≡ map pending_claim_of items) (ready : e.cycle + 6 ≤ m.cycles) where
+module _ (m : Timed) (items : List Entry) (e : Entry) (first : slice_get items 0 ≡ Some e) (waits : m.pending ≡ map pending_claim_of items) (ready : e.cycle + depth ≤ m.cycles) where
   pub front_is : m.pending ≡ pending_claim_of e ∷ map pending_claim_of (drop 1 items)
   front_is = waits ∙ ap (map pending_claim_of) (first_is items e first)
 
   pub front_ready : (o : Option Diff) → first_difference e.claim (record_of m.arch) ≡ o → judgement_of m ≡ by_difference m o
-  front_ready o d = ap (by_front m) front_is ∙ rw (le-leb (e.cycle + 6) m.cycles ready, d) refl
+  front_ready o d = ap (by_front m) front_is ∙ rw (le-leb (e.cycle + depth) m.cycles ready, d) refl
 
   -- it is a store, and all stores are owed
   pub front_held : first_difference e.claim (record_of m.arch) ≡ None → puts_store (record_of m.arch) ≡ true → (m.owed == m.config.stores) ≡ true → judgement_of m ≡ Wait

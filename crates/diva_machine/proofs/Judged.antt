@@ -10,7 +10,7 @@ use Rattle.diva_core.specs.declared.pending.Entry.{Entry}
 use Rattle.diva_core.specs.declared.differences.Diff.{Diff}
 use Rattle.diva_core.specs.Difference.{first_difference}
 use Rattle.diva_core.specs.Headline.{dues, SameLog}
-use Rattle.diva_core.specs.Timed.{Timed, PendingClaim}
+use Rattle.diva_core.specs.Timed.{Timed, PendingClaim, depth}
 use Rattle.diva_core.specs.Cycle.{Commit, Flush, Wait, committed, judgement_of, number, past_front, puts_store}
 use Rattle.diva_core.proofs.Differing.{difference-none}
 use Rattle.diva_commit.specs.Committing.{answer, is_committed}
@@ -53,7 +53,7 @@ module _ (w : Parts) (e : Entry) (f : IsFront w e) where
   passes : 0 < passed_by (w.timed.cycles - 1) (map pending_claim_of w.entries)
   passes = let is = f.staged.passed ∙ ap (passed_by (w.timed.cycles - 1)) f.staged.waits in let some = f.ready in omega arith
 
-  pub is_old : e.cycle + 6 ≤ w.timed.cycles
+  pub is_old : e.cycle + depth ≤ w.timed.cycles
   is_old = let old = passed_at (w.timed.cycles - 1) w.entries 0 e passes f.first in let some = f.cycles in omega arith
 
   -- its verdict is the first difference from the due record, and no record is computed to know it

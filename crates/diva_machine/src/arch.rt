@@ -1,7 +1,7 @@
 // The committed state: registers, pc, output and end, and memory with the stores that are owed to it.
 ghost use Rattle.std.specs.Prelude.{◌≡◌, ◌≤◌, ◌+◌, ◌-◌, ◌==◌, true, false, length, None, IfOk};
 ghost use Rattle.diva_decode.specs.Table.{row_of};
-ghost use Rattle.diva_isa.specs.State.{goes_on, GoesOn};
+ghost use Rattle.diva_isa.specs.State.{goes_on, GoesOn, output_limit};
 ghost use Rattle.diva_isa.specs.End.{end_of, end_number};
 ghost use Rattle.diva_isa.specs.Step.{apply, record_of};
 ghost use Rattle.diva_image.specs.ImageLayout.{layout};
@@ -81,7 +81,7 @@ impl Arch {
     /// What the program put: at most 65,536 bytes.
     pub fn output(&self) -> &[u8]
         ensures bytes { result.now ≡ self.now.state.output }
-        ensures most { length result.now ≤ 65536 }
+        ensures most { length result.now ≤ output_limit }
     {
         self.output.bytes()
     }

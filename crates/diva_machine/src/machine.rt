@@ -1,6 +1,6 @@
 // The machine between cycles.
 ghost use Rattle.std.specs.Prelude.{◌≡◌, ◌⊎◌, ◌↔◌, ◌+◌, ◌-◌, ◌*◌, ◌<◌, ◌≤◌, ◌^◌, ◌∷◌, ℕ, [], List, length, slice_get, None, Some, IsNone, IfOk, true, false};
-ghost use Rattle.diva_isa.specs.State.{goes_on, GoesOn};
+ghost use Rattle.diva_isa.specs.State.{goes_on, GoesOn, output_limit};
 ghost use Rattle.diva_isa.specs.End.{end_of, end_number};
 ghost use Rattle.diva_isa.specs.Step.{steps};
 ghost use Rattle.diva_image.specs.ImageLayout.{layout};
@@ -168,7 +168,7 @@ impl Machine {
     /// What the program put.
     pub fn output(&self) -> &[u8]
         ensures bytes { result.now ≡ self.now.timed.arch.output }
-        ensures most { length result.now ≤ 65536 }
+        ensures most { length result.now ≤ output_limit }
     {
         self.parts.arch.output()
     }

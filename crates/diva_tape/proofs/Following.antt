@@ -9,7 +9,7 @@ use Rattle.diva_isa.specs.State.{State, goes_on}
 use Rattle.diva_isa.specs.Step.{record_of, step, steps}
 use Rattle.diva_isa.specs.declared.record.Record.{Record}
 use Rattle.diva_isa.specs.declared.effect.Effect.{Effect}
-use Rattle.diva_core.specs.Timed.{Timed, Config, PendingClaim, new_timed, room_of}
+use Rattle.diva_core.specs.Timed.{Timed, Config, PendingClaim, new_timed, room_of, depth}
 use Rattle.diva_core.specs.Cycle.{cycle_of}
 use Rattle.diva_core.specs.Told.{told_of}
 use Rattle.diva_core.specs.History.{FollowRule, IsHistory, lists_of}
@@ -240,7 +240,7 @@ pub new_leads : (z : Config) (s : State) → IsConfig z → MayLead (new_timed z
 new_leads z s ok = record { machine = new-machine z s ok; epoch = refl; rests = λ none. (new_calm z s ok, refl) }
 
 -- where a solo instruction commits
-pub leads_again : (m : Timed) (before after : Ahead) (list : List Record) (start : ℕ) → IsMachine m → goes_on m.arch ≡ true → m.solo ≡ Some start → m.cycles + 1 ≡ start + 6 → is_epoch before.epoch m.flushes ≡ false → IsScalarCall before (told_of m) m.arch list after
+pub leads_again : (m : Timed) (before after : Ahead) (list : List Record) (start : ℕ) → IsMachine m → goes_on m.arch ≡ true → m.solo ≡ Some start → m.cycles + 1 ≡ start + depth → is_epoch before.epoch m.flushes ≡ false → IsScalarCall before (told_of m) m.arch list after
     → IsCalm (cycle_of m list) × ((cycle_of m list).pending ≡ []) × (is_epoch after.epoch (cycle_of m list).flushes ≡ false)
 leads_again m before after list start inv on some sixth other given =
     let fresh : Fresh (cycle_of m list) = solo_fresh m list start inv on some sixth in

@@ -7,7 +7,7 @@ use Rattle.std.proofs.lemmas.Option.{none-some}
 use Rattle.diva_isa.specs.State.{State, goes_on}
 use Rattle.diva_isa.specs.Step.{record_of, step, steps}
 use Rattle.diva_isa.specs.declared.record.Record.{Record}
-use Rattle.diva_core.specs.Timed.{Timed, Config, PendingClaim, new_timed, room_of}
+use Rattle.diva_core.specs.Timed.{Timed, Config, PendingClaim, new_timed, room_of, depth}
 use Rattle.diva_core.specs.Cycle.{accepted_in, cycle_of, run_of}
 use Rattle.diva_core.specs.History.{FollowRule, IsHistory, Meaning, lists_of}
 use Rattle.diva_core.specs.Machine.{IsMachine, IsConfig}
@@ -43,7 +43,7 @@ record Queue (m : Timed) : Type 0 where
 -- a machine that goes on has counted an instruction in each cycle but the first six
 record Paced (m : Timed) : Type 0 where
   calm : IsCalmRunning m
-  count : m.count ≡ m.cycles - 6
+  count : m.count ≡ m.cycles - depth
   queue : Queue m
 
 -- ---- one claim more
@@ -117,12 +117,12 @@ module _ (b n : Timed) (list : List Record) (rest : List PendingClaim) (inv : Is
       ]
 
 -- the front claim is ready where a claim commits
-front_ready : (k : ℕ) (s : State) (c count : ℕ) (xs rest : List PendingClaim) → Commits (suc k) s c xs rest → AreSuccessive (count + 1) xs → count + 7 ≤ c
+front_ready : (k : ℕ) (s : State) (c count : ℕ) (xs rest : List PendingClaim) → Commits (suc k) s c xs rest → AreSuccessive (count + 1) xs → count + (depth + 1) ≤ c
 front_ready k s c count [] rest h a = absurd h
 front_ready k s c count (p ∷ xs) rest h a = let ready = h.1 in let at = a.0 in omega arith
 
 -- and no other one is
-one_commits : (k : ℕ) (s : State) (c count : ℕ) (xs rest : List PendingClaim) → Commits (suc k) s c xs rest → AreSuccessive (count + 1) xs → c ≤ count + 7 → k ≡ 0
+one_commits : (k : ℕ) (s : State) (c count : ℕ) (xs rest : List PendingClaim) → Commits (suc k) s c xs rest → AreSuccessive (count + 1) xs → c ≤ count + (depth + 1) → k ≡ 0
 one_commits zero s c count xs rest h a most = refl
 one_commits (suc k) s c count [] rest h a most = absurd h
 one_commits (suc k) s c count (p ∷ xs) rest h a most = let second = front_ready k (step s) c (count + 1) xs rest h.2 a.1 in absurd (omega arith)
@@ -136,7 +136,7 @@ record Commits1 (b n : Timed) (rest : List PendingClaim) : Type 0 where
   claims : Commits 1 b.arch (b.cycles + 1) b.pending rest
   counted : n.count ≡ b.count + 1
   stepped : n.arch ≡ steps 1 b.arch
-  sixth : b.count + 6 ≡ b.cycles
+  sixth : b.count + depth ≡ b.cycles
 
 one_only : (b n : Timed) (rest : List PendingClaim) (k : ℕ) → Paced b → Base b n (suc k) → Commits (suc k) b.arch (b.cycles + 1) b.pending rest → Commits1 b n rest
 one_only b n rest k p base claims =
@@ -153,16 +153,16 @@ one_only b n rest k p base claims =
 
 -- what is so after a cycle
 abbrev Goes : Timed → Type 0
-Goes n = (goes_on n.arch ≡ true → Paced n) × (goes_on n.arch ≡ false → n.cycles ≡ n.count + 6)
+Goes n = (goes_on n.arch ≡ true → Paced n) × (goes_on n.arch ≡ false → n.cycles ≡ n.count + depth)
 
 -- where nothing was ready, fewer than six cycles have run
-still_early : (b : Timed) → goes_on b.arch ≡ true → Paced b → ((q : PendingClaim) (rest : List PendingClaim) → b.pending ≡ q ∷ rest → b.cycles + 1 < q.cycle + 6) → b.cycles < 6
+still_early : (b : Timed) → goes_on b.arch ≡ true → Paced b → ((q : PendingClaim) (rest : List PendingClaim) → b.pending ≡ q ∷ rest → b.cycles + 1 < q.cycle + depth) → b.cycles < depth
 still_early b on p young = by_pending b.pending refl
   where
-    no_end : (off : goes_on b.arch ≡ false) → b.cycles < 6
+    no_end : (off : goes_on b.arch ≡ false) → b.cycles < depth
     no_end off = absurd (true≢false (sym on ∙ off))
 
-    by_pending : (xs : List PendingClaim) → b.pending ≡ xs → b.cycles < 6
+    by_pending : (xs : List PendingClaim) → b.pending ≡ xs → b.cycles < depth
     by_pending [] e =
         elim p.queue.leads [
           | inl leads ↦ let none : length b.pending ≡ 0 = ap length e in let count = p.count in omega arith
@@ -219,7 +219,7 @@ goes b n list inv on p rule calm (waited r) = absurd (none-some _ (sym p.calm.ru
 
 -- how far a machine has come
 abbrev IsPaced : Timed → Type 0
-IsPaced last = (goes_on last.arch ≡ true → last.count ≡ last.cycles - 6) × (goes_on last.arch ≡ false → last.cycles ≡ last.count + 6)
+IsPaced last = (goes_on last.arch ≡ true → last.count ≡ last.cycles - depth) × (goes_on last.arch ≡ false → last.cycles ≡ last.count + depth)
 
 run_paced : (lists : List (List Record)) (m : Timed) → IsMachine m → goes_on m.arch ≡ true → Paced m → FollowRule scalar_list m lists → IsPaced (run_of m lists)
 run_paced [] m inv on p h = (λ still. p.count, λ off. absurd (true≢false (sym on ∙ off)))
@@ -249,12 +249,12 @@ began gives m core [] last final h on = ap (λ (n : Timed). goes_on n.arch) (sym
 began gives m core (turn ∷ rest) last final h on = h.0
 
 pub scalar_runs : (z : Config) (s : State) (last : Timed) (after : Ahead) (history : List (List Record × Ahead)) → IsConfig z
-    → IsHistory IsScalarCall (new_timed z s) new_scalar history last after → goes_on last.arch ≡ true → last.count ≡ last.cycles - 6
+    → IsHistory IsScalarCall (new_timed z s) new_scalar history last after → goes_on last.arch ≡ true → last.count ≡ last.cycles - depth
 scalar_runs z s last after history ok h on =
     (paced z s last after history ok (began IsScalarCall (new_timed z s) new_scalar history last after h on) h).0 on
 
 pub scalar_ends : (z : Config) (s : State) (last : Timed) (after : Ahead) (history : List (List Record × Ahead)) → IsConfig z → goes_on s ≡ true
-    → IsHistory IsScalarCall (new_timed z s) new_scalar history last after → goes_on last.arch ≡ false → last.cycles ≡ last.count + 6
+    → IsHistory IsScalarCall (new_timed z s) new_scalar history last after → goes_on last.arch ≡ false → last.cycles ≡ last.count + depth
 scalar_ends z s last after history ok on h off = (paced z s last after history ok on h).1 off
 
 pub scalar_unflushed : (z : Config) (s : State) (last : Timed) (after : Ahead) (history : List (List Record × Ahead)) → IsConfig z

@@ -2,7 +2,7 @@
 mod tables;
 
 use diva_core::{Diff, Output, Pending, View};
-use diva_isa::{Record, Regs};
+use diva_isa::{OUTPUT_LIMIT, Record, Regs};
 use diva_memory::Memory;
 use diva_storeq::StoreQueue;
 use std::alloc::{AllocError, Global};
@@ -49,7 +49,7 @@ fn answer_of(alloc: Global, row: &Row) -> Result<Option<Diff>, AllocError> {
     let (regs, memory, queue) = (Regs::new(), memory(alloc)?, StoreQueue::new(alloc, 1)?);
     let mut output = Output::new(alloc)?;
     for _ in 0..row.put {
-        if (output.len() as usize) < Output::MOST {
+        if output.len() < OUTPUT_LIMIT {
             output.push(0);
         }
     }
