@@ -16,8 +16,8 @@ mod tests;
 mod writers;
 
 pub use lines::{
-    commit_line, count_line, cycles_line, end_line, end_line_of, flush_line, flushes_line, mem_line,
-    out_line, output_line, pc_line, push_end, registers_line, soak_line,
+    commit_line, count_line, cycles_line, end_line, end_line_of, flush_line, flushes_line,
+    mem_line, out_line, output_line, pc_line, push_end, registers_line, soak_line,
 };
 pub use report::{Dump, Report, SoakCore};
 pub use writers::{

@@ -7,8 +7,8 @@ ghost use Rattle.diva_outside.specs.Sink.{Puts};
 ghost use Rattle.diva_trace.specs.Text.{commits_text, rows_text, summary_text, output_text, registers_text, dump_text, text_in, text_of, IsReportOf};
 
 use crate::lines::{
-    commit_line, count_line, cycles_line, end_line_of, flush_line, flushes_line, mem_line, out_line,
-    output_len_line, pc_line, registers_line,
+    commit_line, count_line, cycles_line, end_line_of, flush_line, flushes_line, mem_line,
+    out_line, output_len_line, pc_line, registers_line,
 };
 use crate::report::{Dump, Report};
 use diva_core::{FlushRow, View};

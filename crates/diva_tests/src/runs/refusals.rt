@@ -9,50 +9,52 @@ pub(super) const USAGE: &str = "\
 usage: diva run|tape IMAGE, debug IMAGE COMMANDS, asm SRC, dis IMAGE, soak SEED LENGTH
 ";
 
-/// Words that are not a valid command line, and files that are not there. A name may be any word: the
-/// last five name files that are not there.
+/// Words that are not a valid command line, and files that are not there, with their statuses and texts.
+/// A name may be any word: the last five name files that are not there.
+const NOT_RUN: [(&str, u8, &str); 25] = [
+    ("", 2, USAGE),
+    ("run", 2, USAGE),
+    ("run a.diva --width 5", 2, USAGE),
+    ("run a.diva --window 1", 2, USAGE),
+    ("walk a.diva", 2, USAGE),
+    ("run a.diva --core tape", 2, USAGE),
+    ("run a.diva --tape a.tape", 2, USAGE),
+    ("tape a.diva --dump 0:4", 2, USAGE),
+    ("tape a.diva --trace", 2, USAGE),
+    ("debug a.diva", 2, USAGE),
+    ("debug a.diva a.commands --width 2", 2, USAGE),
+    ("asm", 2, USAGE),
+    ("asm a.s --core own", 2, USAGE),
+    ("dis a.diva b.diva", 2, USAGE),
+    ("run b.diva", 8, "unreadable image\n"),
+    ("run a.diva --script b.script", 8, "unreadable script\n"),
+    ("run b.diva --script b.script", 8, "unreadable image\n"),
+    (
+        "run a.script --script b.script",
+        5,
+        "refused image 1 at 0\n",
+    ),
+    (
+        "run a.diva --core tape --tape b.tape",
+        8,
+        "unreadable tape\n",
+    ),
+    (
+        "tape a.diva --core tape --tape b.tape --script b.script",
+        8,
+        "unreadable script\n",
+    ),
+    ("tape b.diva", 8, "unreadable image\n"),
+    ("run ''", 8, "unreadable image\n"),
+    ("run -", 8, "unreadable image\n"),
+    ("run -- -x", 8, "unreadable image\n"),
+    ("run --width 2 -- -x", 8, "unreadable image\n"),
+];
+
 #[test]
 fn lines_that_are_not_run(rt: HostRuntime) -> Result<(), Fail> {
     let alloc = rt.alloc();
-    for (line, status, text) in [
-        ("", 2, USAGE),
-        ("run", 2, USAGE),
-        ("run a.diva --width 5", 2, USAGE),
-        ("run a.diva --window 1", 2, USAGE),
-        ("walk a.diva", 2, USAGE),
-        ("run a.diva --core tape", 2, USAGE),
-        ("run a.diva --tape a.tape", 2, USAGE),
-        ("tape a.diva --dump 0:4", 2, USAGE),
-        ("tape a.diva --trace", 2, USAGE),
-        ("debug a.diva", 2, USAGE),
-        ("debug a.diva a.commands --width 2", 2, USAGE),
-        ("asm", 2, USAGE),
-        ("asm a.s --core own", 2, USAGE),
-        ("dis a.diva b.diva", 2, USAGE),
-        ("run b.diva", 8, "unreadable image\n"),
-        ("run a.diva --script b.script", 8, "unreadable script\n"),
-        ("run b.diva --script b.script", 8, "unreadable image\n"),
-        (
-            "run a.script --script b.script",
-            5,
-            "refused image 1 at 0\n",
-        ),
-        (
-            "run a.diva --core tape --tape b.tape",
-            8,
-            "unreadable tape\n",
-        ),
-        (
-            "tape a.diva --core tape --tape b.tape --script b.script",
-            8,
-            "unreadable script\n",
-        ),
-        ("tape b.diva", 8, "unreadable image\n"),
-        ("run ''", 8, "unreadable image\n"),
-        ("run -", 8, "unreadable image\n"),
-        ("run -- -x", 8, "unreadable image\n"),
-        ("run --width 2 -- -x", 8, "unreadable image\n"),
-    ] {
+    for (line, status, text) in NOT_RUN {
         let outside = Outside::sound(alloc, Vec::from_slice(alloc, &FIVE_FILE)?);
         compare_unasked(&rt, line, outside, status, text)?;
     }
