@@ -2,7 +2,9 @@
 use Rattle.std.proofs.Common.{◌≡◌, ◌≢◌, ℕ, ◌+◌, ◌==◌, true, false, [], ◌∷◌, Option, Some, None, refl, ap, sym, ◌∙◌, arith, subst, inl, inr, IsNone}
 use Rattle.std.specs.Prelude.{◌↔◌}
 use Rattle.std.proofs.lemmas.Bool.{cases_Bool, eqb-true, eq-eqb, false_from_ne_true, true≢false}
+use Rattle.diva_isa.specs.End.{end_of}
 use Rattle.diva_isa.specs.State.{State, goes_on}
+use Rattle.diva_isa.specs.declared.end.End.{End}
 use Rattle.diva_core.specs.Timed.{Timed}
 use Rattle.diva_core.specs.declared.flushes.FlushRow.{FlushRow}
 use Rattle.diva_outside.specs.Text.{Text}
@@ -36,7 +38,7 @@ far-not-at : (place pc : ℕ) → at_line place pc ≡ far_line place pc → ⊥
 unfolding at_line far_line place_line
 far-not-at place pc e = true≢false (ap (λ (t : Text). first_byte t == 97) e)
 
-far-not-ended : (place pc end : ℕ) → ended_line place end ≡ far_line place pc → ⊥
+far-not-ended : (place pc : ℕ) (end : End) → ended_line place end ≡ far_line place pc → ⊥
 unfolding ended_line far_line place_line
 far-not-ended place pc end e = true≢false (ap (λ (t : Text). first_byte t == 101) e)
 
@@ -45,7 +47,7 @@ unfolding until_line stop_line
 line-far-on pc place s e =
     elim (cases_Bool (goes_on s)) [
       | inl on ↦ on
-      | inr off ↦ absurd (far-not-ended place s.pc s.end (rw off at e))
+      | inr off ↦ absurd (far-not-ended place s.pc _ (rw off at e))
     ]
 
 line-far-elsewhere : (pc place : ℕ) (s : State) → goes_on s ≡ true → until_line pc place s ≡ far_line place s.pc → s.pc ≢ pc

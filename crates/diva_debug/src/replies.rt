@@ -27,7 +27,7 @@ pub(crate) fn reply_at(command: &Command, m: &Machine) -> Line
 }
 
 /// Where the machine stands, or how it ended.
-#[tactic(auto, unfolding(crate::specs::Replies::stop_line, crate::specs::Replies::at_line, crate::specs::Replies::ended_line))]
+#[tactic(auto, unfolding(crate::specs::Replies::stop_line, crate::specs::Replies::at_line))]
 fn stop_line(m: &Machine) -> Line
     ensures { result ≡ stop_line m.now.timed.count m.now.timed.arch }
 {
@@ -65,6 +65,7 @@ fn place_line(word: &[u8], place: u64, pc: u32) -> Line
 }
 
 /// The place and how the machine ended.
+#[tactic(auto, unfolding(crate::specs::Replies::ended_line))]
 fn ended_line(place: u64, end: End) -> Line
     ensures { result ≡ ended_line place end }
 {

@@ -1,7 +1,6 @@
 -- The machine begins with the image that was loaded, and the script and the core are those of their files.
-use Rattle.std.proofs.Common.{ap, subst, ◌∙◌}
+use Rattle.std.proofs.Common.{ap, ◌∙◌}
 use Rattle.diva_core.specs.Timed.{new_timed}
-use Rattle.diva_core.specs.Machine.{IsConfig}
 use Rattle.diva_image.specs.ImageLayout.{layout}
 use Rattle.diva_machine.specs.Start.{start_of}
 use Rattle.diva_args.specs.Options.{Setup}
