@@ -1,6 +1,7 @@
 -- How the front claim is judged.
 use Rattle.std.proofs.Common.{◌≡◌, ℕ, zero, suc, ◌+◌, ◌-◌, ◌==◌, ◌<◌, ◌≤◌, Bool, true, false, ◌&&◌, List, [], ◌∷◌, ◌++◌, length, zero-add, map, drop, Option, Some, None, refl, ap, sym, ◌∙◌, arith, slice_get, inl, inr}
-use Rattle.std.proofs.lemmas.Bool.{cases_lt, le-leb, lt-leb}
+use Rattle.std.proofs.lemmas.Bool.{cases_lt, le-leb, lt-leb, eq-eqb, false_from_ne_true, eqb-true}
+use Rattle.std.proofs.lemmas.Bool.Decides.{eqb_tells}
 use Rattle.std.proofs.Math.Nat.{suc-ne-zero}
 use Rattle.std.proofs.lemmas.Option.{none-some, same_Some}
 use Rattle.diva_isa.specs.State.{State, goes_on}
@@ -155,6 +156,15 @@ dues-add (suc k) d s =
 pub length-dues : (k : ℕ) (s : State) → length (dues k s) ≡ k
 length-dues zero s = refl
 length-dues (suc k) s = let e = length-dues k (step s) in omega arith
+
+-- nothing was counted exactly where no record came due
+pub none-due : (a b : ℕ) (s : State) (records : List Record) → a ≤ b → records ≡ dues (b - a) s → (b == a) ≡ (length records == 0)
+none-due a b s records h is =
+    let len : length records ≡ b - a = ap length is ∙ length-dues (b - a) s in
+    elim (eqb_tells b a) [
+      | inl same ↦ same.0 ∙ sym (eq-eqb (length records) 0 (let e = same.1 in omega arith))
+      | inr more ↦ more.0 ∙ sym (false_from_ne_true _ (λ t. more.1 (let e = eqb-true (length records) 0 t in omega arith)))
+    ]
 
 -- what two parts of a phase do, one after the other
 pub steps-joined : (a b c : ℕ) (s t u : State) → a ≤ b → b ≤ c → t ≡ steps (b - a) s → u ≡ steps (c - b) t → u ≡ steps (c - a) s

@@ -294,32 +294,18 @@ impl Parts {
         ensures staged { IsStaged (self.new.timed.cycles - 1) self.new }
         ensures solo { IsSoloFilled self.new.timed.cycles self.new }
     {
-        let mut phase = CommitPhase {
-            committed: false,
-            accepting: true,
-        };
         for at in 0..n {
             if self.passed == 0 {
-                return phase;
+                return CommitPhase::Open;
             }
             match self.judge_front() {
-                Judged::Committed => phase.committed = true,
-                Judged::Ended => {
-                    return CommitPhase {
-                        committed: true,
-                        accepting: false,
-                    };
-                }
-                Judged::Flushed => {
-                    return CommitPhase {
-                        accepting: false,
-                        ..phase
-                    };
-                }
-                Judged::Waits => return phase,
+                Judged::Committed => {}
+                Judged::Ended => return CommitPhase::Closed,
+                Judged::Flushed => return CommitPhase::Closed,
+                Judged::Waits => return CommitPhase::Open,
             }
         }
-        phase
+        CommitPhase::Open
     }
 
     /// Phase 2: what is ready commits, at most `width` claims or the solo instruction.
@@ -349,24 +335,15 @@ impl Parts {
     {
         match self.recover {
             Recover::Running if self.passed > 0 => self.judge(self.width),
-            Recover::Running => CommitPhase {
-                committed: false,
-                accepting: true,
-            },
+            Recover::Running => CommitPhase::Open,
             Recover::Solo(start) => {
                 let age = self.cycles.saturating_sub(start);
                 if age == DEPTH {
                     self.commit_solo();
-                    CommitPhase {
-                        committed: true,
-                        accepting: self.arch.goes_on(),
-                    }
+                    CommitPhase::open_if(self.arch.goes_on())
                 } else {
                     self.fill_solo(age);
-                    CommitPhase {
-                        committed: false,
-                        accepting: true,
-                    }
+                    CommitPhase::Open
                 }
             }
         }
@@ -515,7 +492,8 @@ impl Parts {
         let accepted = phase.accepted(admitted);
         self.advance();
         self.accept(accepted);
-        self.watch(phase.committed);
+        let committed = !self.last.is_empty();
+        self.watch(committed);
     }
 }
 

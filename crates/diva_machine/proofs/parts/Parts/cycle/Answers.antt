@@ -1,13 +1,14 @@
-use Rattle.std.proofs.Common.{◌≡◌, ◌-◌, ◌==◌, ◌&&◌, true, not, ap, sym, ◌∙◌, List, [], ◌++◌, map, refl}
+use Rattle.std.proofs.Common.{◌≡◌, ◌-◌, ◌==◌, ◌&&◌, true, not, ap, sym, ◌∙◌, List, [], ◌++◌, map, refl, length, arith}
 use Rattle.std.proofs.Math.Bool.{not-not}
 use Rattle.diva_isa.specs.State.{goes_on}
 use Rattle.diva_isa.specs.declared.record.Record.{Record}
 use Rattle.diva_core.specs.Timed.{Timed}
 use Rattle.diva_core.specs.Cycle.{accepted_in, accepts, begun, commits, cycle_of, drained, watched}
 use Rattle.diva_core.specs.Headline.{dues}
+use Rattle.diva_machine.specs.Machine.{is_open}
 use Rattle.diva_machine.specs.Staged.{Parts}
 use Rattle.diva_machine.proofs.Staging.{staged_begun}
-use Rattle.diva_machine.proofs.Fronts.{watched-count, accepts-count}
+use Rattle.diva_machine.proofs.Fronts.{watched-count, accepts-count, none-due}
 use Rattle.diva_machine.proofs.Telling.{accepts_is}
 use Rattle.diva_machine.proofs.parts.Parts.cycle.Goals as goal
 
@@ -23,10 +24,10 @@ begins c =
     let next = λ (z : Parts). drained (begun z.timed) in ap (λ (z : Parts). z.timed) c.drain.ensures ∙ ap next c.self.view_is ∙ ap next c.forget_last.ensures
 
 -- phase 2 has told whether claims are accepted
-opens : (c : goal.After-watch) → c.commits-phase.result.accepting ≡ (goes_on c.commits-phase.new.self.timed.arch && (c.commits-phase.new.self.timed.flushes == c.args.self.now.timed.flushes))
+opens : (c : goal.After-watch) → is_open c.commits-phase.result ≡ (goes_on c.commits-phase.new.self.timed.arch && (c.commits-phase.new.self.timed.flushes == c.args.self.now.timed.flushes))
 unfolding drained
 opens c =
-    c.commits-phase.ensures.tells.accepting
+    c.commits-phase.ensures.tells
     ∙ ap (λ (m : Timed). goes_on c.commits-phase.new.self.timed.arch && (c.commits-phase.new.self.timed.flushes == m.flushes)) (begins c)
 
 admits : (c : goal.After-watch) → c.accept.new.self.timed ≡ accepts c.args.self.now.timed c.args.list.now c.commits-phase.new.self.timed
@@ -35,7 +36,7 @@ admits c =
     c.accept.ensures.timed
     ∙ ap (λ (z : Parts). record z.timed { pending = z.timed.pending ++ map (accepted_in z.timed.cycles) c.accepted-accepted.result.now }) c.advance.ensures.rest
     ∙ ap (λ (claims : List Record). record n { pending = n.pending ++ map (accepted_in n.cycles) claims }) c.accepted-accepted.ensures.accepted
-    ∙ accepts_is c.args.self.now.timed n c.admitted-admitted.result.now c.args.list.now c.commits-phase.result.accepting c.admitted-admitted.ensures.value (opens c)
+    ∙ accepts_is c.args.self.now.timed n c.admitted-admitted.result.now c.args.list.now (is_open c.commits-phase.result) c.admitted-admitted.ensures.value (opens c)
 
 -- the instructions that were counted are those whose records came due
 comes-due : (c : goal.After-watch) → c.accept.new.self.last ≡ dues (c.accept.new.self.timed.count - c.args.self.now.timed.count) c.args.self.now.timed.arch
@@ -47,13 +48,15 @@ comes-due c =
     ∙ ap (λ (z : Timed). dues (c.commits-phase.new.self.timed.count - z.count) z.arch) (begins c)
     ∙ ap (λ n. dues (n - old.count) old.arch) (sym after)
 
-counts : (c : goal.After-watch) → (c.accept.new.self.timed.count == c.args.self.now.timed.count) ≡ not c.commits-phase.result.committed
+counts : (c : goal.After-watch) → (c.accept.new.self.timed.count == c.args.self.now.timed.count) ≡ not (not c.is_empty-committed.result)
 unfolding drained
 counts c =
     let old : Timed = c.args.self.now.timed in
     let after : c.accept.new.self.timed.count ≡ c.commits-phase.new.self.timed.count = ap (λ z. z.count) (admits c) ∙ accepts-count old c.commits-phase.new.self.timed c.args.list.now in
-    ap (λ n. n == old.count) after ∙ ap (λ (m : Timed). c.commits-phase.new.self.timed.count == m.count) (sym (begins c))
-    ∙ sym (not-not (c.commits-phase.new.self.timed.count == c.drain.new.self.timed.count)) ∙ ap not (sym c.commits-phase.ensures.tells.committed)
+    let before : c.drain.new.self.timed.count ≡ old.count = ap (λ z. z.count) (begins c) in
+    let more = c.commits-phase.ensures.counted in
+    none-due old.count c.accept.new.self.timed.count old.arch c.accept.new.self.last (omega arith) (comes-due c)
+    ∙ ap (λ (z : Parts). length z.last == 0) (sym c.self-2.view_is) ∙ sym c.is_empty-committed.ensures ∙ sym (not-not c.is_empty-committed.result)
 
 watches : (c : goal.After-watch) → c.watch.new.self.timed ≡ watched c.args.self.now.timed c.accept.new.self.timed
 watches c = c.watch.ensures.timed c.args.self.now.timed (counts c)

@@ -1,13 +1,14 @@
-use Rattle.std.proofs.Common.{◌≡◌, ◌+◌, ◌-◌, ◌≤◌, ◌==◌, true, false, ap, sym, ◌∙◌, subst, arith, rules}
+use Rattle.std.proofs.Common.{◌≡◌, ◌+◌, ◌-◌, ◌≤◌, true, ap, sym, ◌∙◌, subst, arith, rules}
 use Rattle.std.proofs.lemmas.Bool.{eqb-true}
 use Rattle.diva_isa.specs.State.{goes_on}
 use Rattle.diva_core.specs.Timed.{Timed}
 use Rattle.diva_core.specs.Cycle.{judged, by_judgement, past_front}
 use Rattle.diva_core.specs.declared.flushes.Cause.TheVariants.{Differs}
 use Rattle.diva_machine.specs.Machine.{Tells}
+use Rattle.diva_machine.specs.declared.phases.CommitPhase.TheVariants.{Open, Closed}
 use Rattle.diva_machine.specs.Staged.{passed_by}
-use Rattle.diva_machine.proofs.Fronts.{by_flush, end_is, end_off, end_further, flush_is, flush_further, front_young, judged_less, length-dues, past_further, past_is, past_on, steps-joined, dues-joined, SameLog-joined, KeepsBounds-joined, wait_is, wait_further}
-use Rattle.diva_machine.proofs.Telling.{past_count, past_flushes, tells_commit, tells_flush, tells_more}
+use Rattle.diva_machine.proofs.Fronts.{by_flush, end_off, end_further, flush_is, flush_further, front_young, judged_less, length-dues, past_further, past_is, past_on, steps-joined, dues-joined, SameLog-joined, KeepsBounds-joined, wait_is, wait_further}
+use Rattle.diva_machine.proofs.Telling.{past_flushes, tells_ended, tells_flush, tells_open}
 use Rattle.diva_machine.proofs.parts.Parts.judge.Goals as goal
 
 pub judge_front-requires-clause-last : goal.judge_front-requires-clause-last
@@ -52,9 +53,9 @@ returns-in-Flushed-clause-tells c =
     let b : Timed = c.args.self.now.timed in
     let m : Timed = c.loop-at.self.timed in
     let d = (by_flush m c.judge_front.new.self.timed c.judge_front.result c.judge_front.ensures.timed c.judge_front.ensures.answer c.in-Flushed.is).0 in
-    subst (λ (z : Timed). Tells (record c.loop-at.phase { accepting = false }) b z)
+    subst (Tells Closed b)
     (sym (flush_is m c.judge_front.new.self.timed c.judge_front.result c.judge_front.ensures.timed c.judge_front.ensures.answer c.in-Flushed.is))
-    (tells_flush c.loop-at.phase b m c.loop-at.invariant.tells (Differs d) c.loop-at.invariant.same.flushes)
+    (tells_flush b m (Differs d) c.loop-at.invariant.same.flushes)
 
 -- it waits
 pub returns-in-Waits-clause-judged : goal.returns-in-Waits-clause-judged
@@ -68,20 +69,14 @@ returns-in-Waits-clause-last c =
 
 pub returns-in-Waits-clause-tells : goal.returns-in-Waits-clause-tells
 returns-in-Waits-clause-tells c =
-    subst (λ (z : Timed). Tells c.loop-at.phase c.args.self.now.timed z)
+    subst (Tells Open c.args.self.now.timed)
     (sym (wait_is c.loop-at.self.timed c.judge_front.new.self.timed c.judge_front.result c.judge_front.ensures.timed c.judge_front.ensures.answer c.in-Waits.is))
     c.loop-at.invariant.tells
 
 pub returns-in-Ended-clause-tells : goal.returns-in-Ended-clause-tells
 returns-in-Ended-clause-tells c =
-    let b : Timed = c.args.self.now.timed in
-    let m : Timed = c.loop-at.self.timed in
-    let n : Timed = c.judge_front.new.self.timed in
-    let is : n ≡ past_front m = end_is m n c.judge_front.result c.judge_front.ensures.timed c.judge_front.ensures.answer c.in-Ended.is in
-    let count : n.count ≡ m.count + 1 = ap (λ z. z.count) is ∙ past_count m in
-    let below = c.loop-at.invariant.counted in
-    tells_commit b n _ (omega arith) (ap (λ z. z.flushes) is ∙ past_flushes m ∙ c.loop-at.invariant.same.flushes)
-    (sym (end_off m n c.judge_front.result c.judge_front.ensures.timed c.judge_front.ensures.answer c.in-Ended.is))
+    tells_ended c.args.self.now.timed c.judge_front.new.self.timed
+    (end_off c.loop-at.self.timed c.judge_front.new.self.timed c.judge_front.result c.judge_front.ensures.timed c.judge_front.ensures.answer c.in-Ended.is)
 
 -- it committed, and the machine goes on
 pub loop-at-preserved : goal.loop-at-preserved
@@ -92,15 +87,13 @@ loop-at-preserved c =
     let yes = c.in-Committed.is in
     let is : n ≡ past_front m = past_is m n c.judge_front.result c.judge_front.ensures.timed c.judge_front.ensures.answer yes in
     let goes : goes_on n.arch ≡ true = past_on m n c.judge_front.result c.judge_front.ensures.timed c.judge_front.ensures.answer yes in
-    let count : n.count ≡ m.count + 1 = ap (λ z. z.count) is ∙ past_count m in
-    let below = c.loop-at.invariant.counted in
     record {
       left =
           sym (past_further m n c.judge_front.result c.judge_front.ensures.timed c.judge_front.ensures.answer yes (c.args.n - (c.loop-at.at + 1)))
           ∙ sym (judged_less c.args.n c.loop-at.at m c.loop-at-test.true) ∙ c.loop-at.invariant.left;
       on = eqb-true _ _ goes;
       counted = search rules;
-      tells = tells_more c.loop-at.phase b m c.loop-at.invariant.tells n (ap (λ k. k == 0) c.loop-at.invariant.on) goes (ap (λ z. z.flushes) is ∙ past_flushes m) (omega arith);
+      tells = tells_open b n goes (ap (λ z. z.flushes) is ∙ past_flushes m ∙ c.loop-at.invariant.same.flushes);
       few = search rules;
       stepped = steps-joined b.count m.count _ _ m.arch _ c.loop-at.invariant.counted c.judge_front.ensures.counted c.loop-at.invariant.stepped c.judge_front.ensures.stepped;
       last = dues-joined b.count m.count _ _ _ c.loop-at.self.last _ c.loop-at.invariant.counted c.judge_front.ensures.counted c.loop-at.invariant.stepped c.loop-at.invariant.last c.judge_front.ensures.last;
