@@ -66,7 +66,7 @@ const FIRST: Record = Record {
     addr: 0,
     value: 5,
     next: 4,
-    end: End::GoesOn,
+    end: 0,
 };
 
 #[test]
