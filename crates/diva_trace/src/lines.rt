@@ -1,5 +1,5 @@
 // The lines of the program's text, each with its line feed.
-ghost use Rattle.std.specs.Prelude.{◌≡◌, ◌+◌, ◌*◌, ◌%◌, ◌^◌, ◌<◌, ◌≤◌, ◌++◌, length, codes};
+ghost use Rattle.std.specs.Prelude.{◌≡◌, ◌+◌, ◌*◌, ◌%◌, ◌^◌, ◌<◌, ◌≤◌, [], ◌++◌, length, codes};
 ghost use Rattle.std.specs.Fmt.{decimal};
 ghost use Rattle.diva_isa.specs.State.{memory_of};
 ghost use Rattle.diva_trace.specs.Lines.{commit_line, fields_text, field_name, cause_text, flush_line, end_line, end_line_of, end_text, count_line, cycles_line, flushes_line, soak_line, soak_core_name, output_line, out_line, register_text, registers_line, pc_line, byte_text, mem_line};
@@ -10,15 +10,23 @@ use diva_isa::{End, Record};
 use diva_outside::Line;
 
 /// A committed instruction: its number, from 0 on, and the eight fields of its record.
-#[tactic(auto, unfolding(crate::specs::Lines::commit_line))]
 pub fn commit_line(index: u64, r: &Record) -> Line
     ensures { result ≡ commit_line index r.now }
 {
     let mut line = Line::new();
-    line.decimal(index);
-    push_fields(&mut line, &Field::ALL, r);
-    line.text(b"\n");
+    fill_commit(&mut line, index, r);
     line
+}
+
+/// The same, written to an empty line where that stands: a line is moved at a cost.
+#[tactic(auto, unfolding(crate::specs::Lines::commit_line))]
+pub(crate) fn fill_commit(line: &mut Line, index: u64, r: &Record)
+    requires { line.old ≡ [] }
+    ensures { line.new ≡ commit_line index r.now }
+{
+    line.decimal(index);
+    push_fields(line, &Field::ALL, r);
+    line.text(b"\n");
 }
 
 // Some fields of a record, a blank before each.

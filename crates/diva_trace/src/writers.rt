@@ -7,37 +7,13 @@ ghost use Rattle.diva_outside.specs.Sink.{Puts};
 ghost use Rattle.diva_trace.specs.Text.{commits_text, rows_text, summary_text, output_text, registers_text, dump_text, text_in, text_of, IsReportOf};
 
 use crate::lines::{
-    commit_line, count_line, cycles_line, end_line_of, flush_line, flushes_line, mem_line,
+    count_line, cycles_line, end_line_of, fill_commit, flush_line, flushes_line, mem_line,
     out_line, output_len_line, pc_line, registers_line,
 };
 use crate::report::{Dump, Report};
 use diva_core::{FlushRow, View};
 use diva_isa::Record;
 use diva_outside::{Line, LineList, Sink, SinkFailed, put_line, put_lines};
-
-// The lines of some committed instructions, the first of which has this number.
-#[derive(Drop)]
-struct CommitLines<'a> {
-    first: u64,
-    records: &'a [Record],
-    ghost numbered: { first + length records.now < 2 ^ 64 },
-}
-
-impl LineList for CommitLines<'_> {
-    ghost use Rattle.diva_trace.specs.Text.{commit_lines};
-
-    ghost lines = { λ s. commit_lines s.first s.records.now };
-
-    #[tactic(auto, using(crate::proofs::Numbered::length_commit_lines))]
-    fn count(&self) -> usize {
-        self.records.len()
-    }
-
-    #[tactic(auto, using(crate::proofs::Numbered::length_commit_lines, crate::proofs::Numbered::line_commit_lines))]
-    fn line(&self, at: usize) -> Line {
-        commit_line(self.first + at as u64, &self.records[at])
-    }
-}
 
 // The lines of some flushes.
 #[derive(Drop)]
@@ -123,7 +99,13 @@ pub fn write_commits<S: Sink>(
     ensures { Puts (commits_text first records.now)
         (S.contents sink.old) (S.contents sink.new) (S.faults sink.old) (S.faults sink.new) result }
 {
-    put_lines(&CommitLines { first, records }, sink)
+    // Not as a list of lines, since a trace has a line for each instruction, and a list would move each of them twice.
+    for (place, record) in records.iter().enumerate() {
+        let mut line = Line::new();
+        fill_commit(&mut line, first + place as u64, record);
+        put_line(&line, sink)?;
+    }
+    Ok(())
 }
 
 /// Puts the flushes, in order. Where a put fails, a prefix of their text was appended.
