@@ -83,75 +83,58 @@ run_sound = record {
   same = λ f g s. ap (option_map Run) (run_same f g s);
 }
 
+-- a row without flags
+sound_without_flags : (l : Leaf) → l.flags ≡ [] → Enters (built diva) l.name (built_shape l) → Places (built_rules l) 1 l.positionals
+    → (list_all is_name l.options && are_apart l.options l.positionals && are_distinct l.positionals) ≡ true → IsSound l
+sound_without_flags l none enters places named =
+    let distinct = both _ _ named in
+    let apart = both _ _ distinct.0 in
+    record {
+      enters = enters;
+      places = places;
+      names = apart.0;
+      flag_names = rw none refl;
+      apart = apart.1;
+      flags_apart = rw none refl;
+      flags_no_positionals = rw none refl;
+      distinct = distinct.1;
+      same = λ f g s. ap (job_from l.name) (one_source f g (subst (λ (flags : List Text). SameValues flags f g) none s));
+    }
+
 tape_sound : IsSound tape
 unfolding diva walked
-tape_sound = record {
-  enters = record { walk_is = refl; turn = refl; sub = refl; label = refl; bare = refl; negates = refl };
-  places = (refl, refl, refl, tt);
-  names = refl;
-  flag_names = refl;
-  apart = refl;
-  flags_apart = refl;
-  flags_no_positionals = refl;
-  distinct = refl;
-  same = λ f g s. ap (job_from tape.name) (one_source f g s);
-}
+tape_sound =
+    sound_without_flags tape refl
+    (record { walk_is = refl; turn = refl; sub = refl; label = refl; bare = refl; negates = refl })
+    (refl, refl, refl, tt) refl
 
 debug_sound : IsSound debug
 unfolding diva walked
-debug_sound = record {
-  enters = record { walk_is = refl; turn = refl; sub = refl; label = refl; bare = refl; negates = refl };
-  places = (refl, refl, refl, (refl, refl, refl, tt));
-  names = refl;
-  flag_names = refl;
-  apart = refl;
-  flags_apart = refl;
-  flags_no_positionals = refl;
-  distinct = refl;
-  same = λ f g s. ap (job_from debug.name) (one_source f g s);
-}
+debug_sound =
+    sound_without_flags debug refl
+    (record { walk_is = refl; turn = refl; sub = refl; label = refl; bare = refl; negates = refl })
+    (refl, refl, refl, (refl, refl, refl, tt)) refl
 
 asm_sound : IsSound asm
 unfolding diva walked
-asm_sound = record {
-  enters = record { walk_is = refl; turn = refl; sub = refl; label = refl; bare = refl; negates = refl };
-  places = (refl, refl, refl, tt);
-  names = refl;
-  flag_names = refl;
-  apart = refl;
-  flags_apart = refl;
-  flags_no_positionals = refl;
-  distinct = refl;
-  same = λ f g s. ap (job_from asm.name) (one_source f g s);
-}
+asm_sound =
+    sound_without_flags asm refl
+    (record { walk_is = refl; turn = refl; sub = refl; label = refl; bare = refl; negates = refl })
+    (refl, refl, refl, tt) refl
 
 dis_sound : IsSound dis
 unfolding diva walked
-dis_sound = record {
-  enters = record { walk_is = refl; turn = refl; sub = refl; label = refl; bare = refl; negates = refl };
-  places = (refl, refl, refl, tt);
-  names = refl;
-  flag_names = refl;
-  apart = refl;
-  flags_apart = refl;
-  flags_no_positionals = refl;
-  distinct = refl;
-  same = λ f g s. ap (job_from dis.name) (one_source f g s);
-}
+dis_sound =
+    sound_without_flags dis refl
+    (record { walk_is = refl; turn = refl; sub = refl; label = refl; bare = refl; negates = refl })
+    (refl, refl, refl, tt) refl
 
 soak_sound : IsSound soak
 unfolding diva walked
-soak_sound = record {
-  enters = record { walk_is = refl; turn = refl; sub = refl; label = refl; bare = refl; negates = refl };
-  places = (refl, refl, refl, (refl, refl, refl, tt));
-  names = refl;
-  flag_names = refl;
-  apart = refl;
-  flags_apart = refl;
-  flags_no_positionals = refl;
-  distinct = refl;
-  same = λ f g s. ap (job_from soak.name) (one_source f g s);
-}
+soak_sound =
+    sound_without_flags soak refl
+    (record { walk_is = refl; turn = refl; sub = refl; label = refl; bare = refl; negates = refl })
+    (refl, refl, refl, (refl, refl, refl, tt)) refl
 
 each_sound : (l : Leaf) → Contains leaves l → IsSound l
 each_sound l listed = All-contains IsSound leaves l (All-from_recursion IsSound leaves (run_sound, (tape_sound, (debug_sound, (asm_sound, (dis_sound, (soak_sound, tt))))))) listed

@@ -2,6 +2,7 @@
 use Rattle.std.specs.Prelude.{ℕ, ◌+◌, ◌%◌, ◌^◌, ◌==◌, ◌&&◌, ◌||◌, not, nat_lt, Bool, true, false, List, [], ◌∷◌, length, Option, Some, None, Result, Ok, Err, neg_ℤ, pos, is_some, if◌then◌else◌}
 use Rattle.std.specs.Int.{cast_signed, w32}
 use Rattle.std.specs.Option.{unwrap_or}
+use Rattle.diva_image.specs.Layout.{most_size}
 use Rattle.diva_outside.specs.Steps.{and_then, fault_by}
 use Rattle.diva_outside.specs.Text.{Text}
 use Rattle.diva_asm.specs.Kinds.{number_of_kind}
@@ -61,7 +62,7 @@ unfoldable pub with_bytes : Laid → Mnemonic → Operands → Result Laid Kind
 with_bytes laid m v =
     let total = laid.total + len_of m v in
     if not (is_free m) && not (here laid % 4 == 0) then Err Misaligned
-    else (if nat_lt 16777216 total then Err TooManyBytes else Ok (record laid { total = total }))
+    else (if nat_lt most_size total then Err TooManyBytes else Ok (record laid { total = total }))
 
 -- ---- all statements
 

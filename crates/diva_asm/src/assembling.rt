@@ -1,6 +1,7 @@
 // A source to its image, or to its first fault.
 ghost use Rattle.std.specs.Prelude.{◌≡◌, ◌≤◌, ◌+◌, ◌*◌, ◌/◌, Ok, max, unwrap_or, IfOk, IfErr};
 ghost use Rattle.diva_image.specs.ImageLayout.{layout};
+ghost use Rattle.diva_image.specs.Layout.{most_size};
 ghost use Rattle.diva_outside.specs.Lines.{lines_of, over_lines};
 ghost use Rattle.diva_asm.specs.Laying.{nothing_laid, with_line};
 ghost use Rattle.diva_asm.specs.Building.{nothing_built, built_line};
@@ -12,8 +13,8 @@ ghost use Rattle.diva_asm.specs.declared.fault.Kind.TheVariants.{NoImage};
 
 use crate::building::Built;
 use crate::fault::{AsmFault, Kind};
-use crate::laying::{LIMIT, Laid};
-use diva_image::Image;
+use crate::laying::Laid;
+use diva_image::{Image, MOST_SIZE};
 use diva_outside::lines;
 use std::alloc::Global;
 
@@ -81,7 +82,7 @@ fn image_of(base: Option<u32>, size: Option<u32>, built: Built) -> Result<Image,
     let base = base.unwrap_or(0);
     let entry = built.entry.unwrap_or(base);
     let len = built.bytes.len();
-    if (LIMIT as usize) < len {
+    if (MOST_SIZE as usize) < len {
         return Err(no_image());
     }
     let size = size.unwrap_or(least_size(len as u32));
@@ -103,7 +104,7 @@ fn no_image() -> AsmFault
 
 /// The least multiple of 4 that holds so many bytes, at least 4.
 fn least_size(len: u32) -> u32
-    requires { len ≤ LIMIT }
+    requires { len ≤ most_size }
     ensures { result ≡ max 4 ((len + 3) / 4 * 4) }
 {
     let size = (len + 3) / 4 * 4;

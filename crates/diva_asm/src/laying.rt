@@ -1,5 +1,6 @@
 // The first pass: where each label and each statement stands.
 ghost use Rattle.std.specs.Prelude.{◌≡◌, ◌≤◌, IfOk};
+ghost use Rattle.diva_image.specs.Layout.{most_size};
 ghost use Rattle.diva_asm.specs.Laying.{nothing_laid, here, with_label, is_short, len_of, is_free, with_bytes, with_statement, with_statement_of, with_text};
 ghost use Rattle.diva_asm.specs.Texts.{without_comment};
 ghost use Rattle.diva_asm.specs.Gives.{Gives};
@@ -9,11 +10,9 @@ use crate::labels::Labels;
 use crate::mnemonic::Mnemonic;
 use crate::operands::{Operands, word_from};
 use crate::statement::{Statement, first_label, read_statement};
+use diva_image::MOST_SIZE;
 use diva_outside::without_comment;
 use std::alloc::Global;
-
-/// The most bytes that a source may lay.
-pub(crate) const LIMIT: u32 = 16_777_216;
 
 /// What the lines so far have laid.
 #[derive(Drop)]
@@ -52,9 +51,9 @@ impl<'a> Laid<'a> {
 
     /// With one more line.
     pub fn with_line(self, line: &'a [u8]) -> Result<Self, Stop>
-        requires { self.total ≤ LIMIT }
+        requires { self.total ≤ most_size }
         ensures gives { Gives (with_text self.entry (without_comment line.now)) result }
-        ensures total { IfOk result (λ laid. laid.total ≤ LIMIT) }
+        ensures total { IfOk result (λ laid. laid.total ≤ most_size) }
     {
         let mut laid = self;
         let mut text = without_comment(line);
@@ -70,9 +69,9 @@ impl<'a> Laid<'a> {
 
     /// With the statement of a text that begins with no label, if there is one.
     fn with_statement_of(self, text: &[u8]) -> Result<Self, Stop>
-        requires { self.total ≤ LIMIT }
+        requires { self.total ≤ most_size }
         ensures gives { Gives (with_statement_of self.entry text.now) result }
-        ensures total { IfOk result (λ laid. laid.total ≤ LIMIT) }
+        ensures total { IfOk result (λ laid. laid.total ≤ most_size) }
     {
         match read_statement(text)? {
             Some(statement) => self.with_statement(&statement),
@@ -82,9 +81,9 @@ impl<'a> Laid<'a> {
 
     #[tactic(auto, unfolding(crate::specs::Laying::with_label))]
     fn with_label(self, name: &'a [u8]) -> Result<Self, Stop>
-        requires { self.total ≤ LIMIT }
+        requires { self.total ≤ most_size }
         ensures gives { Gives (with_label self.entry name.now) result }
-        ensures total { IfOk result (λ laid. laid.total ≤ LIMIT) }
+        ensures total { IfOk result (λ laid. laid.total ≤ most_size) }
     {
         if self.labels.get(name).is_some() {
             return Err(Stop::Fault(Kind::RepeatedLabel));
@@ -103,9 +102,9 @@ impl<'a> Laid<'a> {
 
     #[tactic(auto, unfolding(crate::specs::Laying::with_statement))]
     fn with_statement(self, s: &Statement<'_>) -> Result<Self, Stop>
-        requires { self.total ≤ LIMIT }
+        requires { self.total ≤ most_size }
         ensures gives { Gives (with_statement self.entry s.now.mnemonic s.now.operands) result }
-        ensures total { IfOk result (λ laid. laid.total ≤ LIMIT) }
+        ensures total { IfOk result (λ laid. laid.total ≤ most_size) }
     {
         match s.mnemonic {
             Mnemonic::Base => {
@@ -142,15 +141,15 @@ impl<'a> Laid<'a> {
     /// With the bytes that a statement lays.
     #[tactic(auto, unfolding(crate::specs::Laying::with_bytes))]
     fn with_bytes(self, mnemonic: Mnemonic, operands: &Operands<'_>) -> Result<Self, Stop>
-        requires { self.total ≤ LIMIT }
+        requires { self.total ≤ most_size }
         ensures gives { Gives (with_bytes self.entry mnemonic operands.now) result }
-        ensures total { IfOk result (λ laid. laid.total ≤ LIMIT) }
+        ensures total { IfOk result (λ laid. laid.total ≤ most_size) }
     {
         if !is_free(mnemonic) && self.here() % 4 != 0 {
             return Err(Stop::Fault(Kind::Misaligned));
         }
         let total = u64::from(self.total) + u64::from(len_of(mnemonic, operands));
-        if u64::from(LIMIT) < total {
+        if u64::from(MOST_SIZE) < total {
             return Err(Stop::Fault(Kind::TooManyBytes));
         }
         Ok(Laid {

@@ -6,6 +6,7 @@ use Rattle.diva_isa.specs.State.{State, goes_on}
 use Rattle.diva_isa.specs.End.{halt}
 use Rattle.diva_isa.specs.Step.{steps}
 use Rattle.diva_isa.specs.declared.record.Record.{Record}
+use Rattle.diva_image.specs.Layout.{most_size}
 use Rattle.diva_core.specs.Timed.{Timed, default_config, new_timed}
 use Rattle.diva_core.specs.Cycle.{run_of}
 use Rattle.diva_core.specs.History.{Meaning, Turns, lists_of}
@@ -21,6 +22,7 @@ use Rattle.diva_tape.specs.Scalar.{IsScalarCall, new_scalar}
 use Rattle.diva_tape.proofs.Following.{new_leads}
 use Rattle.diva_tape.proofs.Pacing.{scalar_ends, scalar_unflushed}
 use Rattle.diva_soak.specs.Halts.{HaltsWithin}
+use Rattle.diva_soak.specs.Soak.{soak_size}
 use Rattle.diva_soak.proofs.Halting.{soak_halts}
 use Rattle.diva_trace.specs.Text.{soak_text}
 use Rattle.diva_args.specs.Options.{SoakOptions, longest_soak}
@@ -49,6 +51,14 @@ sizes_fit = record {
 -- the machine with which both runs begin
 abbrev soak_new : SoakOptions → Timed
 soak_new options = new_timed default_config (soak_start options)
+
+-- memory has room for the longest
+soak_fits : (n : ℕ) → n ≤ longest_soak → soak_size n ≤ most_size
+soak_fits n few = omega arith
+
+-- the table's run from the image of a seed halts
+abbrev table_halts : (options : SoakOptions) → options.instructions ≤ longest_soak → HaltsWithin (options.instructions + 3) (soak_start options)
+table_halts options few = soak_halts options.seed options.instructions (soak_fits options.instructions few)
 
 -- ---- a drive from there
 
@@ -85,7 +95,7 @@ module _ {D : Type 0} (gives : Meaning D) (options : SoakOptions) (core : D) (la
   within = let e = each in let m = s.most in omega arith
 
   abbrev halts : HaltsWithin (options.instructions + 3) (soak_start options)
-  halts = soak_halts options.seed options.instructions few
+  halts = table_halts options few
 
   -- it has ended where the table does
   at_end : (last.arch ≡ steps halts.after (soak_start options)) × (last.count ≡ halts.after)
@@ -147,10 +157,10 @@ scalar_run gives options core last lead few s =
 module _ {C : Type 0} (gives : Meaning C) (options : SoakOptions) (bytes : FileBytes) (core : C) (lead : Ahead) (first second : Timed) (after : C)
     (few : options.instructions ≤ longest_soak) (one : Soaks IsScalarCall options new_scalar first lead) (two : Soaks gives options core second after)
     (old new : Option (List ℕ)) (before now : ℕ) where
-  abbrev first_end : (first.arch ≡ steps (soak_halts options.seed options.instructions few).after (soak_start options)) × (first.count ≡ (soak_halts options.seed options.instructions few).after)
+  abbrev first_end : (first.arch ≡ steps (table_halts options few).after (soak_start options)) × (first.count ≡ (table_halts options few).after)
   first_end = at_end IsScalarCall options new_scalar first lead few one
 
-  abbrev second_end : (second.arch ≡ steps (soak_halts options.seed options.instructions few).after (soak_start options)) × (second.count ≡ (soak_halts options.seed options.instructions few).after)
+  abbrev second_end : (second.arch ≡ steps (table_halts options few).after (soak_start options)) × (second.count ≡ (table_halts options few).after)
   second_end = at_end gives options core second after few two
 
   first_halts : first.arch.end ≡ halt 0
@@ -163,7 +173,7 @@ module _ {C : Type 0} (gives : Meaning C) (options : SoakOptions) (bytes : FileB
     second = second;
     under_own = own_run gives options core second after few two;
     halts = (first_halts, halted gives options core second after few two);
-    few = (let e = first_end.1 in let h = (soak_halts options.seed options.instructions few).few in omega arith);
+    few = (let e = first_end.1 in let h = (table_halts options few).few in omega arith);
     same = (second_end.0 ∙ sym first_end.0, second_end.1 ∙ sym first_end.1);
     paced = scalar_ends default_config (soak_start options) first lead one.turns.history sizes_fit refl one.turns.good (ap (λ end. end == 0) first_halts);
     unflushed = scalar_unflushed default_config (soak_start options) first lead one.turns.history sizes_fit one.turns.good;

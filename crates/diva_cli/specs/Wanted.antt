@@ -1,9 +1,10 @@
 -- The files that a job wants, in the order in which they are loaded, and what is wrong with their bytes.
-use Rattle.std.specs.Prelude.{◌≡◌, ◌≤◌, ℕ, List, [], ◌∷◌, ◌++◌, length, Option, Some, None, Err, IsOk}
+use Rattle.std.specs.Prelude.{◌≡◌, ◌≤◌, ℕ, ◌+◌, List, [], ◌∷◌, ◌++◌, length, Option, Some, None, Err, IsOk}
 use Rattle.diva_outside.specs.Files.{Contents, Has}
 use Rattle.diva_outside.specs.declared.files.What.{What}
 use Rattle.diva_outside.specs.declared.files.What.TheVariants.{Image, Script, Tape as TapeFile, Source, Commands}
-use Rattle.diva_image.specs.Images.{fault, fault_of}
+use Rattle.diva_image.specs.Images.{fault, fault_of, header_size}
+use Rattle.diva_image.specs.Layout.{most_size}
 use Rattle.diva_faults.specs.Reading.{script_of}
 use Rattle.diva_tape.specs.Tapes.{tape_of}
 use Rattle.diva_args.specs.Options.{DebugOptions, Setup}
@@ -14,9 +15,9 @@ use Rattle.diva_args.specs.declared.job.Job.TheVariants.{Run, Tape, Debug, Asm, 
 use Rattle.diva_asm.specs.Sources.{source_of}
 use Rattle.diva_debug.specs.Reading.{commands_of}
 
--- the most bytes that a file may have
+-- the most bytes that a file may have: those of the largest image
 abbrev pub file_limit : ℕ
-file_limit = 16777240
+file_limit = header_size + most_size
 
 -- a file that is wanted: what it is for, and its name
 pub record Wanted : Type 0 where

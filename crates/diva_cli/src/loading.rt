@@ -19,14 +19,14 @@ use diva_args::{CoreChoice, DebugOptions, FileName, Setup};
 use diva_asm::{AsmFault, assemble};
 use diva_debug::{Command, CommandFault, commands};
 use diva_faults::{Script, ScriptFault};
-use diva_image::{Image, ImageFault, read};
+use diva_image::{HEADER_SIZE, Image, ImageFault, MOST_SIZE, read};
 use diva_machine::Machine;
 use diva_outside::{Files, LoadFault, What};
 use diva_tape::{Noise, Scalar, Tape, TapeCore, TapeFault};
 use std::alloc::Global;
 
-/// The most bytes that a file may have: the largest payload and an image's header.
-const FILE_LIMIT: usize = 16_777_240;
+/// The most bytes that a file may have: those of the largest image.
+const FILE_LIMIT: usize = HEADER_SIZE + MOST_SIZE as usize;
 
 /// What a command needs that drives a machine.
 #[derive(Drop)]

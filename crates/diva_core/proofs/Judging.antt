@@ -200,51 +200,37 @@ claims-commit b m p rest e ready same r =
 past-on : (m : Timed) (p : PendingClaim) (rest : List PendingClaim) → m.pending ≡ p ∷ rest → goes_on (past_front m).arch ≡ true → (past_front m).pending ≡ rest
 past-on m p rest e on = ap (λ (b : Bool). if b then drop 1 m.pending else []) on ∙ ap (drop 1) e
 
-Still-commit :
-    (b m : Timed) (p : PendingClaim) (rest : List PendingClaim)
-    → m.pending ≡ p ∷ rest
-    → nat_le (p.cycle + depth) m.cycles ≡ true
-    → first_difference p.claim (record_of m.arch) ≡ None
-    → (puts_store (record_of m.arch) && (m.owed == m.config.stores)) ≡ false
-    → (r : Still b m)
-    → suc r.k ≤ b.config.width
-    → goes_on (past_front m).arch ≡ true
-    → Still b (past_front m)
-unfolding committed
-Still-commit b m p rest e ready same free r few on =
-    record {
-      k = suc r.k;
-      moved = Moved-commit b m r.k r.moved free r.on few;
-      log = record { rows = r.log.rows; newest = r.log.newest; flushes = r.log.flushes; silent = r.log.silent };
-      solo = r.solo;
-      claims = subst (Commits (suc r.k) b.arch b.cycles b.pending) (sym (past-on m p rest e on)) (claims-commit b m p rest e ready same r);
-      on = on;
-    }
+-- the front claim commits, and the machine goes on or has ended
+module _ (b m : Timed) (p : PendingClaim) (rest : List PendingClaim) (e : m.pending ≡ p ∷ rest) (ready : nat_le (p.cycle + depth) m.cycles ≡ true)
+    (same : first_difference p.claim (record_of m.arch) ≡ None) (free : (puts_store (record_of m.arch) && (m.owed == m.config.stores)) ≡ false)
+    (r : Still b m) (few : suc r.k ≤ b.config.width) where
+  Still-commit : goes_on (past_front m).arch ≡ true → Still b (past_front m)
+  unfolding committed
+  Still-commit on =
+      record {
+        k = suc r.k;
+        moved = Moved-commit b m r.k r.moved free r.on few;
+        log = record { rows = r.log.rows; newest = r.log.newest; flushes = r.log.flushes; silent = r.log.silent };
+        solo = r.solo;
+        claims = subst (Commits (suc r.k) b.arch b.cycles b.pending) (sym (past-on m p rest e on)) (claims-commit b m p rest e ready same r);
+        on = on;
+      }
 
-Ending-commit :
-    (b m : Timed) (p : PendingClaim) (rest : List PendingClaim)
-    → m.pending ≡ p ∷ rest
-    → nat_le (p.cycle + depth) m.cycles ≡ true
-    → first_difference p.claim (record_of m.arch) ≡ None
-    → (puts_store (record_of m.arch) && (m.owed == m.config.stores)) ≡ false
-    → (r : Still b m)
-    → suc r.k ≤ b.config.width
-    → goes_on (past_front m).arch ≡ false
-    → Ending b (past_front m)
-unfolding committed
-Ending-commit b m p rest e ready same free r few off =
-    let v = Moved-commit b m r.k r.moved free r.on few in
-    record {
-      k = r.k;
-      moved = record { config = v.config; cycles = v.cycles; idle = v.idle; counted = v.counted; stepped = v.stepped; owed = v.owed; few = v.few };
-      log = record { rows = r.log.rows; newest = r.log.newest; flushes = r.log.flushes; silent = r.log.silent };
-      rest = rest;
-      claims = claims-commit b m p rest e ready same r;
-      solo = r.solo;
-      pending = past-off m off;
-      went = ap goes_on (sym r.moved.stepped) ∙ r.on;
-      off = off;
-    }
+  Ending-commit : goes_on (past_front m).arch ≡ false → Ending b (past_front m)
+  unfolding committed
+  Ending-commit off =
+      let v = Moved-commit b m r.k r.moved free r.on few in
+      record {
+        k = r.k;
+        moved = record { config = v.config; cycles = v.cycles; idle = v.idle; counted = v.counted; stepped = v.stepped; owed = v.owed; few = v.few };
+        log = record { rows = r.log.rows; newest = r.log.newest; flushes = r.log.flushes; silent = r.log.silent };
+        rest = rest;
+        claims = claims-commit b m p rest e ready same r;
+        solo = r.solo;
+        pending = past-off m off;
+        went = ap goes_on (sym r.moved.stepped) ∙ r.on;
+        off = off;
+      }
 
 judges : (b : Timed) → Judges (Judging b) (Outcome b)
 unfolding Still-commit

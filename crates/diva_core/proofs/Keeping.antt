@@ -164,11 +164,3 @@ paces-cases b list n inv on c = paces b n (any-base b list n c).k inv (any-base 
 
 pub stays : (m : Timed) (list : List Record) → IsMachine m → IsMachine (cycle_of m list)
 stays m list inv = by-cases IsMachine m list inv (λ on c. machine-cases m list _ inv c (paces-cases m list _ inv on c)) (λ off. inv)
-
-idle-at : (m : Timed) (o : Option ℕ) → Lives m o → m.idle ≤ m.config.limit + 5
-idle-at m None h = omega arith
-idle-at m (Some start) h = let s = h.soon in let i = h.idled in omega arith
-
--- the watchdog's number is never more than W + 5
-pub idle_most : (m : Timed) → IsMachine m → m.idle ≤ m.config.limit + 5
-idle_most m inv = idle-at m m.solo inv.lives

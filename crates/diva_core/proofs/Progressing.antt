@@ -40,8 +40,8 @@ within-stall :
     (m n last : Timed) (k : ℕ)
     → n.config ≡ m.config
     → Stalls m n
-    → (n.count < last.count) ⊎ (stalled n + k ≤ n.config.limit + 5)
-    → (m.count < last.count) ⊎ (stalled m + suc k ≤ m.config.limit + 5)
+    → (n.count < last.count) ⊎ (stalled n + k < n.config.limit + depth)
+    → (m.count < last.count) ⊎ (stalled m + suc k < m.config.limit + depth)
 within-stall m n last k z s (inl h) = inl (let c = s.same in omega arith)
 within-stall m n last k z s (inr h) = inr (let c = s.longer in let l : n.config.limit ≡ m.config.limit = ap (λ x. x.limit) z in omega arith)
 
@@ -49,13 +49,13 @@ within-cases :
     (m n last : Timed) (k : ℕ)
     → n.config ≡ m.config
     → n.count ≤ last.count
-    → (goes_on n.arch ≡ true → (n.count < last.count) ⊎ (stalled n + k ≤ n.config.limit + 5))
+    → (goes_on n.arch ≡ true → (n.count < last.count) ⊎ (stalled n + k < n.config.limit + depth))
     → (m.count < n.count) ⊎ Stalls m n
-    → (m.count < last.count) ⊎ (stalled m + suc k ≤ m.config.limit + 5)
+    → (m.count < last.count) ⊎ (stalled m + suc k < m.config.limit + depth)
 within-cases m n last k z more ih (inl h) = inl (omega arith)
 within-cases m n last k z more ih (inr s) = within-stall m n last k z s (ih s.on)
 
-within : (lists : List (List Record)) (m : Timed) → IsMachine m → goes_on m.arch ≡ true → (m.count < (run_of m lists).count) ⊎ (stalled m + length lists ≤ m.config.limit + 5)
+within : (lists : List (List Record)) (m : Timed) → IsMachine m → goes_on m.arch ≡ true → (m.count < (run_of m lists).count) ⊎ (stalled m + length lists < m.config.limit + depth)
 within [] m inv on = inr (let h = most m inv in omega arith)
 within (list ∷ rest) m inv on =
     within-cases m (cycle_of m list) (run_of (cycle_of m list) rest) (length rest) (same-config m list inv)

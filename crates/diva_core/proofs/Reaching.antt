@@ -57,7 +57,7 @@ pub run-pace : (m : Timed) (lists : List (List Record)) → IsMachine m → Keep
 run-pace m lists inv d long =
     let n : Timed = run_of m lists in
     let z : n.config.limit ≡ m.config.limit = ap (λ x. x.limit) (run-config m lists inv) in
-    let top : stalled n ≤ n.config.limit + 5 = most n (run-stays m lists inv) in
+    let top : stalled n < n.config.limit + depth = most n (run-stays m lists inv) in
     let f : far m + n.cycles ≤ far n + m.cycles = run-far lists m inv in
     let q : n.count * (n.config.limit + depth) ≡ n.count * (m.config.limit + depth) = ap (λ x. n.count * (x + depth)) z in
     elim (cases_lt n.count (m.count + d)) [

@@ -14,7 +14,7 @@ stalled-none m e = ap (stalled_since m) e
 stalled-some : (m : Timed) (start : ℕ) → m.solo ≡ Some start → stalled m ≡ m.config.limit + (m.cycles - start)
 stalled-some m start e = ap (stalled_since m) e
 
-stalled-most : (m : Timed) (o : Option ℕ) → Lives m o → 16 ≤ m.config.limit → stalled_since m o ≤ m.config.limit + 5
+stalled-most : (m : Timed) (o : Option ℕ) → Lives m o → 16 ≤ m.config.limit → stalled_since m o < m.config.limit + depth
 stalled-most m None h low = omega arith
 stalled-most m (Some start) h low = let s = h.soon in omega arith
 
@@ -54,7 +54,7 @@ stall-cases b list n inv on (waited r) =
 pub stalls : (m : Timed) (list : List Record) → IsMachine m → goes_on m.arch ≡ true → (m.count < (cycle_of m list).count) ⊎ Stalls m (cycle_of m list)
 stalls m list inv on = stall-cases m list _ inv on (cycled m list inv on)
 
-pub most : (m : Timed) → IsMachine m → stalled m ≤ m.config.limit + 5
+pub most : (m : Timed) → IsMachine m → stalled m < m.config.limit + depth
 most m inv = stalled-most m m.solo inv.lives inv.config.limit_low
 
 -- ---- the pace

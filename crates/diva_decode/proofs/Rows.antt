@@ -1,9 +1,9 @@
 -- What `row_of` is at each opcode.
-use Rattle.std.proofs.Common.{◌≡◌, ◌≢◌, ◌⊎◌, inl, inr, ℕ, Bool, true, false, cond, eqb, Option, Some, None, refl, arith}
+use Rattle.std.proofs.Common.{◌≡◌, ◌≢◌, ◌⊎◌, inl, inr, ℕ, Bool, true, false, cond, eqb, Option, Some, None, refl, arith, ◌∙◌}
 use Rattle.std.specs.Option.{option_map}
 use Rattle.std.proofs.lemmas.Bool.Decides.{nat_tests}
 use Rattle.diva_decode.specs.Fields.{opcode, funct3, funct7}
-use Rattle.diva_decode.specs.Table.{row_of, op_at, instr_of, U, J, I, Shift, B, S, R, Open, Exact}
+use Rattle.diva_decode.specs.Table.{row_of, op_at, format, instr_of, U, J, I, Shift, B, S, R, Open, Exact}
 use Rattle.diva_decode.specs.declared.op.Op.TheVariants.{Lui, Auipc, Jal, Ecall, Ebreak}
 
 -- two words with different opcodes are different
@@ -30,65 +30,43 @@ module _ (w : ℕ) where
   unfolding row_of
   row_jal e = rw e refl
 
+  -- what is no exact word is looked up by its codes
+  row_coded : (o : ℕ) → opcode w ≡ o → eqb (opcode 0x73) o ≡ false → row_of w ≡ option_map (λ op. instr_of (format op) op w) (op_at o (funct3 w) (funct7 w))
+  unfolding row_of
+  row_coded o e other =
+      let p : eqb w 0x73 ≡ false = not_word w 0x73 o e other in
+      let q : eqb w 0x100073 ≡ false = not_word w 0x100073 o e other in
+      rw (e, p, q) refl
+
   -- the operations of these opcodes have one format
   pub row_jalr : opcode w ≡ 0x67 → row_of w ≡ option_map (λ op. instr_of (I 0 0x67) op w) (op_at 0x67 (funct3 w) 0)
-  unfolding row_of
-  row_jalr e =
-      let p : eqb w 0x73 ≡ false = not_word w 0x73 0x67 e refl in
-      let q : eqb w 0x100073 ≡ false = not_word w 0x100073 0x67 e refl in
-      rw (e, p, q) (simp option_map-cond)
+  row_jalr e = row_coded 0x67 e refl ∙ simp option_map-cond
 
   pub row_branch : opcode w ≡ 0x63 → row_of w ≡ option_map (λ op. instr_of (B 0 0x63) op w) (op_at 0x63 (funct3 w) 0)
-  unfolding row_of
-  row_branch e =
-      let p : eqb w 0x73 ≡ false = not_word w 0x73 0x63 e refl in
-      let q : eqb w 0x100073 ≡ false = not_word w 0x100073 0x63 e refl in
-      rw (e, p, q) (simp option_map-cond)
+  row_branch e = row_coded 0x63 e refl ∙ simp option_map-cond
 
   pub row_load : opcode w ≡ 0x03 → row_of w ≡ option_map (λ op. instr_of (I 0 0x03) op w) (op_at 0x03 (funct3 w) 0)
-  unfolding row_of
-  row_load e =
-      let p : eqb w 0x73 ≡ false = not_word w 0x73 0x03 e refl in
-      let q : eqb w 0x100073 ≡ false = not_word w 0x100073 0x03 e refl in
-      rw (e, p, q) (simp option_map-cond)
+  row_load e = row_coded 0x03 e refl ∙ simp option_map-cond
 
   pub row_store : opcode w ≡ 0x23 → row_of w ≡ option_map (λ op. instr_of (S 0 0x23) op w) (op_at 0x23 (funct3 w) 0)
-  unfolding row_of
-  row_store e =
-      let p : eqb w 0x73 ≡ false = not_word w 0x73 0x23 e refl in
-      let q : eqb w 0x100073 ≡ false = not_word w 0x100073 0x23 e refl in
-      rw (e, p, q) (simp option_map-cond)
+  row_store e = row_coded 0x23 e refl ∙ simp option_map-cond
 
   pub row_register : opcode w ≡ 0x33 → row_of w ≡ option_map (λ op. instr_of (R 0 0 0x33) op w) (op_at 0x33 (funct3 w) (funct7 w))
-  unfolding row_of
-  row_register e =
-      let p : eqb w 0x73 ≡ false = not_word w 0x73 0x33 e refl in
-      let q : eqb w 0x100073 ≡ false = not_word w 0x100073 0x33 e refl in
-      rw (e, p, q) (simp option_map-cond)
+  row_register e = row_coded 0x33 e refl ∙ simp option_map-cond
 
   pub row_fence : opcode w ≡ 0x0f → row_of w ≡ option_map (λ op. instr_of (Open 0 0x0f) op w) (op_at 0x0f (funct3 w) 0)
-  unfolding row_of
-  row_fence e =
-      let p : eqb w 0x73 ≡ false = not_word w 0x73 0x0f e refl in
-      let q : eqb w 0x100073 ≡ false = not_word w 0x100073 0x0f e refl in
-      rw (e, p, q) (simp option_map-cond)
+  row_fence e = row_coded 0x0f e refl ∙ simp option_map-cond
 
   -- the immediates of 0x13 are shifts at funct3 1 and 5
   pub row_immediate : opcode w ≡ 0x13 → funct3 w ≢ 1 → funct3 w ≢ 5 → row_of w ≡ option_map (λ op. instr_of (I 0 0x13) op w) (op_at 0x13 (funct3 w) 0)
-  unfolding row_of
   row_immediate e d1 d5 =
-      let p : eqb w 0x73 ≡ false = not_word w 0x73 0x13 e refl in
-      let q : eqb w 0x100073 ≡ false = not_word w 0x100073 0x13 e refl in
       let n1 : eqb (funct3 w) 1 ≡ false = unequal (funct3 w) 1 d1 in
       let n5 : eqb (funct3 w) 5 ≡ false = unequal (funct3 w) 5 d5 in
-      rw (e, p, q, n1, n5) (simp option_map-cond)
+      row_coded 0x13 e refl ∙ rw (n1, n5) (simp option_map-cond)
 
   pub row_shift : opcode w ≡ 0x13 → (funct3 w ≡ 1) ⊎ (funct3 w ≡ 5) → row_of w ≡ option_map (λ op. instr_of (Shift 0 0 0x13) op w) (op_at 0x13 (funct3 w) (funct7 w))
-  unfolding row_of
-  row_shift e h =
-      let p : eqb w 0x73 ≡ false = not_word w 0x73 0x13 e refl in
-      let q : eqb w 0x100073 ≡ false = not_word w 0x100073 0x13 e refl in
-      elim h [ inl one ↦ rw (e, p, q, one) (simp option_map-cond) | inr five ↦ rw (e, p, q, five) (simp option_map-cond) ]
+  row_shift e (inl one) = row_coded 0x13 e refl ∙ rw one (simp option_map-cond)
+  row_shift e (inr five) = row_coded 0x13 e refl ∙ rw five (simp option_map-cond)
 
   pub row_system : opcode w ≡ 0x73 → row_of w ≡ cond (eqb w 0x73) (Some (instr_of (Exact 0) Ecall w)) (cond (eqb w 0x100073) (Some (instr_of (Exact 0) Ebreak w)) None)
   unfolding row_of

@@ -25,15 +25,8 @@ map_parts f (Some x) y e = (x, refl, cc)
 
 -- what a word says has the operation that was asked for
 op-instr_of : (s : Format) (op : Op) (w : ℕ) → (instr_of s op w).op ≡ op
-op-instr_of (U o) op w = refl
-op-instr_of (J o) op w = refl
-op-instr_of (I f3 o) op w = refl
-op-instr_of (B f3 o) op w = refl
-op-instr_of (S f3 o) op w = refl
-op-instr_of (R f7 f3 o) op w = refl
-op-instr_of (Shift f7 f3 o) op w = refl
-op-instr_of (Open f3 o) op w = refl
 op-instr_of (Exact x) op w = refl
+op-instr_of s op w = refl
 
 pub row_parts : (w : ℕ) (i : Instr) → row_of w ≡ Some i → (fits w (format i.op) ≡ true) × (instr_of (format i.op) i.op w ≡ i)
 unfolding row_of
@@ -48,61 +41,57 @@ abbrev IsClosed : Format → Type 0
 IsClosed (Open f3 o) = ⊥
 IsClosed s = Unit {0}
 
+-- a word with the codes of a format, as numbers
+one_code : (w o : ℕ) → fits w (U o) ≡ true → opcode w ≡ o
+one_code w o e = grind (arith, nat_tests)
+
+two_codes : (w f3 o : ℕ) → fits w (I f3 o) ≡ true → (opcode w ≡ o) × (funct3 w ≡ f3)
+two_codes w f3 o e = grind (arith, nat_tests)
+
+three_codes : (w f7 f3 o : ℕ) → fits w (R f7 f3 o) ≡ true → (opcode w ≡ o) × (funct3 w ≡ f3) × (funct7 w ≡ f7)
+three_codes w f7 f3 o e = grind (arith, nat_tests)
+
 module _ (op : Op) (v w : ℕ) (hv : v < 2 ^ 32) (hw : w < 2 ^ 32) where
   same_words : (s : Format) → IsClosed s → fits v s ≡ true → fits w s ≡ true → instr_of s op v ≡ instr_of s op w → v ≡ w
   same_words (U o) c p q e =
       let d : rd v ≡ rd w = ap (λ i. i.rd) e in
       let z : imm_u v ≡ imm_u w = ap (λ i. i.imm) e in
       let b : field 12 20 v * 2 ^ 12 ≡ field 12 20 w * 2 ^ 12 = signed_one 32 _ _ (omega arith) (omega arith) z in
-      let ov : opcode v ≡ o = grind (arith, nat_tests) in
-      let ow : opcode w ≡ o = grind (arith, nat_tests) in
-      omega arith
+      omega (arith, one_code v o p, one_code w o q)
   same_words (J o) c p q e =
       let d : rd v ≡ rd w = ap (λ i. i.rd) e in
       let z : imm_j v ≡ imm_j w = ap (λ i. i.imm) e in
       let b = signed_one 21 (field 31 1 v * 2 ^ 20 + field 12 8 v * 2 ^ 12 + field 20 1 v * 2 ^ 11 + field 21 10 v * 2 ^ 1) (field 31 1 w * 2 ^ 20 + field 12 8 w * 2 ^ 12 + field 20 1 w * 2 ^ 11 + field 21 10 w * 2 ^ 1) (omega arith) (omega arith) z in
-      let ov : opcode v ≡ o = grind (arith, nat_tests) in
-      let ow : opcode w ≡ o = grind (arith, nat_tests) in
-      omega arith
+      omega (arith, one_code v o p, one_code w o q)
   same_words (I f3 o) c p q e =
       let d : rd v ≡ rd w = ap (λ i. i.rd) e in
       let a : rs1 v ≡ rs1 w = ap (λ i. i.rs1) e in
       let z : imm_i v ≡ imm_i w = ap (λ i. i.imm) e in
       let b : field 20 12 v ≡ field 20 12 w = signed_one 12 (field 20 12 v) (field 20 12 w) (omega arith) (omega arith) z in
-      let ov : (opcode v ≡ o) × (funct3 v ≡ f3) = grind (arith, nat_tests) in
-      let ow : (opcode w ≡ o) × (funct3 w ≡ f3) = grind (arith, nat_tests) in
-      omega arith
+      omega (arith, two_codes v f3 o p, two_codes w f3 o q)
   same_words (B f3 o) c p q e =
       let a : rs1 v ≡ rs1 w = ap (λ i. i.rs1) e in
       let b : rs2 v ≡ rs2 w = ap (λ i. i.rs2) e in
       let z : imm_b v ≡ imm_b w = ap (λ i. i.imm) e in
       let m = signed_one 13 (field 31 1 v * 2 ^ 12 + field 7 1 v * 2 ^ 11 + field 25 6 v * 2 ^ 5 + field 8 4 v * 2 ^ 1) (field 31 1 w * 2 ^ 12 + field 7 1 w * 2 ^ 11 + field 25 6 w * 2 ^ 5 + field 8 4 w * 2 ^ 1) (omega arith) (omega arith) z in
-      let ov : (opcode v ≡ o) × (funct3 v ≡ f3) = grind (arith, nat_tests) in
-      let ow : (opcode w ≡ o) × (funct3 w ≡ f3) = grind (arith, nat_tests) in
-      omega arith
+      omega (arith, two_codes v f3 o p, two_codes w f3 o q)
   same_words (S f3 o) c p q e =
       let a : rs1 v ≡ rs1 w = ap (λ i. i.rs1) e in
       let b : rs2 v ≡ rs2 w = ap (λ i. i.rs2) e in
       let z : imm_s v ≡ imm_s w = ap (λ i. i.imm) e in
       let m = signed_one 12 (field 25 7 v * 2 ^ 5 + field 7 5 v) (field 25 7 w * 2 ^ 5 + field 7 5 w) (omega arith) (omega arith) z in
-      let ov : (opcode v ≡ o) × (funct3 v ≡ f3) = grind (arith, nat_tests) in
-      let ow : (opcode w ≡ o) × (funct3 w ≡ f3) = grind (arith, nat_tests) in
-      omega arith
+      omega (arith, two_codes v f3 o p, two_codes w f3 o q)
   same_words (R f7 f3 o) c p q e =
       let d : rd v ≡ rd w = ap (λ i. i.rd) e in
       let a : rs1 v ≡ rs1 w = ap (λ i. i.rs1) e in
       let b : rs2 v ≡ rs2 w = ap (λ i. i.rs2) e in
-      let ov : (opcode v ≡ o) × (funct3 v ≡ f3) × (funct7 v ≡ f7) = grind (arith, nat_tests) in
-      let ow : (opcode w ≡ o) × (funct3 w ≡ f3) × (funct7 w ≡ f7) = grind (arith, nat_tests) in
-      omega (arith, word-parts v hv, word-parts w hw)
+      omega (arith, three_codes v f7 f3 o p, three_codes w f7 f3 o q, word-parts v hv, word-parts w hw)
   same_words (Shift f7 f3 o) c p q e =
       let d : rd v ≡ rd w = ap (λ i. i.rd) e in
       let a : rs1 v ≡ rs1 w = ap (λ i. i.rs1) e in
       let z : pos (rs2 v) ≡ pos (rs2 w) = ap (λ i. i.imm) e in
       let b : rs2 v ≡ rs2 w = cc in
-      let ov : (opcode v ≡ o) × (funct3 v ≡ f3) × (funct7 v ≡ f7) = grind (arith, nat_tests) in
-      let ow : (opcode w ≡ o) × (funct3 w ≡ f3) × (funct7 w ≡ f7) = grind (arith, nat_tests) in
-      omega (arith, word-parts v hv, word-parts w hw)
+      omega (arith, three_codes v f7 f3 o p, three_codes w f7 f3 o q, word-parts v hv, word-parts w hw)
   same_words (Open f3 o) c p q e = absurd c
   same_words (Exact x) c p q e = grind (arith, nat_tests)
 
@@ -119,15 +108,10 @@ one_word v w i hv hw d ev ew =
 
 -- what a word says is valid
 valid_by : (s : Format) (op : Op) (w : ℕ) → w < 2 ^ 32 → Holds s (instr_of s op w)
-valid_by (U o) op w h = grind (arith, ints, nat_tests)
-valid_by (J o) op w h = grind (arith, ints, nat_tests)
-valid_by (I f3 o) op w h = grind (arith, ints, nat_tests)
-valid_by (B f3 o) op w h = grind (arith, ints, nat_tests)
-valid_by (S f3 o) op w h = grind (arith, ints, nat_tests)
 valid_by (R f7 f3 o) op w h = (omega arith, omega arith, omega arith, refl)
-valid_by (Shift f7 f3 o) op w h = grind (arith, ints, nat_tests)
 valid_by (Open f3 o) op w h = (refl, refl, refl, refl)
 valid_by (Exact x) op w h = (refl, refl, refl, refl)
+valid_by s op w h = grind (arith, ints, nat_tests)
 
 pub row_valid : (w : ℕ) (i : Instr) → w < 2 ^ 32 → row_of w ≡ Some i → IsValid i
 row_valid w i h e =
@@ -135,15 +119,8 @@ row_valid w i h e =
     subst (λ j. Holds (format i.op) j) a.1 (valid_by (format i.op) i.op w h)
 
 registers_below : (s : Format) (op : Op) (w : ℕ) → HasRegisters (instr_of s op w)
-registers_below (U o) op w = (omega arith, omega arith, omega arith)
-registers_below (J o) op w = (omega arith, omega arith, omega arith)
-registers_below (I f3 o) op w = (omega arith, omega arith, omega arith)
-registers_below (B f3 o) op w = (omega arith, omega arith, omega arith)
-registers_below (S f3 o) op w = (omega arith, omega arith, omega arith)
-registers_below (R f7 f3 o) op w = (omega arith, omega arith, omega arith)
-registers_below (Shift f7 f3 o) op w = (omega arith, omega arith, omega arith)
-registers_below (Open f3 o) op w = (omega arith, omega arith, omega arith)
 registers_below (Exact x) op w = (omega arith, omega arith, omega arith)
+registers_below s op w = (omega arith, omega arith, omega arith)
 
 -- what a word says has registers below 32
 pub registers_by : (r : Option Instr) (w : ℕ) → r ≡ row_of w → IfSome r HasRegisters

@@ -74,31 +74,25 @@ module _ (w : ℕ) (i : Instr) where
       let z : imm_s w ≡ i.imm = ap (signed 12) bits ∙ signed-12 i.imm h.3 in
       rw (row_store w o, n3, at, a, b, z, ← h.0) refl
 
-  immediate_says : (o f3 : ℕ) → w ≡ word_in (I f3 o) i → o < 128 → f3 < 8 → Holds (I f3 o) i → row_of w ≡ Some (instr_of (I f3 o) i.op w) → row_of w ≡ Some i
+  immediate_says : (o f3 : ℕ) → w ≡ word_in (I f3 o) i → o < 128 → f3 < 8 → Holds (I f3 o) i → (opcode w ≡ o → funct3 w ≡ f3 → row_of w ≡ Some (instr_of (I f3 o) i.op w)) → row_of w ≡ Some i
   immediate_says o f3 e ho h3 h at =
+      let code : opcode w ≡ o = omega arith in
+      let n3 : funct3 w ≡ f3 = omega arith in
       let d : rd w ≡ i.rd = omega arith in
       let a : rs1 w ≡ i.rs1 = omega arith in
       let bits : field 20 12 w ≡ cast_unsigned w32 i.imm % 2 ^ 12 = omega arith in
       let z : imm_i w ≡ i.imm = ap (signed 12) bits ∙ signed-12 i.imm h.3 in
-      rw (at, d, a, z, ← h.2) refl
+      rw (at code n3, d, a, z, ← h.2) refl
 
   load_says : (f3 : ℕ) → w ≡ word_in (I f3 0x03) i → f3 < 8 → Holds (I f3 0x03) i → op_at 0x03 f3 0 ≡ Some i.op → row_of w ≡ Some i
-  load_says f3 e h3 h at =
-      let o : opcode w ≡ 0x03 = omega arith in
-      let n3 : funct3 w ≡ f3 = omega arith in
-      immediate_says 0x03 f3 e (omega arith) h3 h (rw (row_load w o, n3, at) refl)
+  load_says f3 e h3 h at = immediate_says 0x03 f3 e (omega arith) h3 h (λ o n3. rw (row_load w o, n3, at) refl)
 
   jump_register_says : (f3 : ℕ) → w ≡ word_in (I f3 0x67) i → f3 < 8 → Holds (I f3 0x67) i → op_at 0x67 f3 0 ≡ Some i.op → row_of w ≡ Some i
-  jump_register_says f3 e h3 h at =
-      let o : opcode w ≡ 0x67 = omega arith in
-      let n3 : funct3 w ≡ f3 = omega arith in
-      immediate_says 0x67 f3 e (omega arith) h3 h (rw (row_jalr w o, n3, at) refl)
+  jump_register_says f3 e h3 h at = immediate_says 0x67 f3 e (omega arith) h3 h (λ o n3. rw (row_jalr w o, n3, at) refl)
 
   arithmetic_says : (f3 : ℕ) → w ≡ word_in (I f3 0x13) i → f3 < 8 → f3 ≢ 1 → f3 ≢ 5 → Holds (I f3 0x13) i → op_at 0x13 f3 0 ≡ Some i.op → row_of w ≡ Some i
   arithmetic_says f3 e h3 d1 d5 h at =
-      let o : opcode w ≡ 0x13 = omega arith in
-      let n3 : funct3 w ≡ f3 = omega arith in
-      immediate_says 0x13 f3 e (omega arith) h3 h (rw (row_immediate w o (λ k. d1 (sym n3 ∙ k)) (λ k. d5 (sym n3 ∙ k)), n3, at) refl)
+      immediate_says 0x13 f3 e (omega arith) h3 h (λ o n3. rw (row_immediate w o (λ k. d1 (sym n3 ∙ k)) (λ k. d5 (sym n3 ∙ k)), n3, at) refl)
 
   shift_says : (f3 f7 : ℕ) → w ≡ word_in (Shift f7 f3 0x13) i → (f3 ≡ 1) ⊎ (f3 ≡ 5) → f7 < 128 → Holds (Shift f7 f3 0x13) i → op_at 0x13 f3 f7 ≡ Some i.op → row_of w ≡ Some i
   shift_says f3 f7 e is h7 h at =

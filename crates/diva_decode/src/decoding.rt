@@ -3,7 +3,7 @@
 mod operations;
 
 ghost use Rattle.std.specs.Prelude.{IfSome, Some, pos, ◌≡◌, ◌≢◌, ◌⊎◌};
-ghost use Rattle.diva_decode.specs.Fields.{opcode, funct3};
+ghost use Rattle.diva_decode.specs.Fields.{opcode, funct3, rd, rs1, imm_i, imm_u};
 ghost use Rattle.diva_decode.specs.Table.{row_of, word_of, IsValid, HasRegisters};
 
 use crate::fields::{funct3, funct7, opcode, rd, rs1, rs2};
@@ -56,13 +56,7 @@ fn load_upper(word: u32) -> Instr
     requires { opcode word ≡ LUI }
     ensures { row_of word ≡ Some result }
 {
-    Instr {
-        op: Op::Lui,
-        rd: rd(word),
-        rs1: 0,
-        rs2: 0,
-        imm: imm_u(word),
-    }
+    with_upper(Op::Lui, word)
 }
 
 #[tactic(auto, using(crate::proofs::Rows::row_auipc))]
@@ -70,13 +64,7 @@ fn add_upper(word: u32) -> Instr
     requires { opcode word ≡ AUIPC }
     ensures { row_of word ≡ Some result }
 {
-    Instr {
-        op: Op::Auipc,
-        rd: rd(word),
-        rs1: 0,
-        rs2: 0,
-        imm: imm_u(word),
-    }
+    with_upper(Op::Auipc, word)
 }
 
 #[tactic(auto, using(crate::proofs::Rows::row_jal))]
@@ -101,13 +89,7 @@ fn jump_register(word: u32) -> Option<Instr>
     if funct3(word) != 0 {
         return None;
     }
-    Some(Instr {
-        op: Op::Jalr,
-        rd: rd(word),
-        rs1: rs1(word),
-        rs2: 0,
-        imm: imm_i(word),
-    })
+    Some(with_immediate(Op::Jalr, word))
 }
 
 #[tactic(auto, using(crate::proofs::Rows::row_branch))]
@@ -131,13 +113,7 @@ fn load(word: u32) -> Option<Instr>
     ensures { result ≡ row_of word }
 {
     let op = load_op(funct3(word))?;
-    Some(Instr {
-        op,
-        rd: rd(word),
-        rs1: rs1(word),
-        rs2: 0,
-        imm: imm_i(word),
-    })
+    Some(with_immediate(op, word))
 }
 
 #[tactic(auto, using(crate::proofs::Rows::row_store))]
@@ -162,13 +138,7 @@ fn immediate(word: u32) -> Option<Instr>
     ensures { result ≡ row_of word }
 {
     let op = immediate_op(funct3(word))?;
-    Some(Instr {
-        op,
-        rd: rd(word),
-        rs1: rs1(word),
-        rs2: 0,
-        imm: imm_i(word),
-    })
+    Some(with_immediate(op, word))
 }
 
 #[tactic(auto, using(crate::proofs::Rows::row_shift))]
@@ -222,6 +192,34 @@ fn system(word: u32) -> Option<Instr>
         0x0000_0073 => Some(bare(Op::Ecall)),
         0x0010_0073 => Some(bare(Op::Ebreak)),
         _ => None,
+    }
+}
+
+// ---- the instruction of a format
+
+/// An instruction with the upper bits of a word, and a register that is written.
+fn with_upper(op: Op, word: u32) -> Instr
+    ensures { result ≡ record { op = op; rd = rd word; rs1 = 0; rs2 = 0; imm = imm_u word } }
+{
+    Instr {
+        op,
+        rd: rd(word),
+        rs1: 0,
+        rs2: 0,
+        imm: imm_u(word),
+    }
+}
+
+/// An instruction with an immediate of 12 bits, a register that is written and one that is read.
+fn with_immediate(op: Op, word: u32) -> Instr
+    ensures { result ≡ record { op = op; rd = rd word; rs1 = rs1 word; rs2 = 0; imm = imm_i word } }
+{
+    Instr {
+        op,
+        rd: rd(word),
+        rs1: rs1(word),
+        rs2: 0,
+        imm: imm_i(word),
     }
 }
 

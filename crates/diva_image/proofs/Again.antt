@@ -9,7 +9,7 @@ use Rattle.diva_image.specs.declared.header.Header.{Header}
 use Rattle.diva_image.specs.declared.image.Image.{Image}
 use Rattle.diva_image.specs.Layout.{Layout, IsLayout}
 use Rattle.diva_image.specs.ImageLayout.{layout, Reads}
-use Rattle.diva_image.specs.Images.{word_at, header_of, start_fault, header_fault, length_fault, fault_of, image_of, bytes_of}
+use Rattle.diva_image.specs.Images.{header_size, word_at, header_of, start_fault, header_fault, length_fault, fault_of, image_of, bytes_of}
 
 header_sound : (h : Header) → IsLayout h.base h.size h.entry h.len → header_fault h ≡ None
 unfolding header_fault
@@ -35,7 +35,7 @@ module _ (i : Layout) (r : IsLayout i.base i.size i.entry (length i.payload)) wh
   len : word_at 20 (bytes_of i) ≡ length i.payload
   len = little_number-reads_back 4 (length i.payload) i.payload (omega arith)
 
-  whole : length (bytes_of i) ≡ 24 + length i.payload
+  whole : length (bytes_of i) ≡ header_size + length i.payload
   whole = search rules
 
   header : header_of (bytes_of i) ≡ record { base = i.base; size = i.size; entry = i.entry; len = length i.payload }
@@ -44,9 +44,9 @@ module _ (i : Layout) (r : IsLayout i.base i.size i.entry (length i.payload)) wh
   sound_again : fault_of (bytes_of i) ≡ None
   unfolding fault_of start_fault
   sound_again =
-      let long : nat_lt (24 + length i.payload) 24 ≡ false = le-ltb _ _ (omega arith) in
-      let same : length_fault (24 + length i.payload) (24 + (header_of (bytes_of i)).len) ≡ None =
-      ap (λ (n : ℕ). length_fault (24 + length i.payload) (24 + n)) len ∙ length_sound (24 + length i.payload) in
+      let long : nat_lt (header_size + length i.payload) header_size ≡ false = le-ltb _ _ (omega arith) in
+      let same : length_fault (header_size + length i.payload) (header_size + (header_of (bytes_of i)).len) ≡ None =
+      ap (λ (n : ℕ). length_fault (header_size + length i.payload) (header_size + n)) len ∙ length_sound (header_size + length i.payload) in
       rw (whole, same, header, version, long, header_sound _ r) refl
 
   same_again : image_of (bytes_of i) ≡ i

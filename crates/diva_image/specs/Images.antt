@@ -4,9 +4,13 @@ use Rattle.std.specs.List.{starts_with}
 use Rattle.std.specs.Option.{option_or}
 use Rattle.std.specs.Int.{to_le_bytes, w32}
 use Rattle.byteorder.specs.Endian.{little_number}
-use Rattle.diva_image.specs.Layout.{Layout}
+use Rattle.diva_image.specs.Layout.{Layout, most_size}
 use Rattle.diva_image.specs.declared.header.Header.{Header}
 use Rattle.diva_image.specs.declared.fault.Fault.{Fault}
+
+-- how many bytes stand before the payload: the letters, the version, and four numbers
+abbrev pub header_size : ℕ
+header_size = 24
 
 -- the number of the four bytes from a place on, the lowest byte first
 abbrev pub word_at : ℕ → List ℕ → ℕ
@@ -21,7 +25,7 @@ is_aligned n = n % 4 == 0
 
 -- size is allowed, and memory ends at 2^32 at the latest
 abbrev pub is_size : ℕ → ℕ → Bool
-is_size base size = is_aligned size && nat_le 4 size && nat_le size (2 ^ 24) && nat_le (base + size) (2 ^ 32)
+is_size base size = is_aligned size && nat_le 4 size && nat_le size most_size && nat_le (base + size) (2 ^ 32)
 
 -- entry is a place for an instruction in memory
 abbrev pub is_entry : ℕ → ℕ → ℕ → Bool
@@ -33,8 +37,8 @@ fault kind place = Some (record { kind = kind; place = place })
 -- the first fault of the length, the letters and the version
 unfoldable pub start_fault : List ℕ → Option Fault
 start_fault bytes =
-    -- 1, at the length: there are fewer than 24 bytes
-    if nat_lt (length bytes) 24 then fault 1 (length bytes)
+    -- 1, at the length: there are fewer bytes than a header has
+    if nat_lt (length bytes) header_size then fault 1 (length bytes)
     -- 2: they do not begin with DIVA
     else (if not (starts_with nat_eq bytes (codes "DIVA")) then fault 2 0
     -- 3: the version is not 1
@@ -45,7 +49,7 @@ unfoldable pub header_fault : Header → Option Fault
 header_fault h =
     -- 4: base is not a multiple of 4
     if not (is_aligned h.base) then fault 4 8
-    -- 5: size is not a multiple of 4, not in 4 to 2^24, or base + size is past 2^32
+    -- 5: size is not a multiple of 4, not in 4 to most_size, or base + size is past 2^32
     else (if not (is_size h.base h.size) then fault 5 12
     -- 6: entry is not a multiple of 4, below base, or not below base + size
     else (if not (is_entry h.base h.size h.entry) then fault 6 16
@@ -66,7 +70,7 @@ length_fault length end =
 
 -- the first fault of the bytes
 unfoldable pub fault_of : List ℕ → Option Fault
-fault_of bytes = option_or (head_fault bytes) (length_fault (length bytes) (24 + (header_of bytes).len))
+fault_of bytes = option_or (head_fault bytes) (length_fault (length bytes) (header_size + (header_of bytes).len))
 
 -- the image of a header and the bytes behind it
 abbrev pub image_under : Header → List ℕ → Layout
@@ -74,7 +78,7 @@ image_under h payload = record { base = h.base; size = h.size; entry = h.entry; 
 
 -- the image of bytes that have no fault
 abbrev pub image_of : List ℕ → Layout
-image_of bytes = image_under (header_of bytes) (drop 24 bytes)
+image_of bytes = image_under (header_of bytes) (drop header_size bytes)
 
 -- the image of these parts, if they keep the rules
 abbrev pub image_from : ℕ → ℕ → ℕ → List ℕ → Option Layout

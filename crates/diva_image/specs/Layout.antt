@@ -1,6 +1,10 @@
 -- An image: where its memory lies, where it is entered, and the bytes that it begins with.
 use Rattle.std.specs.Prelude.{◌≡◌, ◌≤◌, ◌<◌, ℕ, ◌+◌, ◌%◌, ◌^◌, List}
 
+-- the most bytes that memory may have
+abbrev pub most_size : ℕ
+most_size = 2 ^ 24
+
 -- the first address of memory, its number of bytes, where it is entered, and its first bytes
 pub record Layout : Type 0 where
   pub base : ℕ
@@ -13,7 +17,7 @@ pub record IsLayout (base size entry len : ℕ) : Type 0 where
   pub base_aligned : base % 4 ≡ 0
   pub size_aligned : size % 4 ≡ 0
   pub size_least : 4 ≤ size
-  pub size_most : size ≤ 2 ^ 24
+  pub size_most : size ≤ most_size
   pub range : base + size ≤ 2 ^ 32
   pub entry_aligned : entry % 4 ≡ 0
   pub entry_least : base ≤ entry

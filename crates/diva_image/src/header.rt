@@ -1,7 +1,7 @@
 // The header of an image, and its faults.
 ghost use Rattle.std.specs.Prelude.{◌≡◌, ◌≤◌, ◌++◌, length, IsNone, IfOk, IfErr, None, Some, OnOk};
 ghost use Rattle.std.specs.Int.{to_le_bytes, w32};
-ghost use Rattle.diva_image.specs.Images.{start_fault};
+ghost use Rattle.diva_image.specs.Images.{header_size, start_fault};
 
 use crate::fault::{Fault, Kind};
 use byteorder::{ByteOrder, LittleEndian};
@@ -13,11 +13,11 @@ const MAGIC: &[u8; 4] = b"DIVA";
 /// The version that is read and written.
 const VERSION: u32 = 1;
 
-/// The length of the header, in bytes.
-pub(crate) const HEADER: usize = 24;
+/// How many bytes the header has, which stands before the payload.
+pub const HEADER_SIZE: usize = 24;
 
-/// The largest size of memory, in bytes.
-const LARGEST: u32 = 1 << 24;
+/// The most bytes that memory may have.
+pub const MOST_SIZE: u32 = 1 << 24;
 
 /// The numbers that follow the version.
 #[derive(Clone, Copy, Debug)]
@@ -40,7 +40,7 @@ impl Header {
     pub fn read(bytes: &[u8]) -> Result<Self, Fault>
         ensures header { IfOk result (λ header. header ≡ header_of bytes.now) }
         ensures sound { IfOk result (λ _. head_fault bytes.now ≡ None) }
-        ensures long { IfOk result (λ _. 24 ≤ length bytes.now) }
+        ensures long { IfOk result (λ _. header_size ≤ length bytes.now) }
         ensures rules { IfOk result (λ header. IsLayout header.base header.size header.entry header.len) }
         ensures fault { IfErr result (λ fault. head_fault bytes.now ≡ Some fault) }
     {
@@ -109,7 +109,7 @@ impl Header {
     {
         self.size % 4 == 0
             && 4 <= self.size
-            && self.size <= LARGEST
+            && self.size <= MOST_SIZE
             && u64::from(self.base) + u64::from(self.size) <= 1 << 32
     }
 
@@ -127,9 +127,9 @@ impl Header {
 #[tactic(auto, unfolding(crate::specs::Images::start_fault))]
 fn start_fault(bytes: &[u8]) -> Option<Fault>
     ensures first { result ≡ start_fault bytes.now }
-    ensures rules { IsNone result → 24 ≤ length bytes.now }
+    ensures rules { IsNone result → header_size ≤ length bytes.now }
 {
-    if bytes.len() < HEADER {
+    if bytes.len() < HEADER_SIZE {
         let place = bytes.len() as u32;
         Some(Fault {
             kind: Kind::ShortHeader as u8,

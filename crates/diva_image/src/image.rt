@@ -10,7 +10,7 @@ use crate::header::Header;
 pub struct Image {
     /// The first address of memory, a multiple of 4.
     pub base: u32,
-    /// How many bytes memory has: a multiple of 4, from 4 to 2^24.
+    /// How many bytes memory has: a multiple of 4, from 4 to [`MOST_SIZE`](crate::MOST_SIZE).
     pub size: u32,
     /// The address of the first instruction: a multiple of 4 in memory.
     pub entry: u32,

@@ -22,6 +22,7 @@ mod tests;
 mod writing;
 
 pub use fault::ImageFault;
+pub use header::{HEADER_SIZE, MOST_SIZE};
 pub use image::Image;
 pub use payload::Payload;
 pub use reading::read;

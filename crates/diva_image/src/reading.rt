@@ -5,7 +5,7 @@ ghost use Rattle.diva_image.specs.Whole.{IsWhole};
 ghost use Rattle.diva_image.specs.ImageLayout.{Reads};
 
 use crate::fault::{Fault, Kind};
-use crate::header::{HEADER, Header};
+use crate::header::{HEADER_SIZE, Header};
 use crate::{Image, ImageFault, Payload};
 use std::alloc::Global;
 
@@ -18,7 +18,7 @@ pub fn read(alloc: Global, bytes: &[u8]) -> Result<Image, ImageFault>
             base: header.base,
             size: header.size,
             entry: header.entry,
-            payload: Payload::new(bytes[HEADER..].to_vec(alloc)?),
+            payload: Payload::new(bytes[HEADER_SIZE..].to_vec(alloc)?),
         }),
         Err(Fault { kind, place }) => Err(ImageFault::Bad { kind, place }),
     }
@@ -33,7 +33,7 @@ fn whole_header(bytes: &[u8]) -> Result<Header, Fault>
     ensures fault { IfErr result (λ fault. fault_of bytes.now ≡ Some fault) }
 {
     match Header::read(bytes) {
-        Ok(header) => match length_fault(bytes.len(), 24 + header.len) {
+        Ok(header) => match length_fault(bytes.len(), HEADER_SIZE as u32 + header.len) {
             Some(fault) => Err(fault),
             None => Ok(header),
         },

@@ -4,7 +4,7 @@ ghost use Rattle.diva_image.specs.Images.{bytes_of};
 ghost use Rattle.diva_image.specs.ImageLayout.{layout, Reads};
 
 use crate::Image;
-use crate::header::{HEADER, Header};
+use crate::header::{HEADER_SIZE, Header};
 use std::alloc::{AllocError, Global};
 
 /// The bytes of an image, which [`read`](crate::read) makes the same image of. There is one spelling of each image.
@@ -27,7 +27,7 @@ fn spelled(alloc: Global, image: &Image) -> Result<Vec<u8>, AllocError>
         entry: image.entry,
         len: payload.len() as u32,
     };
-    let mut bytes = Vec::with_capacity(alloc, HEADER + payload.len())?;
+    let mut bytes = Vec::with_capacity(alloc, HEADER_SIZE + payload.len())?;
     header.write(&mut bytes)?;
     bytes.extend_from_slice(payload)?;
     Ok(bytes)

@@ -73,7 +73,7 @@ pub trait Look {
             Width::Half => {
                 let low = self.byte(addr)?;
                 let high = self.byte(addr + 1)?;
-                Some(u32::from(low) | u32::from(high) << 8)
+                Some(u32::from(u16::from_le_bytes([low, high])))
             }
             Width::Word => self.word(addr),
         }

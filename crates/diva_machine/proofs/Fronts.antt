@@ -20,7 +20,7 @@ use Rattle.diva_core.proofs.Steps.{steps-add, steps-shift}
 use Rattle.diva_machine.specs.declared.phases.Judged.{Judged}
 use Rattle.diva_machine.specs.declared.phases.Judged.TheVariants.{Committed, Ended, Flushed, Waits}
 use Rattle.diva_machine.specs.Machine.{judged_by, pending_claim_of, KeepsBounds}
-use Rattle.diva_machine.specs.Staged.{passed_by}
+use Rattle.diva_machine.specs.Staged.{last_stage, passed_by}
 
 first_is : (items : List Entry) (e : Entry) → slice_get items 0 ≡ Some e → items ≡ e ∷ drop 1 items
 first_is [] e h = absurd (none-some _ h)
@@ -30,7 +30,7 @@ first_is (x ∷ items) e h = ap (λ (y : Entry). y ∷ items) (same_Some _ _ h)
 pub front_young : (m : Timed) (xs : List PendingClaim) → 1 ≤ m.cycles → passed_by (m.cycles - 1) xs ≡ 0 → by_front m xs ≡ Wait
 front_young m [] some h = refl
 front_young m (p ∷ xs) some h =
-    elim (cases_lt (m.cycles - 1) (p.cycle + 5)) [
+    elim (cases_lt (m.cycles - 1) (p.cycle + last_stage)) [
       | inl young ↦ rw (lt-leb (p.cycle + depth) m.cycles (omega arith)) refl
       | inr old ↦ absurd (suc-ne-zero _ (rw (le-leb _ _ old) at h))
     ]

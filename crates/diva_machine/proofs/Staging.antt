@@ -21,7 +21,7 @@ use Rattle.diva_core.specs.Stages.{Answers, HasVerdict}
 use Rattle.diva_core.specs.Timed.{Timed, PendingClaim}
 use Rattle.diva_core.proofs.Bypassing.{after_goes}
 use Rattle.diva_machine.specs.Machine.{pending_claim_of}
-use Rattle.diva_machine.specs.Staged.{AreChecked, AreInOrder, IsAdvanced, IsChecked, IsFilled, IsSoloFilled, IsStaged, Parts, passed_by}
+use Rattle.diva_machine.specs.Staged.{AreChecked, AreInOrder, IsAdvanced, IsChecked, IsFilled, IsSoloFilled, IsStaged, Parts, last_stage, passed_by}
 use Rattle.diva_machine.proofs.Verdicts.{form_kept, form_whole, stays_found, verdict_past, whole_verdict}
 
 -- ---- entries by place
@@ -31,11 +31,11 @@ checked_none arch now k e h = absurd (none-some _ h)
 
 -- the front entry, past the last stage: its verdict is the first difference from the record that is due
 pub front_verdict : (arch : State) (now : ℕ) (entries : List Entry) (e : Entry) → AreChecked arch now entries → slice_get entries 0 ≡ Some e
-    → e.cycle + 5 ≤ now → arch.end ≡ 0 → e.verdict ≡ first_difference e.claim (record_of arch)
+    → e.cycle + last_stage ≤ now → arch.end ≡ 0 → e.verdict ≡ first_difference e.claim (record_of arch)
 front_verdict arch now entries e all first old on = whole_verdict arch e (now - e.cycle) (omega arith) on (all 0 e first).verdict
 
 pub front_form : (arch : State) (now : ℕ) (entries : List Entry) (e : Entry) → AreChecked arch now entries → slice_get entries 0 ≡ Some e
-    → e.cycle + 5 ≤ now → e.decoded ≡ row_of e.claim.word
+    → e.cycle + last_stage ≤ now → e.decoded ≡ row_of e.claim.word
 front_form arch now entries e all first old = (all 0 e first).decoded ∙ form_whole (now - e.cycle) e.claim.word (omega arith)
 
 -- it goes, and the others stand one place further to the front
@@ -137,12 +137,12 @@ advanced_more arch now at entries old new here claim cycle next a =
     }
 
 -- an entry behind the last stage stays as it is
-checked_past : (s : State) (a b : ℕ) (e : Entry) → 5 ≤ a → b ≡ suc a → IsChecked s a e → IsChecked s b e
+checked_past : (s : State) (a b : ℕ) (e : Entry) → last_stage ≤ a → b ≡ suc a → IsChecked s a e → IsChecked s b e
 checked_past s a b e old is c =
     subst (λ (n : ℕ). IsChecked s n e) (sym is) (record { verdict = verdict_past s e a old c.verdict; decoded = c.decoded ∙ sym (form_kept a e.claim.word (λ z. omega arith)) })
 
 -- at first only those behind the last stage have advanced
-pub advanced_first : (arch : State) (now at : ℕ) (entries : List Entry) → ((k : ℕ) (e : Entry) → k < at → slice_get entries k ≡ Some e → e.cycle + 5 ≤ now) → AreChecked arch now entries → IsAdvanced arch now at entries
+pub advanced_first : (arch : State) (now at : ℕ) (entries : List Entry) → ((k : ℕ) (e : Entry) → k < at → slice_get entries k ≡ Some e → e.cycle + last_stage ≤ now) → AreChecked arch now entries → IsAdvanced arch now at entries
 advanced_first arch now at entries old all =
     record {
       below = λ k e lt h. let o = old k e lt h in checked_past (before_entry arch entries k) (now - e.cycle) (now + 1 - e.cycle) e (omega arith) (omega arith) (all k e h);
@@ -240,7 +240,7 @@ or_first None v h = absurd (true≢false (sym h))
 or_first (Some d) v h = refl
 
 -- it is past the last stage
-pub past_kept : (arch : State) (entries : List Entry) (now at : ℕ) (e : Entry) → slice_get entries at ≡ Some e → e.cycle + 5 ≤ now → IsAdvanced arch now at entries → IsAdvanced arch now (at + 1) entries
+pub past_kept : (arch : State) (entries : List Entry) (now at : ℕ) (e : Entry) → slice_get entries at ≡ Some e → e.cycle + last_stage ≤ now → IsAdvanced arch now at entries → IsAdvanced arch now (at + 1) entries
 past_kept arch entries now at e here old adv =
     advanced_same arch now at entries e here (checked_past (before_entry arch entries at) (now - e.cycle) (now + 1 - e.cycle) e (omega arith) (omega arith)) adv
 
@@ -282,7 +282,7 @@ order_more from now (p ∷ xs) claims h = (h.0, order_more p.cycle now xs claims
 
 passed_new : (now : ℕ) (claims : List Record) → passed_by now (map (accepted_in now) claims) ≡ 0
 passed_new now [] = refl
-passed_new now (r ∷ claims) = rw (lt-leb (now + 5) now (omega arith)) refl
+passed_new now (r ∷ claims) = rw (lt-leb (now + last_stage) now (omega arith)) refl
 
 pub passed_more : (now : ℕ) (xs : List PendingClaim) (claims : List Record) → passed_by now (xs ++ map (accepted_in now) claims) ≡ passed_by now xs
 passed_more now [] claims = passed_new now claims
@@ -292,7 +292,7 @@ pub passed_length : (now : ℕ) (es : List Entry) → passed_by now (map pending
 passed_length now [] = omega arith
 passed_length now (x ∷ es) =
     let rest = passed_length now es in
-    elim (cases_lt now (x.cycle + 5)) [
+    elim (cases_lt now (x.cycle + last_stage)) [
       | inl young ↦ rw (lt-leb _ _ young) (omega arith)
       | inr old ↦ rw (le-leb _ _ old) (omega arith)
     ]
@@ -301,15 +301,15 @@ pub passed_later : (now : ℕ) (es : List Entry) → passed_by now (map pending_
 passed_later now [] = omega arith
 passed_later now (x ∷ es) =
     let rest = passed_later now es in
-    elim (cases_lt now (x.cycle + 5)) [
+    elim (cases_lt now (x.cycle + last_stage)) [
       | inl young ↦ rw (lt-leb _ _ young) (omega arith)
-      | inr old ↦ rw (le-leb _ _ old, le-leb (x.cycle + 5) (now + 1) (omega arith)) (omega arith)
+      | inr old ↦ rw (le-leb _ _ old, le-leb (x.cycle + last_stage) (now + 1) (omega arith)) (omega arith)
     ]
 
-pub passed_at : (now : ℕ) (es : List Entry) (k : ℕ) (e : Entry) → k < passed_by now (map pending_claim_of es) → slice_get es k ≡ Some e → e.cycle + 5 ≤ now
+pub passed_at : (now : ℕ) (es : List Entry) (k : ℕ) (e : Entry) → k < passed_by now (map pending_claim_of es) → slice_get es k ≡ Some e → e.cycle + last_stage ≤ now
 passed_at now [] k e lt h = absurd (none-some _ h)
 passed_at now (x ∷ es) k e lt h =
-    elim (cases_lt now (x.cycle + 5)) [
+    elim (cases_lt now (x.cycle + last_stage)) [
       | inl young ↦ absurd (none_below k (rw (lt-leb _ _ young) at lt))
       | inr old ↦ at_place (λ j. passed_at now es j e) k (rw (le-leb _ _ old) at lt) h old
     ]
@@ -317,26 +317,26 @@ passed_at now (x ∷ es) k e lt h =
     none_below : (k : ℕ) → k < 0 → ⊥
     none_below k h = omega arith
 
-    at_place : ((j : ℕ) → j < passed_by now (map pending_claim_of es) → slice_get es j ≡ Some e → e.cycle + 5 ≤ now) → (k : ℕ) → k < suc (passed_by now (map pending_claim_of es)) → slice_get (x ∷ es) k ≡ Some e → x.cycle + 5 ≤ now → e.cycle + 5 ≤ now
-    at_place rest zero lt h old = subst (λ (y : Entry). y.cycle + 5 ≤ now) (same_Some _ _ h) old
+    at_place : ((j : ℕ) → j < passed_by now (map pending_claim_of es) → slice_get es j ≡ Some e → e.cycle + last_stage ≤ now) → (k : ℕ) → k < suc (passed_by now (map pending_claim_of es)) → slice_get (x ∷ es) k ≡ Some e → x.cycle + last_stage ≤ now → e.cycle + last_stage ≤ now
+    at_place rest zero lt h old = subst (λ (y : Entry). y.cycle + last_stage ≤ now) (same_Some _ _ h) old
     at_place rest (suc k) lt h old = rest k (omega arith) h
 
-pub unpassed_at : (from now later : ℕ) (es : List Entry) (k : ℕ) (e : Entry) → AreInOrder from later (map pending_claim_of es) → passed_by now (map pending_claim_of es) ≤ k → slice_get es k ≡ Some e → now < e.cycle + 5
+pub unpassed_at : (from now later : ℕ) (es : List Entry) (k : ℕ) (e : Entry) → AreInOrder from later (map pending_claim_of es) → passed_by now (map pending_claim_of es) ≤ k → slice_get es k ≡ Some e → now < e.cycle + last_stage
 unpassed_at from now later [] k e o le h = absurd (none-some _ h)
 unpassed_at from now later (x ∷ es) k e o le h =
-    elim (cases_lt now (x.cycle + 5)) [
+    elim (cases_lt now (x.cycle + last_stage)) [
       | inl young ↦ (let low = order_at x.cycle later (x ∷ es) k e (omega arith, o.1) h in let l = low.0 in omega arith)
       | inr old ↦ at_place (λ j. unpassed_at x.cycle now later es j e o.1) k (rw (le-leb _ _ old) at le) h
     ]
   where
-    at_place : ((j : ℕ) → passed_by now (map pending_claim_of es) ≤ j → slice_get es j ≡ Some e → now < e.cycle + 5) → (k : ℕ) → suc (passed_by now (map pending_claim_of es)) ≤ k → slice_get (x ∷ es) k ≡ Some e → now < e.cycle + 5
+    at_place : ((j : ℕ) → passed_by now (map pending_claim_of es) ≤ j → slice_get es j ≡ Some e → now < e.cycle + last_stage) → (k : ℕ) → suc (passed_by now (map pending_claim_of es)) ≤ k → slice_get (x ∷ es) k ≡ Some e → now < e.cycle + last_stage
     at_place rest zero le h = absurd (omega arith)
     at_place rest (suc k) le h = rest k (omega arith) h
 
 pub passed_rest : (now : ℕ) (es : List Entry) → 0 < passed_by now (map pending_claim_of es) → passed_by now (map pending_claim_of (drop 1 es)) ≡ passed_by now (map pending_claim_of es) - 1
 passed_rest now [] h = refl
 passed_rest now (x ∷ es) h =
-    elim (cases_lt now (x.cycle + 5)) [
+    elim (cases_lt now (x.cycle + last_stage)) [
       | inl young ↦ absurd (nothing (rw (lt-leb _ _ young) at h))
       | inr old ↦ rw (le-leb _ _ old) (omega arith)
     ]
@@ -346,14 +346,14 @@ passed_rest now (x ∷ es) h =
 
 -- one claim more has passed through the stage of its age, and none before it is still to
 pub passed_next : (cycles at passed next : ℕ) (es : List Entry) (e : Entry) → slice_get es at ≡ Some e → AreInOrder 0 cycles (map pending_claim_of es)
-    → cycles ≤ e.cycle + 5 → next ≡ passed + number (cycles == e.cycle + 5) → passed ≤ at
+    → cycles ≤ e.cycle + last_stage → next ≡ passed + number (cycles == e.cycle + last_stage) → passed ≤ at
     → (at ≤ passed_by cycles (map pending_claim_of es) → passed ≡ at)
     → (passed_by cycles (map pending_claim_of es) ≤ at → passed ≡ passed_by cycles (map pending_claim_of es))
     → (next ≤ at + 1)
     × ((at + 1 ≤ passed_by cycles (map pending_claim_of es) → next ≡ at + 1)
     × (passed_by cycles (map pending_claim_of es) ≤ at + 1 → next ≡ passed_by cycles (map pending_claim_of es)))
 passed_next cycles at passed next es e here order young is below early late =
-    elim (eqb_tells cycles (e.cycle + 5)) [
+    elim (eqb_tells cycles (e.cycle + last_stage)) [
       | inl same ↦
           let one : next ≡ passed + 1 = is ∙ ap (λ (b : Bool). passed + number b) same.0 in
           let cycle = same.1 in
@@ -387,7 +387,7 @@ stages_begin w some s =
 
 -- the claim at a place is still to pass through a stage
 pub still_young : (w : Parts) (at : ℕ) (e : Entry) (es : List Entry) → 1 ≤ w.timed.cycles → IsStaged (w.timed.cycles - 1) w → map pending_claim_of es ≡ w.timed.pending → w.passed ≤ at → slice_get es at ≡ Some e
-    → (e.cycle < w.timed.cycles) × (w.timed.cycles ≤ e.cycle + 5)
+    → (e.cycle < w.timed.cycles) × (w.timed.cycles ≤ e.cycle + last_stage)
 still_young w at e es some s waits behind here =
     let now = w.timed.cycles - 1 in
     let order : AreInOrder 0 now (map pending_claim_of es) = subst (λ (xs : List PendingClaim). AreInOrder 0 now xs) (sym waits) s.ordered in
@@ -407,7 +407,7 @@ get_there (x ∷ xs) (suc k) P h found = get_there xs k P (omega arith) found
 
 -- the claim at a place has passed through its stage: z is what is passed then
 pub stage_next : (w y z : Parts) (at : ℕ) → 1 ≤ w.timed.cycles → IsStaged (w.timed.cycles - 1) w → y.timed ≡ w.timed → map pending_claim_of y.entries ≡ w.timed.pending → w.passed ≤ at → at < length y.entries
-    → ((e : Entry) → slice_get y.entries at ≡ Some e → z.passed ≡ y.passed + number (y.timed.cycles == e.cycle + 5))
+    → ((e : Entry) → slice_get y.entries at ≡ Some e → z.passed ≡ y.passed + number (y.timed.cycles == e.cycle + last_stage))
     → y.passed ≤ at
     → (at ≤ passed_by w.timed.cycles w.timed.pending → y.passed ≡ at)
     → (passed_by w.timed.cycles w.timed.pending ≤ at → y.passed ≡ passed_by w.timed.cycles w.timed.pending)
@@ -422,7 +422,7 @@ stage_next w y z at some s same waits behind within is below early late =
     (λ e here.
     let young = (still_young w at e y.entries some s waits behind here).1 in
     let order : AreInOrder 0 cycles (map pending_claim_of y.entries) = subst (λ (xs : List PendingClaim). AreInOrder 0 cycles xs) (sym waits) (order_later 0 (cycles - 1) cycles w.timed.pending (omega arith) s.ordered) in
-    let next : z.passed ≡ y.passed + number (cycles == e.cycle + 5) = is e here ∙ ap (λ (m : Timed). y.passed + number (m.cycles == e.cycle + 5)) same in
+    let next : z.passed ≡ y.passed + number (cycles == e.cycle + last_stage) = is e here ∙ ap (λ (m : Timed). y.passed + number (m.cycles == e.cycle + last_stage)) same in
     subst P count
     (passed_next cycles at y.passed z.passed y.entries e here order young next below
     (subst (λ (n : ℕ). at ≤ n → y.passed ≡ at) (sym count) early)

@@ -12,7 +12,7 @@ use Rattle.diva_core.specs.declared.differences.Diff.{Diff}
 use Rattle.diva_core.specs.declared.pending.Entry.{Entry}
 use Rattle.diva_core.specs.Difference.{difference_in, field_of, first_difference}
 use Rattle.diva_core.specs.Stages.{Answers, HasVerdict, fields_at, fetch_fields, operand_fields, read_fields, address_fields, outcome_fields, execute_fields, memory_fields, is_memory}
-use Rattle.diva_machine.specs.Staged.{decoded_at}
+use Rattle.diva_machine.specs.Staged.{decoded_at, last_stage}
 
 -- the verdict of a claim p of an age, where r is due
 abbrev pub verdict_at : ℕ → Record → Record → Option Diff
@@ -97,7 +97,7 @@ module _ (s : State) (e : Entry) where
   found_memory v was answer = found_next 4 v was (λ on agrees. answer on (address_agrees (is_memory (record_of s)) e.claim (record_of s) agrees))
 
   -- nor behind the last one
-  pub verdict_past : (a : ℕ) → 5 ≤ a → HasVerdict s a e → HasVerdict s (suc a) e
+  pub verdict_past : (a : ℕ) → last_stage ≤ a → HasVerdict s a e → HasVerdict s (suc a) e
   verdict_past zero h v = absurd (omega arith)
   verdict_past (suc zero) h v = absurd (omega arith)
   verdict_past (suc (suc zero)) h v = absurd (omega arith)
@@ -106,7 +106,7 @@ module _ (s : State) (e : Entry) where
   verdict_past (suc (suc (suc (suc (suc n))))) h v = v
 
   -- there a verdict is the first difference of all fields
-  pub whole_verdict : (age : ℕ) → 5 ≤ age → s.end ≡ 0 → HasVerdict s age e → e.verdict ≡ first_difference e.claim (record_of s)
+  pub whole_verdict : (age : ℕ) → last_stage ≤ age → s.end ≡ 0 → HasVerdict s age e → e.verdict ≡ first_difference e.claim (record_of s)
   unfolding first_difference
   whole_verdict zero h on v = absurd (omega arith)
   whole_verdict (suc zero) h on v = absurd (omega arith)

@@ -14,9 +14,10 @@ use Rattle.diva_isa.specs.declared.effect.Effect.TheVariants.{Writes}
 use Rattle.diva_isa.specs.declared.record.Record.{Record}
 use Rattle.diva_core.proofs.Bypassing.{with_reg_reads}
 use Rattle.diva_core.proofs.Steps.{step-on, steps-shift}
+use Rattle.diva_image.specs.Layout.{most_size}
 use Rattle.diva_machine.specs.Start.{start_of}
 use Rattle.diva_soak.specs.Halts.{HaltsWithin}
-use Rattle.diva_soak.specs.Soak.{bytes_of, drawn, last_words, of_immediate, of_sources, payload_of, soak_of, words_after}
+use Rattle.diva_soak.specs.Soak.{bytes_of, drawn, last_words, of_immediate, of_sources, payload_of, soak_of, soak_size, words_after}
 use Rattle.diva_soak.proofs.EachKind.{has_word}
 use Rattle.diva_soak.proofs.Passing.{IsNext, passes, passes_addi}
 use Rattle.diva_soak.proofs.Placed.{AreWords, code_below, code_of, drawn_at, last_at, length_words, word_placed}
@@ -102,7 +103,7 @@ not_status r (inr high) = omega arith
 
 -- ---- the code of a seed
 
-module _ (seed n : ℕ) (small : n ≤ 65536) where
+module _ (seed n : ℕ) (small : soak_size n ≤ most_size) where
   abbrev code : List ℕ
   code = code_of seed n
 
@@ -185,7 +186,7 @@ payload_is : (seed n : ℕ) → payload_of seed n ≡ replicate 2048 0 ++ bytes_
 unfolding payload_of
 payload_is seed n = refl
 
-length_payload : (seed n : ℕ) → length (payload_of seed n) ≡ 2048 + 4 * (n + 3)
+length_payload : (seed n : ℕ) → length (payload_of seed n) ≡ soak_size n
 length_payload seed n =
     ap length (payload_is seed n)
     ∙ length-append (replicate 2048 0) (bytes_of (code_of seed n))
@@ -194,10 +195,10 @@ length_payload seed n =
 -- the payload fills memory
 memory_is : (seed n : ℕ) → (start_of (soak_of seed n)).bytes ≡ payload_of seed n
 memory_is seed n =
-    let none : 2048 + 4 * (n + 3) - length (payload_of seed n) ≡ 0 = omega (arith, length_payload seed n) in
+    let none : soak_size n - length (payload_of seed n) ≡ 0 = omega (arith, length_payload seed n) in
     ap (λ (k : ℕ). payload_of seed n ++ replicate k 0) none ∙ append-nil (payload_of seed n)
 
-pub soak_halts : (seed n : ℕ) → n ≤ 65536 → HaltsWithin (n + 3) (start_of (soak_of seed n))
+pub soak_halts : (seed n : ℕ) → soak_size n ≤ most_size → HaltsWithin (n + 3) (start_of (soak_of seed n))
 soak_halts seed n small =
     let stands : Stands (code_of seed n) (begins (payload_of seed n)) 0 =
     stands_first (code_of seed n) (replicate 2048 0) (payload_of seed n) (code_below n seed) (length_zeros 2048) (payload_is seed n) in

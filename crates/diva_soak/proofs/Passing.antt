@@ -1,5 +1,5 @@
 -- Each instruction that is drawn leads to the next one, or over it.
-use Rattle.std.proofs.Common.{◌≡◌, ◌≢◌, ◌≤◌, ◌⊎◌, inl, inr, ℕ, ◌+◌, ◌*◌, ◌%◌, ◌^◌, ◌==◌, List, Bool, true, false, Some, refl, ap, sym, ◌∙◌, subst, arith, if◌then◌else◌}
+use Rattle.std.proofs.Common.{◌≡◌, ◌≢◌, ◌≤◌, ◌<◌, ◌⊎◌, inl, inr, ℕ, ◌+◌, ◌*◌, ◌%◌, ◌^◌, ◌==◌, List, Bool, true, false, Some, refl, ap, sym, ◌∙◌, subst, arith, if◌then◌else◌}
 use Rattle.std.specs.Prelude.{pos}
 use Rattle.std.specs.Int.{cast_unsigned, w32}
 use Rattle.std.proofs.lemmas.Int.{ints}
@@ -18,12 +18,12 @@ use Rattle.diva_soak.proofs.EachKind.{IsOwn, IsPlace, by_kind}
 use Rattle.diva_soak.proofs.Placed.{IsNumber, number_inside}
 use Rattle.diva_soak.proofs.Standing.{IsMild, Stands, stands_moved, steps_to}
 
--- the word of the instruction i is next, and the code ends below 2^32
+-- the word of the instruction i is next, and each one that may follow it lies below 2^32
 pub record IsNext (code : List ℕ) (s : State) (at w : ℕ) (i : Instr) : Type 0 where
   pub stands : Stands code s at
   pub there : word_of s s.pc ≡ Some w
   pub says : row_of w ≡ Some i
-  pub small : at ≤ 70000
+  pub small : 2048 + 4 * (at + 2) < 2 ^ 32
 
 -- an instruction that goes on behind pc
 pub straight : (code : List ℕ) (s : State) (at w : ℕ) (i : Instr) → IsNext code s at w i
@@ -64,7 +64,7 @@ store_at s pc q b v test there =
 
 -- ---- the branch
 
-target_is : (pc at : ℕ) → pc ≡ 2048 + 4 * at → at ≤ 70000 → (pc + cast_unsigned w32 (pos 8)) % 2 ^ 32 ≡ 2048 + 4 * (at + 2)
+target_is : (pc at : ℕ) → pc ≡ 2048 + 4 * at → 2048 + 4 * (at + 2) < 2 ^ 32 → (pc + cast_unsigned w32 (pos 8)) % 2 ^ 32 ≡ 2048 + 4 * (at + 2)
 target_is pc at h small = omega arith
 
 target_at : (pc t : ℕ) → t % 4 ≡ 0 → jumps_to pc 0 t ≡ record { value = 0; next = t; end = 0 }

@@ -72,6 +72,10 @@ bytes_of words = flat_map (to_le_bytes w32) words
 unfoldable pub payload_of : (seed n : ℕ) → List ℕ
 payload_of seed n = replicate 2048 0 ++ bytes_of (words_after n seed ++ last_words)
 
+-- how many bytes memory has with n drawn instructions: 2,048 for data, and the code, which fills it
+abbrev pub soak_size : (n : ℕ) → ℕ
+soak_size n = 2048 + 4 * (n + 3)
+
 -- the image of a seed, with n drawn instructions
 abbrev pub soak_of : (seed n : ℕ) → Layout
-soak_of seed n = record { base = 0; size = 2048 + 4 * (n + 3); entry = 2048; payload = payload_of seed n }
+soak_of seed n = record { base = 0; size = soak_size n; entry = 2048; payload = payload_of seed n }

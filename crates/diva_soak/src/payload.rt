@@ -2,7 +2,8 @@
 ghost use Rattle.std.specs.Prelude.{◌≡◌, ◌≤◌, ◌+◌, ◌*◌, ◌++◌, IfOk, length, replicate};
 ghost use Rattle.std.specs.Int.{to_le_bytes, w32};
 ghost use Rattle.diva_decode.specs.Table.{IsValid, word_of};
-ghost use Rattle.diva_soak.specs.Soak.{bytes_of, last_words, payload_of, words_after};
+ghost use Rattle.diva_image.specs.Layout.{most_size};
+ghost use Rattle.diva_soak.specs.Soak.{bytes_of, last_words, payload_of, soak_size, words_after};
 
 use crate::drawing::{drawn, of_immediate, of_sources};
 use diva_decode::{Instr, Op, encode};
@@ -12,9 +13,9 @@ use std::alloc::{AllocError, Global};
 /// The memory of a seed's image, with `count` drawn instructions.
 #[tactic(auto, unfolding(crate::specs::Soak::payload_of))]
 pub(crate) fn payload(alloc: Global, seed: u32, count: u32) -> Result<Vec<u8>, AllocError>
-    requires { count ≤ 65536 }
+    requires { soak_size count ≤ most_size }
     ensures bytes { IfOk result (λ v. v.items ≡ payload_of seed count) }
-    ensures long { IfOk result (λ v. length v.items ≡ 2048 + 4 * (count + 3)) }
+    ensures long { IfOk result (λ v. length v.items ≡ soak_size count) }
 {
     let mut bytes = vec![in alloc; 0; 2048]?;
     put_drawn(&mut bytes, seed, count)?;
