@@ -7,7 +7,7 @@ ghost use Rattle.diva_ahead.specs.Ahead.{begun, handed, is_epoch, new_lead, seen
 use crate::ring::Ring;
 use crate::stand::Stand;
 use diva_core::{Told, View};
-use diva_isa::{Effect, Record, Regs, decoded_of, effect_by, fetch, record_by};
+use diva_isa::{Due, Effect, Record, Regs, decoded_of, due_by, fetch};
 use std::alloc::{AllocError, Global};
 use std::marker::Model;
 
@@ -142,8 +142,8 @@ impl Ahead {
         let stand = Stand { ahead: self, view };
         let fetched = fetch(&stand);
         let decoded = decoded_of(fetched);
-        let record = record_by(&stand, fetched, decoded);
-        self.hand_over(&record, effect_by(decoded, &record));
+        let Due { record, effect } = due_by(&stand, fetched, decoded);
+        self.hand_over(&record, effect);
         record
     }
 

@@ -6,11 +6,11 @@ ghost use Rattle.diva_decode.specs.Table.{HasRegisters, row_of};
 ghost use Rattle.diva_isa.specs.State.{State, word_of};
 ghost use Rattle.diva_isa.specs.Kind.{kind, moves_memory, size};
 ghost use Rattle.diva_isa.specs.End.{halt, trap};
-ghost use Rattle.diva_isa.specs.Step.{address, call, ended, continues, load, outcome, outcome_of, record_of, source1, source2, source1_of, source2_of, address_of, store, jumps_to, record_with};
+ghost use Rattle.diva_isa.specs.Step.{HasRegister, address, call, continues, effect, effect_by, ended, load, outcome, outcome_of, record_of, source1, source2, source1_of, source2_of, address_of, store, jumps_to, record_with};
 ghost use Rattle.diva_isa.specs.Trap.{trap_number};
 
 use crate::arithmetic::{alu, branch_taken, load_value};
-use crate::effect::PUT;
+use crate::effect::{Effect, PUT, effect_as};
 use crate::kind::{Kind, Width, kind_of};
 use crate::look::Look;
 use crate::record::{OUTPUT_LIMIT, Operands, Outcome, Record};
@@ -19,6 +19,15 @@ use diva_decode::{Instr, Op, decode};
 
 /// The service that halts the machine, as ECALL asks for it by x17.
 const HALT: u32 = 93;
+
+/// A record, and what it does besides moving the pc.
+#[derive(Clone, Copy, Debug, PartialEq, Eq)]
+pub struct Due {
+    /// The record.
+    pub record: Record,
+    /// Its effect, as [`effect_by`](crate::effect_by) has it.
+    pub effect: Effect,
+}
 
 /// The record of the next instruction of a state, an ended one too. (RISC-V Unprivileged ISA, chapters RV32I 2.1 and M
 /// 2.0.)
@@ -43,33 +52,51 @@ pub fn decoded_of(fetched: Option<u32>) -> Option<Instr>
 }
 
 /// The same record, where the word of the next instruction was fetched already: `decoded` is what it says.
-#[tactic(auto, unfolding(crate::specs::Step::record_of))]
 pub fn record_by<L: Look>(state: &L, fetched: Option<u32>, decoded: Option<Instr>) -> Record
     requires word { let s = L.shows state.now in fetched ≡ word_of s s.pc }
     requires decoded { decoded ≡ option_and_then row_of fetched }
     requires registers { IfSome decoded HasRegisters }
     ensures { result ≡ record_of (L.shows state.now) }
 {
+    due_by(state, fetched, decoded).record
+}
+
+/// The same record with its effect.
+#[inline(always)]
+#[tactic(auto, unfolding(crate::specs::Step::record_of))]
+pub fn due_by<L: Look>(state: &L, fetched: Option<u32>, decoded: Option<Instr>) -> Due
+    requires word { let s = L.shows state.now in fetched ≡ word_of s s.pc }
+    requires decoded { decoded ≡ option_and_then row_of fetched }
+    requires registers { IfSome decoded HasRegisters }
+    ensures record { result.record ≡ record_of (L.shows state.now) }
+    ensures effect { result.effect ≡ effect_by decoded result.record }
+    ensures register { HasRegister result.effect }
+{
     let word = fetched.unwrap_or(0);
     match decoded {
         // The kinds that programs have most of are told apart first: what is done for such a kind is then one piece.
         Some(i) => match kind_of(i.op) {
-            Kind::OpImm => record_as(state, word, &i, Kind::OpImm),
-            Kind::OpReg => record_as(state, word, &i, Kind::OpReg),
-            Kind::Branch => record_as(state, word, &i, Kind::Branch),
-            kind => record_as(state, word, &i, kind),
+            Kind::OpImm => due_as(state, word, &i, Kind::OpImm),
+            Kind::OpReg => due_as(state, word, &i, Kind::OpReg),
+            Kind::Branch => due_as(state, word, &i, Kind::Branch),
+            kind => due_as(state, word, &i, kind),
         },
-        None => unread(state.pc(), fetched),
+        None => Due {
+            record: unread(state.pc(), fetched),
+            effect: Effect::Nothing,
+        },
     }
 }
 
-/// The record of an instruction of a kind.
+/// The record of an instruction of a kind, with its effect.
 #[inline(always)]
-fn record_as<L: Look>(state: &L, word: u32, i: &Instr, kind: Kind) -> Record
+fn due_as<L: Look>(state: &L, word: u32, i: &Instr, kind: Kind) -> Due
     requires { HasRegisters i.now }
-    ensures { let s = L.shows state.now in let a = source1 kind s i.now in let b = source2 kind s i.now in
+    ensures record { let s = L.shows state.now in let a = source1 kind s i.now in let b = source2 kind s i.now in
         let addr = address kind i.now a in
-        result ≡ record_with s.pc word a b addr (outcome kind s i.now s.pc a b addr) }
+        result.record ≡ record_with s.pc word a b addr (outcome kind s i.now s.pc a b addr) }
+    ensures effect { result.effect ≡ effect kind i.now result.record }
+    ensures register { HasRegister result.effect }
 {
     let read = reads(state, i, kind);
     let r = Record {
@@ -82,7 +109,9 @@ fn record_as<L: Look>(state: &L, word: u32, i: &Instr, kind: Kind) -> Record
         next: 0,
         end: 0,
     };
-    r.ending_in(come_to(state, i, &r, kind))
+    let record = r.ending_in(come_to(state, i, &r, kind));
+    let effect = effect_as(i, &record, kind);
+    Due { record, effect }
 }
 
 /// The record where the word of the next instruction says nothing, or is not there.

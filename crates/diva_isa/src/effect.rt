@@ -2,7 +2,7 @@
 
 ghost use Rattle.std.specs.Prelude.{◌≡◌, IfSome};
 ghost use Rattle.diva_decode.specs.Table.{HasRegisters};
-ghost use Rattle.diva_isa.specs.Step.{effect_by, effect_of, HasRegister};
+ghost use Rattle.diva_isa.specs.Step.{effect, effect_by, effect_of, HasRegister};
 
 use crate::kind::{Kind, Width, kind_of};
 use crate::record::Record;
@@ -52,10 +52,19 @@ pub fn effect_by(decoded: Option<Instr>, r: &Record) -> Effect
     ensures effect { result ≡ effect_by decoded r.now }
     ensures register { IfSome decoded HasRegisters → HasRegister result }
 {
-    let Some(i) = decoded else {
-        return Effect::Nothing;
-    };
-    match kind_of(i.op) {
+    match decoded {
+        Some(i) => effect_as(&i, r, kind_of(i.op)),
+        None => Effect::Nothing,
+    }
+}
+
+/// The same of a record of an instruction of a kind.
+#[inline(always)]
+pub(crate) fn effect_as(i: &Instr, r: &Record, kind: Kind) -> Effect
+    ensures effect { result ≡ effect kind i.now r.now }
+    ensures register { HasRegisters i.now → HasRegister result }
+{
+    match kind {
         Kind::Lui
         | Kind::Auipc
         | Kind::Jal

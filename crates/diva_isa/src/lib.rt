@@ -28,7 +28,9 @@ mod regs;
 mod trap;
 
 pub use arithmetic::{alu, branch_taken, load_value};
-pub use due::{address, decoded_of, execute, fetch, finish, record_by, record_of, sources};
+pub use due::{
+    Due, address, decoded_of, due_by, execute, fetch, finish, record_by, record_of, sources,
+};
 pub use effect::{Effect, effect_by, effect_of};
 pub use end::End;
 pub use kind::{Kind, Width, kind_of};

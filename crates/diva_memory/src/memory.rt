@@ -75,8 +75,7 @@ impl Memory {
         ensures value { result ≡ byte_at self.now addr }
         ensures inside { IsSome result ↔ IsInside self.now addr 1 }
     {
-        let at = addr.checked_sub(self.base)?;
-        self.bytes.get(at as usize).copied()
+        self.bytes.get(self.place(addr)).copied()
     }
 
     /// The word at `addr`, `None` exactly where `addr` is not a multiple of 4 or the word is not
@@ -89,9 +88,20 @@ impl Memory {
         if addr % 4 != 0 {
             return None;
         }
-        let at = addr.checked_sub(self.base)? as usize;
+        let at = self.place(addr);
         let bytes = self.bytes.get(at..at + 4)?;
         Some(word_of(bytes))
+    }
+
+    // Where an address stands among the bytes. One before the first address wraps round to behind the last byte, since
+    // memory ends at 2^32 at the latest: so one comparison tells what is outside.
+    #[inline(always)]
+    fn place(&self, addr: u32) -> usize
+        ensures inside { self.now.base ≤ addr → result ≡ addr - self.now.base }
+        ensures before { addr < self.now.base → length self.now.items ≤ result }
+        ensures small { result < 2 ^ 32 }
+    {
+        addr.wrapping_sub(self.base) as usize
     }
 
     /// Writes one byte, at an address that is inside.

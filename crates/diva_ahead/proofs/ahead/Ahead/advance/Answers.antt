@@ -4,4 +4,4 @@ use Rattle.diva_ahead.proofs.ahead.Ahead.advance.Goals as goal
 
 pub hand_over-requires-clause-effect : goal.hand_over-requires-clause-effect
 hand_over-requires-clause-effect c =
-    rw (c.effect_by.ensures.effect, c.decoded_of-decoded.ensures.decoded, c.fetch-fetched.ensures, c.record_by-record.ensures) (effect_is (seen c.args.self.now c.args.view.now))
+    rw (c.due_by-effect.ensures.effect, c.decoded_of-decoded.ensures.decoded, c.fetch-fetched.ensures, c.due_by-effect.ensures.record) (effect_is (seen c.args.self.now c.args.view.now))
