@@ -11,7 +11,7 @@ use Rattle.diva_isa.specs.State.{State, goes_on, memory_of, word_of, output_limi
 use Rattle.diva_isa.specs.Kind.{kind, size}
 use Rattle.diva_isa.specs.Step.{apply, effect_of, record_fetched, outcome, record_of, record_by, source1, source2, address_of, step, steps, with_effect}
 use Rattle.diva_isa.specs.declared.kind.Kind.{Kind}
-use Rattle.diva_isa.specs.declared.kind.Kind.TheVariants.{Lui, Auipc, Jal, Jalr, Branch, Load, Store, OpImm, OpReg, Fence, Ecall, Ebreak}
+use Rattle.diva_isa.specs.declared.kind.Kind.TheVariants.{Lui, Ecall}
 use Rattle.diva_isa.specs.declared.record.Record.{Record}
 use Rattle.diva_isa.specs.declared.effect.Effect.{Effect}
 use Rattle.diva_isa.specs.declared.effect.Effect.TheVariants.{Nothing, Writes, Stores, Puts}
@@ -30,50 +30,21 @@ full n = min n output_limit
 abbrev pub other : State → List ℕ → ℕ → State
 other s o e = record s { output = o; end = e }
 
+-- what is said of each kind, all in the same way but for a call
 source1_other : (k : Kind) (s : State) (o : List ℕ) (e : ℕ) (i : Instr) → source1 k (other s o e) i ≡ source1 k s i
 source1_other Lui s o e i = refl
-source1_other Auipc s o e i = refl
-source1_other Jal s o e i = refl
-source1_other Jalr s o e i = refl
-source1_other Branch s o e i = refl
-source1_other (Load width) s o e i = refl
-source1_other (Store width) s o e i = refl
-source1_other OpImm s o e i = refl
-source1_other OpReg s o e i = refl
-source1_other Fence s o e i = refl
-source1_other Ecall s o e i = refl
-source1_other Ebreak s o e i = refl
+source1_other k s o e i = refl
 
 source2_other : (k : Kind) (s : State) (o : List ℕ) (e : ℕ) (i : Instr) → source2 k (other s o e) i ≡ source2 k s i
 source2_other Lui s o e i = refl
-source2_other Auipc s o e i = refl
-source2_other Jal s o e i = refl
-source2_other Jalr s o e i = refl
-source2_other Branch s o e i = refl
-source2_other (Load width) s o e i = refl
-source2_other (Store width) s o e i = refl
-source2_other OpImm s o e i = refl
-source2_other OpReg s o e i = refl
-source2_other Fence s o e i = refl
-source2_other Ecall s o e i = refl
-source2_other Ebreak s o e i = refl
+source2_other k s o e i = refl
 
 same_room : (m n : ℕ) → full m ≡ full n → nat_lt m output_limit ≡ nat_lt n output_limit
 same_room m n h = grind (arith, nat_tests)
 
 outcome_other : (k : Kind) (s : State) (o : List ℕ) (e : ℕ) (i : Instr) (pc a b addr : ℕ) → full (length o) ≡ full (length s.output) → outcome k (other s o e) i pc a b addr ≡ outcome k s i pc a b addr
-outcome_other Lui s o e i pc a b addr h = refl
-outcome_other Auipc s o e i pc a b addr h = refl
-outcome_other Jal s o e i pc a b addr h = refl
-outcome_other Jalr s o e i pc a b addr h = refl
-outcome_other Branch s o e i pc a b addr h = refl
-outcome_other (Load width) s o e i pc a b addr h = refl
-outcome_other (Store width) s o e i pc a b addr h = refl
-outcome_other OpImm s o e i pc a b addr h = refl
-outcome_other OpReg s o e i pc a b addr h = refl
-outcome_other Fence s o e i pc a b addr h = refl
 outcome_other Ecall s o e i pc a b addr h = rw (same_room (length o) (length s.output) h) refl
-outcome_other Ebreak s o e i pc a b addr h = refl
+outcome_other k s o e i pc a b addr h = refl
 
 said_other : (s : State) (o : List ℕ) (e : ℕ) (there : Bool) (w : ℕ) (decoded : Option Instr) → full (length o) ≡ full (length s.output) → record_by (other s o e) there w decoded ≡ record_by s there w decoded
 said_other s o e true w None h = refl

@@ -1,5 +1,5 @@
 -- What effects that are laid over memory change, and what they leave as it is.
-use Rattle.std.proofs.Common.{◌≡◌, ◌<◌, ℕ, zero, suc, ◌+◌, ◌%◌, ◌^◌, ◌==◌, List, [], ◌∷◌, ◌++◌, Option, Some, None, Bool, true, false, ◌&&◌, ◌*◌, if◌then◌else◌, refl, ap, sym, ◌∙◌, arith}
+use Rattle.std.proofs.Common.{◌≡◌, ◌<◌, ℕ, zero, suc, ◌+◌, ◌^◌, List, [], ◌∷◌, ◌++◌, Option, Some, None, Bool, true, false, ◌&&◌, ◌*◌, refl, ap, sym, ◌∙◌, arith}
 use Rattle.std.proofs.lemmas.Grind.{common_steps}
 use Rattle.std.proofs.lemmas.Bool.Decides.{nat_tests}
 use Rattle.std.specs.List.{list_all}
@@ -12,6 +12,7 @@ use Rattle.diva_isa.specs.Step.{with_effect}
 use Rattle.diva_isa.specs.declared.kind.Width.{Width}
 use Rattle.diva_isa.specs.declared.effect.Effect.{Effect}
 use Rattle.diva_isa.specs.declared.effect.Effect.TheVariants.{Nothing, Writes, Stores, Puts}
+use Rattle.diva_storeq.proofs.Laying.{word_none}
 use Rattle.diva_isa.proofs.Stored.{length_low_bytes}
 use Rattle.diva_core.specs.Effects.{with_effects, byte_in, is_apart}
 
@@ -94,23 +95,8 @@ pub effects_word : (s : State) (effects : List Effect) (a : ℕ) → list_all (�
 effects_word s effects a h = rw (same_number (memory_of (with_effects s effects)) (memory_of s) 4 a (λ i lt. effects_apart_byte s effects a 4 i h lt)) refl
 
 -- a word that is not there is not there with the effects laid over
-none_or : (p q r t : Option ℕ) → (p ≡ None → q ≡ None) → (r ≡ None → t ≡ None) → option_and_then (λ low. option_map (λ high. low + 2 ^ 8 * high) r) p ≡ None → option_and_then (λ low. option_map (λ high. low + 2 ^ 8 * high) t) q ≡ None
-none_or None q r t f g h = rw (f refl) refl
-none_or (Some b) None r t f g h = refl
-none_or (Some b) (Some c) None t f g h = rw (g refl) refl
-none_or (Some b) (Some c) (Some d) t f g h = absurd (cc)
-
-number_none : (s : State) (effects : List Effect) (n a : ℕ) → number_of s n a ≡ None → number_of (with_effects s effects) n a ≡ None
-number_none s effects zero a h = absurd (cc)
-number_none s effects (suc n) a h =
-    none_or (byte_of s a) (byte_of (with_effects s effects) a) (number_of s n (a + 1)) (number_of (with_effects s effects) n (a + 1)) (effects_none s effects a) (number_none s effects n (a + 1)) h
-
-test_none : (c : Bool) (p q : Option ℕ) → (p ≡ None → q ≡ None) → (if c then p else None) ≡ None → (if c then q else None) ≡ None
-test_none true p q f h = f h
-test_none false p q f h = refl
-
 pub effects_word_none : (s : State) (effects : List Effect) (a : ℕ) → word_of s a ≡ None → word_of (with_effects s effects) a ≡ None
-effects_word_none s effects a h = test_none (a % 4 == 0) (number_of s 4 a) (number_of (with_effects s effects) 4 a) (number_none s effects 4 a) h
+effects_word_none s effects a h = word_none (memory_of s) (memory_of (with_effects s effects)) (effects_none s effects) a h
 
 -- ---- the effects take no byte away
 

@@ -94,21 +94,23 @@ has_word m a w z lt h =
     let b0 : byte_at m a ≡ Some (word_byte w 0) = rw here at (h 0 (omega arith)) in
     rw (aligned, two, three, b0, h 1 (omega arith), h 2 (omega arith), h 3 (omega arith)) (ap (λ (n : ℕ). Some n) sum)
 
--- a word that is not there is not there with the entries laid over
+-- a word that is not there is not there in bytes that lack each byte which the others lack
 none_or : (p q r t : Option ℕ) → (p ≡ None → q ≡ None) → (r ≡ None → t ≡ None) → option_and_then (λ low. option_map (λ high. low + 2 ^ 8 * high) r) p ≡ None → option_and_then (λ low. option_map (λ high. low + 2 ^ 8 * high) t) q ≡ None
 none_or None q r t f g h = rw (f refl) refl
 none_or (Some b) None r t f g h = refl
 none_or (Some b) (Some c) None t f g h = rw (g refl) refl
 none_or (Some b) (Some c) (Some d) t f g h = absurd (cc)
 
-number_none : (m : Bytes) (entries : List Masked) (n a : ℕ) → number_at m n a ≡ None → number_at (laid m entries) n a ≡ None
-number_none m entries zero a h = absurd (cc)
-number_none m entries (suc n) a h =
-    none_or (byte_at m a) (byte_at (laid m entries) a) (number_at m n (a + 1)) (number_at (laid m entries) n (a + 1)) (laid_none m entries a) (number_none m entries n (a + 1)) h
+number_none : (m n : Bytes) → ((a : ℕ) → byte_at m a ≡ None → byte_at n a ≡ None) → (k a : ℕ) → number_at m k a ≡ None → number_at n k a ≡ None
+number_none m n lacks zero a h = absurd (cc)
+number_none m n lacks (suc k) a h = none_or (byte_at m a) (byte_at n a) (number_at m k (a + 1)) (number_at n k (a + 1)) (lacks a) (number_none m n lacks k (a + 1)) h
 
 test_none : (c : Bool) (p q : Option ℕ) → (p ≡ None → q ≡ None) → (if c then p else None) ≡ None → (if c then q else None) ≡ None
 test_none true p q f h = f h
 test_none false p q f h = refl
 
+pub word_none : (m n : Bytes) → ((a : ℕ) → byte_at m a ≡ None → byte_at n a ≡ None) → (a : ℕ) → word_at m a ≡ None → word_at n a ≡ None
+word_none m n lacks a h = test_none (a % 4 == 0) (number_at m 4 a) (number_at n 4 a) (number_none m n lacks 4 a) h
+
 pub laid_word_none : (m : Bytes) (entries : List Masked) (a : ℕ) → word_at m a ≡ None → word_at (laid m entries) a ≡ None
-laid_word_none m entries a h = test_none (a % 4 == 0) (number_at m 4 a) (number_at (laid m entries) 4 a) (number_none m entries 4 a) h
+laid_word_none m entries a h = word_none m (laid m entries) (laid_none m entries) a h
