@@ -1,5 +1,5 @@
 -- The first field in which a claim differs from the due record.
-use Rattle.std.specs.Prelude.{ℕ, ◌≡◌, ◌≢◌, ◌==◌, List, [], ◌∷◌, Option, Some, None, if◌then◌else◌}
+use Rattle.std.specs.Prelude.{ℕ, ◌≡◌, ◌≢◌, ◌==◌, List, [], ◌∷◌, codes, Option, Some, None, if◌then◌else◌}
 use Rattle.diva_isa.specs.declared.record.Record.{Record}
 use Rattle.diva_core.specs.declared.differences.Field.{Field}
 use Rattle.diva_core.specs.declared.differences.Field.TheVariants.{Pc, Word, Src1, Src2, Addr, Value, Next, End}
@@ -14,6 +14,17 @@ field_of Addr r = r.addr
 field_of Value r = r.value
 field_of Next r = r.next
 field_of End r = r.end
+
+-- how texts call a field
+abbrev pub field_name : Field → List ℕ
+field_name Pc = codes "pc"
+field_name Word = codes "word"
+field_name Src1 = codes "src1"
+field_name Src2 = codes "src2"
+field_name Addr = codes "addr"
+field_name Value = codes "value"
+field_name Next = codes "next"
+field_name End = codes "end"
 
 -- a record's fields, in their order
 abbrev pub all_fields : List Field

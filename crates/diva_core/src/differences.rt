@@ -1,6 +1,6 @@
 // How a claim differs from the due record.
-ghost use Rattle.std.specs.Prelude.{◌≡◌, None, Some, IfSome};
-ghost use Rattle.diva_core.specs.Difference.{all_fields, difference_in, field_of, first_difference, IsDifference};
+ghost use Rattle.std.specs.Prelude.{◌≡◌, ◌≤◌, None, Some, IfSome, length};
+ghost use Rattle.diva_core.specs.Difference.{all_fields, difference_in, field_name, field_of, first_difference, IsDifference};
 
 use diva_isa::Record;
 
@@ -51,6 +51,23 @@ impl Field {
             Field::Value => r.value,
             Field::Next => r.next,
             Field::End => r.end,
+        }
+    }
+
+    /// How texts call the field: in lower case, at most five letters.
+    pub fn name(self) -> &'static [u8]
+        ensures name { result.now ≡ field_name self }
+        ensures short { length result.now ≤ 5 }
+    {
+        match self {
+            Field::Pc => b"pc",
+            Field::Word => b"word",
+            Field::Src1 => b"src1",
+            Field::Src2 => b"src2",
+            Field::Addr => b"addr",
+            Field::Value => b"value",
+            Field::Next => b"next",
+            Field::End => b"end",
         }
     }
 }

@@ -4,7 +4,7 @@ use Rattle.std.specs.Prelude.{ℕ, nat_lt, List, [], ◌∷◌, ◌++◌, length
 use Rattle.std.specs.Option.{ok_or}
 use Rattle.std.specs.Str.{bytes_eq}
 use Rattle.diva_core.specs.declared.differences.Field.{Field}
-use Rattle.diva_core.specs.Difference.{all_fields}
+use Rattle.diva_core.specs.Difference.{all_fields, field_name}
 use Rattle.diva_outside.specs.Lines.{LineFault, lines_of, over_lines}
 use Rattle.diva_outside.specs.NextWords.{first_hex, first_number, no_more, with_first}
 use Rattle.diva_outside.specs.Steps.{and_then, fault_by}
@@ -17,7 +17,6 @@ use Rattle.diva_faults.specs.declared.rows.Change.TheVariants.{Flip, Set, Lose, 
 use Rattle.diva_faults.specs.declared.rows.Row.{Row}
 use Rattle.diva_faults.specs.declared.rows.Row.TheVariants.{Lane, Hush}
 use Rattle.diva_faults.specs.Kinds.{kind_of, number_of_kind}
-use Rattle.diva_faults.specs.Rows.{field_name}
 
 -- ---- words from the left
 

@@ -2,14 +2,14 @@
 ghost use Rattle.std.specs.Prelude.{◌≡◌, ◌≤◌, ◌<◌, length, bit_and, find, IfOk, IfErr, IfSome, Ok};
 ghost use Rattle.std.specs.List.{All};
 ghost use Rattle.std.specs.Str.{bytes_eq};
-ghost use Rattle.diva_core.specs.Difference.{all_fields};
+ghost use Rattle.diva_core.specs.Difference.{all_fields, field_name};
 ghost use Rattle.diva_outside.specs.NextWords.{others_of};
 ghost use Rattle.diva_outside.specs.Words.{words_of};
 ghost use Rattle.diva_faults.specs.declared.fault.ScriptFault.TheVariants.{Bad};
 ghost use Rattle.diva_faults.specs.Gives.{IsFirstFault};
 ghost use Rattle.diva_faults.specs.Kinds.{number_of_kind};
 ghost use Rattle.diva_faults.specs.Reading.{change_in, field_in, flip_in, hush_in, lane_in, line_in, part_in, row_in, script_of, set_in};
-ghost use Rattle.diva_faults.specs.Rows.{field_name, IsChange, IsCycle, IsRow};
+ghost use Rattle.diva_faults.specs.Rows.{IsChange, IsCycle, IsRow};
 
 use crate::fault::{Kind, ScriptFault};
 use crate::rows::{Change, Row};
@@ -187,23 +187,7 @@ fn field_named(word: &[u8]) -> Option<Field>
     Field::ALL
         .iter()
         .copied()
-        .find(|field| is_word(word, field_name(*field)))
-}
-
-/// How a script names a field.
-fn field_name(field: Field) -> &'static [u8]
-    ensures { result.now ≡ field_name field }
-{
-    match field {
-        Field::Pc => b"pc",
-        Field::Word => b"word",
-        Field::Src1 => b"src1",
-        Field::Src2 => b"src2",
-        Field::Addr => b"addr",
-        Field::Value => b"value",
-        Field::Next => b"next",
-        Field::End => b"end",
-    }
+        .find(|field| is_word(word, field.name()))
 }
 
 /// The fault of a line.

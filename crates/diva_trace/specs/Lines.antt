@@ -7,9 +7,8 @@ use Rattle.diva_isa.specs.End.{end_of}
 use Rattle.diva_isa.specs.declared.end.End.{End}
 use Rattle.diva_isa.specs.declared.end.End.TheVariants.{GoesOn, Halt, Trap}
 use Rattle.diva_isa.specs.declared.record.Record.{Record}
-use Rattle.diva_core.specs.Difference.{all_fields, field_of}
+use Rattle.diva_core.specs.Difference.{all_fields, field_name, field_of}
 use Rattle.diva_core.specs.declared.differences.Field.{Field}
-use Rattle.diva_core.specs.declared.differences.Field.TheVariants.{Pc, Word, Src1, Src2, Addr, Value, Next, End as EndField}
 use Rattle.diva_core.specs.declared.flushes.Cause.{Cause}
 use Rattle.diva_core.specs.declared.flushes.Cause.TheVariants.{Differs, Silent}
 use Rattle.diva_core.specs.declared.flushes.FlushRow.{FlushRow}
@@ -26,17 +25,6 @@ fields_text fields r = flat_map (λ field. codes " " ++ hex_word (field_of field
 -- an instruction by its number, and all fields of its record
 unfoldable pub commit_line : ℕ → Record → List ℕ
 commit_line index r = decimal index ++ fields_text all_fields r ++ codes "\n"
-
--- the name of a field
-abbrev pub field_name : Field → List ℕ
-field_name Pc = codes "pc"
-field_name Word = codes "word"
-field_name Src1 = codes "src1"
-field_name Src2 = codes "src2"
-field_name Addr = codes "addr"
-field_name Value = codes "value"
-field_name Next = codes "next"
-field_name EndField = codes "end"
 
 -- the field in which a claim differed, with what was claimed and what was due; or the watchdog's limit
 abbrev pub cause_text : Cause → List ℕ

@@ -2,10 +2,10 @@
 ghost use Rattle.std.specs.Prelude.{◌≡◌, ◌+◌, ◌*◌, ◌%◌, ◌^◌, ◌<◌, ◌≤◌, [], ◌++◌, length, codes};
 ghost use Rattle.std.specs.Fmt.{decimal};
 ghost use Rattle.diva_isa.specs.State.{memory_of};
-ghost use Rattle.diva_trace.specs.Lines.{commit_line, fields_text, field_name, cause_text, flush_line, end_line, end_line_of, end_text, count_line, cycles_line, flushes_line, soak_line, soak_core_name, output_line, out_line, register_text, registers_line, pc_line, byte_text, mem_line};
+ghost use Rattle.diva_trace.specs.Lines.{commit_line, fields_text, cause_text, flush_line, end_line, end_line_of, end_text, count_line, cycles_line, flushes_line, soak_line, soak_core_name, output_line, out_line, register_text, registers_line, pc_line, byte_text, mem_line};
 
 use crate::report::SoakCore;
-use diva_core::{Cause, Field, FlushRow, View};
+use diva_core::{Cause, FlushRow, View};
 use diva_isa::{End, Record};
 use diva_outside::Line;
 
@@ -65,7 +65,7 @@ fn push_cause(line: &mut Line, cause: &Cause)
 {
     match cause {
         Cause::Differs(diff) => {
-            line.text(field_name(diff.field).as_bytes());
+            line.text(diff.field.name());
             line.text(b" claimed ");
             line.hex_word(diff.claimed);
             line.text(b" due ");
@@ -75,23 +75,6 @@ fn push_cause(line: &mut Line, cause: &Cause)
             line.text(b"silent ");
             line.decimal(u64::from(*limit));
         }
-    }
-}
-
-// The name of a field, in lower case.
-fn field_name(field: Field) -> &'static str
-    ensures name { result.now ≡ field_name field }
-    ensures short { length result.now ≤ 5 }
-{
-    match field {
-        Field::Pc => "pc",
-        Field::Word => "word",
-        Field::Src1 => "src1",
-        Field::Src2 => "src2",
-        Field::Addr => "addr",
-        Field::Value => "value",
-        Field::Next => "next",
-        Field::End => "end",
     }
 }
 
