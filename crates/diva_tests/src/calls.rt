@@ -1,8 +1,8 @@
 // Calls of a machine's parts, and of a machine that is driven.
-ghost use Rattle.std.specs.Prelude.{◌≡◌, IfOk};
+ghost use Rattle.std.specs.Prelude.{◌≡◌, ◌≤◌, IfOk};
 
 use crate::cores::{Flipped, Late};
-use crate::programs::{FIVE, FIVE_FILE, LOOP, Program, image_file};
+use crate::programs::{ADDS, FIVE, FIVE_FILE, HALTS, LOOP, Program, image_file};
 use diva_core::{Cause, Core, Diff, Field, FlushRow};
 use diva_isa::Plain;
 use diva_machine::{Config, Drive, End, Machine, drive};
@@ -20,32 +20,33 @@ fn machine(alloc: Global, program: Program, limit: u32) -> Result<Machine, Fail>
     Ok(Machine::new(alloc, &image, config)?)
 }
 
-/// Drives a machine of `FIVE` to its end, and compares the cycles and the one flush, where there is one.
+/// Drives a machine of `FIVE`, and compares the end, the cycles and the one flush, where there is one.
 fn drives_to<C: Core>(
     rt: &impl Abort,
-    mut m: Machine,
+    alloc: Global,
+    limit: u32,
     core: &mut C,
     cycles: u64,
     flush: Option<FlushRow>,
-)
-    requires { m.timed.cycles ≡ 0 }
-{
-    assert_eq!(rt; drive(&mut m, core, 1000), Drive::Ended);
-    assert_eq!(rt; m.ended(), End::Halt(0));
-    assert_eq!(rt; (m.count(), m.cycles()), (3, cycles));
-    assert_eq!(rt; m.newest(), flush);
-    assert_eq!(rt; m.log(), flush.as_slice());
-    let silent = matches!(
-        flush,
-        Some(FlushRow {
-            cause: Cause::Silent(_),
-            ..
-        })
-    );
+) -> Result<(), Fail> {
+    let mut m = machine(alloc, FIVE, limit)?;
+    let driven = drive(&mut m, core, 1000);
+    compare_end(rt, &m, driven, cycles, flush);
+    Ok(())
+}
+
+/// Compares what has become of a driven machine of `FIVE`.
+fn compare_end(rt: &impl Abort, m: &Machine, driven: Drive, cycles: u64, flush: Option<FlushRow>) {
+    let (flushes, silent) = match flush {
+        None => (0, 0),
+        Some(row) => (1, u64::from(matches!(row.cause, Cause::Silent(_)))),
+    };
     assert_eq!(rt;
-        (m.flushes(), m.silent()),
-        (u64::from(flush.is_some()), u64::from(silent))
+        (driven, m.ended(), m.count(), m.cycles(), m.newest()),
+        (Drive::Ended, End::Halt(0), 3, cycles, flush)
     );
+    assert_eq!(rt; m.log(), flush.as_slice());
+    assert_eq!(rt; (m.flushes(), m.silent()), (flushes, silent));
 }
 
 /// A wrong claim of cycle 1 is judged in cycle 7, and the checker's own instruction commits in cycle
@@ -71,28 +72,9 @@ fn flushes_to_the_cycle(rt: HostRuntime) -> Result<(), Fail> {
         cause: Cause::Silent(16),
     };
     let alloc = rt.alloc();
-    drives_to(
-        &rt,
-        machine(alloc, FIVE, 64)?,
-        &mut Flipped,
-        27,
-        Some(wrong),
-    );
-    drives_to(
-        &rt,
-        machine(alloc, FIVE, 16)?,
-        &mut Late { first: 10 },
-        30,
-        None,
-    );
-    drives_to(
-        &rt,
-        machine(alloc, FIVE, 16)?,
-        &mut Late { first: 11 },
-        36,
-        Some(silent),
-    );
-    Ok(())
+    drives_to(&rt, alloc, 64, &mut Flipped, 27, Some(wrong))?;
+    drives_to(&rt, alloc, 16, &mut Late { first: 10 }, 30, None)?;
+    drives_to(&rt, alloc, 16, &mut Late { first: 11 }, 36, Some(silent))
 }
 
 /// A core that hands over nothing is flushed in cycle 64 and then every 70 cycles. 1,024 rows are
@@ -100,42 +82,57 @@ fn flushes_to_the_cycle(rt: HostRuntime) -> Result<(), Fail> {
 #[test]
 fn more_flushes_than_are_kept(rt: HostRuntime) -> Result<(), Fail> {
     let mut m = machine(rt.alloc(), LOOP, 64)?;
-    assert_eq!(rt; drive(&mut m, &mut Silent, 64 + 70 * 1024), Drive::Budget);
-    assert_eq!(rt; (m.flushes(), m.silent(), m.count()), (1025, 1025, 1024));
-    assert_eq!(rt; m.log().len(), 1024);
-    for (row, at) in [
-        (m.log().first().copied(), 0),
-        (m.log().last().copied(), 1023),
-        (m.newest(), 1024),
-    ] {
-        let due = FlushRow {
-            cycle: 64 + 70 * at,
-            at,
-            cause: Cause::Silent(64),
-        };
-        assert_eq!(rt; row, Some(due));
-    }
+    let driven = drive(&mut m, &mut Silent, 64 + 70 * 1024);
+    compare_kept(&rt, &m, driven);
     Ok(())
+}
+
+/// Compares the count of the flushes and of the rows that are kept, the first and the last of these, and the newest row.
+fn compare_kept(rt: &impl Abort, m: &Machine, driven: Drive) {
+    assert_eq!(rt;
+        (driven, m.flushes(), m.silent(), m.count(), m.log().len()),
+        (Drive::Budget, 1025, 1025, 1024, 1024)
+    );
+    assert_eq!(rt;
+        (
+            m.log().first().copied(),
+            m.log().last().copied(),
+            m.newest()
+        ),
+        (silent_row(0), silent_row(1023), silent_row(1024))
+    );
+}
+
+/// The row of a flush of the silent core, of which there were so many before.
+fn silent_row(before: u64) -> Option<FlushRow>
+    requires { before ≤ 1024 }
+{
+    Some(FlushRow {
+        cycle: 64 + 70 * before,
+        at: before,
+        cause: Cause::Silent(64),
+    })
 }
 
 #[test]
 fn parts_of_a_machine(rt: HostRuntime) -> Result<(), Fail> {
     assert!(rt; Config::new(2, 16, 7, 64).is_none());
-    assert_eq!(rt;
-        image_file(rt.alloc(), FIVE)?.as_slice(),
-        FIVE_FILE.as_slice()
-    );
+    let file = image_file(rt.alloc(), FIVE)?;
+    assert_eq!(rt; file.as_slice(), FIVE_FILE.as_slice());
+    Ok(())
+}
 
+#[test]
+fn a_run_without_a_machine(rt: HostRuntime) -> Result<(), Fail> {
     let mut plain = Plain::new(rt.alloc(), 0, 64, 0, &FIVE_FILE[24..])?;
-    let first = plain.record().ok_or("ended")?;
-    assert_eq!(rt;
-        (first.pc, first.word, first.value, first.next),
-        (0, 0x0050_0093, 5, 4)
-    );
+    let first = plain.record();
     plain.run(2);
-    assert!(rt; plain.record().is_some());
+    let third = plain.record();
     plain.run(1);
-    assert_eq!(rt; plain.record(), None);
+    assert_eq!(rt;
+        (first, third, plain.record()),
+        (Some(ADDS), Some(HALTS), None)
+    );
     assert_eq!(rt; (plain.count(), plain.ended(), plain.reg(1)), (3, 256, 5));
     Ok(())
 }

@@ -11,60 +11,103 @@ use std::process::Abort;
 use std::test::Fail;
 use tables::{ROWS, Row};
 
-/// Compares the claims that are pending, the oldest first, each with the cycle of its acceptance. A claim
-/// is decoded from two cycles after that on.
-fn compare_pending(rt: &impl Abort, m: &Machine, due: &[(Record, u64)], at: &str) {
-    assert_eq!(rt; m.told().pending as usize, due.len(), "{at}");
-    for (place, &(claim, cycle)) in due.iter().enumerate() {
-        let entry = m.entry(place);
-        assert_eq!(rt; (entry.claim, entry.cycle), (claim, cycle), "{at} {place}");
-        let is_decoded = m.cycles().saturating_sub(cycle) >= 2;
-        assert_eq!(rt; entry.decoded.is_some(), is_decoded, "{at} {place}");
-    }
-}
-
-/// Compares what the stages have found in the pending claim at a place.
-fn compare_verdict(rt: &impl Abort, m: &Machine, place: usize, verdict: Option<Diff>, at: &str) {
-    assert!(rt; place < m.told().pending as usize, "{at} {place}");
-    assert_eq!(rt; m.entry(place).verdict, verdict, "{at} {place}");
+/// A new machine of the row's sizes, with its program.
+fn machine(alloc: Global, row: &Row) -> Result<Machine, Fail> {
+    let image = diva_image::read(alloc, &image_file(alloc, row.program)?)?;
+    let config = Config::new(row.width, row.window, row.stores, 64).ok_or(
+        "a number out of its range",
+    )?;
+    Ok(Machine::new(alloc, &image, config)?)
 }
 
 /// Takes the turns of a row, and compares what each cycle commits, and what is pending after some. A
 /// further turn on a machine that has ended commits nothing.
 fn compare_turns(rt: &impl Abort, alloc: Global, row: &Row) -> Result<(), Fail> {
-    let image = diva_image::read(alloc, &image_file(alloc, row.program)?)?;
-    let config = Config::new(row.width, row.window, row.stores, 64).ok_or(
-        "a number out of its range",
-    )?;
-    let mut m = Machine::new(alloc, &image, config)?;
+    let mut m = machine(alloc, row)?;
     let mut core = Lists { lists: row.lists };
     let mut list = Claims::new();
-    for cycle in 1..=row.cycles {
-        assert_eq!(rt; m.cycles(), u64::from(cycle) - 1);
-        turn(&mut m, &mut core, &mut list);
-        let at = format!(in alloc; "{}, cycle {cycle}", row.name)?;
-        assert_eq!(rt; m.last(), commits_in(row, cycle), "{at}");
-        if let Some((_, due)) = row.pending.iter().find(|(of, _)| *of == cycle) {
-            compare_pending(rt, &m, due, at.as_str());
-        }
-        for &(_, place, verdict) in row.verdicts.iter().filter(|(of, ..)| *of == cycle) {
-            compare_verdict(rt, &m, place, verdict, at.as_str());
-        }
+    for before in 0..row.cycles {
+        take_turn(rt, &mut m, &mut core, &mut list, before);
+        compare_cycle(rt, &m, row, before + 1);
     }
+    compare_end(rt, &m, row);
+    if !m.goes_on() {
+        take_turn(rt, &mut m, &mut core, &mut list, row.cycles);
+        let counts = (m.cycles(), m.last().len(), list.len());
+        assert_eq!(rt; counts, (u64::from(row.cycles), 0, 0), "{}", row.name);
+    }
+    Ok(())
+}
+
+/// Takes a turn of a machine after so many cycles.
+fn take_turn(
+    rt: &impl Abort,
+    m: &mut Machine,
+    core: &mut Lists<'_>,
+    list: &mut Claims,
+    before: u32,
+) {
+    assert_eq!(rt; m.cycles(), u64::from(before));
+    turn(m, core, list);
+}
+
+/// Compares what a cycle has committed, what is pending after it, and what the stages have found.
+fn compare_cycle(rt: &impl Abort, m: &Machine, row: &Row, cycle: u32) {
+    let name = row.name;
+    assert_eq!(rt; m.last(), commits_in(row, cycle), "{name}, cycle {cycle}");
+    if let Some((_, due)) = row.pending.iter().find(|(of, _)| *of == cycle) {
+        compare_pending(rt, m, due, name);
+    }
+    for &(_, place, verdict) in row.verdicts.iter().filter(|(of, ..)| *of == cycle) {
+        compare_verdict(rt, m, place, verdict, name);
+    }
+}
+
+/// Compares the claims that are pending, the oldest first, each with the cycle of its acceptance. A claim
+/// is decoded from two cycles after that on.
+fn compare_pending(rt: &impl Abort, m: &Machine, due: &[(Record, u64)], name: &str) {
+    let cycles = m.cycles();
+    assert_eq!(rt;
+        m.told().pending as usize,
+        due.len(),
+        "{name}, cycle {cycles}"
+    );
+    for (place, &(claim, accepted)) in due.iter().enumerate() {
+        let entry = m.entry(place);
+        assert_eq!(rt;
+            (entry.claim, entry.cycle, entry.decoded.is_some()),
+            (claim, accepted, cycles.saturating_sub(accepted) >= 2),
+            "{name}, cycle {cycles}, place {place}"
+        );
+    }
+}
+
+/// Compares what the stages have found in the pending claim at a place.
+fn compare_verdict(rt: &impl Abort, m: &Machine, place: usize, verdict: Option<Diff>, name: &str) {
+    assert!(rt; place < m.told().pending as usize);
+    let cycles = m.cycles();
+    assert_eq!(rt;
+        m.entry(place).verdict,
+        verdict,
+        "{name}, cycle {cycles}, place {place}"
+    );
+}
+
+/// Compares what has become of the machine.
+fn compare_end(rt: &impl Abort, m: &Machine, row: &Row) {
     let flushes = u64::from(row.flush.is_some());
     assert_eq!(rt;
-        (m.ended(), m.count(), m.flushes(), m.newest()),
-        (row.end, row.count, flushes, row.flush),
+        (m.cycles(), m.ended(), m.count(), m.flushes(), m.newest()),
+        (
+            u64::from(row.cycles),
+            row.end,
+            row.count,
+            flushes,
+            row.flush
+        ),
         "{}",
         row.name
     );
-    assert_eq!(rt; m.cycles(), u64::from(row.cycles));
-    if !m.goes_on() {
-        turn(&mut m, &mut core, &mut list);
-        assert!(rt; m.last().is_empty() && list.is_empty());
-        assert_eq!(rt; m.cycles(), u64::from(row.cycles));
-    }
-    Ok(())
 }
 
 /// What a cycle of the row is to commit.

@@ -6,7 +6,7 @@ use diva_isa::Regs;
 use diva_memory::Memory;
 use diva_ooo::Ooo;
 use diva_storeq::StoreQueue;
-use std::alloc::Global;
+use std::alloc::{AllocError, Global};
 use std::process::Abort;
 use std::test::Fail;
 use tables::{Call, Claimed, ROWS, Row};
@@ -36,6 +36,27 @@ fn memory(alloc: Global, words: &[u32]) -> Result<Memory, Fail> {
     Ok(Memory::new(alloc, 0, 64, fitting)?)
 }
 
+/// What the core hands over in a call.
+fn handed_over(core: &mut Ooo, told: &Told, view: &View<'_>) -> Claims {
+    let mut list = Claims::new();
+    core.cycle(told, view, &mut list);
+    list
+}
+
+/// What is compared of the claims of a list.
+fn claimed_in(alloc: Global, list: &Claims) -> Result<Vec<Claimed>, AllocError> {
+    let mut claimed = Vec::new(alloc);
+    for claim in list.as_slice() {
+        claimed.push(Claimed {
+            pc: claim.pc,
+            value: claim.value,
+            next: claim.next,
+            end: claim.end,
+        })?;
+    }
+    Ok(claimed)
+}
+
 /// Calls a new core that is shown the row's program at reset, and compares the list of each call.
 fn compare_calls(rt: &impl Abort, alloc: Global, row: &Row) -> Result<(), Fail> {
     let (regs, memory) = (Regs::new(), memory(alloc, row.words)?);
@@ -43,17 +64,8 @@ fn compare_calls(rt: &impl Abort, alloc: Global, row: &Row) -> Result<(), Fail> 
     let view = View::new(&regs, 0, &memory, &queue, &output);
     let mut core = Ooo::new(alloc)?;
     for (place, call) in (1..).zip(row.calls) {
-        let mut list = Claims::new();
-        core.cycle(&told(place, call), &view, &mut list);
-        let mut claimed = Vec::new(alloc);
-        for claim in list.as_slice() {
-            claimed.push(Claimed {
-                pc: claim.pc,
-                value: claim.value,
-                next: claim.next,
-                end: claim.end,
-            })?;
-        }
+        let list = handed_over(&mut core, &told(place, call), &view);
+        let claimed = claimed_in(alloc, &list)?;
         assert_eq!(rt; claimed.as_slice(), call.list, "{}, call {place}", row.name);
     }
     Ok(())
