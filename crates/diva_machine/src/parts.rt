@@ -24,9 +24,8 @@ use crate::arch::Arch;
 use crate::log::Log;
 use crate::phases::{CommitPhase, Judged};
 use crate::stages::{LAST_STAGE, fill, pass};
-use arrayvec::ArrayVec;
 use diva_commit::Committed;
-use diva_core::{Cause, Claim, Config, Entry, FlushRow, Pending};
+use diva_core::{Cause, Claim, Config, Entry, FlushRow, Pending, Records};
 use diva_decode::decode;
 use diva_image::Image;
 use diva_isa::Record;
@@ -49,7 +48,7 @@ pub(crate) struct Parts {
     pub(crate) watchdog: Watchdog,
     pub(crate) log: Log,
     /// What the last cycle committed.
-    pub(crate) last: ArrayVec<Record, 4>,
+    pub(crate) last: Records<4>,
 }
 
 impl Model for Parts {
@@ -74,7 +73,7 @@ impl Model for Parts {
         flushes = m.log.flushes;
         silent = m.log.silent;
       };
-      last = m.last.items;
+      last = m.last;
       entries = m.pending.items;
       passed = m.passed;
       filled = m.filled;
@@ -101,7 +100,7 @@ impl Parts {
             filled: Record::default(),
             watchdog: Watchdog::new(config.limit()),
             log: Log::new(alloc)?,
-            last: ArrayVec::new(),
+            last: Records::new(),
         })
     }
 
@@ -141,9 +140,7 @@ impl Parts {
     pub fn forget_last(&mut self)
         ensures { self.new ≡ record self.old { last = [] } }
     {
-        // One by one, since they are few: `clear` fills their places by a call.
-        let last = &mut self.last;
-        while last.pop().is_some() {}
+        self.last.clear();
     }
 
     /// The claims of a list that the coming cycle accepts, unless it flushes or ends.
