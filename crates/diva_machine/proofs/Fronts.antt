@@ -60,6 +60,11 @@ judged_one m w is = ap (by_judgement m (past_front m)) is
 pub judged_less : (n i : ℕ) (m : Timed) → i < n → judged (n - i) m ≡ by_judgement m (judged (n - (i + 1)) (past_front m)) (judgement_of m)
 judged_less n i m h = ap (λ k. judged k m) (let e : n - i ≡ suc (n - (i + 1)) = omega arith in e)
 
+-- no claim is judged where none is past the last stage
+pub judged_none : (k : ℕ) (m : Timed) → 1 ≤ m.cycles → passed_by (m.cycles - 1) m.pending ≡ 0 → m ≡ judged k m
+judged_none zero m some none = refl
+judged_none (suc k) m some none = sym (ap (by_judgement m (judged k (past_front m))) (front_young m m.pending some none))
+
 -- how a judgement is told
 going_by : (w : Judgement) (goes : Bool) → judged_by w goes ≡ Committed → (w ≡ Commit) × (goes ≡ true)
 going_by Commit true h = (refl, refl)

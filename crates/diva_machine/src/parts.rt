@@ -143,16 +143,14 @@ impl Parts {
         self.last.clear();
     }
 
-    /// The claims of a list that the coming cycle accepts, unless it flushes or ends.
-    fn admitted<'a>(&self, list: &'a [Claim]) -> &'a [Claim]
-        requires { self.now.timed.config.window ≤ 64 }
+    /// The claims of a list that the coming cycle accepts, unless it flushes or ends, where it accepts so many at most.
+    #[inline(always)]
+    fn admitted<'a>(&self, list: &'a [Claim], room: usize) -> &'a [Claim]
+        requires { room ≡ room_of self.now.timed }
         ensures value { result.now ≡ take (room_of self.now.timed) list.now }
         ensures fits { length result.now ≤ self.now.timed.config.window - length self.now.timed.pending }
     {
-        if list.is_empty() {
-            return list;
-        }
-        &list[..self.room().min(list.len())]
+        &list[..room.min(list.len())]
     }
 
     /// Phase 1: the oldest undrained store goes to memory.
@@ -291,12 +289,10 @@ impl Parts {
         ensures staged { IsStaged (self.new.timed.cycles - 1) self.new }
         ensures solo { IsSoloFilled self.new.timed.cycles self.new }
     {
-        for at in 0..n {
-            if self.passed == 0 {
-                return CommitPhase::Open;
-            }
+        let mut at = 0;
+        while self.passed > 0 && at < n {
             match self.judge_front() {
-                Judged::Committed => {}
+                Judged::Committed => at += 1,
                 Judged::Ended => return CommitPhase::Closed,
                 Judged::Flushed => return CommitPhase::Closed,
                 Judged::Waits => return CommitPhase::Open,
@@ -331,8 +327,7 @@ impl Parts {
         ensures solo { IsSoloFilled self.new.timed.cycles self.new }
     {
         match self.recover {
-            Recover::Running if self.passed > 0 => self.judge(self.width),
-            Recover::Running => CommitPhase::Open,
+            Recover::Running => self.judge(self.width),
             Recover::Solo(start) => {
                 let age = self.cycles.saturating_sub(start);
                 if age == DEPTH {
@@ -466,11 +461,12 @@ impl Parts {
         }
     }
 
-    /// One cycle of a machine that goes on.
+    /// One cycle of a machine that goes on, and accepts so many claims at most.
     #[inline(always)]
     #[tactic(auto, unfolding(diva_core::specs::Cycle::cycle_of, diva_core::specs::Cycle::drained, diva_core::specs::Cycle::accepts))]
-    pub fn cycle(&mut self, list: &[Claim])
+    pub fn cycle(&mut self, list: &[Claim], room: usize)
         requires goes_on { GoesOn self.old.timed.arch }
+        requires room { room ≡ room_of self.old.timed }
         requires sound { IsMachine self.old.timed }
         requires cycles { self.old.timed.cycles < 2 ^ 60 }
         requires staged { IsStaged self.old.timed.cycles self.old }
@@ -481,7 +477,7 @@ impl Parts {
         ensures staged { IsStaged self.new.timed.cycles self.new }
         ensures solo { IsSoloFilled self.new.timed.cycles self.new }
     {
-        let admitted = self.admitted(list);
+        let admitted = self.admitted(list, room);
         self.forget_last();
         self.cycles += 1;
         self.drain();
