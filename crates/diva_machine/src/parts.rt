@@ -14,6 +14,7 @@ ghost use Rattle.diva_core.specs.declared.pending.Entry.{Entry};
 ghost use Rattle.diva_core.specs.Machine.{IsMachine, IsConfig};
 ghost use Rattle.diva_core.specs.Headline.{dues, SameLog};
 ghost use Rattle.diva_core.specs.Cycle.{Commit, accepted_in, accepts, judgement_of, commits, committed, cycle_of, drained, flushed, judged, number, watched};
+ghost use Rattle.diva_core.specs.declared.flushes.Cause.TheVariants.{Silent};
 ghost use Rattle.diva_commit.specs.Committing.{answer, is_committed};
 ghost use Rattle.diva_machine.specs.Start.{start_of};
 ghost use Rattle.diva_machine.specs.Machine.{pending_claim_of, judged_by, KeepsBounds, Tells};
@@ -327,7 +328,8 @@ impl Parts {
         ensures solo { IsSoloFilled self.new.timed.cycles self.new }
     {
         match self.recover {
-            Recover::Running => self.judge(self.width),
+            Recover::Running if self.passed > 0 => self.judge(self.width),
+            Recover::Running => CommitPhase::Open,
             Recover::Solo(start) => {
                 let age = self.cycles.saturating_sub(start);
                 if age == DEPTH {
@@ -443,6 +445,7 @@ impl Parts {
     /// Phase 5: the watchdog. `committed` tells whether the cycle counted an instruction.
     #[tactic(auto, unfolding(diva_core::specs::Cycle::watched))]
     fn watch(&mut self, committed: bool)
+        requires limit { 1 ≤ self.old.timed.config.limit }
         requires idle { self.old.timed.idle < 2 ^ 31 }
         requires flushes { self.old.timed.flushes < 2 ^ 63 }
         requires silent { self.old.timed.silent < 2 ^ 63 }
@@ -453,12 +456,31 @@ impl Parts {
         ensures staged { IsStaged self.old.timed.cycles self.old → IsStaged self.new.timed.cycles self.new }
         ensures solo { IsSoloFilled self.old.timed.cycles self.old → IsSoloFilled self.new.timed.cycles self.new }
     {
-        let alone = matches!(self.recover, Recover::Solo(_));
-        let barks = self.watchdog.tick(committed, alone);
-        if barks && self.arch.goes_on() {
-            let limit = self.watchdog.limit();
-            self.flush(Cause::Silent(limit));
+        if committed {
+            self.watchdog.rest();
+            return;
         }
+        let alone = matches!(self.recover, Recover::Solo(_));
+        let barks = self.watchdog.tick(false, alone);
+        if barks && self.arch.goes_on() {
+            self.bark();
+        }
+    }
+
+    /// Flushes since nothing has committed for too long.
+    #[cold]
+    #[inline(never)]
+    fn bark(&mut self)
+        requires flushes { self.old.timed.flushes < 2 ^ 63 }
+        requires silent { self.old.timed.silent < 2 ^ 63 }
+        ensures { self.new ≡ record self.old {
+          timed = flushed self.old.timed (Silent self.old.timed.config.limit);
+          entries = [];
+          passed = 0;
+        } }
+    {
+        let limit = self.watchdog.limit();
+        self.flush(Cause::Silent(limit));
     }
 
     /// One cycle of a machine that goes on, and accepts so many claims at most.
