@@ -1,7 +1,7 @@
 // What a core hands over.
 ghost use Rattle.std.specs.Prelude.{◌≡◌, ◌<◌, ◌≤◌, [], ◌∷◌, ◌++◌, length, take, IsTrue, ◌↔◌};
 
-use arrayvec::ArrayVec;
+use crate::records::Records;
 use diva_isa::Record;
 use std::marker::Model;
 
@@ -11,7 +11,7 @@ pub type Claim = Record;
 /// The claims of one cycle, in program order: at most eight.
 #[derive(Drop)]
 pub struct Claims {
-    items: ArrayVec<Claim, 8>,
+    records: Records<8>,
 }
 
 impl Model for Claims {
@@ -20,9 +20,9 @@ impl Model for Claims {
 
     ghost Value = { List Record };
 
-    ghost view = { λ c. c.items.items };
+    ghost view = { λ c. c.records };
 
-    ghost invariant = { λ c. length c.items.items ≤ 8 };
+    ghost invariant = { λ c. length c.records ≤ 8 };
 }
 
 impl Claims {
@@ -34,7 +34,7 @@ impl Claims {
         ensures { result ≡ [] }
     {
         Claims {
-            items: ArrayVec::new(),
+            records: Records::new(),
         }
     }
 
@@ -43,21 +43,21 @@ impl Claims {
         ensures value { result ≡ length self.now }
         ensures most { result ≤ 8 }
     {
-        self.items.len()
+        self.records.len()
     }
 
     /// Whether there is no claim.
     pub fn is_empty(&self) -> bool
         ensures { IsTrue result ↔ (self.now ≡ []) }
     {
-        self.items.is_empty()
+        self.records.is_empty()
     }
 
     /// Whether there is no room for a further claim.
     pub fn is_full(&self) -> bool
         ensures { IsTrue result ↔ (length self.now ≡ 8) }
     {
-        self.items.is_full()
+        self.records.len() == Claims::MOST
     }
 
     /// Puts a claim behind the others.
@@ -65,15 +65,14 @@ impl Claims {
         requires { length self.old < 8 }
         ensures { self.new ≡ self.old ++ claim ∷ [] }
     {
-        self.items.push(claim);
+        self.records.push(claim);
     }
 
     /// Drops all claims.
     pub fn clear(&mut self)
         ensures { self.new ≡ [] }
     {
-        // One by one, since they are few: `ArrayVec::clear` fills their places by a call.
-        while self.items.pop().is_some() {}
+        self.records.clear();
     }
 
     /// The claims, in order.
@@ -81,6 +80,6 @@ impl Claims {
         ensures value { result.now ≡ self.now }
         ensures most { length result.now ≤ 8 }
     {
-        self.items.as_slice()
+        self.records.as_slice()
     }
 }

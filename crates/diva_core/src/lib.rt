@@ -1,6 +1,7 @@
 //! What cores, checks and the machine share.
 //!
 //! - `config`: how wide and deep the machine is, `Config`;
+//! - `records`: the records of one cycle, `Records`;
 //! - `claims`: what a core hands over, `Claim` and `Claims`;
 //! - `told`, `view`: what a core is told and shown before a cycle, `Told` and `View`;
 //! - `cores`: the trait `Core`, with its one meaning `gives`;
@@ -29,6 +30,7 @@ mod effects;
 mod flushes;
 mod output;
 mod pending;
+mod records;
 mod told;
 mod view;
 mod walks;
@@ -42,5 +44,6 @@ pub use effects::{byte_in, is_apart};
 pub use flushes::{Cause, FlushRow};
 pub use output::Output;
 pub use pending::{Entry, Pending};
+pub use records::Records;
 pub use told::Told;
 pub use view::View;

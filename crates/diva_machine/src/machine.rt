@@ -5,7 +5,7 @@ ghost use Rattle.diva_isa.specs.End.{end_of, end_number};
 ghost use Rattle.diva_isa.specs.Step.{steps};
 ghost use Rattle.diva_image.specs.ImageLayout.{layout};
 ghost use Rattle.diva_core.specs.Older.{before_entry};
-ghost use Rattle.diva_core.specs.Timed.{Timed, PendingClaim, depth, new_timed};
+ghost use Rattle.diva_core.specs.Timed.{Timed, PendingClaim, depth, new_timed, room_of};
 ghost use Rattle.diva_core.specs.Told.{told_of};
 ghost use Rattle.diva_core.specs.Cycle.{begun, cycle_of, drained};
 ghost use Rattle.diva_core.specs.Machine.{IsMachine};
@@ -235,9 +235,25 @@ impl Machine {
             → self.new.timed.count ≡ self.old.timed.count + 1 }
     {
         if self.parts.goes_on() {
-            self.parts.cycle(list.as_slice());
+            let room = self.parts.room();
+            self.parts.cycle(list.as_slice(), room);
         } else {
             self.parts.forget_last();
         }
+    }
+    /// The same for a machine that goes on, where it is known how many claims the cycle accepts at most.
+    #[inline(always)]
+    #[tactic(auto, using(diva_core::proofs::Outcomes::records_by))]
+    pub(crate) fn cycle_within(&mut self, list: &Claims, room: u32)
+        requires goes_on { goes_on self.old.timed.arch ≡ true }
+        requires cycles { self.old.timed.cycles < 2 ^ 60 }
+        requires room { room ≡ room_of self.old.timed }
+        ensures cycled { self.new.timed ≡ cycle_of self.old.timed list.now }
+        ensures last { self.new.last
+            ≡ dues (self.new.timed.count - self.old.timed.count) self.old.timed.arch }
+        ensures commits { ByClaims self.old.timed self.new.last
+            ⊎ BySolo self.old.timed self.new.last }
+    {
+        self.parts.cycle(list.as_slice(), room as usize);
     }
 }

@@ -14,6 +14,7 @@ ghost use Rattle.diva_core.specs.declared.pending.Entry.{Entry};
 ghost use Rattle.diva_core.specs.Machine.{IsMachine, IsConfig};
 ghost use Rattle.diva_core.specs.Headline.{dues, SameLog};
 ghost use Rattle.diva_core.specs.Cycle.{Commit, accepted_in, accepts, judgement_of, commits, committed, cycle_of, drained, flushed, judged, number, watched};
+ghost use Rattle.diva_core.specs.declared.flushes.Cause.TheVariants.{Silent};
 ghost use Rattle.diva_commit.specs.Committing.{answer, is_committed};
 ghost use Rattle.diva_machine.specs.Start.{start_of};
 ghost use Rattle.diva_machine.specs.Machine.{pending_claim_of, judged_by, KeepsBounds, Tells};
@@ -24,9 +25,8 @@ use crate::arch::Arch;
 use crate::log::Log;
 use crate::phases::{CommitPhase, Judged};
 use crate::stages::{LAST_STAGE, fill, pass};
-use arrayvec::ArrayVec;
 use diva_commit::Committed;
-use diva_core::{Cause, Claim, Config, Entry, FlushRow, Pending};
+use diva_core::{Cause, Claim, Config, Entry, FlushRow, Pending, Records};
 use diva_decode::decode;
 use diva_image::Image;
 use diva_isa::Record;
@@ -49,7 +49,7 @@ pub(crate) struct Parts {
     pub(crate) watchdog: Watchdog,
     pub(crate) log: Log,
     /// What the last cycle committed.
-    pub(crate) last: ArrayVec<Record, 4>,
+    pub(crate) last: Records<4>,
 }
 
 impl Model for Parts {
@@ -74,7 +74,7 @@ impl Model for Parts {
         flushes = m.log.flushes;
         silent = m.log.silent;
       };
-      last = m.last.items;
+      last = m.last;
       entries = m.pending.items;
       passed = m.passed;
       filled = m.filled;
@@ -101,7 +101,7 @@ impl Parts {
             filled: Record::default(),
             watchdog: Watchdog::new(config.limit()),
             log: Log::new(alloc)?,
-            last: ArrayVec::new(),
+            last: Records::new(),
         })
     }
 
@@ -141,21 +141,17 @@ impl Parts {
     pub fn forget_last(&mut self)
         ensures { self.new ≡ record self.old { last = [] } }
     {
-        // One by one, since they are few: `clear` fills their places by a call.
-        let last = &mut self.last;
-        while last.pop().is_some() {}
+        self.last.clear();
     }
 
-    /// The claims of a list that the coming cycle accepts, unless it flushes or ends.
-    fn admitted<'a>(&self, list: &'a [Claim]) -> &'a [Claim]
-        requires { self.now.timed.config.window ≤ 64 }
+    /// The claims of a list that the coming cycle accepts, unless it flushes or ends, where it accepts so many at most.
+    #[inline(always)]
+    fn admitted<'a>(&self, list: &'a [Claim], room: usize) -> &'a [Claim]
+        requires { room ≡ room_of self.now.timed }
         ensures value { result.now ≡ take (room_of self.now.timed) list.now }
         ensures fits { length result.now ≤ self.now.timed.config.window - length self.now.timed.pending }
     {
-        if list.is_empty() {
-            return list;
-        }
-        &list[..self.room().min(list.len())]
+        &list[..room.min(list.len())]
     }
 
     /// Phase 1: the oldest undrained store goes to memory.
@@ -294,12 +290,10 @@ impl Parts {
         ensures staged { IsStaged (self.new.timed.cycles - 1) self.new }
         ensures solo { IsSoloFilled self.new.timed.cycles self.new }
     {
-        for at in 0..n {
-            if self.passed == 0 {
-                return CommitPhase::Open;
-            }
+        let mut at = 0;
+        while self.passed > 0 && at < n {
             match self.judge_front() {
-                Judged::Committed => {}
+                Judged::Committed => at += 1,
                 Judged::Ended => return CommitPhase::Closed,
                 Judged::Flushed => return CommitPhase::Closed,
                 Judged::Waits => return CommitPhase::Open,
@@ -451,6 +445,7 @@ impl Parts {
     /// Phase 5: the watchdog. `committed` tells whether the cycle counted an instruction.
     #[tactic(auto, unfolding(diva_core::specs::Cycle::watched))]
     fn watch(&mut self, committed: bool)
+        requires limit { 1 ≤ self.old.timed.config.limit }
         requires idle { self.old.timed.idle < 2 ^ 31 }
         requires flushes { self.old.timed.flushes < 2 ^ 63 }
         requires silent { self.old.timed.silent < 2 ^ 63 }
@@ -461,19 +456,39 @@ impl Parts {
         ensures staged { IsStaged self.old.timed.cycles self.old → IsStaged self.new.timed.cycles self.new }
         ensures solo { IsSoloFilled self.old.timed.cycles self.old → IsSoloFilled self.new.timed.cycles self.new }
     {
+        if committed {
+            self.watchdog.rest();
+            return;
+        }
         let alone = matches!(self.recover, Recover::Solo(_));
-        let barks = self.watchdog.tick(committed, alone);
+        let barks = self.watchdog.tick(false, alone);
         if barks && self.arch.goes_on() {
-            let limit = self.watchdog.limit();
-            self.flush(Cause::Silent(limit));
+            self.bark();
         }
     }
 
-    /// One cycle of a machine that goes on.
+    /// Flushes since nothing has committed for too long.
+    #[cold]
+    #[inline(never)]
+    fn bark(&mut self)
+        requires flushes { self.old.timed.flushes < 2 ^ 63 }
+        requires silent { self.old.timed.silent < 2 ^ 63 }
+        ensures { self.new ≡ record self.old {
+          timed = flushed self.old.timed (Silent self.old.timed.config.limit);
+          entries = [];
+          passed = 0;
+        } }
+    {
+        let limit = self.watchdog.limit();
+        self.flush(Cause::Silent(limit));
+    }
+
+    /// One cycle of a machine that goes on, and accepts so many claims at most.
     #[inline(always)]
     #[tactic(auto, unfolding(diva_core::specs::Cycle::cycle_of, diva_core::specs::Cycle::drained, diva_core::specs::Cycle::accepts))]
-    pub fn cycle(&mut self, list: &[Claim])
+    pub fn cycle(&mut self, list: &[Claim], room: usize)
         requires goes_on { GoesOn self.old.timed.arch }
+        requires room { room ≡ room_of self.old.timed }
         requires sound { IsMachine self.old.timed }
         requires cycles { self.old.timed.cycles < 2 ^ 60 }
         requires staged { IsStaged self.old.timed.cycles self.old }
@@ -484,7 +499,7 @@ impl Parts {
         ensures staged { IsStaged self.new.timed.cycles self.new }
         ensures solo { IsSoloFilled self.new.timed.cycles self.new }
     {
-        let admitted = self.admitted(list);
+        let admitted = self.admitted(list, room);
         self.forget_last();
         self.cycles += 1;
         self.drain();

@@ -55,8 +55,9 @@ fn turn_on<C: Core>(m: &mut Machine, core: &mut C, list: &mut Claims)
     ensures commits { ByClaims m.old.timed m.new.last ⊎ BySolo m.old.timed m.new.last }
 {
     list.clear();
-    core.cycle(&m.told(), &m.view(), list);
-    m.cycle(list);
+    let told = m.told();
+    core.cycle(&told, &m.view(), list);
+    m.cycle_within(list, told.room);
 }
 
 /// Takes turns until the machine ends or the budget's cycles are run. On an ended machine nothing

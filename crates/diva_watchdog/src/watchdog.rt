@@ -1,5 +1,5 @@
 // The count of cycles without a commit.
-ghost use Rattle.std.specs.Prelude.{◌≡◌, ◌≤◌, ◌↔◌, IsTrue, false};
+ghost use Rattle.std.specs.Prelude.{◌≡◌, ◌≤◌, ◌↔◌, IsTrue, false, true};
 
 use std::marker::Model;
 
@@ -42,6 +42,13 @@ impl Watchdog {
         ensures { result ≡ self.now.idle }
     {
         self.idle
+    }
+
+    /// Ends a cycle in which an instruction committed: no cycle has passed without one.
+    pub fn rest(&mut self)
+        ensures { self.new ≡ ticked self.old true }
+    {
+        self.idle = 0;
     }
 
     /// Ends a cycle: `committed` says whether an instruction committed in it, and `solo` whether one
