@@ -1,5 +1,5 @@
 -- What the board is asked.
-use Rattle.std.proofs.Common.{◌≡◌, ◌<◌, ◌≤◌, ℕ, zero, suc, ◌+◌, ◌-◌, ◌==◌, Bool, true, false, not, ◌&&◌, ◌||◌, ◌⊎◌, inl, inr, List, [], ◌∷◌, ◌++◌, get_or, take, refl, ap, sym, ◌∙◌, arith, append_assoc, if◌then◌else◌}
+use Rattle.std.proofs.Common.{◌≡◌, ◌<◌, ◌≤◌, ℕ, zero, suc, ◌+◌, ◌-◌, ◌==◌, Bool, true, false, not, ◌&&◌, ◌||◌, ◌⊎◌, inl, inr, List, [], ◌∷◌, ◌++◌, get_or, length, take, refl, ap, sym, ◌∙◌, arith, append_assoc, if◌then◌else◌}
 use Rattle.std.specs.Prelude.{nat_lt, nat_le}
 use Rattle.std.proofs.lemmas.Bool.Decides.{nat_tests}
 use Rattle.std.proofs.lemmas.Grind.{common_steps}
@@ -12,7 +12,8 @@ use Rattle.diva_ooo.specs.declared.profile.Class.TheVariants.{Plain, Loads, Stor
 use Rattle.diva_ooo.specs.Board.{IsBoard, IsCandidate, IsLastOf, IsNextOf, IsWrittenBetween, can_at, could_at, has_result, is_load, is_loading, is_open_store, no_mark, reads, writes}
 use Rattle.diva_ooo.specs.Issue.{are_stored, can_begin, is_available, is_awaited, is_done, is_free, is_ready, is_storing, is_waiting}
 use Rattle.diva_ooo.specs.MarkSets.{AreThose, IsLast, IsNext, has, holds_at}
-use Rattle.diva_ooo.proofs.Marking.{holds_end, holds_take}
+use Rattle.diva_ooo.proofs.Marking.{holds_end, holds_take, holds_within}
+use Rattle.diva_ooo.proofs.Places.{take_all}
 use Rattle.diva_ooo.proofs.Boarding.{and_off, could_waits}
 
 -- ---- the next one
@@ -132,6 +133,25 @@ available_at_by false w b at n m board h last is =
 
 pub available_at : (w : List Entry) (b : Board) (at n m : ℕ) → IsBoard w b → n < 32 → IsLast (get_or b.writers n no_mark) (b.base + at) m → has b.done m ≡ is_available (take at w) n
 available_at w b at n m board h last = available_at_by (nat_lt m b.base) w b at n m board h last refl
+
+-- behind all of them
+pub behind_free : (w : List Entry) (b : Board) (n : ℕ) → IsBoard w b → n < 32 → ((i : ℕ) → has (get_or b.writers n no_mark) i ≡ false) → true ≡ is_available w n
+behind_free w b n board h none = sym (available_none w n (λ i. sym (board.writers n h i) ∙ none (b.base + i)))
+
+highest_by : (c : Bool) (w : List Entry) (b : Board) (n m : ℕ) → IsBoard w b → n < 32 → nat_lt m b.base ≡ c → has (get_or b.writers n no_mark) m ≡ true → m < b.base + length w
+highest_by true w b n m board h is there = let old : m < b.base = grind (arith, nat_tests) in omega arith
+highest_by false w b n m board h is there =
+    let new : b.base ≤ m = grind (arith, nat_tests) in
+    let here : b.base + (m - b.base) ≡ m = omega arith in
+    let within = holds_within (writes n) w (m - b.base) (sym (board.writers n h (m - b.base)) ∙ ap (has (get_or b.writers n no_mark)) here ∙ there) in
+    omega arith
+
+pub behind_at : (w : List Entry) (b : Board) (n m : ℕ) → IsBoard w b → n < 32 → IsLast (get_or b.writers n no_mark) 64 m → length w ≤ 32 → has b.done m ≡ is_available w n
+behind_at w b n m board h last few =
+    let base = board.base in
+    let before : m < b.base + length w = highest_by (nat_lt m b.base) w b n m board h refl last.there in
+    available_at w b (length w) n m board h (record { before = before; there = last.there; last = λ i lt below. last.last i lt (omega arith) })
+    ∙ ap (λ (o : List Entry). is_available o n) (take_all w (length w) (omega arith))
 
 -- ---- the older stores
 

@@ -1,7 +1,8 @@
 -- The board follows the entries of its window.
-use Rattle.std.proofs.Common.{◌≡◌, ℕ, ◌<◌, zero, suc, ◌+◌, ◌==◌, Bool, true, false, not, ◌&&◌, ◌||◌, ◌⊎◌, inl, inr, List, [], ◌∷◌, ◌++◌, length, get_or, replicate, take, Some, refl, ap, sym, ◌∙◌, arith, slice_get, if◌then◌else◌}
+use Rattle.std.proofs.Common.{◌≡◌, ℕ, ◌<◌, zero, suc, ◌+◌, ◌==◌, Bool, true, false, not, ◌&&◌, ◌||◌, ◌⊎◌, inl, inr, List, [], ◌∷◌, ◌++◌, length, get_or, replicate, take, Some, refl, ap, sym, ◌∙◌, arith, slice_get, append_assoc, if◌then◌else◌}
 use Rattle.std.specs.Prelude.{slice_set, nat_lt}
 use Rattle.std.proofs.lemmas.Bool.Decides.{nat_tests}
+use Rattle.std.proofs.lemmas.List.{append-nil}
 use Rattle.diva_core.specs.Cycle.{is_store}
 use Rattle.diva_ooo.specs.declared.entry.Entry.{Entry}
 use Rattle.diva_ooo.specs.declared.entry.Stage.{Stage}
@@ -10,7 +11,7 @@ use Rattle.diva_ooo.specs.declared.board.Board.{Board}
 use Rattle.diva_ooo.specs.declared.mark_set.MarkSet.{MarkSet}
 use Rattle.diva_ooo.specs.declared.profile.Class.{Class}
 use Rattle.diva_ooo.specs.declared.profile.Profile.{Profile}
-use Rattle.diva_ooo.specs.Board.{IsBoard, IsWrittenBetween, could_at, is_load, is_loading, is_open_store, no_mark, reads, writes}
+use Rattle.diva_ooo.specs.Board.{IsBoard, IsNoted, IsWrittenBetween, could_at, is_load, is_loading, is_open_store, no_mark, reads, writes}
 use Rattle.diva_ooo.specs.Finish.{is_running}
 use Rattle.diva_ooo.specs.Issue.{is_available, is_awaited, is_done, is_storing, is_waiting}
 use Rattle.diva_ooo.specs.MarkSets.{AreThose, has, holds_at}
@@ -380,11 +381,6 @@ get_set (x ∷ xs) zero (suc n) t h = let other : (0 == suc n) ≡ false = grind
 get_set (x ∷ xs) (suc k) zero t h = let other : (suc k == 0) ≡ false = grind (arith, nat_tests) in rw other refl
 get_set (x ∷ xs) (suc k) (suc n) t h = let same : (suc k == suc n) ≡ (k == n) = grind (arith, nat_tests) in rw same (get_set xs k n t (omega arith))
 
-pub set_length : (xs : List MarkSet) (k : ℕ) (t : MarkSet) → length (slice_set xs k t) ≡ length xs
-set_length [] k t = refl
-set_length (x ∷ xs) zero t = refl
-set_length (x ∷ xs) (suc k) t = ap suc (set_length xs k t)
-
 as_was : (c : Bool) (s : MarkSet) (mark i : ℕ) → (i == mark) ≡ c → has s i ≡ (if c then has s mark else has s i)
 as_was true s mark i is = let same : i ≡ mark = grind (arith, nat_tests) in ap (has s) same
 as_was false s mark i is = refl
@@ -406,14 +402,24 @@ zero_same : (c : Bool) (r n : ℕ) → (r == n) ≡ c → ((r == n) && not (r ==
 zero_same true r n is = let same : r ≡ n = grind (arith, nat_tests) in ap (λ (m : ℕ). (r == n) && not (m == 0)) same
 zero_same false r n is = rw is refl
 
-pub writers_push : (w : List Entry) (e : Entry) (base : ℕ) (xs : List MarkSet) (r : ℕ) (b : Bool) (t : MarkSet) → r ≡ e.profile.rd → b ≡ not (r == 0) → length xs ≡ 32
+pub noted_some : (xs : List MarkSet) (r mark : ℕ) (t : MarkSet) → (r == 0) ≡ false → length xs ≡ 32 → ((k : ℕ) → has t k ≡ (if k == mark then true else has (get_or xs r no_mark) k)) → IsNoted xs (slice_set xs r t) r mark
+noted_some xs r mark t some long puts = λ n h i.
+    put_sets xs r mark true t puts n (omega arith) i
+    ∙ ap (λ (c : Bool). if i == mark then c || has (get_or xs n no_mark) mark else has (get_or xs n no_mark) i) (ap (λ (c : Bool). (r == n) && not c) (sym some) ∙ zero_same (r == n) r n refl)
+
+pub noted_none : (xs : List MarkSet) (r mark : ℕ) → (r == 0) ≡ true → IsNoted xs xs r mark
+noted_none xs r mark none = λ n h i.
+    let unread' : ((r == n) && not (n == 0)) ≡ false = sym (zero_same (r == n) r n refl) ∙ ap (λ (c : Bool). (r == n) && not c) none ∙ and_off (r == n) in
+    as_was (i == mark) (get_or xs n no_mark) mark i refl
+    ∙ ap (λ (c : Bool). if i == mark then c || has (get_or xs n no_mark) mark else has (get_or xs n no_mark) i) (sym unread')
+
+pub writers_push : (w : List Entry) (e : Entry) (base : ℕ) (xs ys : List MarkSet) (r : ℕ) → r ≡ e.profile.rd → IsNoted xs ys r (base + length w)
     → ((n : ℕ) → n < 32 → AreThose (writes n) w base (get_or xs n no_mark))
-    → ((k : ℕ) → has t k ≡ (if k == base + length w then b || has (get_or xs r no_mark) (base + length w) else has (get_or xs r no_mark) k))
-    → (n : ℕ) → n < 32 → AreThose (writes n) (w ++ e ∷ []) base (get_or (slice_set xs r t) n no_mark)
-writers_push w e base xs r b t is some long those puts n h =
-    those_push (writes n) w e base (get_or xs n no_mark) (get_or (slice_set xs r t) n no_mark) ((r == n) && b) (those n h)
-    (ap (λ (c : Bool). (r == n) && c) some ∙ zero_same (r == n) r n refl ∙ ap (λ (m : ℕ). (m == n) && not (n == 0)) is)
-    (put_sets xs r (base + length w) b t puts n (omega arith))
+    → (n : ℕ) → n < 32 → AreThose (writes n) (w ++ e ∷ []) base (get_or ys n no_mark)
+writers_push w e base xs ys r is noted those n h =
+    those_push (writes n) w e base (get_or xs n no_mark) (get_or ys n no_mark) ((r == n) && not (n == 0)) (those n h)
+    (ap (λ (m : ℕ). (m == n) && not (n == 0)) is)
+    (noted n h)
 
 either : (a b c : Bool) → (a || (b || c)) ≡ ((a || b) || c)
 either true b c = refl
@@ -434,36 +440,41 @@ joint : (c a b : Bool) (i mark : ℕ) (s : MarkSet) → (i == mark) ≡ c → (i
 joint true a b i mark s is = let same : (mark == mark) ≡ true = grind (arith, nat_tests) in rw same (either a b (has s mark))
 joint false a b i mark s is = rw is refl
 
-pub readers_push : (w : List Entry) (e : Entry) (base : ℕ) (xs : List MarkSet) (r1 r2 : ℕ) (b1 b2 : Bool) (t1 t2 : MarkSet) → r1 ≡ e.profile.rs1 → r2 ≡ e.profile.rs2 → b1 ≡ not (r1 == 0) → b2 ≡ not (r2 == 0) → length xs ≡ 32
+pub readers_push : (w : List Entry) (e : Entry) (base : ℕ) (xs ys zs : List MarkSet) (r1 r2 : ℕ) → r1 ≡ e.profile.rs1 → r2 ≡ e.profile.rs2
+    → IsNoted xs ys r1 (base + length w) → IsNoted ys zs r2 (base + length w)
     → ((n : ℕ) → n < 32 → AreThose (reads n) w base (get_or xs n no_mark))
-    → ((k : ℕ) → has t1 k ≡ (if k == base + length w then b1 || has (get_or xs r1 no_mark) (base + length w) else has (get_or xs r1 no_mark) k))
-    → ((k : ℕ) → has t2 k ≡ (if k == base + length w then b2 || has (get_or (slice_set xs r1 t1) r2 no_mark) (base + length w) else has (get_or (slice_set xs r1 t1) r2 no_mark) k))
-    → (n : ℕ) → n < 32 → AreThose (reads n) (w ++ e ∷ []) base (get_or (slice_set (slice_set xs r1 t1) r2 t2) n no_mark)
-readers_push w e base xs r1 r2 b1 b2 t1 t2 is1 is2 some1 some2 long those puts1 puts2 n h =
+    → (n : ℕ) → n < 32 → AreThose (reads n) (w ++ e ∷ []) base (get_or zs n no_mark)
+readers_push w e base xs ys zs r1 r2 is1 is2 first second those n h =
     let mark = base + length w in
     let s = get_or xs n no_mark in
-    let longer = set_length xs r1 t1 in
-    let first = put_sets xs r1 mark b1 t1 puts1 n (omega arith) in
-    let second = put_sets (slice_set xs r1 t1) r2 mark b2 t2 puts2 n (omega arith) in
-    those_push (reads n) w e base s (get_or (slice_set (slice_set xs r1 t1) r2 t2) n no_mark) (((r2 == n) && b2) || ((r1 == n) && b1)) (those n h)
-    (ap (λ (c : Bool). ((r2 == n) && c) || ((r1 == n) && b1)) some2
-    ∙ ap (λ (c : Bool). ((r2 == n) && not (r2 == 0)) || ((r1 == n) && c)) some1
-    ∙ ap (λ (c : Bool). c || ((r1 == n) && not (r1 == 0))) (zero_same (r2 == n) r2 n refl)
-    ∙ ap (λ (c : Bool). ((r2 == n) && not (n == 0)) || c) (zero_same (r1 == n) r1 n refl)
-    ∙ joined (r2 == n) (r1 == n) (not (n == 0))
+    those_push (reads n) w e base s (get_or zs n no_mark) (((r2 == n) && not (n == 0)) || ((r1 == n) && not (n == 0))) (those n h)
+    (joined (r2 == n) (r1 == n) (not (n == 0))
     ∙ ap (λ (m : ℕ). ((m == n) || (r2 == n)) && not (n == 0)) is1
     ∙ ap (λ (m : ℕ). ((e.profile.rs1 == n) || (m == n)) && not (n == 0)) is2)
     (λ i.
-    second i
-    ∙ ap (λ (c : Bool). if i == mark then ((r2 == n) && b2) || c else has (get_or (slice_set xs r1 t1) n no_mark) i) (first mark)
-    ∙ ap (λ (c : Bool). if i == mark then ((r2 == n) && b2) || (if mark == mark then ((r1 == n) && b1) || has s mark else has s mark) else c) (first i)
-    ∙ joint (i == mark) ((r2 == n) && b2) ((r1 == n) && b1) i mark s refl)
+    second n h i
+    ∙ ap (λ (c : Bool). if i == mark then ((r2 == n) && not (n == 0)) || c else has (get_or ys n no_mark) i) (first n h mark)
+    ∙ ap (λ (c : Bool). if i == mark then ((r2 == n) && not (n == 0)) || (if mark == mark then ((r1 == n) && not (n == 0)) || has s mark else has s mark) else c) (first n h i)
+    ∙ joint (i == mark) ((r2 == n) && not (n == 0)) ((r1 == n) && not (n == 0)) i mark s refl)
 
 -- ---- an entry more, and an entry less
 
-pushed_by : (c : Bool) (w : List Entry) (e : Entry) (n : ℕ) (b : Board) → IsBoard w b → (b.base + n == b.base + length w) ≡ c → (if c then true else has b.candidates (b.base + n)) ≡ false → could_at [] (w ++ e ∷ []) n ≡ false
-pushed_by true w e n b i is none = absurd (cc)
-pushed_by false w e n b i is none =
+could_last : (older w : List Entry) (e : Entry) (n : ℕ) → n ≡ length w → (is_available (older ++ w) e.profile.rs1 && is_available (older ++ w) e.profile.rs2) ≡ false → could_at older (w ++ e ∷ []) n ≡ false
+could_last older [] e zero is none =
+    let here : (is_available older e.profile.rs1 && is_available older e.profile.rs2) ≡ false = ap (λ (o : List Entry). is_available o e.profile.rs1 && is_available o e.profile.rs2) (sym (append-nil older)) ∙ none in
+    rw here (and_off (is_waiting e.stage))
+could_last older [] e (suc n) is none = absurd (omega arith)
+could_last older (x ∷ w) e zero is none = absurd (omega arith)
+could_last older (x ∷ w) e (suc n) is none =
+    could_last (older ++ x ∷ []) w e n (omega arith) (ap (λ (o : List Entry). is_available o e.profile.rs1 && is_available o e.profile.rs2) (append_assoc older (x ∷ []) w) ∙ none)
+
+pushed_by : (c ready : Bool) (w : List Entry) (e : Entry) (n : ℕ) (b : Board) → IsBoard w b → ready ≡ (is_available w e.profile.rs1 && is_available w e.profile.rs2)
+    → (b.base + n == b.base + length w) ≡ c → (if c then ready || has b.candidates (b.base + length w) else has b.candidates (b.base + n)) ≡ false → could_at [] (w ++ e ∷ []) n ≡ false
+pushed_by true ready w e n b i sources is none =
+    let at : n ≡ length w = grind (arith, nat_tests) in
+    let neither = or_off ready (has b.candidates (b.base + length w)) none in
+    could_last [] w e n at (sym sources ∙ neither.0)
+pushed_by false ready w e n b i sources is none =
     let other : n ≡ length w → ⊥ = λ at. absurd (grind (arith, nat_tests)) in
     could_pushed [] w e n other ∙ i.candidates n none
 
@@ -477,16 +488,16 @@ pub open_waiting : (e : Entry) (p : Profile) → p ≡ e.profile → is_waiting 
 open_waiting e p is waits = ap (λ (q : Profile). is_storing q.class) is ∙ open_by_stage e.stage e.profile.class waits
 
 pub board_pushed : (w : List Entry) (e : Entry) (b c : Board) → IsBoard w b → is_waiting e.stage ≡ true → is_store e.effect ≡ false
-    → (bs bl : Bool) → bs ≡ is_open_store e → bl ≡ is_load e
+    → (bs bl ready : Bool) → bs ≡ is_open_store e → bl ≡ is_load e → ready ≡ (is_available w e.profile.rs1 && is_available w e.profile.rs2)
     → ((i : ℕ) → has c.waiting i ≡ (if i == b.base + length w then true else has b.waiting i))
     → ((i : ℕ) → has c.storing i ≡ (if i == b.base + length w then bs || has b.storing (b.base + length w) else has b.storing i))
     → ((i : ℕ) → has c.loads i ≡ (if i == b.base + length w then bl || has b.loads (b.base + length w) else has b.loads i))
-    → ((i : ℕ) → has c.candidates i ≡ (if i == b.base + length w then true else has b.candidates i))
+    → ((i : ℕ) → has c.candidates i ≡ (if i == b.base + length w then ready || has b.candidates (b.base + length w) else has b.candidates i))
     → length c.writers ≡ 32 → length c.readers ≡ 32
     → ((n : ℕ) → n < 32 → AreThose (writes n) (w ++ e ∷ []) b.base (get_or c.writers n no_mark))
     → ((n : ℕ) → n < 32 → AreThose (reads n) (w ++ e ∷ []) b.base (get_or c.readers n no_mark))
     → IsBoard (w ++ e ∷ []) (record c { base = b.base; running = b.running; done = b.done; stored = b.stored })
-board_pushed w e b c i waits none bs bl iss isl putw puts putl putc ws rs writers readers =
+board_pushed w e b c i waits none bs bl ready iss isl sources putw puts putl putc ws rs writers readers =
     let idle = waits_only e.stage waits in
     let mark = b.base + length w in
     record {
@@ -498,7 +509,7 @@ board_pushed w e b c i waits none bs bl iss isl putw puts putl putc ws rs writer
       storing = those_push is_open_store w e b.base b.storing c.storing bs i.storing iss puts;
       stored = those_push (λ x. is_store x.effect) w e b.base b.stored b.stored false i.stored (sym none) (λ k. as_was (k == mark) b.stored mark k refl);
       loads = those_push is_load w e b.base b.loads c.loads bl i.loads isl putl;
-      candidates = λ n no. pushed_by (b.base + n == b.base + length w) w e n b i refl (sym (putc (b.base + n)) ∙ no);
+      candidates = λ n no. pushed_by (b.base + n == b.base + length w) ready w e n b i sources refl (sym (putc (b.base + n)) ∙ no);
       write_sets = ws;
       read_sets = rs;
       writers = writers;

@@ -229,6 +229,20 @@ last_some s end k h low high =
           sym here ∙ unset (bit_at m i) (bit_at_above m (suc k) i under (omega arith));
     }
 
+pub highest_none : (n i : ℕ) → n ≡ 0 → (bit_at n i == 1) ≡ false
+highest_none n i is = unset (bit_at n i) (ap (λ (m : ℕ). bit_at m i) is ∙ bit_at-zero i)
+
+pub highest_some : (s : MarkSet) (k : ℕ) → s.bits < 2 ^ 64 → 2 ^ k ≤ s.bits → s.bits < 2 * 2 ^ k → IsLast s 64 k
+highest_some s k fits low high =
+    let top : (bit_at s.bits k == 1) ≡ true = rw (top_bit s.bits k low high) refl in
+    record {
+      before = set_below s.bits k fits top;
+      there = top;
+      last = λ i lt below.
+          let under : s.bits < 2 ^ (suc k) = rw (pow-suc 2 k) (omega arith) in
+          unset (bit_at s.bits i) (bit_at_above s.bits (suc k) i under (omega arith));
+    }
+
 -- ---- the entries
 
 pub holds_end : (p : Entry → Bool) (w : List Entry) (i : ℕ) → length w ≤ i → holds_at p w i ≡ false

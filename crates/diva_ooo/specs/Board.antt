@@ -41,6 +41,12 @@ could_at older (e ∷ rest) (suc i) = could_at (older ++ e ∷ []) rest i
 abbrev pub no_mark : MarkSet
 no_mark = record { bits = 0 }
 
+-- a mark was put into the set of a register, unless that is x0
+abbrev pub IsNoted : (before after : List MarkSet) → (r mark : ℕ) → Type 0
+IsNoted before after r mark =
+    (n : ℕ) → n < 32 → (i : ℕ) → has (get_or after n no_mark) i
+    ≡ (if i == mark then ((r == n) && not (n == 0)) || has (get_or before n no_mark) mark else has (get_or before n no_mark) i)
+
 -- the board is that of the entries
 pub record IsBoard (w : List Entry) (b : Board) : Type 0 where
   pub base : b.base ≤ 32

@@ -2,7 +2,7 @@
 ghost use Rattle.std.specs.Prelude.{◌≡◌, ◌+◌, ◌&&◌, ◌<◌, ◌≤◌, ◌⊎◌, ℕ, List, [], ◌∷◌, ◌++◌, length, get_or, nat_lt, take, IfSome, IsNone, Some, false, if◌then◌else◌, slice_get, slice_set, true};
 ghost use Rattle.diva_ooo.specs.declared.entry.Entry.{Entry};
 ghost use Rattle.diva_core.specs.Cycle.{is_store};
-ghost use Rattle.diva_ooo.specs.Board.{IsBoard, IsCandidate, IsLastOf, IsNextOf, IsWrittenBetween, can_at, could_at, has_result, no_mark, reads};
+ghost use Rattle.diva_ooo.specs.Board.{IsBoard, IsCandidate, IsLastOf, IsNextOf, IsNoted, IsWrittenBetween, can_at, could_at, has_result, no_mark, reads};
 ghost use Rattle.diva_ooo.specs.Finish.{is_running};
 ghost use Rattle.diva_ooo.specs.Issue.{are_stored, is_available, is_done, is_free, is_waiting};
 ghost use Rattle.diva_ooo.specs.Known.{HasSources};
@@ -66,13 +66,36 @@ impl Board {
         ensures base { self.new.base ≡ self.old.base }
     {
         let mark = self.base + at;
+        let ready = self.has_sources_behind(profile);
         self.waiting.put(mark, true);
         self.storing.put(mark, profile.class.is_storing());
         self.loads.put(mark, profile.class.is_loading());
-        self.candidates.put(mark, true);
-        self.writers[usize::from(profile.rd)].put(mark, profile.rd != 0);
-        self.readers[usize::from(profile.rs1)].put(mark, profile.rs1 != 0);
-        self.readers[usize::from(profile.rs2)].put(mark, profile.rs2 != 0);
+        self.candidates.put(mark, ready);
+        note(&mut self.writers, profile.rd, mark);
+        note(&mut self.readers, profile.rs1, mark);
+        note(&mut self.readers, profile.rs2, mark);
+    }
+
+    // Whether an entry behind all these has its sources.
+    fn has_sources_behind(&self, profile: &Profile) -> bool
+        requires base { self.now.base ≤ 32 }
+        requires sources { HasSources profile.now }
+        ensures { (w : List Entry) → IsBoard w self.now → length w ≤ 32
+            → result ≡ (is_available w profile.now.rs1 && is_available w profile.now.rs2) }
+    {
+        self.is_available_behind(profile.rs1) && self.is_available_behind(profile.rs2)
+    }
+
+    // Whether a register is available to an entry behind all these. None of these writes x0.
+    fn is_available_behind(&self, n: u8) -> bool
+        requires base { self.now.base ≤ 32 }
+        requires register { n < 32 }
+        ensures { (w : List Entry) → IsBoard w self.now → length w ≤ 32 → result ≡ is_available w n }
+    {
+        match self.writers[usize::from(n)].highest() {
+            Some(mark) => self.done.has(mark),
+            None => true,
+        }
     }
 
     /// Keeps the oldest `most` entries.
@@ -303,6 +326,20 @@ impl Board {
             Some(mark) if mark >= self.base => Some(mark - self.base),
             _ => None,
         }
+    }
+}
+
+// Puts a mark into the set of a register, but for x0.
+#[tactic(auto, using(crate::proofs::Boarding::noted_some, crate::proofs::Boarding::noted_none))]
+#[inline(always)]
+fn note(sets: &mut [MarkSet; 32], n: u8, mark: usize)
+    requires register { n < 32 }
+    requires mark { mark < 64 }
+    ensures noted { IsNoted sets.old sets.new n mark }
+    ensures sets { length sets.new ≡ 32 }
+{
+    if n != 0 {
+        sets[usize::from(n)].put(mark, true);
     }
 }
 

@@ -2,7 +2,9 @@
 ghost use Rattle.std.specs.Prelude.{◌≡◌, ◌<◌, length, slice_get, slice_set, take, IfSome, Some, true};
 ghost use Rattle.std.specs.Option.{option_and_then};
 ghost use Rattle.diva_decode.specs.Table.{HasRegisters, row_of};
+ghost use Rattle.diva_isa.specs.Kind.{kind};
 ghost use Rattle.diva_isa.specs.Step.{HasRegister, record_fetched, continues, record_with};
+ghost use Rattle.diva_isa.specs.declared.kind.Kind.TheVariants.{OpImm, OpReg};
 ghost use Rattle.diva_isa.specs.declared.effect.Effect.TheVariants.{Writes};
 ghost use Rattle.diva_ahead.specs.Effects.{done_by};
 ghost use Rattle.diva_ooo.specs.declared.entry.Entry.{Entry};
@@ -33,6 +35,9 @@ pub(crate) fn issue(window: &mut Window, ahead: &Ahead, view: &View<'_>)
 }
 
 // Begins to run the entry at a place, which waits.
+//
+// The kinds that programs have most of are told apart first: what is done for such a kind is then one piece. It has a
+// `Flight` of its own, which need not lie in memory as one does that is handed to calls.
 #[tactic(auto, unfolding(crate::specs::Issue::started))]
 fn begin_at(window: &mut Window, at: usize, ahead: &Ahead, view: &View<'_>)
     requires place { at < length window.old }
@@ -42,14 +47,37 @@ fn begin_at(window: &mut Window, at: usize, ahead: &Ahead, view: &View<'_>)
     ensures length { length window.new ≡ length window.old }
 {
     let entry = window.entry(at);
+    let (pc, word, decoded) = (entry.pc, entry.word, entry.decoded);
+    if let (Some(word), Some(i)) = (word, decoded) {
+        let flight = Flight {
+            pc,
+            ahead: &*ahead,
+            window,
+            at,
+            view: &*view,
+        };
+        match kind_of(i.op) {
+            Kind::OpImm => {
+                let Begun { result, effect } = immediate(&flight, word, &i);
+                window.begin(at, result, effect);
+                return;
+            }
+            Kind::OpReg => {
+                let Begun { result, effect } = register(&flight, word, &i);
+                window.begin(at, result, effect);
+                return;
+            }
+            _ => {}
+        }
+    }
     let flight = Flight {
-        pc: entry.pc,
-        ahead,
+        pc,
+        ahead: &*ahead,
         window,
         at,
-        view,
+        view: &*view,
     };
-    let Begun { result, effect } = run(&flight, entry.word, entry.decoded);
+    let Begun { result, effect } = run(&flight, word, decoded);
     window.begin(at, result, effect);
 }
 
@@ -69,28 +97,42 @@ fn run<L: Look>(state: &L, word: Option<u32>, decoded: Option<Instr>) -> Begun
     ensures effect { result.effect ≡ done_by result.result }
     ensures register { HasRegister result.effect }
 {
-    if let (Some(word), Some(i)) = (word, decoded) {
-        // The kinds that programs have most of are told apart first: what is done for such a kind is then one piece.
-        match kind_of(i.op) {
-            Kind::OpImm => {
-                let first = state.reg(i.rs1);
-                let read = Operands { first, second: 0 };
-                let value = alu(i.op, first, i.imm.cast_unsigned());
-                return computed(state.pc(), word, read, i.rd, value);
-            }
-            Kind::OpReg => {
-                let first = state.reg(i.rs1);
-                let second = state.reg(i.rs2);
-                let read = Operands { first, second };
-                let value = alu(i.op, first, second);
-                return computed(state.pc(), word, read, i.rd, value);
-            }
-            _ => {}
-        }
-    }
     let result = record_by(state, word, decoded);
     let effect = effect_at(decoded, &result);
     Begun { result, effect }
+}
+
+// The same of a word that says an operation on a register and an immediate.
+#[inline(always)]
+fn immediate<L: Look>(state: &L, word: u32, i: &Instr) -> Begun
+    requires says { row_of word ≡ Some i.now }
+    requires kind { kind i.now.op ≡ OpImm }
+    requires registers { HasRegisters i.now }
+    ensures record { result.result ≡ record_fetched (L.shows state.now) (Some word) }
+    ensures effect { result.effect ≡ done_by result.result }
+    ensures register { HasRegister result.effect }
+{
+    let first = state.reg(i.rs1);
+    let read = Operands { first, second: 0 };
+    let value = alu(i.op, first, i.imm.cast_unsigned());
+    computed(state.pc(), word, read, i.rd, value)
+}
+
+// The same of a word that says an operation on two registers.
+#[inline(always)]
+fn register<L: Look>(state: &L, word: u32, i: &Instr) -> Begun
+    requires says { row_of word ≡ Some i.now }
+    requires kind { kind i.now.op ≡ OpReg }
+    requires registers { HasRegisters i.now }
+    ensures record { result.result ≡ record_fetched (L.shows state.now) (Some word) }
+    ensures effect { result.effect ≡ done_by result.result }
+    ensures register { HasRegister result.effect }
+{
+    let first = state.reg(i.rs1);
+    let second = state.reg(i.rs2);
+    let read = Operands { first, second };
+    let value = alu(i.op, first, second);
+    computed(state.pc(), word, read, i.rd, value)
 }
 
 // What an operation comes to that puts a value into a register.

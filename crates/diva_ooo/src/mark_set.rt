@@ -114,6 +114,17 @@ impl MarkSet {
             None => None,
         }
     }
+
+    /// The highest mark, if there is any.
+    pub(crate) fn highest(self) -> Option<usize>
+        ensures some { IfSome result (IsLast self 64) }
+        ensures none { IsNone result → (i : ℕ) → has self i ≡ false }
+    {
+        match self.bits.checked_ilog2() {
+            Some(mark) => Some(mark as usize),
+            None => None,
+        }
+    }
 }
 
 // A number without one of its bits.

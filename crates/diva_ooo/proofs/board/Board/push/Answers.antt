@@ -1,9 +1,9 @@
-use Rattle.std.proofs.Common.{◌≡◌, ◌==◌, ℕ, ap, not, sym, ◌∙◌}
-use Rattle.std.specs.Prelude.{slice_set}
+use Rattle.std.proofs.Common.{◌≡◌, ◌&&◌, ℕ, ap, arith, sym, ◌∙◌}
 use Rattle.diva_ooo.specs.Board.{is_loading}
 use Rattle.diva_ooo.specs.declared.board.Board.{Board}
 use Rattle.diva_ooo.specs.declared.profile.Profile.{Profile}
-use Rattle.diva_ooo.proofs.Boarding.{board_pushed, open_waiting, readers_push, set_length, writers_push}
+use Rattle.diva_ooo.specs.Issue.{is_available}
+use Rattle.diva_ooo.proofs.Boarding.{board_pushed, open_waiting, readers_push, writers_push}
 use Rattle.diva_ooo.proofs.board.Board.push.Goals as goal
 
 pub returns-clause-board : goal.returns-clause-board
@@ -11,11 +11,8 @@ returns-clause-board c = λ w e i long waits none is.
     let b = c.args.self.now in
     let profile = c.args.profile.now in
     let field : (get : Profile → ℕ) → get profile ≡ get e.profile = λ get. ap get (sym is) in
-    let writers =
-    writers_push w e b.base b.writers c.from.result (not (profile.rd == 0)) c.put-5.new.self (c.from.ensures ∙ field (λ p. p.rd)) (ap (λ (n : ℕ). not (n == 0)) (sym c.from.ensures)) i.write_sets i.writers (rw long c.put-5.ensures) in
-    let readers =
-    readers_push w e b.base b.readers c.from-2.result c.from-3.result (not (profile.rs1 == 0)) (not (profile.rs2 == 0)) c.put-6.new.self c.put-7.new.self (c.from-2.ensures ∙ field (λ p. p.rs1)) (c.from-3.ensures ∙ field (λ p. p.rs2))
-    (ap (λ (n : ℕ). not (n == 0)) (sym c.from-2.ensures)) (ap (λ (n : ℕ). not (n == 0)) (sym c.from-3.ensures)) i.read_sets i.readers (rw long c.put-6.ensures) (rw long c.put-7.ensures) in
+    let writers = writers_push w e b.base b.writers c.note.new.sets profile.rd (field (λ p. p.rd)) (rw long c.note.ensures.noted) i.writers in
+    let readers = readers_push w e b.base b.readers c.note-2.new.sets c.note-3.new.sets profile.rs1 profile.rs2 (field (λ p. p.rs1)) (field (λ p. p.rs2)) (rw long c.note-2.ensures.noted) (rw long c.note-3.ensures.noted) i.readers in
     let after : Board =
     record {
       base = b.base;
@@ -26,12 +23,14 @@ returns-clause-board c = λ w e i long waits none is.
       stored = b.stored;
       loads = c.put-3.new.self;
       candidates = c.put-4.new.self;
-      writers = slice_set b.writers c.from.result c.put-5.new.self;
-      readers = slice_set (slice_set b.readers c.from-2.result c.put-6.new.self) c.from-3.result c.put-7.new.self;
+      writers = c.note.new.sets;
+      readers = c.note-3.new.sets;
     } in
-    board_pushed w e b after i waits none c.is_storing.result c.is_loading.result
-    (c.is_storing.ensures ∙ open_waiting e profile (sym is) waits) (c.is_loading.ensures ∙ ap (λ (p : Profile). is_loading p.class) (sym is))
+    let sources : c.has_sources_behind-ready.result ≡ (is_available w e.profile.rs1 && is_available w e.profile.rs2) =
+    c.has_sources_behind-ready.ensures w i (omega arith)
+    ∙ ap (λ (p : Profile). is_available w p.rs1 && is_available w p.rs2) (sym is) in
+    board_pushed w e b after i waits none c.is_storing.result c.is_loading.result c.has_sources_behind-ready.result
+    (c.is_storing.ensures ∙ open_waiting e profile (sym is) waits) (c.is_loading.ensures ∙ ap (λ (p : Profile). is_loading p.class) (sym is)) sources
     (rw long c.put.ensures) (rw long c.put-2.ensures) (rw long c.put-3.ensures) (rw long c.put-4.ensures)
-    (set_length b.writers c.from.result c.put-5.new.self ∙ i.write_sets)
-    (set_length (slice_set b.readers c.from-2.result c.put-6.new.self) c.from-3.result c.put-7.new.self ∙ set_length b.readers c.from-2.result c.put-6.new.self ∙ i.read_sets)
+    c.note.ensures.sets c.note-3.ensures.sets
     writers readers
