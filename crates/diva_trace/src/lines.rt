@@ -5,7 +5,7 @@ ghost use Rattle.diva_isa.specs.State.{memory_of};
 ghost use Rattle.diva_trace.specs.Lines.{commit_line, fields_text, cause_text, flush_line, end_line, end_line_of, end_text, count_line, cycles_line, flushes_line, soak_line, soak_core_name, output_line, out_line, register_text, registers_line, pc_line, byte_text, mem_line};
 
 use crate::report::SoakCore;
-use diva_core::{Cause, FlushRow, View};
+use diva_core::{Cause, Field, FlushRow, View};
 use diva_isa::{End, Record};
 use diva_outside::Line;
 
