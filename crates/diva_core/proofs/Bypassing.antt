@@ -122,7 +122,7 @@ target_reads s i r n e h = by_target (i.rd == n) (n == 0) refl refl
 with_reg_length : (regs : List ℕ) (d v : ℕ) → length (with_reg regs d v) ≡ length regs
 with_reg_length regs d v = grind (arith, common_steps)
 
-effect_regs : (s : State) (e : Effect) → length (with_effect s e).regs ≡ length s.regs
+pub effect_regs : (s : State) (e : Effect) → length (with_effect s e).regs ≡ length s.regs
 effect_regs s Nothing = refl
 effect_regs s (Writes rd value) = with_reg_length s.regs rd value
 effect_regs s (Stores width addr value) = refl

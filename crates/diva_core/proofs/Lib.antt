@@ -18,6 +18,7 @@ pub mod Pacing
 pub mod Phases
 pub mod Progressing
 pub mod Reaching
+pub mod Resulting
 pub mod Stalling
 pub mod Starting
 pub mod Steps

@@ -6,6 +6,7 @@ pub mod Headline
 pub mod History
 pub mod Machine
 pub mod Older
+pub mod Results
 pub mod Right
 pub mod Stages
 pub mod Timed

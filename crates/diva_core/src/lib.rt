@@ -7,6 +7,7 @@
 //! - `cores`: the trait `Core`, with its one meaning `gives`;
 //! - `output`: the bytes that the program put, `Output`;
 //! - `pending`: the claims that wait to be judged, `Entry` and `Pending`;
+//! - `results`: what the older claims say that they wrote, by register;
 //! - `bypass`: the state in which a pending claim stands, `Bypass`, over what `walks` finds in older claims;
 //! - `effects`: which bytes of memory an effect changes;
 //! - `differences`: how a claim differs from the due record, `Field`, `Diff` and `first_difference`;
@@ -31,6 +32,7 @@ mod flushes;
 mod output;
 mod pending;
 mod records;
+mod results;
 mod told;
 mod view;
 mod walks;

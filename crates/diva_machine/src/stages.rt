@@ -29,7 +29,10 @@ pub(crate) fn pass(pending: &mut Pending, at: usize, arch: &Arch, age: u64)
     match age {
         1 => note(pending, at, diva_fetchchk::check(pending, at, &arch.view())),
         2 => note_decoded(pending, at),
-        3 => note(pending, at, diva_opchk::check(pending, at, &arch.view())),
+        3 => {
+            note(pending, at, diva_opchk::check(pending, at, &arch.view()));
+            pending.keep_result(at);
+        }
         4 => note(pending, at, diva_execchk::check(pending, at, &arch.view())),
         LAST_STAGE => pass_last(pending, at, arch),
         _ => {}

@@ -15,8 +15,8 @@ returns-in-2-clause-advanced c = λ now e here age adv.
 
 pub returns-in-3-clause-advanced : goal.returns-in-3-clause-advanced
 returns-in-3-clause-advanced c = λ now e here age adv.
-    stage_noted _ _ _ _ now c.args.at 2 e fetch_fields (λ memory. operand_fields) _ here (c.note-in-3.ensures.items e here) c.view-in-3.ensures (let is = c.in-3.is in omega arith) (λ z. omega arith) (c.check-in-3.ensures e here)
-    (λ none s. found_operands s e _ none) adv
+    rw c.keep_result.ensures (stage_noted _ _ _ _ now c.args.at 2 e fetch_fields (λ memory. operand_fields) _ here (c.note-in-3.ensures.items e here) c.view-in-3.ensures (let is = c.in-3.is in omega arith) (λ z. omega arith) (c.check-in-3.ensures e here)
+    (λ none s. found_operands s e _ none) adv)
 
 pub returns-in-4-clause-advanced : goal.returns-in-4-clause-advanced
 returns-in-4-clause-advanced c = λ now e here age adv.
