@@ -52,10 +52,11 @@ impl Results {
         ensures { (r : Record) (claims : List Record) → HasResults (r ∷ claims) self.old.counts self.old.words
             → target_by (row_of r.word) ≡ rd → HasResults claims self.new.counts self.new.words }
     {
-        if rd != 0 {
-            let count = &mut self.counts[usize::from(rd)];
-            *count = count.saturating_sub(1);
+        if rd == 0 {
+            return;
         }
+        let count = &mut self.counts[usize::from(rd)];
+        *count = count.saturating_sub(1);
     }
 
     /// The word in register `n` after the claims, `before` being the one before them.
