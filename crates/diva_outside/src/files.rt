@@ -7,7 +7,7 @@ ghost use Rattle.diva_outside.specs.Files.{Has, IsMissing, IsLonger};
 
 use std::alloc::{AllocError, AllocFailed, Global};
 
-/// What a file is loaded for. So far only images are.
+/// What a file is loaded for.
 #[derive(Clone, Copy, Debug, PartialEq, Eq)]
 pub enum What {
     /// An image, from which a machine starts.
