@@ -2,7 +2,7 @@
 
 ghost use Rattle.std.specs.Prelude.{◌≡◌, ◌≢◌, false, ℕ, ◌*◌, ◌%◌, ◌^◌, ◌<◌, IfSome, None};
 ghost use Rattle.std.specs.Option.{option_and_then};
-ghost use Rattle.diva_decode.specs.Table.{HasRegisters, row_of};
+ghost use Rattle.diva_decode.specs.Table.{HasRegisters, IsValid, row_of};
 ghost use Rattle.diva_isa.specs.State.{State, word_of};
 ghost use Rattle.diva_isa.specs.Kind.{kind, moves_memory, size};
 ghost use Rattle.diva_isa.specs.End.{halt, trap};
@@ -14,6 +14,7 @@ use crate::effect::{Effect, PUT, effect_as};
 use crate::kind::{Kind, Width, kind_of};
 use crate::look::Look;
 use crate::record::{OUTPUT_LIMIT, Operands, Outcome, Record};
+use crate::regs::Regs;
 use crate::trap::Trap;
 use diva_decode::{Instr, Op, decode};
 
@@ -161,6 +162,31 @@ pub fn sources<L: Look>(state: &L, decoded: Option<Instr>) -> Operands
 {
     match decoded {
         Some(i) => reads(state, &i, kind_of(i.op)),
+        None => Operands {
+            first: 0,
+            second: 0,
+        },
+    }
+}
+
+/// The same, read from the registers of a state, which are all that an instruction reads its words from.
+#[inline(always)]
+#[tactic(auto, using(crate::proofs::Registers::reads_named))]
+pub fn sources_in(regs: &Regs, decoded: Option<Instr>) -> Operands
+    requires { IfSome decoded IsValid }
+    ensures { (s : State) → s.regs ≡ regs.now
+        → result ≡ record { first = source1_of decoded s; second = source2_of decoded s } }
+{
+    match decoded {
+        Some(i) if matches!(i.op, Op::Ecall) => Operands {
+            first: regs.get(17),
+            second: regs.get(10),
+        },
+        // A register that the instruction does not read is x0 here.
+        Some(i) => Operands {
+            first: regs.get(i.rs1),
+            second: regs.get(i.rs2),
+        },
         None => Operands {
             first: 0,
             second: 0,
