@@ -25,11 +25,11 @@ use Rattle.diva_core.proofs.Laying.{apart_byte, effect_byte, over_none}
 
 -- ---- where the state goes on, it is what is looked at
 
-apply_moves : (s : State) (r : Record) → s.end ≡ 0 → r.end ≡ 0 → apply s r ≡ record (with_effect s (effect_of r)) { pc = r.next }
+pub apply_moves : (s : State) (r : Record) → s.end ≡ 0 → r.end ≡ 0 → apply s r ≡ record (with_effect s (effect_of r)) { pc = r.next }
 unfolding apply
 apply_moves s r on off = rw (on, off) refl
 
-apply_goes : (s : State) (r : Record) → (apply s r).end ≡ 0 → (s.end ≡ 0) × (r.end ≡ 0)
+pub apply_goes : (s : State) (r : Record) → (apply s r).end ≡ 0 → (s.end ≡ 0) × (r.end ≡ 0)
 unfolding apply
 apply_goes s r e = grind (arith, nat_tests)
 
@@ -122,7 +122,7 @@ target_reads s i r n e h = by_target (i.rd == n) (n == 0) refl refl
 with_reg_length : (regs : List ℕ) (d v : ℕ) → length (with_reg regs d v) ≡ length regs
 with_reg_length regs d v = grind (arith, common_steps)
 
-pub effect_regs : (s : State) (e : Effect) → length (with_effect s e).regs ≡ length s.regs
+effect_regs : (s : State) (e : Effect) → length (with_effect s e).regs ≡ length s.regs
 effect_regs s Nothing = refl
 effect_regs s (Writes rd value) = with_reg_length s.regs rd value
 effect_regs s (Stores width addr value) = refl

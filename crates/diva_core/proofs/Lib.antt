@@ -12,13 +12,13 @@ pub mod Holding
 pub mod Judging
 pub mod Keeping
 pub mod Laying
+pub mod Leaving
 pub mod Listing
 pub mod Outcomes
 pub mod Pacing
 pub mod Phases
 pub mod Progressing
 pub mod Reaching
-pub mod Resulting
 pub mod Stalling
 pub mod Starting
 pub mod Steps

@@ -2,11 +2,11 @@ pub mod Cycle
 pub mod Difference
 pub mod Effects
 pub mod Entries
+pub mod Future
 pub mod Headline
 pub mod History
 pub mod Machine
 pub mod Older
-pub mod Results
 pub mod Right
 pub mod Stages
 pub mod Timed

@@ -7,7 +7,7 @@
 //! - `cores`: the trait `Core`, with its one meaning `gives`;
 //! - `output`: the bytes that the program put, `Output`;
 //! - `pending`: the claims that wait to be judged, `Entry` and `Pending`;
-//! - `results`: what the older claims say that they wrote, by register;
+//! - `future`: the registers as the oldest pending claims leave them, `FutureFile`;
 //! - `bypass`: the state in which a pending claim stands, `Bypass`, over what `walks` finds in older claims;
 //! - `effects`: which bytes of memory an effect changes;
 //! - `differences`: how a claim differs from the due record, `Field`, `Diff` and `first_difference`;
@@ -16,7 +16,7 @@
 //! `specs/` holds the timed machine that contracts speak of: the machine and what a core is told of
 //! it (`Timed`, `Told`), its cycle phase by phase (`Cycle`), first differences (`Difference`), what is
 //! noted of pending claims (`Entries`), the state in which each of them stands (`Older`, over
-//! `Effects`), what claims wrote, register by register (`Results`), what each stage of the checker compares (`Stages`), turns of a machine and a core (`Log`), what holds between
+//! `Effects`), what the oldest of them leave in the registers (`Future`), what each stage of the checker compares (`Stages`), turns of a machine and a core (`Log`), what holds between
 //! cycles (`Machine`), right lists and calm machines (`Right`), and the words of what a cycle, a turn and a
 //! drive promise (`Headline`).
 //! `proofs/` has the laws that follow.
@@ -29,10 +29,10 @@ mod cores;
 mod differences;
 mod effects;
 mod flushes;
+mod future;
 mod output;
 mod pending;
 mod records;
-mod results;
 mod told;
 mod view;
 mod walks;
@@ -44,6 +44,7 @@ pub use cores::Core;
 pub use differences::{Diff, Field, difference_in, first_difference};
 pub use effects::{byte_in, is_apart};
 pub use flushes::{Cause, FlushRow};
+pub use future::FutureFile;
 pub use output::Output;
 pub use pending::{Entry, Pending};
 pub use records::Records;

@@ -1,23 +1,17 @@
 // The claims that wait to be judged, the oldest first.
-ghost use Rattle.std.specs.Prelude.{◌≡◌, ◌≤◌, ◌<◌, [], ◌∷◌, ◌++◌, List, drop, length, IfOk, IfSome, IsTrue, None, Some, slice_get, slice_set, true};
+ghost use Rattle.std.specs.Prelude.{◌≡◌, ◌≤◌, ◌<◌, [], ◌∷◌, ◌++◌, length, IfOk, IfSome, IsTrue, None, Some, slice_get, slice_set, true};
 ghost use Rattle.std.specs.List.{list_all};
 ghost use Rattle.std.specs.Option.{option_copied};
 ghost use Rattle.circular_buffer.specs.Buffer.{Buffer, buffer};
-ghost use Rattle.diva_decode.specs.Table.{row_of};
-ghost use Rattle.diva_isa.specs.State.{State, reg_of};
 ghost use Rattle.diva_isa.specs.Step.{effect_of};
 ghost use Rattle.diva_core.specs.Effects.{is_apart};
-ghost use Rattle.diva_core.specs.Entries.{IsDecoded, has_store_opcode};
-ghost use Rattle.diva_core.specs.Older.{older, with_claims};
-ghost use Rattle.diva_core.specs.Results.{HasResults, target_by};
-ghost use Rattle.diva_core.specs.declared.pending.Entry.{Entry};
+ghost use Rattle.diva_core.specs.Entries.{has_store_opcode};
 
 use crate::claims::Claim;
 use crate::differences::Diff;
-use crate::results::Results;
 use circular_buffer::HeapCircularBuffer;
 use diva_decode::{Instr, decode};
-use diva_isa::{Effect, Operands, effect_by};
+use diva_isa::{Effect, effect_by};
 use std::alloc::{AllocError, Global};
 use std::marker::Model;
 
@@ -35,22 +29,24 @@ pub struct Entry {
 }
 
 impl Entry {
-    ghost use Rattle.diva_decode.specs.Table.{row_of, HasRegisters};
+    ghost use Rattle.diva_decode.specs.Table.{row_of, HasRegisters, IsValid};
     ghost use Rattle.diva_isa.specs.State.{State, reg_of};
     ghost use Rattle.diva_isa.specs.Step.{effect_of, with_effect};
     ghost use Rattle.diva_core.specs.Entries.{IsDecoded};
 
     /// What the claim's word says, `None` where it says nothing. It is decoded here only where that was not noted.
     #[inline(always)]
-    #[tactic(auto, using(diva_decode::proofs::Unique::registers_by))]
+    #[tactic(auto, using(diva_decode::proofs::Unique::registers_by, diva_decode::proofs::Unique::valid_if))]
     pub fn decoded(&self) -> Option<Instr>
         requires { IsDecoded self.now }
         ensures row { result ≡ row_of self.now.claim.word }
         ensures registers { IfSome result HasRegisters }
+        ensures valid { IfSome result IsValid }
     {
+        let word = self.claim.word;
         match self.decoded {
             Some(decoded) => Some(decoded),
-            None => decode(self.claim.word),
+            None => decode(word),
         }
     }
 
@@ -98,8 +94,6 @@ impl Entry {
 ///
 /// Most reads of memory meet no store in flight. So the ring counts the claims that may be stores, and knows an interval of
 /// addresses in which they all lie: a read outside of that looks through no claim.
-///
-/// What the oldest claims wrote is kept by register as they pass the stage of operands, for the next claim that comes there.
 #[derive(Drop)]
 pub struct Pending {
     entries: HeapCircularBuffer<Entry>,
@@ -108,9 +102,6 @@ pub struct Pending {
     /// The lowest address of the interval, and the first behind it.
     low: u32,
     high: u64,
-    /// What the oldest claims wrote, and how many of them these are.
-    results: Results,
-    kept: usize,
 }
 
 impl Model for Pending {
@@ -119,18 +110,15 @@ impl Model for Pending {
 
     ghost Value = { Buffer Entry };
 
-    ghost use Rattle.std.specs.Prelude.{◌≡◌, ◌≤◌, count_by, length};
+    ghost use Rattle.std.specs.Prelude.{◌≡◌, ◌≤◌, count_by};
     ghost use Rattle.std.specs.List.{All};
     ghost use Rattle.diva_core.specs.Entries.{IsDecoded, IsWithin, may_store};
-    ghost use Rattle.diva_core.specs.Older.{older};
-    ghost use Rattle.diva_core.specs.Results.{HasResults};
 
     ghost view = { λ p. p.entries };
 
     ghost invariant = { λ p.
         All IsDecoded p.entries.items × (p.entries.capacity ≤ 64)
-        × (p.stores ≡ count_by may_store p.entries.items) × All (IsWithin p.low p.high) p.entries.items
-        × (p.kept ≤ length p.entries.items) × HasResults (older p.entries.items p.kept) p.results.counts p.results.words };
+        × (p.stores ≡ count_by may_store p.entries.items) × All (IsWithin p.low p.high) p.entries.items };
 }
 
 impl Pending {
@@ -151,8 +139,6 @@ impl Pending {
             stores: 0,
             low: 0,
             high: 0,
-            results: Results::none(),
-            kept: 0,
         })
     }
 
@@ -253,12 +239,12 @@ impl Pending {
     }
 
     /// Takes out the oldest claim.
+    #[inline(always)]
     pub fn pop(&mut self) -> Entry
         requires { 0 < length self.old.items }
         ensures { self.old ≡ buffer (result ∷ self.new.items) self.new.capacity }
     {
         let entry = self.entries.pop_front().unwrap();
-        self.kept = kept_behind(&mut self.results, self.kept, &entry);
         if has_store_opcode(entry.claim.word) {
             self.stores -= 1;
         }
@@ -271,61 +257,6 @@ impl Pending {
     {
         self.entries.clear();
         self.stores = 0;
-        self.results = Results::none();
-        self.kept = 0;
-    }
-
-    /// Keeps what the claim at a place (the oldest is at 0) says that it wrote, where that of all older ones is kept.
-    #[inline(always)]
-    pub fn keep_result(&mut self, at: usize)
-        requires { at < length self.old.items }
-        ensures { self.new ≡ self.old }
-    {
-        if self.kept == at {
-            let _ = self.len();
-            let entry = self.at(at);
-            let rd = target(entry);
-            let value = entry.claim.value;
-            self.results.add(rd, value);
-            self.kept += 1;
-        }
-    }
-
-    /// The word in register `n` after the oldest `count` claims, `word` being the one before them.
-    #[inline(always)]
-    pub(crate) fn reg_after(&self, count: usize, n: u8, word: u32) -> u32
-        requires count { count ≤ length self.now.items }
-        requires register { n < 32 }
-        ensures { (s : State) → n < length s.regs → reg_of s n ≡ word
-            → reg_of (with_claims s (older self.now.items count)) n ≡ result }
-    {
-        if count == self.kept {
-            return self.results.read(n, word);
-        }
-        self.reg_behind(count, n, word)
-    }
-
-    /// The words in two registers after the oldest `count` claims.
-    #[inline(always)]
-    pub(crate) fn operands_after(
-        &self,
-        count: usize,
-        first: u8,
-        second: u8,
-        operands: Operands,
-    ) -> Operands
-        requires count { count ≤ length self.now.items }
-        requires first { first < 32 }
-        requires second { second < 32 }
-        ensures { (s : State) → first < length s.regs → second < length s.regs
-            → reg_of s first ≡ operands.first → reg_of s second ≡ operands.second
-            → (reg_of (with_claims s (older self.now.items count)) first ≡ result.first)
-            × (reg_of (with_claims s (older self.now.items count)) second ≡ result.second) }
-    {
-        Operands {
-            first: self.reg_after(count, first, operands.first),
-            second: self.reg_after(count, second, operands.second),
-        }
     }
 
     /// Whether no claim can store one of the `n` bytes from an address on. Some that no claim stores are not told.
@@ -336,36 +267,6 @@ impl Pending {
         self.stores == 0
             || u64::from(addr) + u64::from(n) <= u64::from(self.low)
             || self.high <= u64::from(addr)
-    }
-}
-
-/// The oldest claim leaves: how many are left of those whose results are kept.
-#[inline(always)]
-fn kept_behind(results: &mut Results, kept: usize, oldest: &Entry) -> usize
-    requires { IsDecoded oldest.now }
-    ensures within { (entries : List Entry) → kept ≤ length entries → result ≤ length (drop 1 entries) }
-    ensures results { (entries : List Entry) → slice_get entries 0 ≡ Some oldest.now
-        → HasResults (older entries kept) results.old.counts results.old.words
-        → HasResults (older (drop 1 entries) result) results.new.counts results.new.words }
-{
-    if kept == 0 {
-        return 0;
-    }
-    results.remove(target(oldest));
-    kept - 1
-}
-
-/// The register that the claim of an entry writes, x0 where it writes none.
-#[inline(always)]
-#[tactic(auto, using(diva_decode::proofs::Unique::registers_by))]
-fn target(entry: &Entry) -> u8
-    requires { IsDecoded entry.now }
-    ensures value { result ≡ target_by (row_of entry.now.claim.word) }
-    ensures register { result < 32 }
-{
-    match entry.decoded() {
-        Some(i) => i.rd,
-        None => 0,
     }
 }
 

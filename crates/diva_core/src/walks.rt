@@ -9,7 +9,7 @@ ghost use Rattle.diva_core.specs.Older.{older, with_claims, HasBytes};
 
 use crate::effects::{byte_in, is_apart};
 use crate::pending::{Entry, Pending};
-use diva_isa::Effect;
+use diva_isa::{Effect, Operands};
 
 impl Pending {
     /// The claim at a place, as the next one to walk over.
@@ -34,10 +34,10 @@ impl Pending {
         self.next(place).effect()
     }
 
-    /// The word in register `n` after the oldest `count` claims, which are looked through.
+    /// The word in register `n` after the oldest `count` claims.
     #[inline(never)]
     #[tactic(auto, using(crate::proofs::Bypassing::claims_regs))]
-    pub(crate) fn reg_behind(&self, count: usize, n: u8, word: u32) -> u32
+    pub(crate) fn reg_after(&self, count: usize, n: u8, word: u32) -> u32
         requires { count ≤ length self.now.items }
         ensures { (s : State) → n < length s.regs → reg_of s n ≡ word
             → reg_of (with_claims s (older self.now.items count)) n ≡ result }
@@ -45,6 +45,31 @@ impl Pending {
         let mut latest = word;
         for place in 0..count {
             latest = self.next(place).written(n, latest);
+        }
+        latest
+    }
+
+    /// The words in two registers after the oldest `count` claims.
+    #[inline(never)]
+    #[tactic(auto, using(crate::proofs::Bypassing::claims_regs))]
+    pub(crate) fn operands_after(
+        &self,
+        count: usize,
+        first: u8,
+        second: u8,
+        operands: Operands,
+    ) -> Operands
+        requires { count ≤ length self.now.items }
+        ensures { (s : State) → first < length s.regs → second < length s.regs
+            → reg_of s first ≡ operands.first → reg_of s second ≡ operands.second
+            → (reg_of (with_claims s (older self.now.items count)) first ≡ result.first)
+            × (reg_of (with_claims s (older self.now.items count)) second ≡ result.second) }
+    {
+        let mut latest = operands;
+        for place in 0..count {
+            let claim = self.next(place);
+            latest.first = claim.written(first, latest.first);
+            latest.second = claim.written(second, latest.second);
         }
         latest
     }

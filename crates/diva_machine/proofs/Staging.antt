@@ -1,5 +1,5 @@
 -- The entries, as they pass through the stages, as claims come, and as the front one goes.
-use Rattle.std.proofs.Common.{◌≡◌, ◌≢◌, ℕ, zero, suc, ◌+◌, ◌-◌, ◌==◌, ◌≤◌, ◌<◌, List, [], ◌∷◌, ◌++◌, length, map, drop, slice_get, Option, Some, None, Bool, true, refl, sym, ap, ◌∙◌, arith, subst, inl, inr}
+use Rattle.std.proofs.Common.{◌≡◌, ◌≢◌, ℕ, zero, suc, ◌+◌, ◌-◌, ◌==◌, ◌≤◌, ◌<◌, List, [], ◌∷◌, ◌++◌, length, map, drop, take, slice_get, Option, Some, None, Bool, true, refl, sym, ap, ◌∙◌, arith, subst, inl, inr}
 use Rattle.std.specs.Prelude.{slice_set}
 use Rattle.std.proofs.lemmas.Bool.{true≢false, cases_lt, le-leb, lt-leb}
 use Rattle.std.proofs.lemmas.Bool.Decides.{eqb_tells}
@@ -16,10 +16,12 @@ use Rattle.diva_core.specs.declared.differences.Field.{Field}
 use Rattle.diva_core.specs.declared.flushes.Cause.{Cause}
 use Rattle.diva_core.specs.Cycle.{accepted_in, begun, drained, flushed, number}
 use Rattle.diva_core.specs.Difference.{first_difference}
-use Rattle.diva_core.specs.Older.{after, before_entry, older}
+use Rattle.diva_core.specs.Future.{FutureFile, IsFuture, committed_file}
+use Rattle.diva_core.specs.Older.{after, before_entry, older, with_claims}
 use Rattle.diva_core.specs.Stages.{Answers, HasVerdict}
 use Rattle.diva_core.specs.Timed.{Timed, PendingClaim}
-use Rattle.diva_core.proofs.Bypassing.{after_goes}
+use Rattle.diva_core.proofs.Bypassing.{after_goes, before_is}
+use Rattle.diva_core.proofs.Leaving.{claims_alike, future_begun}
 use Rattle.diva_machine.specs.Machine.{pending_claim_of}
 use Rattle.diva_machine.specs.Staged.{AreChecked, AreInOrder, IsAdvanced, IsChecked, IsFilled, IsSoloFilled, IsStaged, Parts, last_stage, passed_by}
 use Rattle.diva_machine.proofs.Verdicts.{form_kept, form_whole, stays_found, verdict_past, whole_verdict}
@@ -428,12 +430,36 @@ stage_next w y z at some s same waits behind within is below early late =
     (subst (λ (n : ℕ). at ≤ n → y.passed ≡ at) (sym count) early)
     (subst (λ (n : ℕ). n ≤ at → y.passed ≡ n) (sym count) late)))
 
+-- what is noted of pending claims is of no matter to the future file
+claims_waiting : (es : List Entry) → map (λ (e : Entry). e.claim) es ≡ map (λ (p : PendingClaim). p.claim) (map pending_claim_of es)
+claims_waiting [] = refl
+claims_waiting (x ∷ es) = ap (λ (rs : List Record). x.claim ∷ rs) (claims_waiting es)
+
+pub future_same : (s : State) (es ds : List Entry) (f : FutureFile) → map pending_claim_of ds ≡ map pending_claim_of es → IsFuture s es f → IsFuture s ds f
+future_same s es ds f same is =
+    record {
+      within = (let long = same_length ds es same in let w = is.within in omega arith);
+      regs = is.regs
+          ∙ ap (λ (rs : List Record). (with_claims s (take f.claims rs)).regs)
+          (claims_waiting es ∙ sym (ap (λ (ps : List PendingClaim). map (λ (p : PendingClaim). p.claim) ps) same) ∙ sym (claims_waiting ds));
+    }
+
+-- the registers of the state in which the next claim stands
+pub future_there : (arch : State) (entries : List Entry) (f : FutureFile) (at : ℕ) → IsFuture arch entries f → f.claims ≡ at → (before_entry (record arch { end = 0 }) entries at).end ≡ 0
+    → (before_entry (record arch { end = 0 }) entries at).regs ≡ f.regs
+future_there arch entries f at is here on =
+    sym (ap (λ (t : State). t.regs) (before_is (record arch { end = 0 }) entries at on))
+    ∙ claims_alike (record arch { end = 0 }) arch (older entries at) refl
+    ∙ ap (λ (k : ℕ). (with_claims arch (older entries k)).regs) (sym here)
+    ∙ sym is.regs
+
 -- all of them have passed through the stage of their age
-pub stages_end : (w z : Parts) (n : ℕ) → 1 ≤ w.timed.cycles → z ≡ record w { entries = z.entries; passed = z.passed } → map pending_claim_of z.entries ≡ w.timed.pending → IsStaged (w.timed.cycles - 1) w
+pub stages_end : (w z : Parts) (n : ℕ) → 1 ≤ w.timed.cycles → z ≡ record w { entries = z.entries; passed = z.passed; future = z.future } → map pending_claim_of z.entries ≡ w.timed.pending → IsStaged (w.timed.cycles - 1) w
     → length z.entries ≤ n → IsAdvanced w.timed.arch (w.timed.cycles - 1) n z.entries
     → (passed_by w.timed.cycles w.timed.pending ≤ n → z.passed ≡ passed_by w.timed.cycles w.timed.pending)
+    → IsFuture w.timed.arch z.entries z.future
     → IsStaged z.timed.cycles z
-stages_end w z n some is waits s whole advanced late =
+stages_end w z n some is waits s whole advanced late future =
     let now = w.timed.cycles - 1 in
     let cycle : now + 1 ≡ w.timed.cycles = omega arith in
     let all : AreChecked w.timed.arch w.timed.cycles z.entries = subst (λ (c : ℕ). AreChecked w.timed.arch c z.entries) cycle (advanced_all w.timed.arch now n z.entries whole advanced) in
@@ -444,18 +470,19 @@ stages_end w z n some is waits s whole advanced late =
       checked = subst (λ (m : Timed). AreChecked m.arch m.cycles z.entries) same all;
       ordered = subst (λ (m : Timed). AreInOrder 0 m.cycles m.pending) same (order_later 0 now w.timed.cycles w.timed.pending (omega arith) s.ordered);
       passed = subst (λ (m : Timed). z.passed ≡ passed_by m.cycles m.pending) same (late (omega arith));
+      future = subst (λ (m : Timed). IsFuture m.arch z.entries z.future) same future;
     }
 
 -- a flush
-pub staged_flushed : (now : ℕ) (w : Parts) (cause : Cause) → IsStaged now (record w { timed = flushed w.timed cause; entries = []; passed = 0 })
+pub staged_flushed : (now : ℕ) (w : Parts) (cause : Cause) → IsStaged now (record w { timed = flushed w.timed cause; entries = []; passed = 0; future = committed_file w.timed.arch.regs })
 unfolding flushed
-staged_flushed now w cause = record { waits = refl; checked = checked_none w.timed.arch now; ordered = omega arith; passed = refl }
+staged_flushed now w cause = record { waits = refl; checked = checked_none w.timed.arch now; ordered = omega arith; passed = refl; future = future_begun w.timed.arch [] }
 
 filled_young : (s : State) (age : ℕ) (r : Record) → age ≡ 0 → IsFilled s age r
 filled_young s zero r h = refl
 filled_young s (suc age) r h = absurd (omega arith)
 
-pub solo_flushed : (w : Parts) (cause : Cause) → (let z = record w { timed = flushed w.timed cause; entries = []; passed = 0 } in IsSoloFilled z.timed.cycles z)
+pub solo_flushed : (w : Parts) (cause : Cause) → (let z = record w { timed = flushed w.timed cause; entries = []; passed = 0; future = committed_file w.timed.arch.regs } in IsSoloFilled z.timed.cycles z)
 unfolding flushed
 solo_flushed w cause = filled_young w.timed.arch (w.timed.cycles - w.timed.cycles) w.filled (omega arith)
 
@@ -464,4 +491,4 @@ pub staged_begun : (w : Parts) → IsStaged w.timed.cycles w → IsStaged ((drai
 unfolding drained
 staged_begun w s =
     let same : w.timed.cycles + 1 - 1 ≡ w.timed.cycles = omega arith in
-    subst (λ (n : ℕ). IsStaged n (record w { timed = drained (begun w.timed); last = [] })) (sym same) (record { waits = s.waits; checked = s.checked; ordered = s.ordered; passed = s.passed })
+    subst (λ (n : ℕ). IsStaged n (record w { timed = drained (begun w.timed); last = [] })) (sym same) (record { waits = s.waits; checked = s.checked; ordered = s.ordered; passed = s.passed; future = s.future })

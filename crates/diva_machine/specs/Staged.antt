@@ -6,6 +6,7 @@ use Rattle.diva_isa.specs.State.{State}
 use Rattle.diva_isa.specs.Step.{record_of}
 use Rattle.diva_isa.specs.declared.record.Record.{Record}
 use Rattle.diva_core.specs.declared.pending.Entry.{Entry}
+use Rattle.diva_core.specs.Future.{FutureFile, IsFuture, committed_file, without_oldest}
 use Rattle.diva_core.specs.Older.{before_entry}
 use Rattle.diva_core.specs.Difference.{difference_in}
 use Rattle.diva_core.specs.Stages.{fields_at, HasVerdict}
@@ -55,12 +56,13 @@ IsFilledSince arch now None r = ⊤
 IsFilledSince arch now (Some start) r = IsFilled arch (now - start) r
 
 -- the parts of a machine: the timed machine, what its last cycle committed, the entries of the pending claims, how many of
--- them are past the last stage, and the record of the solo instruction
+-- them are past the last stage, the future file, and the record of the solo instruction
 pub record Parts : Type 0 where
   pub timed : Timed
   pub last : List Record
   pub entries : List Entry
   pub passed : ℕ
+  pub future : FutureFile
   pub filled : Record
 
 -- what holds of the pending claims where the stages of the cycle `now` have run
@@ -69,6 +71,7 @@ pub record IsStaged (now : ℕ) (w : Parts) : Type 0 where
   pub checked : AreChecked w.timed.arch now w.entries
   pub ordered : AreInOrder 0 now w.timed.pending
   pub passed : w.passed ≡ passed_by now w.timed.pending
+  pub future : IsFuture w.timed.arch w.entries w.future
 
 -- and of the solo instruction
 abbrev pub IsSoloFilled : (now : ℕ) → Parts → Type 0
@@ -91,4 +94,5 @@ left goes w =
       timed = record w.timed { pending = if goes then map pending_claim_of (drop 1 w.entries) else [] };
       entries = if goes then drop 1 w.entries else [];
       passed = if goes then w.passed - 1 else 0;
+      future = if goes then without_oldest w.timed.arch.regs w.future else committed_file w.timed.arch.regs;
     }

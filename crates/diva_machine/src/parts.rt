@@ -6,11 +6,12 @@
 ghost use Rattle.std.specs.Prelude.{◌≡◌, ◌+◌, ◌-◌, ◌*◌, ◌<◌, ◌≤◌, ◌^◌, ◌++◌, [], ◌∷◌, ℕ, length, map, take, slice_get, None, Some, IfOk, IsTrue, List, true, false, not, ◌==◌, ◌&&◌};
 ghost use Rattle.diva_isa.specs.declared.record.Record.{Record};
 ghost use Rattle.diva_isa.specs.State.{State, goes_on, GoesOn};
-ghost use Rattle.diva_isa.specs.Step.{record_of, steps};
+ghost use Rattle.diva_isa.specs.Step.{apply, record_of, steps};
 ghost use Rattle.diva_image.specs.ImageLayout.{layout};
 ghost use Rattle.diva_decode.specs.Table.{row_of};
 ghost use Rattle.diva_core.specs.Timed.{Timed, new_timed, room_of};
 ghost use Rattle.diva_core.specs.declared.pending.Entry.{Entry};
+ghost use Rattle.diva_core.specs.Future.{FutureFile, IsFuture, committed_file};
 ghost use Rattle.diva_core.specs.Machine.{IsMachine, IsConfig};
 ghost use Rattle.diva_core.specs.Headline.{dues, SameLog};
 ghost use Rattle.diva_core.specs.Cycle.{Commit, accepted_in, accepts, judgement_of, commits, committed, cycle_of, drained, flushed, judged, number, watched};
@@ -26,7 +27,7 @@ use crate::log::Log;
 use crate::phases::{CommitPhase, Judged};
 use crate::stages::{LAST_STAGE, fill, pass};
 use diva_commit::Committed;
-use diva_core::{Cause, Claim, Config, Entry, FlushRow, Pending, Records};
+use diva_core::{Cause, Claim, Config, Entry, FlushRow, FutureFile, Pending, Records};
 use diva_decode::decode;
 use diva_image::Image;
 use diva_isa::Record;
@@ -43,6 +44,7 @@ pub(crate) struct Parts {
     pub(crate) pending: Pending,
     /// How many of the pending claims, the oldest, are past the last stage.
     passed: usize,
+    future: FutureFile,
     recover: Recover,
     /// The record of the solo instruction, as far as the stages have filled it.
     filled: Record,
@@ -77,6 +79,7 @@ impl Model for Parts {
       last = m.last;
       entries = m.pending.items;
       passed = m.passed;
+      future = m.future;
       filled = m.filled;
     } };
 }
@@ -89,6 +92,7 @@ impl Parts {
         ensures last { IfOk result (λ m. m.last ≡ []) }
         ensures entries { IfOk result (λ m. m.entries ≡ []) }
         ensures passed { IfOk result (λ m. m.passed ≡ 0) }
+        ensures future { IfOk result (λ m. m.future ≡ committed_file (start_of (layout image.now)).regs) }
     {
         Ok(Parts {
             width: config.width(),
@@ -97,6 +101,7 @@ impl Parts {
             cycles: 0,
             pending: Pending::new(alloc, config.window() as usize)?,
             passed: 0,
+            future: FutureFile::new(),
             recover: Recover::Running,
             filled: Record::default(),
             watchdog: Watchdog::new(config.limit()),
@@ -168,7 +173,12 @@ impl Parts {
     fn flush(&mut self, cause: Cause)
         requires flushes { self.old.timed.flushes < 2 ^ 63 }
         requires silent { self.old.timed.silent < 2 ^ 63 }
-        ensures { self.new ≡ record self.old { timed = flushed self.old.timed cause; entries = []; passed = 0 } }
+        ensures { self.new ≡ record self.old {
+          timed = flushed self.old.timed cause;
+          entries = [];
+          passed = 0;
+          future = committed_file self.old.timed.arch.regs;
+        } }
     {
         let row = FlushRow {
             cycle: self.cycles,
@@ -177,6 +187,7 @@ impl Parts {
         };
         self.pending.clear();
         self.passed = 0;
+        self.future.reset(self.arch.regs());
         self.recover = Recover::Solo(self.cycles);
         self.log.add(row);
     }
@@ -221,9 +232,11 @@ impl Parts {
     {
         self.pending.pop();
         self.passed -= 1;
+        self.future.leave(self.arch.regs());
         if !self.arch.goes_on() {
             self.pending.clear();
             self.passed = 0;
+            self.future.reset(self.arch.regs());
             return Judged::Ended;
         }
         Judged::Committed
@@ -366,10 +379,12 @@ impl Parts {
         ensures { self.new ≡ record self.old {
           timed = committed (record self.old.timed { solo = None }) self.old.filled;
           last = self.old.last ++ self.old.filled ∷ [];
+          future = committed_file (apply self.old.timed.arch self.old.filled).regs;
         } }
     {
         self.arch
             .commit(decode(self.filled.word), &self.filled, None);
+        self.future.reset(self.arch.regs());
         self.recover = Recover::Running;
         self.count += 1;
         self.last.push(self.filled);
@@ -380,7 +395,7 @@ impl Parts {
     fn advance(&mut self)
         requires cycles { 1 ≤ self.old.timed.cycles }
         requires staged { IsStaged (self.old.timed.cycles - 1) self.old }
-        ensures rest { self.new ≡ record self.old { entries = self.new.entries; passed = self.new.passed } }
+        ensures rest { self.new ≡ record self.old { entries = self.new.entries; passed = self.new.passed; future = self.new.future } }
         ensures staged { IsStaged self.new.timed.cycles self.new }
     {
         if self.passed < self.pending.len() {
@@ -393,7 +408,7 @@ impl Parts {
         requires cycles { 1 ≤ self.old.timed.cycles }
         requires staged { IsStaged (self.old.timed.cycles - 1) self.old }
         requires some { self.old.passed < length self.old.entries }
-        ensures rest { self.new ≡ record self.old { entries = self.new.entries; passed = self.new.passed } }
+        ensures rest { self.new ≡ record self.old { entries = self.new.entries; passed = self.new.passed; future = self.new.future } }
         ensures staged { IsStaged self.new.timed.cycles self.new }
     {
         // The ring asks for its length at each look-up: this test serves both.
@@ -411,17 +426,19 @@ impl Parts {
         requires few { at < 64 }
         requires passed { self.old.passed ≤ at }
         requires aged { (e : Entry) → slice_get self.old.entries at ≡ Some e → e.cycle < self.old.timed.cycles }
-        ensures rest { self.new ≡ record self.old { entries = self.new.entries; passed = self.new.passed } }
+        requires future { IsFuture self.old.timed.arch self.old.entries self.old.future }
+        ensures rest { self.new ≡ record self.old { entries = self.new.entries; passed = self.new.passed; future = self.new.future } }
         ensures waits { map pending_claim_of self.new.entries ≡ map pending_claim_of self.old.entries }
         ensures passed { (e : Entry) → slice_get self.old.entries at ≡ Some e → self.new.passed
             ≡ self.old.passed + number (self.old.timed.cycles == e.cycle + last_stage) }
+        ensures future { IsFuture self.new.timed.arch self.new.entries self.new.future }
         ensures advanced { (now : ℕ)
             → self.old.timed.cycles ≡ now + 1
             → IsAdvanced self.old.timed.arch now at self.old.entries
             → IsAdvanced self.old.timed.arch now (at + 1) self.new.entries }
     {
         let age = age_in(self.cycles, self.pending.at(at).cycle);
-        pass(&mut self.pending, at, &self.arch, age);
+        pass(&mut self.pending, &mut self.future, at, &self.arch, age);
         if age == LAST_STAGE {
             self.passed += 1;
         }
@@ -477,6 +494,7 @@ impl Parts {
           timed = flushed self.old.timed (Silent self.old.timed.config.limit);
           entries = [];
           passed = 0;
+          future = committed_file self.old.timed.arch.regs;
         } }
     {
         let limit = self.watchdog.limit();
@@ -529,6 +547,8 @@ fn accept_all(pending: &mut Pending, claims: &[Claim], cycle: u64)
     ensures capacity { pending.new.capacity ≡ pending.old.capacity }
     ensures checked { (arch : State) → AreChecked arch cycle pending.old.items
         → AreChecked arch cycle pending.new.items }
+    ensures future { (arch : State) (future : FutureFile) → IsFuture arch pending.old.items future
+        → IsFuture arch pending.new.items future }
 {
     for claim in claims {
         pending.push(*claim, cycle);

@@ -3,13 +3,14 @@ ghost use Rattle.std.specs.Prelude.{◌≡◌, ◌≤◌, ◌<◌, ◌+◌, ◌-
 ghost use Rattle.std.specs.Option.{option_or};
 ghost use Rattle.diva_decode.specs.Table.{row_of};
 ghost use Rattle.diva_core.specs.declared.pending.Entry.{Entry};
+ghost use Rattle.diva_core.specs.Future.{IsFuture};
 ghost use Rattle.diva_core.specs.Older.{before_entry};
 ghost use Rattle.diva_core.specs.Stages.{Answers, address_fields, memory_fields};
 ghost use Rattle.diva_machine.specs.Machine.{pending_claim_of};
 ghost use Rattle.diva_machine.specs.Staged.{HasPassed, IsFilled};
 
 use crate::arch::Arch;
-use diva_core::{Diff, Field, Pending, View};
+use diva_core::{Diff, Field, FutureFile, Pending, View};
 use diva_execchk::is_memory;
 use diva_isa::Record;
 
@@ -19,9 +20,12 @@ pub(crate) const LAST_STAGE: u64 = 5;
 /// The claim at a place comes to an age, and passes through that age's stage. A difference that an earlier stage found
 /// stays.
 #[inline(always)]
-pub(crate) fn pass(pending: &mut Pending, at: usize, arch: &Arch, age: u64)
+#[tactic(auto, using(crate::proofs::Staging::future_same))]
+pub(crate) fn pass(pending: &mut Pending, future: &mut FutureFile, at: usize, arch: &Arch, age: u64)
     requires place { at < length pending.old.items }
     requires age { 1 ≤ age }
+    requires future { IsFuture arch.now.state pending.old.items future.old }
+    ensures future { IsFuture arch.now.state pending.new.items future.new }
     ensures waits { map pending_claim_of pending.new.items ≡ map pending_claim_of pending.old.items }
     ensures capacity { pending.new.capacity ≡ pending.old.capacity }
     ensures advanced { HasPassed arch.now.state age at pending.old.items pending.new.items }
@@ -29,14 +33,34 @@ pub(crate) fn pass(pending: &mut Pending, at: usize, arch: &Arch, age: u64)
     match age {
         1 => note(pending, at, diva_fetchchk::check(pending, at, &arch.view())),
         2 => note_decoded(pending, at),
-        3 => {
-            note(pending, at, diva_opchk::check(pending, at, &arch.view()));
-            pending.keep_result(at);
-        }
+        3 => pass_operands(pending, future, at, arch),
         4 => note(pending, at, diva_execchk::check(pending, at, &arch.view())),
         LAST_STAGE => pass_last(pending, at, arch),
         _ => {}
     }
+}
+
+/// The stage of operands. The future file has the registers after the older claims; where it has not, they are looked
+/// through.
+#[inline(always)]
+#[tactic(auto, using(crate::proofs::Staging::future_same))]
+fn pass_operands(pending: &mut Pending, future: &mut FutureFile, at: usize, arch: &Arch)
+    requires place { at < length pending.old.items }
+    requires future { IsFuture arch.now.state pending.old.items future.old }
+    ensures future { IsFuture arch.now.state pending.new.items future.new }
+    ensures waits { map pending_claim_of pending.new.items ≡ map pending_claim_of pending.old.items }
+    ensures capacity { pending.new.capacity ≡ pending.old.capacity }
+    ensures advanced { HasPassed arch.now.state 3 at pending.old.items pending.new.items }
+{
+    if future.claims() != at {
+        note(pending, at, diva_opchk::check(pending, at, &arch.view()));
+        return;
+    }
+    let _ = pending.len();
+    let entry = pending.at(at);
+    let found = diva_opchk::check_in(entry, future.regs());
+    future.keep(entry);
+    note(pending, at, found);
 }
 
 /// The last stage: of a claim that is no load and no store it compares nothing, and needs no view.
@@ -54,7 +78,7 @@ fn pass_last(pending: &mut Pending, at: usize, arch: &Arch)
 }
 
 /// The same of a load or a store, or where what the word says was not noted.
-#[inline(never)]
+#[inline(always)]
 fn pass_access(pending: &mut Pending, at: usize, arch: &Arch)
     requires { at < length pending.old.items }
     ensures waits { map pending_claim_of pending.new.items ≡ map pending_claim_of pending.old.items }

@@ -6,15 +6,18 @@
 
 ghost use Rattle.std.specs.Prelude.{◌≡◌, ◌<◌, length, None, Some, IfSome, slice_get};
 ghost use Rattle.diva_decode.specs.Table.{row_of, HasRegisters};
+ghost use Rattle.diva_isa.specs.State.{State};
 ghost use Rattle.diva_isa.specs.Step.{record_of};
+ghost use Rattle.diva_isa.specs.declared.record.Record.{Record};
 ghost use Rattle.diva_core.specs.declared.pending.Entry.{Entry};
 ghost use Rattle.diva_core.specs.Difference.{difference_in};
+ghost use Rattle.diva_core.specs.Entries.{IsDecoded};
 ghost use Rattle.diva_core.specs.Older.{before_entry};
 ghost use Rattle.diva_core.specs.Stages.{Answers, fetch_fields, operand_fields};
 
-use diva_core::{Bypass, Claim, Diff, Field, Pending, View};
+use diva_core::{Bypass, Claim, Diff, Entry, Field, Pending, View};
 use diva_decode::{Instr, decode};
-use diva_isa::{Look, Record, sources};
+use diva_isa::{Look, Operands, Record, Regs, sources, sources_in};
 
 /// The first difference in src1 and src2 between the claim at a place (the oldest is at 0) and the record that is due after the
 /// older claims, `None` where there is none. Where the older claims have ended the machine, or pc and word differ, nothing is
@@ -33,6 +36,16 @@ pub fn check(pending: &Pending, at: usize, view: &View<'_>) -> Option<Diff>
     }
 }
 
+/// The same of an entry, where the registers after the older claims are known: `regs` are those of the state in which it
+/// stands.
+#[inline(always)]
+pub fn check_in(entry: &Entry, regs: &Regs) -> Option<Diff>
+    requires { IsDecoded entry.now }
+    ensures { (s : State) → s.regs ≡ regs.now → Answers fetch_fields (λ memory. operand_fields) s entry.now.claim result }
+{
+    differs(&entry.claim, sources_in(regs, entry.decoded()))
+}
+
 /// The first difference in src1 and src2 between a claim and the record that is due in a state. `decoded` is what the claim's
 /// word says.
 #[inline(always)]
@@ -43,7 +56,15 @@ fn compare<L: Look>(claim: &Claim, decoded: Option<Instr>, state: &L) -> Option<
     ensures { let due = record_of (L.shows state.now) in
         difference_in fetch_fields claim.now due ≡ None → result ≡ difference_in operand_fields claim.now due }
 {
-    let read = sources(state, decoded);
+    differs(claim, sources(state, decoded))
+}
+
+/// The first difference in src1 and src2 between a claim and what its instruction reads.
+#[inline(always)]
+fn differs(claim: &Claim, read: Operands) -> Option<Diff>
+    ensures { (due : Record) → read.first ≡ due.src1 → read.second ≡ due.src2
+        → result ≡ difference_in operand_fields claim.now due }
+{
     if claim.src1 != read.first {
         return Some(Diff::new(Field::Src1, claim.src1, read.first));
     }

@@ -1,7 +1,7 @@
 // What each stage of the checker answers of a claim behind older ones, at reset.
 mod tables;
 
-use diva_core::{Diff, Output, Pending, View};
+use diva_core::{Diff, FutureFile, Output, Pending, View};
 use diva_isa::{OUTPUT_LIMIT, Record, Regs};
 use diva_memory::Memory;
 use diva_storeq::StoreQueue;
@@ -44,6 +44,21 @@ fn answer(stage: Stage, pending: &Pending, view: &View<'_>) -> Option<Diff> {
     }
 }
 
+/// What the stage of operands answers of the youngest claim, by the future file behind the older ones.
+fn answer_in(pending: &Pending) -> Option<Diff> {
+    if pending.len() == 0 {
+        return None;
+    }
+    let youngest = pending.len() - 1;
+    let mut future = FutureFile::new();
+    for at in 0..youngest {
+        if future.claims() < Pending::MOST {
+            future.keep(pending.at(at));
+        }
+    }
+    diva_opchk::check_in(pending.at(youngest), future.regs())
+}
+
 /// The answer of a row, where the output holds so many bytes.
 fn answer_of(alloc: Global, row: &Row) -> Result<Option<Diff>, AllocError> {
     let (regs, memory, queue) = (Regs::new(), memory(alloc)?, StoreQueue::new(alloc, 1)?);
@@ -61,6 +76,21 @@ fn answer_of(alloc: Global, row: &Row) -> Result<Option<Diff>, AllocError> {
 fn answers_behind_older_claims(rt: HostRuntime) -> Result<(), Fail> {
     for row in &ROWS {
         assert_eq!(rt; answer_of(rt.alloc(), row)?, row.answer, "{}", row.name);
+    }
+    Ok(())
+}
+
+#[test]
+fn operands_by_the_future_file(rt: HostRuntime) -> Result<(), Fail> {
+    for row in &ROWS {
+        if let Stage::Operands = row.stage {
+            assert_eq!(rt;
+                answer_in(&pending(rt.alloc(), row.claims)?),
+                row.answer,
+                "{}",
+                row.name
+            );
+        }
     }
     Ok(())
 }

@@ -1,6 +1,6 @@
 use Rattle.std.proofs.Common.{[], arith}
-use Rattle.diva_core.specs.Stages.{fetch_fields, operand_fields, read_fields, execute_fields}
-use Rattle.diva_machine.proofs.Verdicts.{found_fetch, found_operands, found_execute}
+use Rattle.diva_core.specs.Stages.{fetch_fields, read_fields, execute_fields}
+use Rattle.diva_machine.proofs.Verdicts.{found_fetch, found_execute}
 use Rattle.diva_machine.proofs.Staging.{decode_passed, past_kept, stage_noted}
 use Rattle.diva_machine.proofs.stages.pass.Goals as goal
 
@@ -15,8 +15,7 @@ returns-in-2-clause-advanced c = λ now e here age adv.
 
 pub returns-in-3-clause-advanced : goal.returns-in-3-clause-advanced
 returns-in-3-clause-advanced c = λ now e here age adv.
-    rw c.keep_result.ensures (stage_noted _ _ _ _ now c.args.at 2 e fetch_fields (λ memory. operand_fields) _ here (c.note-in-3.ensures.items e here) c.view-in-3.ensures (let is = c.in-3.is in omega arith) (λ z. omega arith) (c.check-in-3.ensures e here)
-    (λ none s. found_operands s e _ none) adv)
+    c.pass_operands.ensures.advanced now e here (let is = c.in-3.is in omega arith) adv
 
 pub returns-in-4-clause-advanced : goal.returns-in-4-clause-advanced
 returns-in-4-clause-advanced c = λ now e here age adv.

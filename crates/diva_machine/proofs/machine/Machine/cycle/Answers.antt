@@ -17,7 +17,7 @@ invariant_of-self c =
 pub invariant_of-self-else-goes_on : goal.invariant_of-self-else-goes_on
 invariant_of-self-else-goes_on c =
     let s = c.self.invariant.1.0 in
-    rw c.forget_last.ensures (c.self.invariant.0, (record { waits = s.waits; checked = s.checked; ordered = s.ordered; passed = s.passed }, c.self.invariant.1.1))
+    rw c.forget_last.ensures (c.self.invariant.0, (record { waits = s.waits; checked = s.checked; ordered = s.ordered; passed = s.passed; future = s.future }, c.self.invariant.1.1))
 
 -- the machine before and after the cycle, as contracts see it
 same : (c : goal.After-cycle) → c.self.inside.parts.timed ≡ c.args.self.now.timed

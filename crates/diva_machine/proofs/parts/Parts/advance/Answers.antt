@@ -9,4 +9,4 @@ returns-else-self-len-clause-staged c =
     let begins = stages_begin w c.requires.cycles c.requires.staged in
     let more = begins.1 in
     let whole : length w.entries ≤ w.passed = subst (λ (z : Parts). length z.entries ≤ z.passed) c.self.view_is (let len = c.len.ensures.len in let none = c.if-self-len.false in omega arith) in
-    stages_end w w w.passed c.requires.cycles refl (sym c.requires.staged.waits) c.requires.staged whole begins.0 (λ h. omega arith)
+    stages_end w w w.passed c.requires.cycles refl (sym c.requires.staged.waits) c.requires.staged whole begins.0 (λ h. omega arith) c.requires.staged.future

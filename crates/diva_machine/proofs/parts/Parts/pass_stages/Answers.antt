@@ -1,4 +1,5 @@
 use Rattle.std.proofs.Common.{◌≡◌, ◌-◌, ◌+◌, length, sym, ap, ◌∙◌, refl, subst, arith}
+use Rattle.diva_core.specs.Future.{IsFuture}
 use Rattle.diva_core.specs.Timed.{Timed}
 use Rattle.diva_machine.specs.Staged.{IsAdvanced, Parts}
 use Rattle.diva_machine.proofs.Staging.{same_length, stage_next, stages_begin, stages_end, still_young}
@@ -18,6 +19,7 @@ loop-at-init c =
       from = omega arith;
       early = λ h. sym at;
       late = λ h. omega arith;
+      future = c.requires.staged.future;
       advanced = rw at begins.0;
     }
 
@@ -25,6 +27,11 @@ pub pass_stage-requires-clause-aged : goal.pass_stage-requires-clause-aged
 pass_stage-requires-clause-aged c = λ e here.
     let inv = c.loop-at.invariant in
     rw inv.rest (still_young c.args.self.now c.loop-at.at e c.loop-at.self.entries c.requires.cycles c.requires.staged inv.waits inv.from here).0
+
+pub pass_stage-requires-clause-future : goal.pass_stage-requires-clause-future
+pass_stage-requires-clause-future c =
+    let inv = c.loop-at.invariant in
+    subst (λ (m : Timed). IsFuture m.arch c.loop-at.self.entries c.loop-at.self.future) (sym (ap (λ (x : Parts). x.timed) inv.rest)) inv.future
 
 pub loop-at-preserved : goal.loop-at-preserved
 loop-at-preserved c =
@@ -35,13 +42,14 @@ loop-at-preserved c =
     let len : length c.self-in-loop-at.inside.pending.items ≡ length c.loop-at.self.entries = ap (λ (x : Parts). length x.entries) c.self-in-loop-at.view_is in
     let next = stage_next w c.loop-at.self z c.loop-at.at c.requires.cycles c.requires.staged same inv.waits inv.from (omega arith) c.pass_stage.ensures.passed inv.below inv.early inv.late in
     record {
-      rest = c.pass_stage.ensures.rest ∙ ap (λ (x : Parts). record x { entries = z.entries; passed = z.passed }) inv.rest;
+      rest = c.pass_stage.ensures.rest ∙ ap (λ (x : Parts). record x { entries = z.entries; passed = z.passed; future = z.future }) inv.rest;
       waits = c.pass_stage.ensures.waits ∙ inv.waits;
       length = same_length z.entries c.loop-at.self.entries c.pass_stage.ensures.waits ∙ inv.length;
       below = next.0;
       from = omega arith;
       early = next.1.0;
       late = next.1.1;
+      future = subst (λ (m : Timed). IsFuture m.arch z.entries z.future) (ap (λ (x : Parts). x.timed) c.pass_stage.ensures.rest ∙ same) c.pass_stage.ensures.future;
       advanced = subst (λ (m : Timed). IsAdvanced m.arch (w.timed.cycles - 1) (c.loop-at.at + 1) z.entries) same
           (c.pass_stage.ensures.advanced (w.timed.cycles - 1) (let some = c.requires.cycles in ap (λ (m : Timed). m.cycles) same ∙ omega arith)
           (subst (λ (m : Timed). IsAdvanced m.arch (w.timed.cycles - 1) c.loop-at.at c.loop-at.self.entries) (sym same) inv.advanced));
@@ -51,4 +59,4 @@ pub returns-clause-staged : goal.returns-clause-staged
 returns-clause-staged c =
     let inv = c.loop-at.invariant in
     let len : length c.self-in-loop-at.inside.pending.items ≡ length c.loop-at.self.entries = ap (λ (x : Parts). length x.entries) c.self-in-loop-at.view_is in
-    stages_end c.args.self.now c.loop-at.self c.loop-at.at c.requires.cycles inv.rest inv.waits c.requires.staged (omega arith) inv.advanced inv.late
+    stages_end c.args.self.now c.loop-at.self c.loop-at.at c.requires.cycles inv.rest inv.waits c.requires.staged (omega arith) inv.advanced inv.late inv.future

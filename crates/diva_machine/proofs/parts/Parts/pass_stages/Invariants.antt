@@ -1,17 +1,19 @@
 use Rattle.std.proofs.Common.{◌≡◌, ◌≤◌, ◌-◌, length, map}
+use Rattle.diva_core.specs.Future.{IsFuture}
 use Rattle.diva_machine.specs.Machine.{pending_claim_of}
 use Rattle.diva_machine.specs.Staged.{IsAdvanced, passed_by}
 use Rattle.diva_machine.proofs.parts.Parts.pass_stages.Given as goal
 
 abbrev pub invariant-loop-at : goal.invariant-loop-at
 invariant-loop-at l = record {
-  rest : l.self ≡ record l.fn.self { entries = l.self.entries; passed = l.self.passed };
+  rest : l.self ≡ record l.fn.self { entries = l.self.entries; passed = l.self.passed; future = l.self.future };
   waits : map pending_claim_of l.self.entries ≡ l.fn.self.timed.pending;
   length : length l.self.entries ≡ length l.fn.self.entries;
   below : l.self.passed ≤ l.at;
   from : l.fn.self.passed ≤ l.at;
   early : l.at ≤ passed_by l.fn.self.timed.cycles l.fn.self.timed.pending → l.self.passed ≡ l.at;
   late : passed_by l.fn.self.timed.cycles l.fn.self.timed.pending ≤ l.at → l.self.passed ≡ passed_by l.fn.self.timed.cycles l.fn.self.timed.pending;
+  future : IsFuture l.fn.self.timed.arch l.self.entries l.self.future;
   advanced : IsAdvanced l.fn.self.timed.arch (l.fn.self.timed.cycles - 1) l.at l.self.entries;
 }
 
