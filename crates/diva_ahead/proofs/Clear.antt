@@ -1,5 +1,5 @@
 -- Effects that store nothing, or store elsewhere.
-use Rattle.std.proofs.Common.{◌≡◌, ◌≤◌, ℕ, zero, suc, ◌+◌, ◌-◌, List, [], ◌∷◌, Bool, true, false, ◌&&◌, ◌⊎◌, inl, inr, cond, refl, ap, ◌∙◌, arith, drop, slice_get, Some}
+use Rattle.std.proofs.Common.{◌≡◌, ◌≤◌, ℕ, ◌+◌, ◌-◌, List, [], ◌∷◌, Bool, true, false, ◌&&◌, ◌⊎◌, inl, inr, cond, refl, ap, ◌∙◌, arith, drop, slice_get, Some}
 use Rattle.std.specs.Prelude.{count_by}
 use Rattle.std.specs.List.{All, list_all}
 use Rattle.std.proofs.lemmas.Bool.Decides.{nat_tests}
@@ -77,12 +77,3 @@ dropped_other effects e n m h k = let c : count_by is_store effects ≡ 0 + coun
 -- the next one is dropped
 pub drop_next : (effects : List Effect) (k most : ℕ) → most ≤ k → drop 1 (drop (k - most) effects) ≡ drop (k + 1 - most) effects
 drop_next effects k most h = drop-drop 1 (k - most) effects ∙ ap (λ (n : ℕ). drop n effects) (omega arith)
-
--- where there is no store, none is left
-pub none_left : (effects : List Effect) (k : ℕ) → count_by is_store effects ≡ 0 → count_by is_store (drop k effects) ≡ 0
-none_left [] zero h = refl
-none_left [] (suc k) h = refl
-none_left (e ∷ effects) zero h = h
-none_left (e ∷ effects) (suc k) h =
-    let c : count_by is_store (e ∷ effects) ≡ count_by is_store (e ∷ []) + count_by is_store effects = count_first effects e in
-    none_left effects k (omega arith)

@@ -58,6 +58,7 @@ impl Ahead {
     }
 
     /// Whether the core's state is of this epoch.
+    #[inline(always)]
     pub fn is_of(&self, epoch: u64) -> bool
         ensures { result ≡ is_epoch self.now.epoch epoch }
     {
@@ -103,6 +104,7 @@ impl Ahead {
     }
 
     /// Takes the machine's state where the epoch that is told differs from the core's own.
+    #[inline(always)]
     pub fn sync(&mut self, told: &Told, view: &View<'_>)
         ensures { self.new ≡ synced self.old told.now view.now }
     {
@@ -111,7 +113,9 @@ impl Ahead {
         }
     }
 
-    // Takes the machine's state.
+    // Takes the machine's state: where the machine has flushed, and at first.
+    #[cold]
+    #[inline(never)]
     #[tactic(auto, unfolding(crate::specs::Ahead::begun))]
     fn begin(&mut self, told: &Told, view: &View<'_>)
         ensures { self.new ≡ begun told.now view.now }
@@ -125,6 +129,7 @@ impl Ahead {
     }
 
     /// Drops what is no longer pending.
+    #[inline(always)]
     #[tactic(auto, unfolding(crate::specs::Ahead::trimmed))]
     pub fn trim(&mut self, told: &Told)
         ensures trimmed { self.new ≡ trimmed self.old told.now }

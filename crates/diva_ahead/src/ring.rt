@@ -57,20 +57,18 @@ impl Ring {
     }
 
     /// Keeps the youngest `most`.
+    #[inline(always)]
     #[tactic(auto, using(crate::proofs::Clear::drop_next))]
     pub fn trim(&mut self, most: usize)
         ensures { self.new ≡ drop (length self.old - most) self.old }
     {
-        if self.stores == 0 {
-            self.effects.truncate_front(most);
-            return;
-        }
         for _ in most..self.effects.len() {
             self.drop_oldest();
         }
     }
 
     // Drops the oldest, where there is one.
+    #[inline(always)]
     fn drop_oldest(&mut self)
         ensures { self.new ≡ drop 1 self.old }
     {
@@ -109,6 +107,7 @@ impl Ring {
     }
 
     /// The byte at an address of the view's memory with all effects laid over it, `None` exactly outside.
+    #[inline(always)]
     #[tactic(auto, using(diva_core::proofs::Laying::effects_none, diva_core::proofs::Laying::effects_byte))]
     pub fn byte(&self, view: &View<'_>, addr: u32) -> Option<u8>
         ensures { result ≡ byte_of (with_effects view.now self.now) addr }
