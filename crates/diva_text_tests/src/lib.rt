@@ -1,0 +1,10 @@
+//! Tests of the texts that the program reads and writes, over the crates that read and write them.
+//!
+//! - `args`: command lines, with what they ask for, and such as are refused.
+//!
+//! What is due was worked out by hand from `docs/FORMATS.md`, or came from an outside tool; none of it is taken from what
+//! this repository's code answered.
+#![tactic(auto)]
+
+#[cfg(test)]
+mod args;
