@@ -1,6 +1,7 @@
 //! Tests of the texts that the program reads and writes, over the crates that read and write them.
 //!
 //! - `args`: command lines, with what they ask for, and such as are refused.
+//! - `asm`: sources and words that were worked out by hand, and some that an assembler made: `asm/sources`, `asm/gnu`.
 //!
 //! What is due was worked out by hand from `docs/FORMATS.md`, or came from an outside tool; none of it is taken from what
 //! this repository's code answered.
@@ -8,3 +9,5 @@
 
 #[cfg(test)]
 mod args;
+#[cfg(test)]
+mod asm;
