@@ -1,7 +1,7 @@
-// The files, the sinks and the numbers, each with a worked answer.
-use crate::{
+// The files, the sinks, the numbers, and the lines and words of texts, each with a worked answer.
+use diva_outside::{
     DiskFiles, Fail, Files, LoadFault, MemFile, MemFiles, MemSink, Sink, SinkFailed, StdSink,
-    SureFiles, What, decimal, hex,
+    SureFiles, What, decimal, hex, lines, words,
 };
 use std::alloc::{AllocError, Global};
 use std::fs;
@@ -115,4 +115,47 @@ fn numbers(rt: HostRuntime) {
         assert_eq!(rt; hex(word.as_bytes()), hex_due, "hex {word}");
         assert_eq!(rt; decimal(word.as_bytes()), decimal_due, "decimal {word}");
     }
+}
+
+/// Each line, with a `|` behind it.
+#[test]
+fn lines_of_texts(rt: HostRuntime) -> Result<(), TestFail> {
+    for (text, due) in [
+        ("", ""),
+        ("\n", "|"),
+        ("a", "a|"),
+        ("a\n", "a|"),
+        ("a\nb", "a|b|"),
+        ("\na b\n\n# c\r\n", "|a b||# c\r|"),
+    ] {
+        let mut joined = Vec::new(rt.alloc());
+        for line in lines(text.as_bytes()) {
+            joined.extend_from_slice(line)?;
+            joined.push(b'|')?;
+        }
+        assert_eq!(rt; joined.as_slice(), due.as_bytes(), "{text:?}");
+    }
+    Ok(())
+}
+
+/// Each word, with a `|` behind it.
+#[test]
+fn words_of_lines(rt: HostRuntime) -> Result<(), TestFail> {
+    for (line, due) in [
+        (b"".as_slice(), b"".as_slice()),
+        (b" \t\r", b""),
+        (b"a", b"a|"),
+        (b"at 1\tlane  0 lose\r", b"at|1|lane|0|lose|"),
+        (b" at#1 # 2 \xff", b"at|"),
+        (b"# at 1", b""),
+        (b"a\x0bb \xff", b"a\x0bb|\xff|"),
+    ] {
+        let mut joined = Vec::new(rt.alloc());
+        for word in words(line) {
+            joined.extend_from_slice(word)?;
+            joined.push(b'|')?;
+        }
+        assert_eq!(rt; joined.as_slice(), due, "{line:?}");
+    }
+    Ok(())
 }
