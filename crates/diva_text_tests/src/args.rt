@@ -1,33 +1,31 @@
 // Lines that are taken, and lines that are refused. A line is one string, whose words blanks part.
 use diva_args::{
-    ArgsFault, CoreChoice, DebugOptions, FileName, Job, RunOptions, Setup, SoakOptions,
-    TapeOptions, read_words,
+    ArgsFault, DebugOptions, Job, RunOptions, Setup, SoakOptions, TapeOptions, read_words,
 };
 use std::alloc::{AllocError, Global};
 use std::test::Fail;
 
-/// Lines with what they ask for: the command, then the names. Behind an image stand its core, the core's tape, its
-/// script, width, window, stores and limit; last come of `run` the cycles, the commit lines and the dump, and of `tape`
-/// the cycles.
+/// Lines with what they ask for: the command, then the names and numbers. Behind an image stand its core, its script, width, window,
+/// stores and limit; last come of `run` the cycles, the commit lines and the dump, and of `tape` the cycles.
 static TAKEN: [(&str, &str); 26] = [
     (
         "run p1.diva",
-        r#"run "p1.diva" own None None 2 16 4 64 1000000 false None"#,
+        r#"run "p1.diva" Own None 2 16 4 64 1000000 false None"#,
     ),
     (
         "run p1.diva --dump 3c:8 --cycles 1000000000 --stores 6 --trace --core silent \
         --script faults.txt --watchdog 1024 --width 1 --window 08",
-        r#"run "p1.diva" silent None Some("faults.txt") 1 8 6 1024 1000000000 true Some((60, 8))"#,
+        r#"run "p1.diva" Silent Some(FileName { text: "faults.txt" }) 1 8 6 1024 1000000000 true Some(DumpRange { addr: 60, len: 8 })"#,
     ),
     // What stands for a flag that is not given is no value of an option.
     (
         "run --trace p --script false",
-        r#"run "p" own None Some("false") 2 16 4 64 1000000 true None"#,
+        r#"run "p" Own Some(FileName { text: "false" }) 2 16 4 64 1000000 true None"#,
     ),
-    ("tape p --cycles 9", r#"tape "p" own None None 2 16 4 64 9"#),
+    ("tape p --cycles 9", r#"tape "p" Own None 2 16 4 64 9"#),
     (
         "tape p --script s --tape t --core tape",
-        r#"tape "p" tape Some("t") Some("s") 2 16 4 64 1000000"#,
+        r#"tape "p" Tape(FileName { text: "t" }) Some(FileName { text: "s" }) 2 16 4 64 1000000"#,
     ),
     ("asm p1.s", r#"asm "p1.s""#),
     ("dis -- -x", r#"dis "-x""#),
@@ -35,64 +33,58 @@ static TAKEN: [(&str, &str); 26] = [
     ("soak 7 65536", "soak 7 65536"),
     ("soak 4294967295 0000000002", "soak 4294967295 2"),
     ("soak -- 0 3", "soak 0 3"),
-    ("debug p c", r#"debug "p" own None None 1 16 4 64 "c""#),
+    ("debug p c", r#"debug "p" Own None 1 16 4 64 "c""#),
     (
         "debug p c --watchdog 16 --core silent",
-        r#"debug "p" silent None None 1 16 4 16 "c""#,
+        r#"debug "p" Silent None 1 16 4 16 "c""#,
     ),
     // Each core, and tapes of any name.
     (
         "run p --core lockstep",
-        r#"run "p" lockstep None None 2 16 4 64 1000000 false None"#,
+        r#"run "p" Lockstep None 2 16 4 64 1000000 false None"#,
     ),
     (
         "run p --core scalar",
-        r#"run "p" scalar None None 2 16 4 64 1000000 false None"#,
+        r#"run "p" Scalar None 2 16 4 64 1000000 false None"#,
     ),
     (
         "run p --core flood",
-        r#"run "p" flood None None 2 16 4 64 1000000 false None"#,
+        r#"run "p" Flood None 2 16 4 64 1000000 false None"#,
     ),
     (
         "run p --core echo",
-        r#"run "p" echo None None 2 16 4 64 1000000 false None"#,
+        r#"run "p" Echo None 2 16 4 64 1000000 false None"#,
     ),
     (
         "run p --core noise",
-        r#"run "p" noise None None 2 16 4 64 1000000 false None"#,
+        r#"run "p" Noise None 2 16 4 64 1000000 false None"#,
     ),
     (
         "run p --core tape --tape t",
-        r#"run "p" tape Some("t") None 2 16 4 64 1000000 false None"#,
+        r#"run "p" Tape(FileName { text: "t" }) None 2 16 4 64 1000000 false None"#,
     ),
     (
         "run p --core tape --tape=",
-        r#"run "p" tape Some("") None 2 16 4 64 1000000 false None"#,
+        r#"run "p" Tape(FileName { text: "" }) None 2 16 4 64 1000000 false None"#,
     ),
     (
         "run p --core=tape --tape=x",
-        r#"run "p" tape Some("x") None 2 16 4 64 1000000 false None"#,
+        r#"run "p" Tape(FileName { text: "x" }) None 2 16 4 64 1000000 false None"#,
     ),
     // Any word is a name.
-    (
-        "run -",
-        r#"run "-" own None None 2 16 4 64 1000000 false None"#,
-    ),
-    (
-        "run ''",
-        r#"run "" own None None 2 16 4 64 1000000 false None"#,
-    ),
+    ("run -", r#"run "-" Own None 2 16 4 64 1000000 false None"#),
+    ("run ''", r#"run "" Own None 2 16 4 64 1000000 false None"#),
     (
         "run -- -x",
-        r#"run "-x" own None None 2 16 4 64 1000000 false None"#,
+        r#"run "-x" Own None 2 16 4 64 1000000 false None"#,
     ),
     (
         "run --width 2 -- -x",
-        r#"run "-x" own None None 2 16 4 64 1000000 false None"#,
+        r#"run "-x" Own None 2 16 4 64 1000000 false None"#,
     ),
     (
         "run -- --help",
-        r#"run "--help" own None None 2 16 4 64 1000000 false None"#,
+        r#"run "--help" Own None 2 16 4 64 1000000 false None"#,
     ),
 ];
 
@@ -206,41 +198,14 @@ fn text_of(alloc: Global, job: &Job) -> Result<String, AllocError> {
 
 fn run_text(alloc: Global, options: &RunOptions) -> Result<String, AllocError> {
     let setup = setup_text(alloc, &options.setup)?;
-    let dump = match &options.dump {
-        Some(range) => Some((range.addr, range.len)),
-        None => None,
-    };
-    let (cycles, trace) = (options.cycles, options.trace);
+    let (cycles, trace, dump) = (options.cycles, options.trace, &options.dump);
     format!(in alloc; "run {setup} {cycles} {trace} {dump:?}")
 }
 
 fn setup_text(alloc: Global, setup: &Setup) -> Result<String, AllocError> {
     let image = setup.image.as_str();
-    let (core, tape) = core_words(&setup.core);
-    let script = text_in(&setup.script);
-    let config = &setup.config;
+    let (core, script, config) = (&setup.core, &setup.script, &setup.config);
     let (width, window) = (config.width(), config.window());
     let (stores, limit) = (config.stores(), config.limit());
-    format!(in alloc; "{image:?} {core} {tape:?} {script:?} {width} {window} {stores} {limit}")
-}
-
-/// The name of a core, and its tape.
-fn core_words(core: &CoreChoice) -> (&str, Option<&str>) {
-    match core {
-        CoreChoice::Own => ("own", None),
-        CoreChoice::Lockstep => ("lockstep", None),
-        CoreChoice::Scalar => ("scalar", None),
-        CoreChoice::Silent => ("silent", None),
-        CoreChoice::Flood => ("flood", None),
-        CoreChoice::Echo => ("echo", None),
-        CoreChoice::Noise => ("noise", None),
-        CoreChoice::Tape(name) => ("tape", Some(name.as_str())),
-    }
-}
-
-fn text_in(name: &Option<FileName>) -> Option<&str> {
-    match name {
-        Some(name) => Some(name.as_str()),
-        None => None,
-    }
+    format!(in alloc; "{image:?} {core:?} {script:?} {width} {window} {stores} {limit}")
 }

@@ -5,7 +5,7 @@ use diva_memory::Memory;
 use diva_storeq::StoreQueue;
 use std::alloc::{AllocError, Global};
 
-/// What a core hands over in a cycle with room for so many claims, to a machine that has done nothing.
+/// What a core hands over in a cycle with room for so many claims, four at most, to a machine that has done nothing.
 pub(crate) fn list_of<C: Core>(
     alloc: Global,
     core: &mut C,
@@ -29,7 +29,7 @@ fn told(cycle: u64, room: u32) -> Told {
         pc: 0,
         epoch: 0,
         pending: 0,
-        room,
+        room: room.min(4),
         idle: 0,
         due: false,
         ended: false,
