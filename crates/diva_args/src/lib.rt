@@ -9,7 +9,6 @@
 //! - `job`: `Job` and its parts, whose types keep the ranges of the numbers.
 //! - `file_name`: `FileName`, the name of a file.
 //! - `fault`: `ArgsFault`, why there is no job.
-//! - `tests`: lines that are taken, and lines that are refused.
 #![tactic(auto)]
 
 mod command;
@@ -17,8 +16,6 @@ mod fault;
 mod file_name;
 mod job;
 mod read;
-#[cfg(test)]
-mod tests;
 mod values;
 
 pub use fault::ArgsFault;

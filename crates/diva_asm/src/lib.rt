@@ -8,7 +8,6 @@
 //! - `mnemonic`: the mnemonics and directives. `operand`: the operands that each takes. Both the assembler and the listing go by
 //!   them.
 //! - `listing`: `list_line`, the line of a word.
-//! - `tests`: sources and words that were worked out by hand, and some that an assembler made.
 //!
 //! `docs/FORMATS.md` has the language of a source. `specs/Sources.antt` has the image of a source, `specs/Mnemonics.antt` the table of mnemonics, and `specs/Listing.antt` the
 //! text of a word.
@@ -25,8 +24,6 @@ mod mnemonic;
 mod operand;
 mod operands;
 mod statement;
-#[cfg(test)]
-mod tests;
 mod texts;
 mod words;
 

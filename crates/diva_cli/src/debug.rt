@@ -57,10 +57,10 @@ fn debug_ready<S: Sink, C: Core>(
     let SessionReady { ready, commands } = session;
     let Ready {
         mut machine,
-        core: in_use,
+        core: mut in_use,
         script,
     } = ready;
     let task = Task::Debug(&commands);
-    perform_by(&mut machine, in_use, &script, core, task, sink)?;
+    perform_by(&mut machine, &mut in_use, &script, core, task, sink)?;
     Ok(0)
 }

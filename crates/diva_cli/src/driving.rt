@@ -25,25 +25,25 @@ pub(crate) enum CoreInUse {
 /// Does a task with a machine and a core, under a script; `own` is the core handed in.
 pub(crate) fn perform_by<C: Core, S: Sink>(
     m: &mut Machine,
-    core: CoreInUse,
+    core: &mut CoreInUse,
     script: &Script,
     own: &mut C,
     task: Task<'_>,
     sink: &mut S,
 ) -> Result<(), SinkFailed>
     requires { Allows task m.old.timed }
-    ensures { PerformsBy C.gives core script.now m.old.timed own.old m.new.timed own.new
+    ensures { PerformsBy C.gives core.old script.now m.old.timed own.old m.new.timed own.new
         (λ lists. Does task.entry m.old.timed lists m.new.timed
         (S.contents sink.old) (S.contents sink.new) (S.faults sink.old) (S.faults sink.new) result) }
 {
     match core {
         CoreInUse::Own => perform_under(script, m, own, task, sink),
         CoreInUse::Lockstep => perform_under(script, m, &mut Lockstep, task, sink),
-        CoreInUse::Scalar(mut scalar) => perform_under(script, m, &mut scalar, task, sink),
+        CoreInUse::Scalar(scalar) => perform_under(script, m, scalar, task, sink),
         CoreInUse::Silent => perform_under(script, m, &mut Silent, task, sink),
         CoreInUse::Flood => perform_under(script, m, &mut Flood, task, sink),
         CoreInUse::Echo => perform_under(script, m, &mut Echo, task, sink),
-        CoreInUse::Noise(mut noise) => perform_under(script, m, &mut noise, task, sink),
-        CoreInUse::Tape(mut tape) => perform_under(script, m, &mut tape, task, sink),
+        CoreInUse::Noise(noise) => perform_under(script, m, noise, task, sink),
+        CoreInUse::Tape(tape) => perform_under(script, m, tape, task, sink),
     }
 }

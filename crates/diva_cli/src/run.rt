@@ -31,34 +31,36 @@ pub(crate) fn run<F: Files, S: Sink, C: Core>(
     ensures unput { IsErrOf result Failure.Memory → sink.new ≡ sink.old }
 {
     match make_ready(alloc, files, &options.setup) {
-        Ok(ready) => run_ready(ready, options, sink, core),
+        Ok(mut ready) => run_ready(&mut ready, options, sink, core),
         Err(stop) => write_stop(stop, sink),
     }
 }
 
 /// Drives a new machine, and writes the text of the run.
 fn run_ready<S: Sink, C: Core>(
-    ready: Ready,
+    ready: &mut Ready,
     options: RunOptions,
     sink: &mut S,
     core: &mut C,
 ) -> Result<u8, Failure>
-    requires new { ready.machine.timed.cycles ≡ 0 }
+    requires new { ready.old.machine.timed.cycles ≡ 0 }
     requires fits { IsConfig options.setup.config }
-    ensures writes { (bytes : FileBytes) → IsReady options.setup bytes ready
+    ensures writes { (bytes : FileBytes) → IsReady options.setup bytes ready.old
         → WritesText C.gives (Run options) bytes core.old core.new
         (S.contents sink.old) (S.contents sink.new) (S.faults sink.old) (S.faults sink.new) result }
     ensures unput { IsErrOf result Failure.Memory → sink.new ≡ sink.old }
 {
-    let Ready {
-        mut machine,
-        core: in_use,
-        script,
-    } = ready;
     let task = run_task(options.trace, options.cycles);
-    perform_by(&mut machine, in_use, &script, core, task, sink)?;
-    write_finished(&machine, options.dump, sink)?;
-    Ok(end_status(&machine))
+    perform_by(
+        &mut ready.machine,
+        &mut ready.core,
+        &ready.script,
+        core,
+        task,
+        sink,
+    )?;
+    write_finished(&ready.machine, options.dump, sink)?;
+    Ok(end_status(&ready.machine))
 }
 
 /// What is done for a run. Nothing watches the turns of one without commit lines.
@@ -87,31 +89,33 @@ pub(crate) fn tape<F: Files, S: Sink, C: Core>(
     ensures unput { IsErrOf result Failure.Memory → sink.new ≡ sink.old }
 {
     match make_ready(alloc, files, &options.setup) {
-        Ok(ready) => tape_ready(ready, options, sink, core),
+        Ok(mut ready) => tape_ready(&mut ready, options, sink, core),
         Err(stop) => write_stop(stop, sink),
     }
 }
 
 /// Drives a new machine, and writes what is handed over to it.
 fn tape_ready<S: Sink, C: Core>(
-    ready: Ready,
+    ready: &mut Ready,
     options: TapeOptions,
     sink: &mut S,
     core: &mut C,
 ) -> Result<u8, Failure>
-    requires new { ready.machine.timed.cycles ≡ 0 }
+    requires new { ready.old.machine.timed.cycles ≡ 0 }
     requires fits { IsConfig options.setup.config }
-    ensures writes { (bytes : FileBytes) → IsReady options.setup bytes ready
+    ensures writes { (bytes : FileBytes) → IsReady options.setup bytes ready.old
         → WritesText C.gives (Tape options) bytes core.old core.new
         (S.contents sink.old) (S.contents sink.new) (S.faults sink.old) (S.faults sink.new) result }
     ensures unput { IsErrOf result Failure.Memory → sink.new ≡ sink.old }
 {
-    let Ready {
-        mut machine,
-        core: in_use,
-        script,
-    } = ready;
     let task = Task::Tape(options.cycles);
-    perform_by(&mut machine, in_use, &script, core, task, sink)?;
-    Ok(end_status(&machine))
+    perform_by(
+        &mut ready.machine,
+        &mut ready.core,
+        &ready.script,
+        core,
+        task,
+        sink,
+    )?;
+    Ok(end_status(&ready.machine))
 }

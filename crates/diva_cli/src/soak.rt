@@ -32,8 +32,8 @@ pub(crate) fn soak<F: Files, S: Sink, C: Core>(
         (S.faults sink.old) (S.faults sink.new) result }
     ensures unput { IsErrOf result Failure.Memory → sink.new ≡ sink.old }
 {
-    let ready = make_soak(alloc, &options)?;
-    soak_ready(ready, options, sink, core)
+    let mut ready = make_soak(alloc, &options)?;
+    soak_ready(&mut ready, options, sink, core)
 }
 
 /// What the command needs, with all memory that is ever taken.
@@ -50,28 +50,30 @@ struct SoakReady {
 fn make_soak(alloc: Global, options: &SoakOptions) -> Result<SoakReady, AllocError>
     ensures { IfOk result (IsSoakReady options.now) }
 {
-    let config = Config::default();
+    let scalar = Scalar::new(alloc)?;
     let image = soak_image(alloc, options.seed, options.instructions)?;
+    let first = Machine::new(alloc, &image, Config::default())?;
+    let second = Machine::new(alloc, &image, Config::default())?;
     Ok(SoakReady {
-        first: Machine::new(alloc, &image, config)?,
-        second: Machine::new(alloc, &image, config)?,
-        scalar: Scalar::new(alloc)?,
+        first,
+        second,
+        scalar,
     })
 }
 
 /// Drives both machines to their ends, and then writes what they came to.
 fn soak_ready<S: Sink, C: Core>(
-    mut ready: SoakReady,
+    ready: &mut SoakReady,
     options: SoakOptions,
     sink: &mut S,
     core: &mut C,
 ) -> Result<u8, Failure>
-    requires { IsSoakReady options ready }
+    requires { IsSoakReady options ready.old }
     ensures writes { (bytes : FileBytes) → WritesText C.gives (Soak options) bytes core.old core.new
         (S.contents sink.old) (S.contents sink.new) (S.faults sink.old) (S.faults sink.new) result }
     ensures unput { IsErrOf result Failure.Memory → sink.new ≡ sink.old }
 {
-    drive_both(&mut ready, &options, core);
+    drive_both(ready, &options, core);
     write_soaked(&ready.first, &ready.second, sink)?;
     Ok(0)
 }

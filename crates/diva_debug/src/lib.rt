@@ -5,7 +5,6 @@
 //!   none, `CommandFault`.
 //! - `moving`: a machine and a core, moved by instructions. `replies`: the line that shows a machine.
 //! - `session`: a machine and the core that it borrows, `Session`; `reply_to`, the same over a machine that is kept elsewhere.
-//! - `tests`: each kind of fault, and each command.
 //!
 //! `specs/Reading.antt` has the commands of a text, `specs/Moves.antt` how far a command moves a machine, `specs/Replies.antt`
 //! the replies, and `specs/Sessions.antt` what a reply does to a machine.
@@ -18,8 +17,6 @@ mod numbers;
 mod reading;
 mod replies;
 mod session;
-#[cfg(test)]
-mod tests;
 
 pub use command::Command;
 pub use fault::CommandFault;

@@ -18,8 +18,6 @@ mod reading;
 mod rows;
 mod schedule;
 mod script;
-#[cfg(test)]
-mod tests;
 
 pub use fault::ScriptFault;
 pub use faulty::Faulty;

@@ -9,7 +9,6 @@
 //! - `writing`: `write`, from an image to its bytes.
 //! - `header`: the header, read and written, and its faults.
 //! - `fault`: `ImageFault`, why bytes are not an image.
-//! - `tests`: an image, read and written, and three faults of it.
 #![tactic(auto)]
 
 mod fault;
@@ -17,8 +16,6 @@ mod header;
 mod image;
 mod payload;
 mod reading;
-#[cfg(test)]
-mod tests;
 mod writing;
 
 pub use fault::ImageFault;

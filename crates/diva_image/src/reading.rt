@@ -1,6 +1,6 @@
 // Bytes to an image, or to their first fault.
-ghost use Rattle.std.specs.Prelude.{◌≡◌, IsNone, IfOk, IfErr, None, Some};
-ghost use Rattle.diva_image.specs.Images.{length_fault, fault_of, header_of};
+ghost use Rattle.std.specs.Prelude.{◌≡◌, ◌≤◌, length, drop, IsNone, IfOk, IfErr, None, Some};
+ghost use Rattle.diva_image.specs.Images.{length_fault, fault_of, header_of, header_size};
 ghost use Rattle.diva_image.specs.Whole.{IsWhole};
 ghost use Rattle.diva_image.specs.ImageLayout.{Reads};
 
@@ -18,10 +18,18 @@ pub fn read(alloc: Global, bytes: &[u8]) -> Result<Image, ImageFault>
             base: header.base,
             size: header.size,
             entry: header.entry,
-            payload: Payload::new(bytes[HEADER_SIZE..].to_vec(alloc)?),
+            payload: Payload::new(payload_of(bytes).to_vec(alloc)?),
         }),
         Err(Fault { kind, place }) => Err(ImageFault::Bad { kind, place }),
     }
+}
+
+// What follows the header.
+fn payload_of(bytes: &[u8]) -> &[u8]
+    requires { header_size ≤ length bytes.now }
+    ensures { result.now ≡ drop header_size bytes.now }
+{
+    &bytes[HEADER_SIZE..]
 }
 
 // The header of bytes that are an image, or their first fault.

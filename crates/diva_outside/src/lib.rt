@@ -16,7 +16,6 @@
 //! - `text_lines`: `lines`, the lines of a text. `line_words`: `words`, the words of a line, and the line without its comment.
 //! - `numbers`: the hex and decimal numbers that words spell. `next_words`: the next word of a line as a number, or what is
 //!   wrong with it, `WordFault`.
-//! - `tests`: the files, the sinks and the numbers, each with a worked answer.
 #![tactic(auto)]
 
 mod disk_files;
@@ -34,8 +33,6 @@ mod sink;
 mod std_sink;
 mod sure_files;
 mod sure_sink;
-#[cfg(test)]
-mod tests;
 mod text_lines;
 
 pub use disk_files::DiskFiles;

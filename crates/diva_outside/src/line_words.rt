@@ -107,31 +107,3 @@ fn is_blank(byte: u8) -> bool
 {
     byte == b' ' || byte == b'\t' || byte == b'\r'
 }
-
-#[cfg(test)]
-mod tests {
-    use super::*;
-    use std::test::Fail;
-
-    /// Each word, with a `|` behind it.
-    #[test]
-    fn words_of_lines(rt: HostRuntime) -> Result<(), Fail> {
-        for (line, due) in [
-            (b"".as_slice(), b"".as_slice()),
-            (b" \t\r", b""),
-            (b"a", b"a|"),
-            (b"at 1\tlane  0 lose\r", b"at|1|lane|0|lose|"),
-            (b" at#1 # 2 \xff", b"at|"),
-            (b"# at 1", b""),
-            (b"a\x0bb \xff", b"a\x0bb|\xff|"),
-        ] {
-            let mut joined = Vec::new(rt.alloc());
-            for word in words(line) {
-                joined.extend_from_slice(word)?;
-                joined.push(b'|')?;
-            }
-            assert_eq!(rt; joined.as_slice(), due, "{line:?}");
-        }
-        Ok(())
-    }
-}

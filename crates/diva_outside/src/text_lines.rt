@@ -67,30 +67,3 @@ fn feed_place(text: &[u8]) -> Option<usize>
 {
     text.iter().position(|byte| *byte == b'\n')
 }
-
-#[cfg(test)]
-mod tests {
-    use super::*;
-    use std::test::Fail;
-
-    /// Each line, with a `|` behind it.
-    #[test]
-    fn lines_of_texts(rt: HostRuntime) -> Result<(), Fail> {
-        for (text, due) in [
-            ("", ""),
-            ("\n", "|"),
-            ("a", "a|"),
-            ("a\n", "a|"),
-            ("a\nb", "a|b|"),
-            ("\na b\n\n# c\r\n", "|a b||# c\r|"),
-        ] {
-            let mut joined = Vec::new(rt.alloc());
-            for line in lines(text.as_bytes()) {
-                joined.extend_from_slice(line)?;
-                joined.push(b'|')?;
-            }
-            assert_eq!(rt; joined.as_slice(), due.as_bytes(), "{text:?}");
-        }
-        Ok(())
-    }
-}

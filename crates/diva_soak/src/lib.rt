@@ -4,7 +4,6 @@
 //! - `payload`: the bytes of its memory, data and code.
 //! - `drawing`: the instruction that a number draws.
 //! - `laws`: that the state which such an image starts halts.
-//! - `tests`: images that were worked out by hand, or by another program.
 //!
 //! `specs/Soak.antt` says what the image is, `specs/Halts.antt` what it is to halt.
 #![tactic(auto)]
@@ -13,7 +12,5 @@ mod drawing;
 mod image;
 pub mod laws;
 mod payload;
-#[cfg(test)]
-mod tests;
 
 pub use image::soak_image;

@@ -31,8 +31,6 @@ mod scalar;
 mod silent;
 mod tape;
 mod tape_core;
-#[cfg(test)]
-mod tests;
 pub mod worked;
 pub mod worked_hostile;
 pub mod worked_scalar;

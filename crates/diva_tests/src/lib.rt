@@ -11,6 +11,7 @@
 //!   `runs/sessions` the commands of the debugger, `runs/sources` sources that are assembled and images that are listed,
 //!   `runs/soaks` images of seeds, `runs/refusals` what is not run, `runs/failing` loads and puts that fail in turn, and
 //!   `runs/texts` writes the text that is due;
+//! - `images`: an image that is read and written, faults of it, and images of seeds;
 //! - `calls`: calls of a machine's parts, and of a machine that is driven;
 //! - `lists`: several claims in a cycle, right and wrong ones, and what each cycle commits:
 //!   `lists/tables` has the lists;
@@ -29,6 +30,8 @@
 mod calls;
 #[cfg(test)]
 mod cores;
+#[cfg(test)]
+mod images;
 #[cfg(test)]
 mod lists;
 #[cfg(test)]

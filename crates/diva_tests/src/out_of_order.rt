@@ -32,8 +32,10 @@ fn memory(alloc: Global, words: &[u32]) -> Result<Memory, Fail> {
     for word in words {
         bytes.extend_from_slice(&word.to_le_bytes())?;
     }
-    let fitting = bytes.get(..64).unwrap_or(&bytes);
-    Ok(Memory::new(alloc, 0, 64, fitting)?)
+    if 64 < bytes.len() {
+        return Err(Fail::new("more than 16 words"));
+    }
+    Ok(Memory::new(alloc, 0, 64, &bytes)?)
 }
 
 /// What the core hands over in a call.

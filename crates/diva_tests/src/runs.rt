@@ -19,7 +19,7 @@ use diva_cli::top;
 use diva_core::Core;
 use diva_isa::Record;
 use diva_outside::{Fail as SinkFail, MemFile, MemFiles, MemSink, What};
-use std::alloc::Global;
+use std::alloc::{AllocError, Global};
 use std::process::Abort;
 use std::test::Fail;
 use tables::{CHATTER, DIFFERING, FULL, ROWS, Row, TRAPS};
@@ -59,6 +59,12 @@ impl Outside {
         }
     }
 
+    /// The same, where these bytes stand behind those of the file of this kind.
+    fn with(mut self, what: What, bytes: &[u8]) -> Result<Self, AllocError> {
+        self.file_mut(what).extend_from_slice(bytes)?;
+        Ok(self)
+    }
+
     /// The bytes of the file of this kind.
     fn file_mut(&mut self, what: What) -> &mut Vec<u8> {
         match what {
@@ -69,6 +75,11 @@ impl Outside {
             What::Commands => &mut self.commands,
         }
     }
+}
+
+/// The image of `FIVE`, and an empty file of each other kind, where nothing fails.
+fn five_files(alloc: Global) -> Result<Outside, AllocError> {
+    Ok(Outside::sound(alloc, Vec::from_slice(alloc, &FIVE_FILE)?))
 }
 
 /// Runs the program as `compare_by` does, with `Flipped` as its own core.
@@ -166,7 +177,7 @@ pc 00000008
 #[test]
 fn programs_that_run(rt: HostRuntime) -> Result<(), Fail> {
     let alloc = rt.alloc();
-    let five = Outside::sound(alloc, Vec::from_slice(alloc, &FIVE_FILE)?);
+    let five = five_files(alloc)?;
     compare(&rt, "run a.diva --core lockstep", five, 0, FIVE_TEXT)?;
     compare_rows(&rt, alloc, &ROWS)
 }
@@ -186,11 +197,9 @@ fn compare_row<C: Core>(
     core: &mut C,
     row: &Row,
 ) -> Result<(), Fail> {
-    let outside = Outside {
-        script: Vec::from_slice(alloc, row.script)?,
-        tape: Vec::from_slice(alloc, row.tape)?,
-        ..Outside::sound(alloc, image_file(alloc, row.program)?)
-    };
+    let outside = Outside::sound(alloc, image_file(alloc, row.program)?)
+        .with(What::Script, row.script)?
+        .with(What::Tape, row.tape)?;
     let text = text_due(alloc, row)?;
     compare_by(rt, core, row.line, outside, row.status, text.as_str())
 }
@@ -226,10 +235,10 @@ fn output_that_is_full(rt: HostRuntime) -> Result<(), Fail> {
         )?;
         let text = format!(in alloc; "{counts}{output}{registers}pc 0000000c\n")?;
         let line = format!(in alloc; "run a.diva --core {options}")?;
-        let outside = Outside {
-            script: Vec::from_slice(alloc, script)?,
-            ..Outside::sound(alloc, image_file(alloc, CHATTER)?)
-        };
+        let outside = Outside::sound(alloc, image_file(alloc, CHATTER)?).with(
+            What::Script,
+            script,
+        )?;
         compare(&rt, line.as_str(), outside, 3, text.as_str())?;
     }
     Ok(())
@@ -252,15 +261,9 @@ fn fields_that_differ(rt: HostRuntime) -> Result<(), Fail> {
             (14, &[ASKS, HALTS]),
             (15, &[]),
         ];
-        let outside = Outside::sound(alloc, Vec::from_slice(alloc, &FIVE_FILE)?);
-        compare_by(
-            &rt,
-            &mut Lists { lists: &lists },
-            "run a.diva",
-            outside,
-            0,
-            text.as_str(),
-        )?;
+        let mut core = Lists { lists: &lists };
+        let outside = five_files(alloc)?;
+        compare_by(&rt, &mut core, "run a.diva", outside, 0, text.as_str())?;
     }
     Ok(())
 }

@@ -45,19 +45,26 @@ struct Sheet {
 /// Compares what `alu` answers with the results; the second operands are those of the grids.
 fn compare(rt: &impl Abort, sheets: &[Sheet], seconds: &[u32]) {
     for sheet in sheets {
-        let op = sheet.op;
-        let mut results = sheet.grid.iter();
-        for &a in &FIRSTS {
-            for &b in seconds {
-                let due = results.next().copied();
-                assert_eq!(rt; Some(alu(op, a, b)), due, "{op:?} {a:08x} {b:08x}");
-            }
-        }
-        assert_eq!(rt; results.next(), None, "{op:?}");
+        compare_grid(rt, sheet.op, sheet.grid, seconds);
         for &(a, b, result) in sheet.others {
-            assert_eq!(rt; alu(op, a, b), result, "{op:?} {a:08x} {b:08x}");
+            compare_alu(rt, sheet.op, a, b, Some(result));
         }
     }
+}
+
+/// Compares the results of an operation on each first operand with each second one.
+fn compare_grid(rt: &impl Abort, op: Op, grid: &[u32], seconds: &[u32]) {
+    let mut results = grid.iter();
+    for &a in &FIRSTS {
+        for &b in seconds {
+            compare_alu(rt, op, a, b, results.next().copied());
+        }
+    }
+    assert_eq!(rt; results.next(), None, "{op:?}");
+}
+
+fn compare_alu(rt: &impl Abort, op: Op, a: u32, b: u32, due: Option<u32>) {
+    assert_eq!(rt; Some(alu(op, a, b)), due, "{op:?} {a:08x} {b:08x}");
 }
 
 #[test]
@@ -72,17 +79,29 @@ fn results_of_an_emulator(rt: HostRuntime) {
 }
 
 #[test]
-fn branches_and_loads_of_an_emulator(rt: HostRuntime) {
+fn branches_of_an_emulator(rt: HostRuntime) {
     for branch in &BRANCHES {
-        let op = branch.op;
-        assert_eq!(rt; branch.grid.len(), FIRSTS.len(), "{op:?}");
+        assert_eq!(rt; branch.grid.len(), FIRSTS.len(), "{:?}", branch.op);
         for (&a, row) in FIRSTS.iter().zip(branch.grid) {
-            for (&b, &taken) in COMPARED.iter().zip(row) {
-                assert_eq!(rt; branch_taken(op, a, b), taken, "{op:?} {a:08x} {b:08x}");
-            }
-            assert_eq!(rt; branch_taken(op, a, a), branch.equal, "{op:?} {a:08x}");
+            compare_branches(&rt, branch.op, a, row);
+            compare_branch(&rt, branch.op, a, a, branch.equal);
         }
     }
+}
+
+/// Compares where branches go of a first operand with each second one.
+fn compare_branches(rt: &impl Abort, op: Op, a: u32, row: &[bool; 5]) {
+    for (&b, &taken) in COMPARED.iter().zip(row) {
+        compare_branch(rt, op, a, b, taken);
+    }
+}
+
+fn compare_branch(rt: &impl Abort, op: Op, a: u32, b: u32, taken: bool) {
+    assert_eq!(rt; branch_taken(op, a, b), taken, "{op:?} {a:08x} {b:08x}");
+}
+
+#[test]
+fn loads_of_an_emulator(rt: HostRuntime) {
     for &(op, bytes, value) in &LOADS {
         assert_eq!(rt; load_value(op, bytes), value, "{op:?} {bytes:08x}");
     }

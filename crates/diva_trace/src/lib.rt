@@ -4,15 +4,12 @@
 //! - `report`: `Report`, what a run's text is made of, `Dump`, a part of memory that is shown at its end, and `SoakCore`, the
 //!   cores of the two runs of `soak`.
 //! - `writers`: the parts of a run's text, and the whole of it. Each line is one put, and no memory is taken.
-//! - `tests`: the text of a run, and some lines.
 //!
 //! `specs/` holds the lines (`Lines`), and the parts and the whole of a run's text (`Text`).
 #![tactic(auto)]
 
 mod lines;
 mod report;
-#[cfg(test)]
-mod tests;
 mod writers;
 
 pub use lines::{

@@ -4,16 +4,16 @@ use super::sessions::{STEPS_COMMANDS, STEPS_TEXT};
 use super::sources::{FIVE_LISTING, FIVE_SOURCE};
 use super::tapes::IN_LOCKSTEP;
 use super::traces::FIVE_TRACE;
-use super::{Answer, FIVE_TEXT, Outside, compare_unasked, run_program};
+use super::{Answer, FIVE_TEXT, compare_unasked, five_files, run_program};
 use crate::cores::Flipped;
 use crate::programs::FIVE_FILE;
-use diva_outside::Fail as SinkFail;
+use diva_outside::{Fail as SinkFail, What};
 use std::alloc::Global;
 use std::process::Abort;
 use std::test::Fail;
 
 /// Command lines, and the files that they load, in order.
-const LOADS: [(&str, &[&str]); 5] = [
+static LOADS: [(&str, &[&str]); 5] = [
     (
         "run a.diva --script a.script --core tape --tape a.tape",
         &["image", "script", "tape"],
@@ -33,13 +33,11 @@ const LOADS: [(&str, &[&str]); 5] = [
 #[test]
 fn loads_that_fail(rt: HostRuntime) -> Result<(), Fail> {
     let alloc = rt.alloc();
-    for (line, files) in LOADS {
+    for &(line, files) in &LOADS {
         for (place, file) in files.iter().enumerate() {
             let call = place as u64 + 1;
-            let outside = Outside {
-                load_fails: Vec::from_slice(alloc, &[call])?,
-                ..Outside::sound(alloc, Vec::from_slice(alloc, &FIVE_FILE)?)
-            };
+            let mut outside = five_files(alloc)?;
+            outside.load_fails.push(call)?;
             let text = format!(in alloc; "unreadable {file}\n")?;
             compare_unasked(&rt, line, outside, 8, text.as_str())?;
         }
@@ -48,7 +46,7 @@ fn loads_that_fail(rt: HostRuntime) -> Result<(), Fail> {
 }
 
 /// Command lines, with the status and the text that are due where no put fails.
-const TEXTS: [(&str, u8, &str); 6] = [
+static TEXTS: [(&str, u8, &str); 6] = [
     ("run a.diva --core lockstep", 0, FIVE_TEXT),
     ("debug a.diva a.commands --core scalar", 0, STEPS_TEXT),
     ("dis a.diva", 0, FIVE_LISTING),
@@ -60,18 +58,28 @@ const TEXTS: [(&str, u8, &str); 6] = [
 #[test]
 fn puts_that_fail(rt: HostRuntime) -> Result<(), Fail> {
     let alloc = rt.alloc();
-    for (line, status, text) in TEXTS {
-        let lines = lines_of(alloc, text)?;
-        compare_puts(&rt, alloc, line, status, &lines)?;
+    for &(line, status, text) in &TEXTS {
+        compare_lines(&rt, alloc, line, status, text)?;
     }
     let trace = format!(in alloc; "{FIVE_TRACE}{FIVE_TEXT}")?;
-    let lines = lines_of(alloc, trace.as_str())?;
-    compare_puts(&rt, alloc, "run a.diva --core lockstep --trace", 0, &lines)?;
+    let line = "run a.diva --core lockstep --trace";
+    compare_lines(&rt, alloc, line, 0, trace.as_str())?;
     let claims = claims_of(alloc, IN_LOCKSTEP)?;
     compare_puts(&rt, alloc, "tape a.diva --core lockstep", 0, &claims)?;
     let mut image = Vec::new(alloc);
     image.push(Vec::from_slice(alloc, &FIVE_FILE)?)?;
     compare_puts(&rt, alloc, "asm a.s", 0, &image)
+}
+
+/// Compares the puts of a text, each of whose lines is one.
+fn compare_lines(
+    rt: &impl Abort,
+    alloc: Global,
+    line: &str,
+    status: u8,
+    text: &str,
+) -> Result<(), Fail> {
+    compare_puts(rt, alloc, line, status, &lines_of(alloc, text)?)
 }
 
 /// The lines of a text, each of which is a put.
@@ -131,11 +139,9 @@ fn compare_puts(
 
 /// What the program answers on sound files and a sink one of whose puts fails.
 fn run_cut(alloc: Global, line: &str, fail: SinkFail) -> Result<Answer, Fail> {
-    let outside = Outside {
-        source: Vec::from_slice(alloc, FIVE_SOURCE)?,
-        commands: Vec::from_slice(alloc, STEPS_COMMANDS.as_bytes())?,
-        put_fails: Vec::from_slice(alloc, &[fail])?,
-        ..Outside::sound(alloc, Vec::from_slice(alloc, &FIVE_FILE)?)
-    };
+    let mut outside = five_files(alloc)?
+        .with(What::Source, FIVE_SOURCE)?
+        .with(What::Commands, STEPS_COMMANDS.as_bytes())?;
+    outside.put_fails.push(fail)?;
     run_program(&mut Flipped, line, outside)
 }

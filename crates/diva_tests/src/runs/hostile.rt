@@ -4,6 +4,7 @@ use super::texts::registers_text;
 use super::{Outside, compare_rows, run_program};
 use crate::programs::{FIVE, Program, image_file};
 use diva_ooo::Ooo;
+use diva_outside::What;
 use std::alloc::Global;
 use std::fmt::Write;
 use std::process::Abort;
@@ -162,7 +163,8 @@ fn drawn_file(alloc: Global) -> Result<Vec<u8>, Fail> {
 fn spoiling_script(alloc: Global) -> Result<String, Fail> {
     let mut script = String::new(alloc);
     for cycle in 1..=4096 {
-        writeln!(script, "at {cycle} lane 0 flip next 2")?;
+        let row = format!(in alloc; "at {cycle} lane 0 flip next 2\n")?;
+        script.push_str(row.as_str())?;
     }
     Ok(script)
 }
@@ -191,10 +193,10 @@ fn compare_cores(
     let due = format!(in alloc; "end halt 0\ncount {count}\noutput 0\n{registers}pc {pc:08x}\n")?;
     let script = spoiling_script(alloc)?;
     for core in CORES {
-        let outside = Outside {
-            script: Vec::from_slice(alloc, script.as_bytes())?,
-            ..Outside::sound(alloc, Vec::from_slice(alloc, file)?)
-        };
+        let outside = Outside::sound(alloc, Vec::from_slice(alloc, file)?).with(
+            What::Script,
+            script.as_bytes(),
+        )?;
         let line = format!(in alloc; "run a.diva --core {core}")?;
         let answer = run_program(&mut Ooo::new(alloc)?, line.as_str(), outside)?;
         assert_eq!(rt; answer.status, 0, "{line}");

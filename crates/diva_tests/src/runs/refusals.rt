@@ -1,5 +1,5 @@
 // What is not run.
-use super::{Outside, compare_unasked};
+use super::{Outside, compare_unasked, five_files};
 use crate::programs::FIVE_FILE;
 use diva_outside::What;
 use std::test::Fail;
@@ -11,7 +11,7 @@ usage: diva run|tape IMAGE, debug IMAGE COMMANDS, asm SRC, dis IMAGE, soak SEED 
 
 /// Words that are not a valid command line, and files that are not there, with their statuses and texts.
 /// A name may be any word: the last five name files that are not there.
-const NOT_RUN: [(&str, u8, &str); 25] = [
+static NOT_RUN: [(&str, u8, &str); 25] = [
     ("", 2, USAGE),
     ("run", 2, USAGE),
     ("run a.diva --width 5", 2, USAGE),
@@ -54,9 +54,8 @@ const NOT_RUN: [(&str, u8, &str); 25] = [
 #[test]
 fn lines_that_are_not_run(rt: HostRuntime) -> Result<(), Fail> {
     let alloc = rt.alloc();
-    for (line, status, text) in NOT_RUN {
-        let outside = Outside::sound(alloc, Vec::from_slice(alloc, &FIVE_FILE)?);
-        compare_unasked(&rt, line, outside, status, text)?;
+    for &(line, status, text) in &NOT_RUN {
+        compare_unasked(&rt, line, five_files(alloc)?, status, text)?;
     }
     Ok(())
 }
@@ -121,7 +120,7 @@ fn files_that_are_too_long(rt: HostRuntime) -> Result<(), Fail> {
         ("asm a.s", What::Source, "source"),
         ("debug a.diva a.commands", What::Commands, "commands"),
     ] {
-        let mut outside = Outside::sound(alloc, Vec::from_slice(alloc, &FIVE_FILE)?);
+        let mut outside = five_files(alloc)?;
         outside.file_mut(what).resize(16_777_241, b'#')?;
         let text = format!(in alloc; "refused {word} 0 at 16777240\n")?;
         compare_unasked(&rt, line, outside, 5, text.as_str())?;

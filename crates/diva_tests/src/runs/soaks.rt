@@ -2,9 +2,11 @@
 use super::refusals::USAGE;
 use super::{Outside, compare, compare_by};
 use crate::cores::Flipped;
+use diva_core::Core;
 use diva_ooo::Ooo;
 use diva_outside::Fail as SinkFail;
-use std::alloc::Global;
+use std::alloc::{AllocError, Global};
+use std::process::Abort;
 use std::test::Fail;
 
 /// The seed 1 draws sub x8, x2, x1, which stands at 800, before addi x0, x0, 0, addi x17, x0, 93 and ecall; memory ends behind them.
@@ -43,22 +45,34 @@ pc 0000080c
 
 /// No file is there, and a load would fail.
 fn without_files(alloc: Global) -> Result<Outside, Fail> {
-    Ok(Outside {
-        load_fails: Vec::from_slice(alloc, &[1])?,
-        ..Outside::sound(alloc, Vec::new(alloc))
-    })
+    let mut outside = Outside::sound(alloc, Vec::new(alloc));
+    outside.load_fails.push(1)?;
+    Ok(outside)
 }
 
 #[test]
 fn seeds_that_soak(rt: HostRuntime) -> Result<(), Fail> {
     let alloc = rt.alloc();
-    let text = format!(in alloc; "{LINES}{LEFT}")?;
-    let mut own = Ooo::new(alloc)?;
-    let outside = without_files(alloc)?;
-    compare_by(&rt, &mut own, "soak 1 1", outside, 0, text.as_str())?;
+    compare_soak(&rt, alloc, &mut Ooo::new(alloc)?, LINES)?;
+    compare_soak(&rt, alloc, &mut Flipped, FLIPPED_LINES)
+}
 
-    let text = format!(in alloc; "{FLIPPED_LINES}{LEFT}")?;
-    compare(&rt, "soak 1 1", without_files(alloc)?, 0, text.as_str())
+/// Compares what is written with this core as the program's own: the lines of both runs, and what is left.
+fn compare_soak<C: Core>(
+    rt: &impl Abort,
+    alloc: Global,
+    core: &mut C,
+    lines: &str,
+) -> Result<(), Fail> {
+    let text = format!(in alloc; "{lines}{LEFT}")?;
+    compare_by(
+        rt,
+        core,
+        "soak 1 1",
+        without_files(alloc)?,
+        0,
+        text.as_str(),
+    )
 }
 
 /// Each of the thirteen lines is one put. It fails, and takes nothing, one byte, or all but one.
@@ -70,20 +84,28 @@ fn soaks_that_are_cut(rt: HostRuntime) -> Result<(), Fail> {
     let mut before = String::new(alloc);
     for (call, line) in (1..=13).zip(whole.as_str().split_inclusive('\n')) {
         for takes in [0, 1, line.len().saturating_sub(1)] {
-            let outside = Outside {
-                put_fails: Vec::from_slice(alloc, &[SinkFail { call, takes }])?,
-                ..without_files(alloc)?
-            };
-            let mut text = String::from_str(alloc, before.as_str())?;
-            for letter in line.chars().take(takes) {
-                text.push(letter)?;
-            }
-            let mut own = Ooo::new(alloc)?;
-            compare_by(&rt, &mut own, "soak 1 1", outside, 9, text.as_str())?;
+            let text = cut_text(alloc, before.as_str(), line, takes)?;
+            compare_cut(&rt, alloc, SinkFail { call, takes }, text.as_str())?;
         }
         before.push_str(line)?;
     }
     Ok(())
+}
+
+/// A text with the first letters of a line behind it.
+fn cut_text(alloc: Global, before: &str, line: &str, takes: usize) -> Result<String, AllocError> {
+    let mut text = String::from_str(alloc, before)?;
+    for letter in line.chars().take(takes) {
+        text.push(letter)?;
+    }
+    Ok(text)
+}
+
+/// Compares what is written where a put fails.
+fn compare_cut(rt: &impl Abort, alloc: Global, fail: SinkFail, text: &str) -> Result<(), Fail> {
+    let mut outside = without_files(alloc)?;
+    outside.put_fails.push(fail)?;
+    compare_by(rt, &mut Ooo::new(alloc)?, "soak 1 1", outside, 9, text)
 }
 
 #[test]

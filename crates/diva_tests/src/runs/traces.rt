@@ -1,7 +1,7 @@
 // Runs with commit lines.
 use super::texts::registers_text;
-use super::{FIVE_TEXT, Outside, compare};
-use crate::programs::{FIVE_FILE, Program, image_file};
+use super::{FIVE_TEXT, Outside, compare, five_files};
+use crate::programs::{Program, image_file};
 use std::test::Fail;
 
 /// The commit lines of `FIVE`, whoever claims it.
@@ -17,22 +17,35 @@ const LAST_TRACE: &str = "\
 1 00000004 00000000 00000000 00000000 00000000 00000000 00000004 00000002
 ";
 
+const LINE: &str = "run a.diva --core lockstep --trace";
+
 #[test]
 fn runs_with_commit_lines(rt: HostRuntime) -> Result<(), Fail> {
     let alloc = rt.alloc();
-    let five = Outside::sound(alloc, Vec::from_slice(alloc, &FIVE_FILE)?);
     let text = format!(in alloc; "{FIVE_TRACE}{FIVE_TEXT}")?;
-    let line = "run a.diva --core lockstep --trace";
-    compare(&rt, line, five, 0, text.as_str())?;
+    compare(&rt, LINE, five_files(alloc)?, 0, text.as_str())
+}
 
-    // A claim that is flushed has no line.
-    let five = Outside::sound(alloc, Vec::from_slice(alloc, &FIVE_FILE)?);
+/// A claim that is flushed has no line.
+#[test]
+fn commit_lines_behind_a_flush(rt: HostRuntime) -> Result<(), Fail> {
+    let alloc = rt.alloc();
     let counts = "end halt 0\ncount 3\ncycles 27\nflushes 1 silent 0\noutput 0\n";
     let flush = "flush 7 at 0 value claimed 00000004 due 00000005\n";
     let registers = registers_text(alloc, &[(1, 5), (17, 0x5d)])?;
     let text = format!(in alloc; "{FIVE_TRACE}{flush}{counts}{registers}pc 00000008\n")?;
-    compare(&rt, "run --trace a.diva", five, 0, text.as_str())?;
+    compare(
+        &rt,
+        "run --trace a.diva",
+        five_files(alloc)?,
+        0,
+        text.as_str(),
+    )
+}
 
+#[test]
+fn commit_lines_at_the_end_of_memory(rt: HostRuntime) -> Result<(), Fail> {
+    let alloc = rt.alloc();
     let last = Program {
         size: 4,
         words: &[0x13],
@@ -41,5 +54,5 @@ fn runs_with_commit_lines(rt: HostRuntime) -> Result<(), Fail> {
     let counts = "end trap 1\ncount 2\ncycles 14\nflushes 0 silent 0\noutput 0\n";
     let registers = registers_text(alloc, &[])?;
     let text = format!(in alloc; "{LAST_TRACE}{counts}{registers}pc 00000004\n")?;
-    compare(&rt, line, last, 3, text.as_str())
+    compare(&rt, LINE, last, 3, text.as_str())
 }

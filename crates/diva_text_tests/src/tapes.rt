@@ -1,9 +1,7 @@
 // Tapes that are read, played and written. What is due is taken from the text of the format.
-use crate::{Tape, TapeCore, TapeFault, tape_piece};
-use diva_core::{Claim, Claims, Core, Output, Told, View};
-use diva_isa::Regs;
-use diva_memory::Memory;
-use diva_storeq::StoreQueue;
+use crate::cores::list_of;
+use diva_core::Claim;
+use diva_tape::{Tape, TapeCore, TapeFault, tape_piece};
 use std::alloc::{AllocError, Global};
 use std::test::Fail;
 
@@ -58,36 +56,26 @@ fn fault_of(alloc: Global, text: &[u8]) -> Option<TapeFault> {
     Tape::read(alloc, text).err()
 }
 
-/// What a core hands over in some calls, a line for each.
-fn played(alloc: Global, core: &mut TapeCore, calls: u64) -> Result<Vec<u8>, AllocError> {
-    let regs = Regs::new();
-    let memory = Memory::new(alloc, 0, 4, &[])?;
-    let queue = StoreQueue::new(alloc, 1)?;
-    let output = Output::new(alloc)?;
-    let view = View::new(&regs, 0, &memory, &queue, &output);
+/// What the core of a tape hands over in some calls, a line for each.
+fn played(alloc: Global, tape: &str, calls: u64) -> Result<Vec<u8>, Fail> {
+    let mut core = TapeCore::new(Tape::read(alloc, tape.as_bytes())?);
     let mut text = Vec::new(alloc);
     for cycle in 0..calls {
-        let told = Told {
-            cycle,
-            count: 0,
-            pc: 0,
-            epoch: 0,
-            pending: 0,
-            room: 0,
-            idle: 0,
-            due: false,
-            ended: false,
-        };
-        let mut list = Claims::new();
-        core.cycle(&told, &view, &mut list);
-        let mut first = true;
-        for claim in list.as_slice() {
-            text.extend_from_slice(tape_piece(claim, first).bytes())?;
-            first = false;
-        }
-        text.push(b'\n')?;
+        let list = list_of(alloc, &mut core, cycle, 0)?;
+        push_line(&mut text, list.as_slice())?;
     }
     Ok(text)
+}
+
+/// Appends the pieces of a list, and a line feed.
+fn push_line(text: &mut Vec<u8>, list: &[Claim]) -> Result<(), AllocError> {
+    let mut first = true;
+    for claim in list {
+        text.extend_from_slice(tape_piece(claim, first).bytes())?;
+        first = false;
+    }
+    text.push(b'\n')?;
+    Ok(())
 }
 
 #[test]
@@ -107,27 +95,16 @@ fn lists_of_a_tape(rt: HostRuntime) -> Result<(), Fail> {
 00000001 00000000 00000000 00000000 00000000 00000000 00000000 00000000\n",
         ),
     ] {
-        match Tape::read(rt.alloc(), text.as_bytes()) {
-            Ok(tape) => {
-                let mut core = TapeCore::new(tape);
-                let written = played(rt.alloc(), &mut core, calls)?;
-                assert_eq!(rt; written.as_slice(), due.as_bytes(), "{text:?}");
-            }
-            Err(_) => assert!(rt; false, "{text:?}"),
-        }
+        let written = played(rt.alloc(), text, calls)?;
+        assert_eq!(rt; written.as_slice(), due.as_bytes(), "{text:?}");
     }
     Ok(())
 }
 
 #[test]
 fn eight_claims_in_a_call(rt: HostRuntime) -> Result<(), Fail> {
-    match Tape::read(rt.alloc(), EIGHT.as_bytes()) {
-        Ok(tape) => {
-            let written = played(rt.alloc(), &mut TapeCore::new(tape), 2)?;
-            assert_eq!(rt; written.len(), 8 * 71 + 7 * 3 + 2);
-        }
-        Err(_) => assert!(rt; false, "a tape"),
-    }
+    let written = played(rt.alloc(), EIGHT, 2)?;
+    assert_eq!(rt; written.len(), 8 * 71 + 7 * 3 + 2);
     Ok(())
 }
 

@@ -1,7 +1,7 @@
-// The files, the sinks and the numbers, each with a worked answer.
-use crate::{
+// The files, the sinks, the numbers, and the lines and words of texts, each with a worked answer.
+use diva_outside::{
     DiskFiles, Fail, Files, LoadFault, MemFile, MemFiles, MemSink, Sink, SinkFailed, StdSink,
-    SureFiles, What, decimal, hex,
+    SureFiles, What, decimal, hex, lines, words,
 };
 use std::alloc::{AllocError, Global};
 use std::fs;
@@ -100,19 +100,79 @@ fn sink_over_a_writer(rt: HostRuntime) {
     assert_eq!(rt; &room, b"abcde");
 }
 
+/// Words, and the numbers that they spell in hex and in decimal.
+static NUMBERS: [(&str, Option<u32>, Option<u64>); 8] = [
+    ("", None, None),
+    ("0", Some(0), Some(0)),
+    ("ffffffff", Some(0xffff_ffff), None),
+    ("FFFFFFFF", Some(0xffff_ffff), None),
+    ("123456789", None, Some(123_456_789)),
+    ("g", None, None),
+    ("4294967296", None, Some(4_294_967_296)),
+    ("99999999999", None, None),
+];
+
 #[test]
 fn numbers(rt: HostRuntime) {
-    for (word, hex_due, decimal_due) in [
-        ("", None, None),
-        ("0", Some(0), Some(0)),
-        ("ffffffff", Some(0xffff_ffff), None),
-        ("FFFFFFFF", Some(0xffff_ffff), None),
-        ("123456789", None, Some(123_456_789)),
-        ("g", None, None),
-        ("4294967296", None, Some(4_294_967_296)),
-        ("99999999999", None, None),
-    ] {
-        assert_eq!(rt; hex(word.as_bytes()), hex_due, "hex {word}");
-        assert_eq!(rt; decimal(word.as_bytes()), decimal_due, "decimal {word}");
+    for &(word, hex_due, decimal_due) in &NUMBERS {
+        let spelled = (hex(word.as_bytes()), decimal(word.as_bytes()));
+        assert_eq!(rt; spelled, (hex_due, decimal_due), "{word}");
     }
+}
+
+/// Texts, and each of their lines with a `|` behind it.
+static LINES: [(&str, &str); 6] = [
+    ("", ""),
+    ("\n", "|"),
+    ("a", "a|"),
+    ("a\n", "a|"),
+    ("a\nb", "a|b|"),
+    ("\na b\n\n# c\r\n", "|a b||# c\r|"),
+];
+
+#[test]
+fn lines_of_texts(rt: HostRuntime) -> Result<(), TestFail> {
+    for &(text, due) in &LINES {
+        let joined = joined_lines(rt.alloc(), text.as_bytes())?;
+        assert_eq!(rt; joined.as_slice(), due.as_bytes(), "{text:?}");
+    }
+    Ok(())
+}
+
+fn joined_lines(alloc: Global, text: &[u8]) -> Result<Vec<u8>, AllocError> {
+    let mut joined = Vec::new(alloc);
+    for line in lines(text) {
+        joined.extend_from_slice(line)?;
+        joined.extend_from_slice(b"|")?;
+    }
+    Ok(joined)
+}
+
+/// Lines, and each of their words with a `|` behind it.
+static WORDS: [(&[u8], &[u8]); 7] = [
+    (b"", b""),
+    (b" \t\r", b""),
+    (b"a", b"a|"),
+    (b"at 1\tlane  0 lose\r", b"at|1|lane|0|lose|"),
+    (b" at#1 # 2 \xff", b"at|"),
+    (b"# at 1", b""),
+    (b"a\x0bb \xff", b"a\x0bb|\xff|"),
+];
+
+#[test]
+fn words_of_lines(rt: HostRuntime) -> Result<(), TestFail> {
+    for &(line, due) in &WORDS {
+        let joined = joined_words(rt.alloc(), line)?;
+        assert_eq!(rt; joined.as_slice(), due, "{line:?}");
+    }
+    Ok(())
+}
+
+fn joined_words(alloc: Global, line: &[u8]) -> Result<Vec<u8>, AllocError> {
+    let mut joined = Vec::new(alloc);
+    for word in words(line) {
+        joined.extend_from_slice(word)?;
+        joined.extend_from_slice(b"|")?;
+    }
+    Ok(joined)
 }

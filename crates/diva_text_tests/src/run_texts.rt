@@ -1,10 +1,12 @@
 // The text of a run, and some lines.
-use crate::{Dump, Report, SoakCore, commit_line, end_line, flushes_line, soak_line, write_run};
 use diva_core::{Cause, Diff, Field, FlushRow, Output, View};
 use diva_isa::{End, Record, Regs};
 use diva_memory::Memory;
 use diva_outside::{MemSink, put_lines};
 use diva_storeq::StoreQueue;
+use diva_trace::{
+    Dump, Report, SoakCore, commit_line, end_line, flushes_line, soak_line, write_run,
+};
 use std::test::Fail;
 
 /// A flush of each cause.
@@ -70,7 +72,7 @@ const FIRST: Record = Record {
 };
 
 #[test]
-fn worked_texts(rt: HostRuntime) -> Result<(), Fail> {
+fn text_of_a_run(rt: HostRuntime) -> Result<(), Fail> {
     let alloc = rt.alloc();
     let mut regs = Regs::new();
     regs.set(1, 5);
@@ -92,8 +94,12 @@ fn worked_texts(rt: HostRuntime) -> Result<(), Fail> {
     let mut run = MemSink::new(alloc, 2048, Vec::new(alloc))?;
     assert_eq!(rt; write_run(&report, &mut run), Ok(()));
     assert_eq!(rt; run.bytes(), RUN.as_bytes());
+    Ok(())
+}
 
-    let mut lines = MemSink::new(alloc, 2048, Vec::new(alloc))?;
+#[test]
+fn other_lines(rt: HostRuntime) -> Result<(), Fail> {
+    let mut lines = MemSink::new(rt.alloc(), 2048, Vec::new(rt.alloc()))?;
     let made = [
         commit_line(0, &FIRST),
         end_line(5),

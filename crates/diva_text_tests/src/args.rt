@@ -1,0 +1,211 @@
+// Lines that are taken, and lines that are refused. A line is one string, whose words blanks part.
+use diva_args::{
+    ArgsFault, DebugOptions, Job, RunOptions, Setup, SoakOptions, TapeOptions, read_words,
+};
+use std::alloc::{AllocError, Global};
+use std::test::Fail;
+
+/// Lines with what they ask for: the command, then the names and numbers. Behind an image stand its core, its script, width, window,
+/// stores and limit; last come of `run` the cycles, the commit lines and the dump, and of `tape` the cycles.
+static TAKEN: [(&str, &str); 26] = [
+    (
+        "run p1.diva",
+        r#"run "p1.diva" Own None 2 16 4 64 1000000 false None"#,
+    ),
+    (
+        "run p1.diva --dump 3c:8 --cycles 1000000000 --stores 6 --trace --core silent \
+        --script faults.txt --watchdog 1024 --width 1 --window 08",
+        r#"run "p1.diva" Silent Some(FileName { text: "faults.txt" }) 1 8 6 1024 1000000000 true Some(DumpRange { addr: 60, len: 8 })"#,
+    ),
+    // What stands for a flag that is not given is no value of an option.
+    (
+        "run --trace p --script false",
+        r#"run "p" Own Some(FileName { text: "false" }) 2 16 4 64 1000000 true None"#,
+    ),
+    ("tape p --cycles 9", r#"tape "p" Own None 2 16 4 64 9"#),
+    (
+        "tape p --script s --tape t --core tape",
+        r#"tape "p" Tape(FileName { text: "t" }) Some(FileName { text: "s" }) 2 16 4 64 1000000"#,
+    ),
+    ("asm p1.s", r#"asm "p1.s""#),
+    ("dis -- -x", r#"dis "-x""#),
+    ("soak 1 1", "soak 1 1"),
+    ("soak 7 65536", "soak 7 65536"),
+    ("soak 4294967295 0000000002", "soak 4294967295 2"),
+    ("soak -- 0 3", "soak 0 3"),
+    ("debug p c", r#"debug "p" Own None 1 16 4 64 "c""#),
+    (
+        "debug p c --watchdog 16 --core silent",
+        r#"debug "p" Silent None 1 16 4 16 "c""#,
+    ),
+    // Each core, and tapes of any name.
+    (
+        "run p --core lockstep",
+        r#"run "p" Lockstep None 2 16 4 64 1000000 false None"#,
+    ),
+    (
+        "run p --core scalar",
+        r#"run "p" Scalar None 2 16 4 64 1000000 false None"#,
+    ),
+    (
+        "run p --core flood",
+        r#"run "p" Flood None 2 16 4 64 1000000 false None"#,
+    ),
+    (
+        "run p --core echo",
+        r#"run "p" Echo None 2 16 4 64 1000000 false None"#,
+    ),
+    (
+        "run p --core noise",
+        r#"run "p" Noise None 2 16 4 64 1000000 false None"#,
+    ),
+    (
+        "run p --core tape --tape t",
+        r#"run "p" Tape(FileName { text: "t" }) None 2 16 4 64 1000000 false None"#,
+    ),
+    (
+        "run p --core tape --tape=",
+        r#"run "p" Tape(FileName { text: "" }) None 2 16 4 64 1000000 false None"#,
+    ),
+    (
+        "run p --core=tape --tape=x",
+        r#"run "p" Tape(FileName { text: "x" }) None 2 16 4 64 1000000 false None"#,
+    ),
+    // Any word is a name.
+    ("run -", r#"run "-" Own None 2 16 4 64 1000000 false None"#),
+    ("run ''", r#"run "" Own None 2 16 4 64 1000000 false None"#),
+    (
+        "run -- -x",
+        r#"run "-x" Own None 2 16 4 64 1000000 false None"#,
+    ),
+    (
+        "run --width 2 -- -x",
+        r#"run "-x" Own None 2 16 4 64 1000000 false None"#,
+    ),
+    (
+        "run -- --help",
+        r#"run "--help" Own None 2 16 4 64 1000000 false None"#,
+    ),
+];
+
+/// Lines that are refused.
+static REFUSED: [&str; 50] = [
+    // No command, and no help.
+    "",
+    "walk a",
+    "help",
+    "--help",
+    "-h",
+    "run a --help",
+    "dis --help",
+    // Words too few or too many.
+    "run",
+    "run a b",
+    "run --",
+    "run -x",
+    "run a -- -x",
+    "debug a",
+    "debug a b c",
+    "tape",
+    "asm",
+    "asm a b",
+    "dis",
+    "soak",
+    "soak 1",
+    "soak 1 1 1",
+    // Options of another command.
+    "tape a --trace",
+    "debug a b --width 1",
+    "tape a --dump 0:4",
+    "asm a --core own",
+    "soak 1 1 --core own",
+    // Options twice, or without a value.
+    "run a --trace --trace",
+    "run a --trace true",
+    "run a --trace=true",
+    "run a --core own --core own",
+    "run a --script",
+    "run a --script b --script b",
+    // Cores with a wrong tape.
+    "run a --core vector",
+    "run a --core tape",
+    "run a --tape t",
+    "run a --core lockstep --tape t",
+    "run a --core noise --tape t",
+    // Numbers out of range.
+    "run a --width 5",
+    "run a --cycles 0",
+    "run a --dump 8",
+    "run a --dump 0:0",
+    "run a --dump 123456789:1",
+    "run a --dump fffffffc:5",
+    "soak 1 0",
+    "soak 1 65537",
+    "soak 4294967296 1",
+    "soak 00000000001 1",
+    "soak -1 1",
+    "soak 1 0x1",
+    "soak '' 1",
+];
+
+#[test]
+fn lines_that_are_taken(rt: HostRuntime) -> Result<(), Fail> {
+    for &(line, due) in &TAKEN {
+        let job = read_words(rt.alloc(), &words_of(rt.alloc(), line)?)?;
+        let text = text_of(rt.alloc(), &job)?;
+        assert_eq!(rt; text.as_str(), due, "{line}");
+    }
+    Ok(())
+}
+
+#[test]
+fn lines_that_are_refused(rt: HostRuntime) -> Result<(), Fail> {
+    for line in &REFUSED {
+        let fault = read_words(rt.alloc(), &words_of(rt.alloc(), line)?).err();
+        assert_eq!(rt; fault, Some(ArgsFault::Usage), "{line}");
+    }
+    Ok(())
+}
+
+/// The words of a line, in which an empty word is written `''`.
+fn words_of(alloc: Global, line: &str) -> Result<Vec<&str>, AllocError> {
+    let mut words = Vec::new(alloc);
+    for word in line.split_whitespace() {
+        words.push(if word == "''" { "" } else { word })?;
+    }
+    Ok(words)
+}
+
+/// What a job asks for, as `TAKEN` shows it.
+fn text_of(alloc: Global, job: &Job) -> Result<String, AllocError> {
+    match job {
+        Job::Run(options) => run_text(alloc, options),
+        Job::Tape(TapeOptions { setup, cycles }) => {
+            let setup = setup_text(alloc, setup)?;
+            format!(in alloc; "tape {setup} {cycles}")
+        }
+        Job::Debug(DebugOptions { setup, commands }) => {
+            let setup = setup_text(alloc, setup)?;
+            format!(in alloc; "debug {setup} {:?}", commands.as_str())
+        }
+        Job::Asm(source) => format!(in alloc; "asm {:?}", source.as_str()),
+        Job::Dis(image) => format!(in alloc; "dis {:?}", image.as_str()),
+        Job::Soak(SoakOptions { seed, instructions }) => {
+            format!(in alloc; "soak {seed} {instructions}")
+        }
+    }
+}
+
+fn run_text(alloc: Global, options: &RunOptions) -> Result<String, AllocError> {
+    let setup = setup_text(alloc, &options.setup)?;
+    let (cycles, trace, dump) = (options.cycles, options.trace, &options.dump);
+    format!(in alloc; "run {setup} {cycles} {trace} {dump:?}")
+}
+
+fn setup_text(alloc: Global, setup: &Setup) -> Result<String, AllocError> {
+    let image = setup.image.as_str();
+    let (core, script, config) = (&setup.core, &setup.script, &setup.config);
+    let (width, window) = (config.width(), config.window());
+    let (stores, limit) = (config.stores(), config.limit());
+    format!(in alloc; "{image:?} {core:?} {script:?} {width} {window} {stores} {limit}")
+}
