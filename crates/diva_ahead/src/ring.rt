@@ -107,7 +107,6 @@ impl Ring {
     }
 
     /// The byte at an address of the view's memory with all effects laid over it, `None` exactly outside.
-    #[inline(always)]
     #[tactic(auto, using(diva_core::proofs::Laying::effects_none, diva_core::proofs::Laying::effects_byte))]
     pub fn byte(&self, view: &View<'_>, addr: u32) -> Option<u8>
         ensures { result ≡ byte_of (with_effects view.now self.now) addr }

@@ -18,7 +18,6 @@ use operations::{branch_op, immediate_op, load_op, register_op, shift_op, store_
 ///
 /// What comes out is valid, so [`encode`](crate::encode) may be asked for its word: that is this word again, unless the
 /// instruction is FENCE, which has several words.
-#[inline(always)]
 #[tactic(auto, using(crate::proofs::Unique::valid_if, crate::proofs::Unique::registers_by, crate::proofs::Unique::encodes_if))]
 pub fn decode(word: u32) -> Option<Instr>
     ensures row_of { result ≡ row_of word }

@@ -9,7 +9,6 @@ use diva_decode::Op;
 /// computes nothing. (RISC-V Unprivileged ISA, RV32I 2.1, "Integer Computational Instructions", and chapter M 2.0.)
 ///
 /// Nothing traps: a shift takes the low 5 bits of its amount, and a division by zero has its results by the manual.
-#[inline(always)]
 pub fn alu(op: Op, a: u32, b: u32) -> u32
     ensures { result ≡ alu op a b }
 {
@@ -92,7 +91,6 @@ pub fn branch_taken(op: Op, a: u32, b: u32) -> bool
 
 /// What a load makes of its 1, 2 or 4 bytes, which are the low ones of `bytes`; 0 of another operation. (RISC-V
 /// Unprivileged ISA, RV32I 2.1, "Load and Store Instructions".)
-#[inline(always)]
 pub fn load_value(op: Op, bytes: u32) -> u32
     ensures { result ≡ extended op bytes }
 {

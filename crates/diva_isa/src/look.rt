@@ -82,7 +82,6 @@ pub trait Look {
     /// Whether all bytes of this width from an address on are inside memory. The address is a multiple of the width.
     ///
     /// They are read, unless an implementation has a shorter way.
-    #[inline(always)]
     fn has(&self, addr: u32, width: Width) -> bool
         requires { addr % size width ≡ 0 }
         ensures { result ≡ is_some (number_of (shows self.now) (size width) addr) }

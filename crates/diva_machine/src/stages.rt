@@ -78,7 +78,7 @@ fn pass_last(pending: &mut Pending, at: usize, arch: &Arch)
 }
 
 /// The same of a load or a store, or where what the word says was not noted.
-#[inline(always)]
+#[inline(never)]
 fn pass_access(pending: &mut Pending, at: usize, arch: &Arch)
     requires { at < length pending.old.items }
     ensures waits { map pending_claim_of pending.new.items ≡ map pending_claim_of pending.old.items }
