@@ -1,6 +1,6 @@
 // The record of a state's next instruction, and each part of it by itself.
 
-ghost use Rattle.std.specs.Prelude.{◌≡◌, ◌≢◌, false, ℕ, ◌*◌, ◌%◌, ◌^◌, ◌<◌, IfSome, None};
+ghost use Rattle.std.specs.Prelude.{◌≡◌, ◌≢◌, false, ℕ, ◌*◌, ◌%◌, ◌^◌, ◌<◌, IfSome, None, slice_index};
 ghost use Rattle.std.specs.Option.{option_and_then};
 ghost use Rattle.diva_decode.specs.Table.{HasRegisters, IsValid, row_of};
 ghost use Rattle.diva_isa.specs.State.{State, word_of};
@@ -178,10 +178,7 @@ pub fn sources_in(regs: &Regs, decoded: Option<Instr>) -> Operands
         → result ≡ record { first = source1_of decoded s; second = source2_of decoded s } }
 {
     match decoded {
-        Some(i) if matches!(i.op, Op::Ecall) => Operands {
-            first: regs.get(17),
-            second: regs.get(10),
-        },
+        Some(i) if matches!(i.op, Op::Ecall) => sources_of_call(regs),
         // A register that the instruction does not read is x0 here.
         Some(i) => Operands {
             first: regs.get(i.rs1),
@@ -191,6 +188,18 @@ pub fn sources_in(regs: &Regs, decoded: Option<Instr>) -> Operands
             first: 0,
             second: 0,
         },
+    }
+}
+
+// The words that a call reads: few instructions are one.
+#[cold]
+#[inline(never)]
+fn sources_of_call(regs: &Regs) -> Operands
+    ensures { result ≡ record { first = slice_index regs.now 17; second = slice_index regs.now 10 } }
+{
+    Operands {
+        first: regs.get(17),
+        second: regs.get(10),
     }
 }
 
