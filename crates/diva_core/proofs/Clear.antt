@@ -1,5 +1,5 @@
 -- Reads of memory that meet no store in flight.
-use Rattle.std.proofs.Common.{◌≡◌, ◌≤◌, ℕ, zero, suc, ◌+◌, ◌-◌, ◌^◌, ◌%◌, ◌==◌, List, [], ◌∷◌, Bool, true, false, ◌&&◌, ◌⊎◌, inl, inr, cond, refl, sym, ap, ◌∙◌, arith, subst, map, drop, slice_get, slice_set, Option, Some, None, if◌then◌else◌}
+use Rattle.std.proofs.Common.{◌≡◌, ◌≤◌, ◌<◌, ℕ, zero, suc, ◌+◌, ◌^◌, ◌%◌, ◌==◌, List, [], ◌∷◌, Bool, true, false, ◌&&◌, ◌⊎◌, inl, inr, cond, refl, sym, ap, ◌∙◌, arith, subst, map, drop, slice_get, slice_set, Option, Some, None, if◌then◌else◌}
 use Rattle.std.specs.Prelude.{count_by, IfSome}
 use Rattle.std.specs.List.{All, list_all}
 use Rattle.std.proofs.lemmas.Bool.Decides.{nat_tests}
@@ -24,6 +24,7 @@ use Rattle.diva_core.specs.Effects.{is_apart}
 use Rattle.diva_core.specs.Entries.{has_store_opcode, may_store, IsWithin}
 use Rattle.diva_core.specs.Older.{older, with_claims}
 use Rattle.diva_core.proofs.Forms.{stores_none}
+use Rattle.diva_core.proofs.Reach.{each_fails}
 use Rattle.diva_core.proofs.Laying.{effects_byte, effects_word}
 
 -- ---- what is apart
@@ -124,19 +125,7 @@ clear_word s entries k a h = effects_word s (map effect_of (older entries k)) a 
 pub clear_byte : (s : State) (entries : List Entry) (k a : ℕ) → list_all (λ e. is_apart (effect_of e.claim) a 1) entries ≡ true → byte_of (with_claims s (older entries k)) a ≡ byte_of s a
 clear_byte s entries k a h = effects_byte s (map effect_of (older entries k)) a (older_apart entries k a 1 h)
 
--- ---- the oldest is taken out, and others are noted of
-
-module _ (n : ℕ) (b : Bool) where
-  popped : (entries : List Entry) (e : Entry) → n ≡ count_by may_store entries → slice_get entries 0 ≡ Some e → may_store e ≡ b → n ≡ cond b 1 0 + count_by may_store (drop 1 entries)
-  popped [] e m h t = absurd (none-some _ h)
-  popped (x ∷ entries) e m h t =
-      m ∙ count_first entries x ∙ ap (λ (y : Entry). cond {A = ℕ} (may_store y) 1 0 + count_by may_store entries) (same_Some _ _ h) ∙ ap (λ (c : Bool). cond {A = ℕ} c 1 0 + count_by may_store entries) t
-
-pub popped_store : (n : ℕ) (entries : List Entry) (e : Entry) → n ≡ count_by may_store entries → slice_get entries 0 ≡ Some e → has_store_opcode e.claim.word ≡ true → n - 1 ≡ count_by may_store (drop 1 entries)
-popped_store n entries e m h t = let all : n ≡ 1 + count_by may_store (drop 1 entries) = popped n true entries e m h t in omega arith
-
-pub popped_other : (n : ℕ) (entries : List Entry) (e : Entry) → n ≡ count_by may_store entries → slice_get entries 0 ≡ Some e → has_store_opcode e.claim.word ≡ false → n ≡ count_by may_store (drop 1 entries)
-popped_other n entries e m h t = let all : n ≡ 0 + count_by may_store (drop 1 entries) = popped n false entries e m h t in omega arith
+-- ---- others are noted of, and one is added
 
 -- what the table says of a word is its decoded form
 pub decoded_by : (word : ℕ) (decoded : Option Instr) → decoded ≡ row_of word → IfSome decoded (λ i. row_of word ≡ Some i)
@@ -144,7 +133,7 @@ decoded_by word None h = tt
 decoded_by word (Some i) h = sym h
 
 -- the claim stays
-pub noted_count : (entries : List Entry) (at : ℕ) (e d : Entry) → slice_get entries at ≡ Some e → d.claim ≡ e.claim → count_by may_store (slice_set entries at d) ≡ count_by may_store entries
+noted_count : (entries : List Entry) (at : ℕ) (e d : Entry) → slice_get entries at ≡ Some e → d.claim ≡ e.claim → count_by may_store (slice_set entries at d) ≡ count_by may_store entries
 noted_count [] at e d h c = absurd (none-some _ h)
 noted_count (x ∷ entries) zero e d h c =
     let same : d.claim ≡ x.claim = c ∙ ap (λ (y : Entry). y.claim) (sym (same_Some _ _ h)) in
@@ -152,9 +141,21 @@ noted_count (x ∷ entries) zero e d h c =
 noted_count (x ∷ entries) (suc at) e d h c =
     count_first (slice_set entries at d) x ∙ ap (λ (k : ℕ). cond {A = ℕ} (may_store x) 1 0 + k) (noted_count entries at e d h c) ∙ sym (count_first entries x)
 
+-- so what is behind a place may still be no store
+pub noted_behind : (n : ℕ) (entries : List Entry) (at : ℕ) (e d : Entry) → slice_get entries at ≡ Some e → d.claim ≡ e.claim → count_by may_store (drop n entries) ≡ 0 → count_by may_store (drop n (slice_set entries at d)) ≡ 0
+noted_behind zero entries at e d h c none = noted_count entries at e d h c ∙ none
+noted_behind (suc n) [] at e d h c none = absurd (none-some _ h)
+noted_behind (suc n) (x ∷ entries) zero e d h c none = none
+noted_behind (suc n) (x ∷ entries) (suc at) e d h c none = noted_behind n entries at e d h c none
+
 in_it : {X : Type 0} (P : X → Type 0) (xs : List X) (at : ℕ) (x : X) → All P xs → slice_get xs at ≡ Some x → P x
 in_it P xs at x all h = subst P (get_or_from_slice_get xs at x x h) (all at x (slice_get_within xs at x h))
 
 pub noted_within : (entries : List Entry) (at : ℕ) (e d : Entry) (low high : ℕ) → slice_get entries at ≡ Some e → d.claim ≡ e.claim → All (IsWithin low high) entries → All (IsWithin low high) (slice_set entries at d)
 noted_within entries at e d low high h c all =
     All-set (IsWithin low high) entries at d (subst (λ (r : Record). has_store_opcode r.word ≡ true → (low ≤ r.addr) × (r.addr + 4 ≤ high)) (sym c) (in_it (IsWithin low high) entries at e all h)) all
+
+-- the interval grows, or nothing was in it
+pub widened_within : (n : ℕ) (entries : List Entry) (low high from to : ℕ) → count_by may_store (drop n entries) ≡ 0 → (0 < n → (from ≤ low) × (high ≤ to)) → All (IsWithin low high) entries → All (IsWithin from to) entries
+widened_within zero entries low high from to none w all = λ k d l m. let f = each_fails may_store entries none k d l in absurd (cc)
+widened_within (suc n) entries low high from to none w all = λ k d l m. let wider = w (omega arith) in let here = all k d l m in (omega arith, omega arith)

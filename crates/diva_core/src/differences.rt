@@ -85,8 +85,7 @@ pub struct Diff {
 
 impl Diff {
     /// A difference in a field.
-    #[cold]
-    #[inline(never)]
+    #[inline(always)]
     pub fn new(field: Field, claimed: u32, due: u32) -> Diff
         ensures { result ≡ record { field = field; claimed = claimed; due = due } }
     {

@@ -1,5 +1,5 @@
 // The claims that wait to be judged, the oldest first.
-ghost use Rattle.std.specs.Prelude.{◌≡◌, ◌≤◌, ◌<◌, [], ◌∷◌, ◌++◌, length, IfOk, IfSome, IsTrue, None, Some, slice_get, slice_set, true};
+ghost use Rattle.std.specs.Prelude.{◌≡◌, ◌≤◌, ◌<◌, ◌+◌, [], ◌∷◌, ◌++◌, length, IfOk, IfSome, IsTrue, None, Some, slice_get, slice_set, true};
 ghost use Rattle.std.specs.List.{list_all};
 ghost use Rattle.std.specs.Option.{option_copied};
 ghost use Rattle.circular_buffer.specs.Buffer.{Buffer, buffer};
@@ -92,13 +92,13 @@ impl Entry {
 
 /// A ring of pending claims, the oldest first: 64 at most. It takes no memory after its making.
 ///
-/// Most reads of memory meet no store in flight. So the ring counts the claims that may be stores, and knows an interval of
-/// addresses in which they all lie: a read outside of that looks through no claim.
+/// Most reads of memory meet no store in flight. So the ring knows how far back the youngest claim is that may be a store,
+/// and an interval of addresses in which all of them lie: a read outside of that looks through no claim.
 #[derive(Drop)]
 pub struct Pending {
     entries: HeapCircularBuffer<Entry>,
-    /// How many of the claims may be stores.
-    stores: usize,
+    /// How many claims, from the oldest on, reach to the youngest that may be a store: none behind them may be one.
+    reach: usize,
     /// The lowest address of the interval, and the first behind it.
     low: u32,
     high: u64,
@@ -110,7 +110,7 @@ impl Model for Pending {
 
     ghost Value = { Buffer Entry };
 
-    ghost use Rattle.std.specs.Prelude.{◌≡◌, ◌≤◌, count_by};
+    ghost use Rattle.std.specs.Prelude.{◌≡◌, ◌≤◌, count_by, drop};
     ghost use Rattle.std.specs.List.{All};
     ghost use Rattle.diva_core.specs.Entries.{IsDecoded, IsWithin, may_store};
 
@@ -118,7 +118,7 @@ impl Model for Pending {
 
     ghost invariant = { λ p.
         All IsDecoded p.entries.items × (p.entries.capacity ≤ 64)
-        × (p.stores ≡ count_by may_store p.entries.items) × All (IsWithin p.low p.high) p.entries.items };
+        × (count_by may_store (drop p.reach p.entries.items) ≡ 0) × All (IsWithin p.low p.high) p.entries.items };
 }
 
 impl Pending {
@@ -136,7 +136,7 @@ impl Pending {
     {
         Ok(Pending {
             entries: HeapCircularBuffer::with_capacity(alloc, q)?,
-            stores: 0,
+            reach: 0,
             low: 0,
             high: 0,
         })
@@ -219,19 +219,25 @@ impl Pending {
             (self.old.items ++ record { claim = claim; cycle = cycle; decoded = None; verdict = None } ∷ [])
             self.old.capacity }
     {
+        self.accept(&claim, cycle);
+    }
+
+    /// The same of a claim that is copied from where it stands: it is moved whole, and not field by field.
+    #[inline(always)]
+    pub fn accept(&mut self, claim: &Claim, cycle: u64)
+        requires { length self.old.items < self.old.capacity }
+        ensures { self.new ≡ buffer
+            (self.old.items ++ record { claim = claim.now; cycle = cycle; decoded = None; verdict = None } ∷ [])
+            self.old.capacity }
+    {
         if has_store_opcode(claim.word) {
-            let end = u64::from(claim.addr) + 4;
-            if self.stores == 0 {
-                self.low = claim.addr;
-                self.high = end;
-            } else {
-                self.low = self.low.min(claim.addr);
-                self.high = self.high.max(end);
-            }
-            self.stores += 1;
+            let (low, high) = widened(self.reach, self.low, self.high, claim.addr);
+            self.low = low;
+            self.high = high;
+            self.reach = self.entries.len() + 1;
         }
         let _ = self.entries.try_push_back(Entry {
-            claim,
+            claim: *claim,
             cycle,
             decoded: None,
             verdict: None,
@@ -244,11 +250,8 @@ impl Pending {
         requires { 0 < length self.old.items }
         ensures { self.old ≡ buffer (result ∷ self.new.items) self.new.capacity }
     {
-        let entry = self.entries.pop_front().unwrap();
-        if has_store_opcode(entry.claim.word) {
-            self.stores -= 1;
-        }
-        entry
+        self.reach = self.reach.saturating_sub(1);
+        self.entries.pop_front().unwrap()
     }
 
     /// Drops all claims.
@@ -256,7 +259,7 @@ impl Pending {
         ensures { self.new ≡ buffer [] self.old.capacity }
     {
         self.entries.clear();
-        self.stores = 0;
+        self.reach = 0;
     }
 
     /// Whether no claim can store one of the `n` bytes from an address on. Some that no claim stores are not told.
@@ -264,7 +267,7 @@ impl Pending {
     pub(crate) fn is_clear(&self, addr: u32, n: u32) -> bool
         ensures { IsTrue result → list_all (λ e. is_apart (effect_of e.claim) addr n) self.now.items ≡ true }
     {
-        self.stores == 0
+        self.reach == 0
             || u64::from(addr) + u64::from(n) <= u64::from(self.low)
             || self.high <= u64::from(addr)
     }
@@ -276,4 +279,20 @@ fn has_store_opcode(word: u32) -> bool
     ensures { result ≡ has_store_opcode word }
 {
     word & 0x7f == 0b0100011
+}
+
+// The interval from `low` on, before `high`, and with it the word at an address: that word alone where no claim reaches into
+// the interval.
+#[inline(never)]
+fn widened(reach: usize, low: u32, high: u64, addr: u32) -> (u32, u64)
+    ensures from { result.0 ≤ addr }
+    ensures to { addr + 4 ≤ result.1 }
+    ensures wider { 0 < reach → (result.0 ≤ low) × (high ≤ result.1) }
+{
+    let end = u64::from(addr) + 4;
+    if reach == 0 {
+        (addr, end)
+    } else {
+        (low.min(addr), high.max(end))
+    }
 }

@@ -8,7 +8,7 @@ pub returns-then-from : goal.returns-then-from
 returns-then-from c =
     let p = c.self.inside in
     λ t. rw (← c.self.view_is) (elim c.if-self-eq0.branch [
-      | then-self-eq0 w ↦ none_stored p.entries.items c.args.addr c.args.n (sym c.self.invariant.2 ∙ w.if-self-eq0.true)
+      | then-self-eq0 w ↦ none_stored p.entries.items c.args.addr c.args.n (rw w.if-self-eq0.true at c.self.invariant.2)
       | else-self-eq0 w ↦
           before_apart p.entries.items p.low p.high c.args.addr c.args.n c.self.invariant.3 (let a = w.from.ensures in
           let b = w.from-else-self-eq0.ensures in
