@@ -1,16 +1,15 @@
 -- Effects that store nothing, or store elsewhere.
-use Rattle.std.proofs.Common.{◌≡◌, ◌≤◌, ℕ, ◌+◌, ◌-◌, List, [], ◌∷◌, Bool, true, false, ◌&&◌, ◌⊎◌, inl, inr, cond, refl, ap, ◌∙◌, arith, drop, slice_get, Some}
+use Rattle.std.proofs.Common.{◌≡◌, ◌≤◌, ◌<◌, ℕ, zero, suc, ◌+◌, List, [], ◌∷◌, Bool, true, false, ◌&&◌, ◌⊎◌, inl, inr, cond, refl, arith, drop, slice_index_or}
 use Rattle.std.specs.Prelude.{count_by}
 use Rattle.std.specs.List.{All, list_all}
 use Rattle.std.proofs.lemmas.Bool.Decides.{nat_tests}
-use Rattle.std.proofs.lemmas.List.{drop-drop}
-use Rattle.std.proofs.lemmas.List.Elements.{All-head, All-tail}
-use Rattle.std.proofs.lemmas.Option.{same_Some}
+use Rattle.std.proofs.lemmas.List.Elements.{All-head, All-tail, All-weaker}
 use Rattle.std.proofs.lemmas.List.Sums.{sum_by-cons}
 use Rattle.diva_isa.specs.declared.effect.Effect.{Effect}
 use Rattle.diva_isa.specs.declared.effect.Effect.TheVariants.{Nothing, Writes, Stores, Puts}
 use Rattle.diva_core.specs.Cycle.{is_store}
 use Rattle.diva_core.specs.Effects.{is_apart}
+use Rattle.diva_core.proofs.Reach.{each_fails}
 use Rattle.diva_ahead.specs.Within.{IsWithin}
 
 and_both : (b c : Bool) → b ≡ true → c ≡ true → (b && c) ≡ true
@@ -55,25 +54,22 @@ before_apart effects low high a n h k = outside_apart effects low high a n h (in
 pub behind_apart : (effects : List Effect) (low high a n : ℕ) → All (IsWithin low high) effects → high ≤ a → list_all (λ e. is_apart e a n) effects ≡ true
 behind_apart effects low high a n h k = outside_apart effects low high a n h (inr k)
 
--- ---- the oldest is dropped
+-- ---- one is added
 
-one_counted : (e : Effect) (b : Bool) → is_store e ≡ b → count_by is_store (e ∷ []) ≡ 0 + cond b 1 0
-one_counted e b h = ap (λ (c : Bool). 0 + cond {A = ℕ} c 1 0) h
+-- what stores nothing is within any interval
+pub quiet_within : (e : Effect) (low high : ℕ) → is_store e ≡ false → IsWithin low high e
+quiet_within Nothing low high h = tt
+quiet_within (Writes rd value) low high h = tt
+quiet_within (Stores width addr value) low high h = absurd (cc)
+quiet_within (Puts byte) low high h = tt
 
-counted : (effects : List Effect) (e : Effect) (b : Bool) → slice_get effects 0 ≡ Some e → is_store e ≡ b → count_by is_store effects ≡ cond b 1 0 + count_by is_store (drop 1 effects)
-counted [] e b h k = absurd (cc)
-counted (x ∷ effects) e b h k =
-    let w : ℕ = cond b 1 0 in
-    let one : count_by is_store (x ∷ []) ≡ 0 + w = one_counted x b (ap is_store (same_Some x e h) ∙ k) in
-    let all : count_by is_store (x ∷ effects) ≡ count_by is_store (x ∷ []) + count_by is_store effects = count_first effects x in
-    omega arith
+wider_within : (low high from to : ℕ) → (from ≤ low) × (high ≤ to) → (e : Effect) → IsWithin low high e → IsWithin from to e
+wider_within low high from to w Nothing h = tt
+wider_within low high from to w (Writes rd value) h = tt
+wider_within low high from to w (Stores width addr value) h = (omega arith, omega arith)
+wider_within low high from to w (Puts byte) h = tt
 
-pub dropped_store : (effects : List Effect) (e : Effect) (n : ℕ) → n ≡ count_by is_store effects → slice_get effects 0 ≡ Some e → is_store e ≡ true → n - 1 ≡ count_by is_store (drop 1 effects)
-dropped_store effects e n m h k = let c : count_by is_store effects ≡ 1 + count_by is_store (drop 1 effects) = counted effects e true h k in omega arith
-
-pub dropped_other : (effects : List Effect) (e : Effect) (n : ℕ) → n ≡ count_by is_store effects → slice_get effects 0 ≡ Some e → is_store e ≡ false → n ≡ count_by is_store (drop 1 effects)
-dropped_other effects e n m h k = let c : count_by is_store effects ≡ 0 + count_by is_store (drop 1 effects) = counted effects e false h k in omega arith
-
--- the next one is dropped
-pub drop_next : (effects : List Effect) (k most : ℕ) → most ≤ k → drop 1 (drop (k - most) effects) ≡ drop (k + 1 - most) effects
-drop_next effects k most h = drop-drop 1 (k - most) effects ∙ ap (λ (n : ℕ). drop n effects) (omega arith)
+-- the interval grows, or no store was in it
+pub widened_within : (n : ℕ) (effects : List Effect) (low high from to : ℕ) → count_by is_store (drop n effects) ≡ 0 → (0 < n → (from ≤ low) × (high ≤ to)) → All (IsWithin low high) effects → All (IsWithin from to) effects
+widened_within zero effects low high from to none w all = λ k d l. quiet_within (slice_index_or effects k d) from to (each_fails is_store effects none k d l)
+widened_within (suc n) effects low high from to none w all = All-weaker (IsWithin low high) (IsWithin from to) (wider_within low high from to (w (omega arith))) effects all

@@ -1,12 +1,12 @@
 // Where a core stands that runs ahead of the machine.
-ghost use Rattle.std.specs.Prelude.{◌≡◌, ◌<◌, ◌≤◌, length, IfOk};
+ghost use Rattle.std.specs.Prelude.{◌≡◌, ◌<◌, ◌≤◌, ◌++◌, ◌∷◌, [], length, IfOk};
 ghost use Rattle.diva_isa.specs.State.{State};
 ghost use Rattle.diva_isa.specs.Step.{HasRegister, effect_of, record_of};
 ghost use Rattle.diva_ahead.specs.Ahead.{begun, handed, is_epoch, new_lead, seen, synced, trimmed};
 
 use crate::ring::Ring;
 use crate::stand::Stand;
-use diva_core::{Told, View};
+use diva_core::{Claims, Told, View};
 use diva_isa::{Due, Effect, Record, Regs, decoded_of, due_by, fetch};
 use std::alloc::{AllocError, Global};
 use std::marker::Model;
@@ -138,18 +138,22 @@ impl Ahead {
         self.ring.trim(told.pending as usize);
     }
 
-    /// Hands over the record of the core's own state: gives it, and stands behind it. There is room in the ring.
-    pub fn advance(&mut self, view: &View<'_>) -> Record
-        requires { length self.old.ring < 64 }
-        ensures record { result ≡ record_of (seen self.old view.now) }
-        ensures core { (s : State) → self.new ≡ handed self.old s result }
+    /// Hands over the record of the core's own state: puts it behind the claims of a list, and stands behind it. There is
+    /// room in the ring and in the list.
+    #[inline(always)]
+    pub fn advance(&mut self, view: &View<'_>, out: &mut Claims)
+        requires ring { length self.old.ring < 64 }
+        requires list { length out.old < 8 }
+        ensures list { out.new ≡ out.old ++ record_of (seen self.old view.now) ∷ [] }
+        ensures core { (s : State) → self.new ≡ handed self.old s (record_of (seen self.old view.now)) }
     {
         let stand = Stand { ahead: self, view };
         let fetched = fetch(&stand);
         let decoded = decoded_of(fetched);
         let Due { record, effect } = due_by(&stand, fetched, decoded);
+        // What is handed over is written first: then it needs no registers while the effect is kept.
+        out.push(record);
         self.hand_over(&record, effect);
-        record
     }
 
     /// Stands behind a record that is handed over, by its effect. There is room in the ring.

@@ -13,20 +13,20 @@ use std::marker::Model;
 
 /// What the records did that were handed over, the oldest first: at most 64.
 ///
-/// Most reads of memory meet none of its stores. So the ring counts them, and knows an interval of addresses in which
-/// they all lie: a read outside of that looks through no effect.
+/// Most reads of memory meet none of its stores. So the ring knows how far back the youngest of them is, and an interval of
+/// addresses in which they all lie: a read outside of that looks through no effect.
 #[derive(Drop)]
 pub struct Ring {
     effects: HeapCircularBuffer<Effect>,
-    /// How many of the effects are stores.
-    stores: usize,
+    /// How many effects, from the oldest on, reach to the youngest store: none behind them is one.
+    reach: usize,
     /// The lowest address of the interval, and the first behind it.
     low: u32,
     high: u64,
 }
 
 impl Model for Ring {
-    ghost use Rattle.std.specs.Prelude.{List, ◌≡◌, count_by};
+    ghost use Rattle.std.specs.Prelude.{List, ◌≡◌, count_by, drop};
     ghost use Rattle.std.specs.List.{All};
     ghost use Rattle.diva_isa.specs.declared.effect.Effect.{Effect};
     ghost use Rattle.diva_core.specs.Cycle.{is_store};
@@ -37,7 +37,7 @@ impl Model for Ring {
     ghost view = { λ r. r.effects.items };
 
     ghost invariant = { λ r.
-        (r.effects.capacity ≡ 64) × (r.stores ≡ count_by is_store r.effects.items) × All (IsWithin r.low r.high) r.effects.items };
+        (r.effects.capacity ≡ 64) × (count_by is_store (drop r.reach r.effects.items) ≡ 0) × All (IsWithin r.low r.high) r.effects.items };
 }
 
 impl Ring {
@@ -50,7 +50,7 @@ impl Ring {
     {
         Ok(Ring {
             effects: HeapCircularBuffer::with_capacity(alloc, Self::MOST)?,
-            stores: 0,
+            reach: 0,
             low: 0,
             high: 0,
         })
@@ -58,24 +58,13 @@ impl Ring {
 
     /// Keeps the youngest `most`.
     #[inline(always)]
-    #[tactic(auto, using(crate::proofs::Clear::drop_next))]
     pub fn trim(&mut self, most: usize)
         ensures { self.new ≡ drop (length self.old - most) self.old }
     {
-        for _ in most..self.effects.len() {
-            self.drop_oldest();
-        }
-    }
-
-    // Drops the oldest, where there is one.
-    #[inline(always)]
-    fn drop_oldest(&mut self)
-        ensures { self.new ≡ drop 1 self.old }
-    {
-        if let Some(effect) = self.effects.pop_front() {
-            if is_store(&effect) {
-                self.stores -= 1;
-            }
+        let len = self.effects.len();
+        if most < len {
+            self.reach = self.reach.saturating_sub(len - most);
+            self.effects.truncate_front(most);
         }
     }
 
@@ -84,7 +73,7 @@ impl Ring {
         ensures { self.new ≡ [] }
     {
         self.effects.clear();
-        self.stores = 0;
+        self.reach = 0;
     }
 
     /// Adds the youngest. There is room for it.
@@ -94,14 +83,14 @@ impl Ring {
     {
         if let Effect::Stores { width, addr, .. } = effect {
             let end = u64::from(addr) + u64::from(width.size());
-            if self.stores == 0 {
+            if self.reach == 0 {
                 self.low = addr;
                 self.high = end;
             } else {
                 self.low = self.low.min(addr);
                 self.high = self.high.max(end);
             }
-            self.stores += 1;
+            self.reach = self.effects.len() + 1;
         }
         let _ = self.effects.try_push_back(effect);
     }
@@ -187,7 +176,7 @@ impl Ring {
     fn is_clear(&self, addr: u32, n: u32) -> bool
         ensures { IsTrue result → list_all (λ e. is_apart e addr n) self.now ≡ true }
     {
-        self.stores == 0
+        self.reach == 0
             || u64::from(addr) + u64::from(n) <= u64::from(self.low)
             || self.high <= u64::from(addr)
     }

@@ -34,6 +34,7 @@ impl Scalar {
     }
 
     // Hands over the record of its own state, unless it has handed over one that ends.
+    #[inline(always)]
     fn hand_over(&mut self, view: &View<'_>, out: &mut Claims)
         requires list { out.old ≡ [] }
         requires room { length self.old.ring < 64 }
@@ -43,7 +44,7 @@ impl Scalar {
         if self.ahead.stopped() {
             return;
         }
-        out.push(self.ahead.advance(view));
+        self.ahead.advance(view, out);
     }
 }
 

@@ -8,7 +8,7 @@ pub returns-then-from : goal.returns-then-from
 returns-then-from c =
     let r = c.self.inside in
     λ t. rw (← c.self.view_is) (elim c.if-self-eq0.branch [
-      | then-self-eq0 w ↦ none_stored r.effects.items c.args.addr c.args.n (sym c.self.invariant.1 ∙ w.if-self-eq0.true)
+      | then-self-eq0 w ↦ none_stored r.effects.items c.args.addr c.args.n (rw w.if-self-eq0.true at c.self.invariant.1)
       | else-self-eq0 w ↦
           before_apart r.effects.items r.low r.high c.args.addr c.args.n c.self.invariant.2 (let a = w.from.ensures in
           let b = w.from-else-self-eq0.ensures in
