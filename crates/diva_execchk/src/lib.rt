@@ -4,7 +4,7 @@
 //! that is due after the older claims: their stores in flight lie over memory, and the bytes that they put count.
 #![tactic(auto)]
 
-ghost use Rattle.std.specs.Prelude.{◌≡◌, false, ◌<◌, [], ◌∷◌, length, IsTrue, None, Some, slice_get};
+ghost use Rattle.std.specs.Prelude.{◌≡◌, ◌<◌, [], ◌∷◌, length, None, Some, slice_get};
 ghost use Rattle.diva_decode.specs.Table.{row_of};
 ghost use Rattle.diva_isa.specs.State.{State};
 ghost use Rattle.diva_isa.specs.Step.{record_of};
@@ -30,7 +30,7 @@ pub fn check(pending: &Pending, at: usize, view: &View<'_>) -> Option<Diff>
     let entry = pending.at(at);
     let state = Bypass::new(pending, at, view);
     match entry.decoded {
-        Some(decoded) => compare(&entry.claim, Some(decoded), &state),
+        Some(i) => compare(&entry.claim, &i, &state),
         None => check_anew(pending, at, &view.copied()),
     }
 }
@@ -71,26 +71,37 @@ fn check_memory_anew(pending: &Pending, at: usize, view: &View<'_>) -> Option<Di
 }
 
 /// The first difference in addr and, but for loads and stores, in value, next and end between a claim and the record that is
-/// due in a state. `decoded` is what the claim's word says.
+/// due in a state. The claim's word says the instruction `i`.
 #[inline(always)]
 #[tactic(auto, using(diva_core::proofs::Agreeing::address_due))]
-fn compare<L: Look>(claim: &Claim, decoded: Option<Instr>, state: &L) -> Option<Diff>
-    requires { decoded ≡ row_of claim.now.word }
+fn compare<L: Look>(claim: &Claim, i: &Instr, state: &L) -> Option<Diff>
+    requires { row_of claim.now.word ≡ Some i.now }
     ensures { let due = record_of (L.shows state.now) in
         difference_in read_fields claim.now due ≡ None → result ≡ difference_in (execute_fields (is_memory due)) claim.now due }
 {
-    let addr = address(decoded, claim.src1);
-    if claim.addr != addr {
-        return Some(Diff::new(Field::Addr, claim.addr, addr));
-    }
-    if is_memory(decoded) {
+    if is_memory(Some(*i)) {
+        let addr = address(Some(*i), claim.src1);
+        if claim.addr != addr {
+            return Some(Diff::new(Field::Addr, claim.addr, addr));
+        }
         return None;
     }
-    let due = outcome_apart(claim, decoded, state);
-    if agrees(claim, &due) {
-        return None;
+    if claim.addr != 0 {
+        return Some(Diff::new(Field::Addr, claim.addr, 0));
     }
-    compare_with(claim, due)
+    compare_with(claim, execute(state, i, claim))
+}
+
+/// The same, where the claim's word says nothing.
+fn compare_unread<L: Look>(claim: &Claim, state: &L) -> Option<Diff>
+    requires { row_of claim.now.word ≡ None }
+    ensures { let due = record_of (L.shows state.now) in
+        difference_in read_fields claim.now due ≡ None → result ≡ difference_in (execute_fields (is_memory due)) claim.now due }
+{
+    if claim.addr != 0 {
+        return Some(Diff::new(Field::Addr, claim.addr, 0));
+    }
+    compare_outcome(claim, None, state)
 }
 
 /// The same, where what the word says was not noted.
@@ -102,7 +113,11 @@ fn check_anew(pending: &Pending, at: usize, view: &View<'_>) -> Option<Diff>
         → Answers read_fields execute_fields (before_entry view.now pending.now.items at) e.claim result }
 {
     let claim = &pending.at(at).claim;
-    compare(claim, decode(claim.word), &Bypass::new(pending, at, view))
+    let state = Bypass::new(pending, at, view);
+    match decode(claim.word) {
+        Some(i) => compare(claim, &i, &state),
+        None => compare_unread(claim, &state),
+    }
 }
 
 /// The first difference in value, next and end between a claim and the record that is due in a state.
@@ -112,25 +127,11 @@ fn compare_outcome<L: Look>(claim: &Claim, decoded: Option<Instr>, state: &L) ->
     ensures { let due = record_of (L.shows state.now) in
         difference_in address_fields claim.now due ≡ None → result ≡ difference_in outcome_fields claim.now due }
 {
-    let due = outcome(claim, decoded, state);
-    if agrees(claim, &due) {
-        return None;
-    }
-    compare_with(claim, due)
-}
-
-/// Whether a claim agrees in value, next and end with what is due, as most do.
-#[inline(always)]
-fn agrees(claim: &Claim, due: &Outcome) -> bool
-    ensures { (x : Record) → record claim.now { value = due.now.value; next = due.now.next; end = due.now.end } ≡ x
-        → IsTrue result → difference_in outcome_fields claim.now x ≡ None }
-{
-    claim.value == due.value && claim.next == due.next && claim.end == due.end
+    compare_with(claim, outcome(claim, decoded, state))
 }
 
 /// The first difference in value, next and end between a claim and what is due.
-#[cold]
-#[inline(never)]
+#[inline(always)]
 #[tactic(auto, using(diva_core::proofs::Agreeing::outcome_due))]
 fn compare_with(claim: &Claim, due: Outcome) -> Option<Diff>
     ensures { (x : Record) → record claim.now { value = due.value; next = due.next; end = due.end } ≡ x
@@ -181,21 +182,6 @@ fn placed(r: Record, decoded: Option<Instr>) -> Record
     Record {
         addr: address(decoded, r.src1),
         ..r
-    }
-}
-
-/// What an instruction comes to in a state that is no load and no store, by the first five fields of its record.
-#[inline(always)]
-fn outcome_apart<L: Look>(r: &Record, decoded: Option<Instr>, state: &L) -> Outcome
-    requires row { decoded ≡ row_of r.now.word }
-    requires apart { is_memory_by decoded ≡ false }
-    ensures { let due = record_of (L.shows state.now) in
-        difference_in address_fields r.now due ≡ None
-        → record r.now { value = result.value; next = result.next; end = result.end } ≡ due }
-{
-    match decoded {
-        Some(i) => execute(state, &i, r),
-        None => outcome(r, decoded, state),
     }
 }
 
