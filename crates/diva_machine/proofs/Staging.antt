@@ -1,5 +1,5 @@
 -- The entries, as they pass through the stages, as claims come, and as the front one goes.
-use Rattle.std.proofs.Common.{◌≡◌, ◌≢◌, ℕ, zero, suc, ◌+◌, ◌-◌, ◌==◌, ◌≤◌, ◌<◌, List, [], ◌∷◌, ◌++◌, length, map, drop, take, slice_get, Option, Some, None, Bool, true, refl, sym, ap, ◌∙◌, arith, subst, inl, inr}
+use Rattle.std.proofs.Common.{◌≡◌, ◌≢◌, ℕ, zero, suc, ◌+◌, ◌-◌, ◌==◌, ◌≤◌, ◌<◌, List, [], ◌∷◌, ◌++◌, length, map, drop, take, slice_get, Option, Some, None, Bool, true, false, refl, sym, ap, ◌∙◌, arith, subst, inl, inr}
 use Rattle.std.specs.Prelude.{slice_set}
 use Rattle.std.proofs.lemmas.Bool.{true≢false, cases_lt, le-leb, lt-leb}
 use Rattle.std.proofs.lemmas.Bool.Decides.{eqb_tells}
@@ -241,10 +241,18 @@ pub or_first : (w v : Option Diff) → is_some w ≡ true → option_or w v ≡ 
 or_first None v h = absurd (true≢false (sym h))
 or_first (Some d) v h = refl
 
--- it is past the last stage
-pub past_kept : (arch : State) (entries : List Entry) (now at : ℕ) (e : Entry) → slice_get entries at ≡ Some e → e.cycle + last_stage ≤ now → IsAdvanced arch now at entries → IsAdvanced arch now (at + 1) entries
-past_kept arch entries now at e here old adv =
-    advanced_same arch now at entries e here (checked_past (before_entry arch entries at) (now - e.cycle) (now + 1 - e.cycle) e (omega arith) (omega arith)) adv
+-- where that is no difference, it stays as it is
+pub stage_agreed :
+    (arch view : State) (entries : List Entry) (now at a : ℕ) (e : Entry) (earlier : List Field) (own : Bool → List Field) (v : Option Diff)
+    → slice_get entries at ≡ Some e → is_some v ≡ false → view ≡ record arch { end = 0 } → now + 1 ≡ suc a + e.cycle → a ≢ 1
+    → Answers earlier own (before_entry view entries at) e.claim v
+    → (e.verdict ≡ None → (s : State) → Answers earlier own s e.claim v → HasVerdict s a e → HasVerdict s (suc a) (record e { verdict = v }))
+    → IsAdvanced arch now at entries → IsAdvanced arch now (at + 1) entries
+stage_agreed arch view entries now at a e earlier own None here none shows age other answer found adv =
+    stage_noted arch view entries entries now at a e earlier own None here
+    (sym (ap (λ (w : Option Diff). slice_set entries at (record e { verdict = w })) (or_none e.verdict) ∙ set_same entries at e here))
+    shows age other answer found adv
+stage_agreed arch view entries now at a e earlier own (Some d) here none shows age other answer found adv = absurd (true≢false none)
 
 -- ---- claims in the order in which they were accepted
 

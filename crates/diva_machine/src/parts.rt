@@ -426,6 +426,7 @@ impl Parts {
         requires few { at < 64 }
         requires passed { self.old.passed ≤ at }
         requires aged { (e : Entry) → slice_get self.old.entries at ≡ Some e → e.cycle < self.old.timed.cycles }
+        requires young { (e : Entry) → slice_get self.old.entries at ≡ Some e → self.old.timed.cycles ≤ e.cycle + last_stage }
         requires future { IsFuture self.old.timed.arch self.old.entries self.old.future }
         ensures rest { self.new ≡ record self.old { entries = self.new.entries; passed = self.new.passed; future = self.new.future } }
         ensures waits { map pending_claim_of self.new.entries ≡ map pending_claim_of self.old.entries }
@@ -551,6 +552,6 @@ fn accept_all(pending: &mut Pending, claims: &[Claim], cycle: u64)
         → IsFuture arch pending.new.items future }
 {
     for claim in claims {
-        pending.push(*claim, cycle);
+        pending.accept(claim, cycle);
     }
 }

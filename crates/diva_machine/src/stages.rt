@@ -7,7 +7,7 @@ ghost use Rattle.diva_core.specs.Future.{IsFuture};
 ghost use Rattle.diva_core.specs.Older.{before_entry};
 ghost use Rattle.diva_core.specs.Stages.{Answers, address_fields, memory_fields};
 ghost use Rattle.diva_machine.specs.Machine.{pending_claim_of};
-ghost use Rattle.diva_machine.specs.Staged.{HasPassed, IsFilled};
+ghost use Rattle.diva_machine.specs.Staged.{HasPassed, IsFilled, last_stage};
 
 use crate::arch::Arch;
 use diva_core::{Diff, Field, FutureFile, Pending, View};
@@ -19,11 +19,14 @@ pub(crate) const LAST_STAGE: u64 = 5;
 
 /// The claim at a place comes to an age, and passes through that age's stage. A difference that an earlier stage found
 /// stays.
+///
+/// Most claims agree. So each stage asks whether there is a difference, and only where there is one it is noted, by a call
+/// that looks for it once more.
 #[inline(always)]
-#[tactic(auto, using(crate::proofs::Staging::future_same))]
 pub(crate) fn pass(pending: &mut Pending, future: &mut FutureFile, at: usize, arch: &Arch, age: u64)
     requires place { at < length pending.old.items }
     requires age { 1 ≤ age }
+    requires young { age ≤ last_stage }
     requires future { IsFuture arch.now.state pending.old.items future.old }
     ensures future { IsFuture arch.now.state pending.new.items future.new }
     ensures waits { map pending_claim_of pending.new.items ≡ map pending_claim_of pending.old.items }
@@ -31,20 +34,69 @@ pub(crate) fn pass(pending: &mut Pending, future: &mut FutureFile, at: usize, ar
     ensures advanced { HasPassed arch.now.state age at pending.old.items pending.new.items }
 {
     match age {
-        1 => note(pending, at, diva_fetchchk::check(pending, at, &arch.view())),
+        1 => pass_fetch(pending, at, arch),
         2 => note_decoded(pending, at),
         3 => pass_operands(pending, future, at, arch),
-        4 => note(pending, at, diva_execchk::check(pending, at, &arch.view())),
+        4 => pass_execute(pending, at, arch),
         LAST_STAGE => pass_last(pending, at, arch),
-        _ => {}
+        _ => unreachable!(),
     }
 }
 
-/// The stage of operands. The future file has the registers after the older claims; where it has not, they are looked
-/// through.
+/// The stage of the fetch.
+#[inline(always)]
+fn pass_fetch(pending: &mut Pending, at: usize, arch: &Arch)
+    requires { at < length pending.old.items }
+    ensures waits { map pending_claim_of pending.new.items ≡ map pending_claim_of pending.old.items }
+    ensures capacity { pending.new.capacity ≡ pending.old.capacity }
+    ensures advanced { HasPassed arch.now.state 1 at pending.old.items pending.new.items }
+{
+    if diva_fetchchk::check(pending, at, &arch.view()).is_some() {
+        note_fetch(pending, at, arch);
+    }
+}
+
+#[cold]
+#[inline(never)]
+fn note_fetch(pending: &mut Pending, at: usize, arch: &Arch)
+    requires { at < length pending.old.items }
+    ensures waits { map pending_claim_of pending.new.items ≡ map pending_claim_of pending.old.items }
+    ensures capacity { pending.new.capacity ≡ pending.old.capacity }
+    ensures advanced { HasPassed arch.now.state 1 at pending.old.items pending.new.items }
+{
+    let found = diva_fetchchk::check(pending, at, &arch.view());
+    note(pending, at, found);
+}
+
+/// The stage of operands. The future file has the registers after the older claims, and takes in the result of this one.
 #[inline(always)]
 #[tactic(auto, using(crate::proofs::Staging::future_same))]
 fn pass_operands(pending: &mut Pending, future: &mut FutureFile, at: usize, arch: &Arch)
+    requires place { at < length pending.old.items }
+    requires future { IsFuture arch.now.state pending.old.items future.old }
+    ensures future { IsFuture arch.now.state pending.new.items future.new }
+    ensures waits { map pending_claim_of pending.new.items ≡ map pending_claim_of pending.old.items }
+    ensures capacity { pending.new.capacity ≡ pending.old.capacity }
+    ensures advanced { HasPassed arch.now.state 3 at pending.old.items pending.new.items }
+{
+    let _ = pending.len();
+    let entry = pending.at(at);
+    if future.claims() == at
+        && entry.decoded.is_some()
+        && diva_opchk::check_in(entry, future.regs()).is_none()
+    {
+        future.keep(entry);
+    } else {
+        note_operands(pending, future, at, arch);
+    }
+}
+
+/// The same, where there is a difference, or the future file is not up to the claim: the older claims are then looked
+/// through.
+#[cold]
+#[inline(never)]
+#[tactic(auto, using(crate::proofs::Staging::future_same))]
+fn note_operands(pending: &mut Pending, future: &mut FutureFile, at: usize, arch: &Arch)
     requires place { at < length pending.old.items }
     requires future { IsFuture arch.now.state pending.old.items future.old }
     ensures future { IsFuture arch.now.state pending.new.items future.new }
@@ -60,6 +112,33 @@ fn pass_operands(pending: &mut Pending, future: &mut FutureFile, at: usize, arch
     let entry = pending.at(at);
     let found = diva_opchk::check_in(entry, future.regs());
     future.keep(entry);
+    note(pending, at, found);
+}
+
+/// The stage that executes.
+#[inline(always)]
+fn pass_execute(pending: &mut Pending, at: usize, arch: &Arch)
+    requires { at < length pending.old.items }
+    ensures waits { map pending_claim_of pending.new.items ≡ map pending_claim_of pending.old.items }
+    ensures capacity { pending.new.capacity ≡ pending.old.capacity }
+    ensures advanced { HasPassed arch.now.state 4 at pending.old.items pending.new.items }
+{
+    if pending.at(at).decoded.is_none()
+        || diva_execchk::check(pending, at, &arch.view()).is_some()
+    {
+        note_execute(pending, at, arch);
+    }
+}
+
+#[cold]
+#[inline(never)]
+fn note_execute(pending: &mut Pending, at: usize, arch: &Arch)
+    requires { at < length pending.old.items }
+    ensures waits { map pending_claim_of pending.new.items ≡ map pending_claim_of pending.old.items }
+    ensures capacity { pending.new.capacity ≡ pending.old.capacity }
+    ensures advanced { HasPassed arch.now.state 4 at pending.old.items pending.new.items }
+{
+    let found = diva_execchk::check(pending, at, &arch.view());
     note(pending, at, found);
 }
 
@@ -80,6 +159,19 @@ fn pass_last(pending: &mut Pending, at: usize, arch: &Arch)
 /// The same of a load or a store, or where what the word says was not noted.
 #[inline(never)]
 fn pass_access(pending: &mut Pending, at: usize, arch: &Arch)
+    requires { at < length pending.old.items }
+    ensures waits { map pending_claim_of pending.new.items ≡ map pending_claim_of pending.old.items }
+    ensures capacity { pending.new.capacity ≡ pending.old.capacity }
+    ensures advanced { HasPassed arch.now.state LAST_STAGE at pending.old.items pending.new.items }
+{
+    if pending.at(at).decoded.is_none() || check_access(pending, at, &arch.view()).is_some() {
+        note_access(pending, at, arch);
+    }
+}
+
+#[cold]
+#[inline(never)]
+fn note_access(pending: &mut Pending, at: usize, arch: &Arch)
     requires { at < length pending.old.items }
     ensures waits { map pending_claim_of pending.new.items ≡ map pending_claim_of pending.old.items }
     ensures capacity { pending.new.capacity ≡ pending.old.capacity }

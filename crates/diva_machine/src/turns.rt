@@ -3,6 +3,7 @@ ghost use Rattle.std.specs.Prelude.{◌≡◌, ◌+◌, ◌-◌, ◌≤◌, ◌<
 ghost use Rattle.diva_isa.specs.State.{goes_on};
 ghost use Rattle.diva_core.specs.Told.{told_of};
 ghost use Rattle.diva_core.specs.Cycle.{cycle_of};
+ghost use Rattle.diva_core.specs.Timed.{room_of};
 ghost use Rattle.diva_core.specs.Machine.{IsMachine};
 ghost use Rattle.diva_core.specs.Headline.{AddsRow, ByClaims, BySolo, Drives, HasPace, KeepsPace, Rises, SameLog, WillCount, dues};
 ghost use Rattle.diva_core.specs.Right.{IsRight, IsCalm, StaysCalm};
@@ -37,27 +38,26 @@ pub fn turn<C: Core>(m: &mut Machine, core: &mut C, list: &mut Claims)
     ensures calm { IsCalm m.old.timed → IsRight m.old.timed list.new → StaysCalm m.old.timed m.new.timed }
 {
     if m.goes_on() {
-        turn_on(m, core, list);
+        let room = ask(m, core, list);
+        m.cycle_within(list, room);
     } else {
         list.clear();
         m.cycle(list);
     }
 }
 
-/// A turn of a machine that goes on.
+/// The first half of a turn of a machine that goes on: the core is asked. Gives how many claims the cycle that follows
+/// accepts at most.
 #[inline(always)]
-fn turn_on<C: Core>(m: &mut Machine, core: &mut C, list: &mut Claims)
-    requires on { goes_on m.old.timed.arch ≡ true }
-    requires cycles { m.old.timed.cycles < 2 ^ 60 }
-    ensures cycled { m.new.timed ≡ cycle_of m.old.timed list.new }
-    ensures last { m.new.last ≡ dues (m.new.timed.count - m.old.timed.count) m.old.timed.arch }
-    ensures asked { C.gives core.old (told_of m.old.timed) m.old.timed.arch list.new core.new }
-    ensures commits { ByClaims m.old.timed m.new.last ⊎ BySolo m.old.timed m.new.last }
+fn ask<C: Core>(m: &Machine, core: &mut C, list: &mut Claims) -> u32
+    requires { goes_on m.now.timed.arch ≡ true }
+    ensures asked { C.gives core.old (told_of m.now.timed) m.now.timed.arch list.new core.new }
+    ensures room { result ≡ room_of m.now.timed }
 {
     list.clear();
     let told = m.told();
     core.cycle(&told, &m.view(), list);
-    m.cycle_within(list, told.room);
+    told.room
 }
 
 /// Takes turns until the machine ends or the budget's cycles are run. On an ended machine nothing
@@ -89,8 +89,10 @@ pub fn drive<C: Core>(m: &mut Machine, core: &mut C, budget: u64) -> Drive
         return Drive::Ended;
     }
     let mut list = Claims::new();
+    // Each half of a turn is made part of the loop: as one function they would be too large for that.
     for _ in 0..budget {
-        turn_on(m, core, &mut list);
+        let room = ask(m, core, &mut list);
+        m.cycle_within(&list, room);
         if !m.goes_on() {
             return Drive::Ended;
         }

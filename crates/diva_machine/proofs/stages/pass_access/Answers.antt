@@ -1,10 +1,10 @@
-use Rattle.std.proofs.Common.{arith}
+use Rattle.std.proofs.Common.{sym, ◌∙◌, arith}
 use Rattle.diva_core.specs.Stages.{address_fields, memory_fields}
-use Rattle.diva_machine.proofs.Staging.{stage_noted}
+use Rattle.diva_machine.proofs.Staging.{stage_agreed}
 use Rattle.diva_machine.proofs.Verdicts.{found_memory}
 use Rattle.diva_machine.proofs.stages.pass_access.Goals as goal
 
-pub returns-clause-advanced : goal.returns-clause-advanced
-returns-clause-advanced c = λ now e here age adv.
-    stage_noted _ _ _ _ now c.args.at 4 e address_fields memory_fields _ here (c.note.ensures.items e here) c.view.ensures (omega arith) (λ z. omega arith) (c.check_access-found.ensures e here)
+pub returns-else-is_some-clause-advanced : goal.returns-else-is_some-clause-advanced
+returns-else-is_some-clause-advanced c = λ now e here age adv.
+    stage_agreed _ _ _ now c.args.at 4 e address_fields memory_fields _ here (sym c.is_some.ensures ∙ c.if-is_some.false) c.view.ensures (omega arith) (λ z. omega arith) (c.check_access.ensures e here)
     (λ none s. found_memory s e _ none) adv

@@ -1,4 +1,4 @@
-use Rattle.std.proofs.Common.{◌≡◌, ◌∙◌, false, Bool, Some, None, Option, IfSome, slice_set, ap, subst, sym, refl, arith}
+use Rattle.std.proofs.Common.{◌≡◌, ◌∙◌, false, Bool, Some, None, Option, IfSome, ap, subst, sym, refl, arith}
 use Rattle.std.proofs.lemmas.Bool.Decides.{nat_tests}
 use Rattle.std.proofs.lemmas.Option.{same_Some}
 use Rattle.diva_decode.specs.Table.{row_of}
@@ -6,13 +6,12 @@ use Rattle.diva_decode.specs.declared.instr.Instr.{Instr}
 use Rattle.diva_isa.specs.State.{State}
 use Rattle.diva_isa.specs.Step.{record_of}
 use Rattle.diva_isa.specs.declared.record.Record.{Record}
-use Rattle.diva_core.specs.declared.differences.Diff.{Diff}
 use Rattle.diva_core.specs.declared.pending.Entry.{Entry}
 use Rattle.diva_core.specs.Difference.{difference_in}
 use Rattle.diva_core.specs.Older.{before_entry}
 use Rattle.diva_core.specs.Stages.{Answers, address_fields, memory_fields, read_fields, is_memory_by}
 use Rattle.diva_core.proofs.Agreeing.{same_memory}
-use Rattle.diva_machine.proofs.Staging.{or_none, set_same, stage_noted}
+use Rattle.diva_machine.proofs.Staging.{stage_agreed}
 use Rattle.diva_machine.proofs.Verdicts.{found_memory}
 use Rattle.diva_machine.proofs.stages.pass_last.Goals as goal
 
@@ -31,6 +30,5 @@ returns-in-Some-clause-advanced c = λ now e here age adv.
     let row : row_of c.at.result.now.claim.word ≡ Some c.in-Some.decoded = subst (λ (decoded : Option Instr). IfSome decoded (λ i. row_of c.at.result.now.claim.word ≡ Some i)) c.in-Some.is c.at.ensures.decoded in
     let apart : is_memory_by (Some c.in-Some.decoded) ≡ false = sym c.is_memory.ensures ∙ c.if-not-is_memory.true in
     let s = before_entry (record c.args.arch.now.state { end = 0 }) items c.args.at in
-    stage_noted _ _ items _ now c.args.at 4 e address_fields memory_fields None here
-    (sym (ap (λ (v : Option Diff). slice_set items c.args.at (record e { verdict = v })) (or_none e.verdict) ∙ set_same items c.args.at e here))
+    stage_agreed _ _ items now c.args.at 4 e address_fields memory_fields None here refl
     refl (omega arith) (λ z. omega arith) (subst (λ (x : Entry). Answers address_fields memory_fields s x.claim None) same (answers_none s c.at.result.now.claim c.in-Some.decoded row apart)) (λ none t. found_memory t e None none) adv

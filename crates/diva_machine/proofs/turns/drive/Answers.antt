@@ -16,7 +16,7 @@ pub returns-then-not-goes_on-2-clause-drives : goal.returns-then-not-goes_on-2-c
 returns-then-not-goes_on-2-clause-drives g c =
     let inv = c.loop.invariant in
     turns-drive g.C.Core.gives _ _ _ _ inv.sound
-    (rw c.turn_on.ensures.cycled (turns-next g.C.Core.gives _ _ _ _ inv.sound inv.turns c.turn_on.new.list c.turn_on.new.core inv.on c.turn_on.ensures.asked))
+    (rw c.cycle_within.ensures.cycled (turns-next g.C.Core.gives _ _ _ _ inv.sound inv.turns c.ask-room.new.list c.ask-room.new.core inv.on c.ask-room.ensures.asked))
 
 pub returns-then-not-goes_on-2-clause-rises : goal.returns-then-not-goes_on-2-clause-rises
 returns-then-not-goes_on-2-clause-rises g c = turns-rise g.C.Core.gives _ _ _ _ c.loop.invariant.sound (returns-then-not-goes_on-2-clause-drives g c).turns
@@ -27,21 +27,21 @@ returns-then-not-goes_on-2-clause-pace g c = turns-pace g.C.Core.gives _ _ _ _ c
 pub returns-then-not-goes_on-2-clause-within : goal.returns-then-not-goes_on-2-clause-within
 returns-then-not-goes_on-2-clause-within g c =
     let inv = c.loop.invariant in
-    let next = cycle-cycles c.loop.m.timed c.turn_on.new.list (turns-stay g.C.Core.gives _ _ _ _ inv.sound inv.turns) inv.on in
-    rw c.turn_on.ensures.cycled (let l = c.loop-test.true in omega arith)
+    let next = cycle-cycles c.loop.m.timed c.ask-room.new.list (turns-stay g.C.Core.gives _ _ _ _ inv.sound inv.turns) inv.on in
+    rw c.cycle_within.ensures.cycled (let l = c.loop-test.true in omega arith)
 
 -- ---- a turn after which it goes on
 
 pub loop-preserved : goal.loop-preserved
 loop-preserved g c =
     let inv = c.loop.invariant in
-    let next = cycle-cycles c.loop.m.timed c.turn_on.new.list (turns-stay g.C.Core.gives _ _ _ _ inv.sound inv.turns) inv.on in
-    let on : goes_on c.turn_on.new.m.timed.arch ≡ true = sym c.goes_on-in-loop.ensures.value ∙ c.if-not-goes_on-2.false in
+    let next = cycle-cycles c.loop.m.timed c.ask-room.new.list (turns-stay g.C.Core.gives _ _ _ _ inv.sound inv.turns) inv.on in
+    let on : goes_on c.cycle_within.new.self.timed.arch ≡ true = sym c.goes_on-in-loop.ensures.value ∙ c.if-not-goes_on-2.false in
     record {
-      turns = rw c.turn_on.ensures.cycled (turns-next g.C.Core.gives _ _ _ _ inv.sound inv.turns c.turn_on.new.list c.turn_on.new.core inv.on c.turn_on.ensures.asked);
+      turns = rw c.cycle_within.ensures.cycled (turns-next g.C.Core.gives _ _ _ _ inv.sound inv.turns c.ask-room.new.list c.ask-room.new.core inv.on c.ask-room.ensures.asked);
       on = on;
       began = inv.began;
-      cycles = rw c.turn_on.ensures.cycled (omega arith);
+      cycles = rw c.cycle_within.ensures.cycled (omega arith);
       sound = inv.sound;
     }
 

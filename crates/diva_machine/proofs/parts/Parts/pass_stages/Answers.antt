@@ -28,6 +28,11 @@ pass_stage-requires-clause-aged c = λ e here.
     let inv = c.loop-at.invariant in
     rw inv.rest (still_young c.args.self.now c.loop-at.at e c.loop-at.self.entries c.requires.cycles c.requires.staged inv.waits inv.from here).0
 
+pub pass_stage-requires-clause-young : goal.pass_stage-requires-clause-young
+pass_stage-requires-clause-young c = λ e here.
+    let inv = c.loop-at.invariant in
+    rw inv.rest (still_young c.args.self.now c.loop-at.at e c.loop-at.self.entries c.requires.cycles c.requires.staged inv.waits inv.from here).1
+
 pub pass_stage-requires-clause-future : goal.pass_stage-requires-clause-future
 pass_stage-requires-clause-future c =
     let inv = c.loop-at.invariant in
