@@ -12,9 +12,9 @@ use Rattle.diva_ooo.specs.declared.profile.Class.TheVariants.{Plain, Loads, Stor
 use Rattle.diva_ooo.specs.Board.{IsBoard, IsCandidate, IsLastOf, IsNextOf, IsWrittenBetween, can_at, could_at, has_result, is_load, is_loading, is_open_store, no_mark, reads, writes}
 use Rattle.diva_ooo.specs.Issue.{are_stored, can_begin, is_available, is_awaited, is_done, is_free, is_ready, is_storing, is_waiting}
 use Rattle.diva_ooo.specs.MarkSets.{AreThose, IsLast, IsNext, has, holds_at}
-use Rattle.diva_ooo.proofs.Marking.{holds_end, holds_take, holds_within}
+use Rattle.diva_ooo.proofs.Marking.{and_off, and_on, holds_end, holds_take, holds_within}
 use Rattle.diva_ooo.proofs.Places.{take_all}
-use Rattle.diva_ooo.proofs.Boarding.{and_off, could_waits}
+use Rattle.diva_ooo.proofs.Boarding.{could_waits}
 
 -- ---- the next one
 
@@ -33,7 +33,22 @@ none_of p w base s from i those none h = sym (those i) ∙ none (base + i) (omeg
 
 -- ---- the readers up to the next writer
 
-pub woken_all : (w : List Entry) (b : Board) (r at i : ℕ) → IsBoard w b → r < 32 → has (get_or b.readers r no_mark) (b.base + i) ≡ false → (holds_at (reads r) w i ≡ false) ⊎ IsWrittenBetween w r at i
+-- a set has a next mark from one on, or none among so many
+next_or_last : (c : Bool) (s : MarkSet) (from k i : ℕ) → has s (from + k) ≡ false → ((j : ℕ) → from ≤ j → j < from + k → has s j ≡ false) → (i == from + k) ≡ c → from ≤ i → i < from + suc k → has s i ≡ false
+next_or_last true s from k i is none last h lt = let here : i ≡ from + k = grind (arith, nat_tests) in ap (has s) here ∙ is
+next_or_last false s from k i is none last h lt = let other : i ≡ from + k → ⊥ = λ at. absurd (grind (arith, nat_tests)) in none i h (omega (arith, other))
+
+next_or_more : (c : Bool) (s : MarkSet) (from k : ℕ) → has s (from + k) ≡ c → ((n : ℕ) × IsNext s from n) ⊎ ((i : ℕ) → from ≤ i → i < from + k → has s i ≡ false)
+    → ((n : ℕ) × IsNext s from n) ⊎ ((i : ℕ) → from ≤ i → i < from + suc k → has s i ≡ false)
+next_or_more c s from k is (inl next) = inl next
+next_or_more true s from k is (inr none) = inl (from + k, record { behind = omega arith; there = is; first = none })
+next_or_more false s from k is (inr none) = inr (λ i h lt. next_or_last (i == from + k) s from k i is none refl h lt)
+
+next_or_none : (s : MarkSet) (from k : ℕ) → ((n : ℕ) × IsNext s from n) ⊎ ((i : ℕ) → from ≤ i → i < from + k → has s i ≡ false)
+next_or_none s from zero = inr (λ i h lt. absurd (omega arith))
+next_or_none s from (suc k) = next_or_more (has s (from + k)) s from k refl (next_or_none s from k)
+
+woken_all : (w : List Entry) (b : Board) (r at i : ℕ) → IsBoard w b → r < 32 → has (get_or b.readers r no_mark) (b.base + i) ≡ false → (holds_at (reads r) w i ≡ false) ⊎ IsWrittenBetween w r at i
 woken_all w b r at i board h none = inl (sym (board.readers r h i) ∙ none)
 
 woken_by : (c : Bool) (w : List Entry) (b : Board) (r at m i : ℕ) → IsBoard w b → r < 32 → nat_lt (b.base + i) (m + 1) ≡ c → IsNext (get_or b.writers r no_mark) (b.base + at + 1) m
@@ -50,9 +65,34 @@ woken_by false w b r at m i board h is next none =
       there = sym (board.writers r h (m - b.base)) ∙ ap (has (get_or b.writers r no_mark)) here ∙ next.there;
     })
 
-pub woken_some : (w : List Entry) (b : Board) (r at m i : ℕ) → IsBoard w b → r < 32 → IsNext (get_or b.writers r no_mark) (b.base + at + 1) m
+woken_some : (w : List Entry) (b : Board) (r at m i : ℕ) → IsBoard w b → r < 32 → IsNext (get_or b.writers r no_mark) (b.base + at + 1) m
     → (if nat_lt (b.base + i) (m + 1) then has (get_or b.readers r no_mark) (b.base + i) else false) ≡ false → (holds_at (reads r) w i ≡ false) ⊎ IsWrittenBetween w r at i
 woken_some w b r at m i board h next none = woken_by (nat_lt (b.base + i) (m + 1)) w b r at m i board h refl next none
+
+unwritten_from_by : (c : Bool) (w : List Entry) (b : Board) (r from k : ℕ) → IsBoard w b → r < 32 → ((i : ℕ) → from ≤ i → i < from + length w → has (get_or b.writers r no_mark) i ≡ false)
+    → b.base ≤ from → from ≤ k → nat_lt k (from + length w) ≡ c → has (get_or b.writers r no_mark) k ≡ false
+unwritten_from_by true w b r from k board h none base behind is = none k behind (grind (arith, nat_tests))
+unwritten_from_by false w b r from k board h none base behind is =
+    let far : from + length w ≤ k = grind (arith, nat_tests) in
+    let here : b.base + (k - b.base) ≡ k = omega arith in
+    ap (has (get_or b.writers r no_mark)) (sym here) ∙ board.writers r h (k - b.base) ∙ holds_end (writes r) w (k - b.base) (omega arith)
+
+woken_or : (w : List Entry) (b : Board) (t : MarkSet) (r at i : ℕ) → IsBoard w b → r < 32
+    → ((m : ℕ) → IsNext (get_or b.writers r no_mark) (b.base + at + 1) m → (k : ℕ) → has t k ≡ (if nat_lt k (m + 1) then has (get_or b.readers r no_mark) k else false))
+    → (((k : ℕ) → b.base + at + 1 ≤ k → has (get_or b.writers r no_mark) k ≡ false) → (k : ℕ) → has t k ≡ has (get_or b.readers r no_mark) k)
+    → has t (b.base + i) ≡ false
+    → ((n : ℕ) × IsNext (get_or b.writers r no_mark) (b.base + at + 1) n) ⊎ ((k : ℕ) → b.base + at + 1 ≤ k → k < b.base + at + 1 + length w → has (get_or b.writers r no_mark) k ≡ false)
+    → (holds_at (reads r) w i ≡ false) ⊎ IsWrittenBetween w r at i
+woken_or w b t r at i board h some none off (inl next) = woken_some w b r at next.0 i board h next.1 (sym (some next.0 next.1 (b.base + i)) ∙ off)
+woken_or w b t r at i board h some none off (inr few) =
+    woken_all w b r at i board h
+    (sym (none (λ k l. unwritten_from_by (nat_lt k (b.base + at + 1 + length w)) w b r (b.base + at + 1) k board h few (omega arith) l refl) (b.base + i)) ∙ off)
+
+pub woken : (w : List Entry) (b : Board) (t : MarkSet) (r at i : ℕ) → IsBoard w b → r < 32
+    → ((m : ℕ) → IsNext (get_or b.writers r no_mark) (b.base + at + 1) m → (k : ℕ) → has t k ≡ (if nat_lt k (m + 1) then has (get_or b.readers r no_mark) k else false))
+    → (((k : ℕ) → b.base + at + 1 ≤ k → has (get_or b.writers r no_mark) k ≡ false) → (k : ℕ) → has t k ≡ has (get_or b.readers r no_mark) k)
+    → has t (b.base + i) ≡ false → (holds_at (reads r) w i ≡ false) ⊎ IsWrittenBetween w r at i
+woken w b t r at i board h some none off = woken_or w b t r at i board h some none off (next_or_none (get_or b.writers r no_mark) (b.base + at + 1) (length w))
 
 -- ---- a register
 
@@ -196,33 +236,78 @@ stored_at w b at m board next = stored_at_by (nat_le (b.base + at) m) w b at m b
 
 -- ---- the last result
 
+and_right : (a b : Bool) → (a && b) ≡ true → b ≡ true
+and_right true b h = h
+and_right false b h = absurd (cc)
+
+and_left : (a b : Bool) → (a && b) ≡ true → a ≡ true
+and_left true b h = refl
+and_left false b h = absurd (cc)
+
 holds_both : (p q : Entry → Bool) (w : List Entry) (i : ℕ) → (holds_at p w i && holds_at q w i) ≡ holds_at (λ e. p e && q e) w i
 holds_both p q [] i = refl
 holds_both p q (e ∷ w) zero = refl
 holds_both p q (e ∷ w) (suc i) = holds_both p q w i
 
-pub results_those : (w : List Entry) (b : Board) (s : MarkSet) (n : ℕ) → IsBoard w b → n < 32 → ((k : ℕ) → has s k ≡ (has (get_or b.writers n no_mark) k && has b.done k)) → AreThose (has_result n) w b.base s
-results_those w b s n board h both = λ i.
+-- the set is that of the writers before a place that are done
+abbrev AreResults : Board → (s writers : MarkSet) → (at : ℕ) → Type 0
+AreResults b s ws at = (k : ℕ) → has s k ≡ (has ws k && ((if nat_lt k (b.base + at) then has b.done k else false) && nat_le b.base k))
+
+pub are_results : (b : Board) (s ws older below : MarkSet) (at : ℕ) → ((k : ℕ) → has s k ≡ (has ws k && has older k)) → ((k : ℕ) → has older k ≡ (has below k && nat_le b.base k))
+    → ((k : ℕ) → has below k ≡ (if nat_lt k (b.base + at) then has b.done k else false)) → AreResults b s ws at
+are_results b s ws older below at both from under = λ k.
+    both k
+    ∙ ap (λ (c : Bool). has ws k && c) (from k ∙ ap (λ (c : Bool). c && nat_le b.base k) (under k))
+
+within_by : (c d : Bool) (base i at : ℕ) → nat_lt (base + i) (base + at) ≡ c → i < at → (if c then d else false) ≡ d
+within_by true d base i at is h = refl
+within_by false d base i at is h = let far : at ≤ i = grind (arith, nat_tests) in absurd (omega arith)
+
+results_among : (w : List Entry) (b : Board) (s : MarkSet) (at n i : ℕ) → IsBoard w b → n < 32
+    → AreResults b s (get_or b.writers n no_mark) at
+    → i < at → has s (b.base + i) ≡ holds_at (has_result n) w i
+results_among w b s at n i board h both lt =
+    let behind : nat_le b.base (b.base + i) ≡ true = grind (arith, nat_tests) in
     both (b.base + i)
+    ∙ ap (λ (c : Bool). has (get_or b.writers n no_mark) (b.base + i) && ((if nat_lt (b.base + i) (b.base + at) then has b.done (b.base + i) else false) && c)) behind
+    ∙ ap (λ (c : Bool). has (get_or b.writers n no_mark) (b.base + i) && c) (and_on (if nat_lt (b.base + i) (b.base + at) then has b.done (b.base + i) else false))
+    ∙ ap (λ (c : Bool). has (get_or b.writers n no_mark) (b.base + i) && c) (within_by (nat_lt (b.base + i) (b.base + at)) (has b.done (b.base + i)) b.base i at refl lt)
     ∙ ap (λ (c : Bool). c && has b.done (b.base + i)) (board.writers n h i)
     ∙ ap (λ (c : Bool). holds_at (writes n) w i && c) (board.done i)
     ∙ holds_both (writes n) (λ e. is_done e.stage) w i
 
-pub last_of : (p : Entry → Bool) (w : List Entry) (base : ℕ) (s : MarkSet) (at m : ℕ) → AreThose p w base s → base ≤ m → IsLast s (base + at) m → IsLastOf p w at (m - base)
-last_of p w base s at m those h last =
-    let here : base + (m - base) ≡ m = omega arith in
-    let before = last.before in
+if_both : (c d : Bool) → (if c then d else false) ≡ true → c ≡ true
+if_both true d h = refl
+if_both false d h = absurd (cc)
+
+-- a mark of theirs is that of an entry before the place
+pub result_within : (b : Board) (s ws : MarkSet) (at m : ℕ) → AreResults b s ws at
+    → has s m ≡ true → (b.base ≤ m) × (m < b.base + at)
+result_within b s ws at m both there =
+    let older : ((if nat_lt m (b.base + at) then has b.done m else false) && nat_le b.base m) ≡ true = and_right (has ws m) ((if nat_lt m (b.base + at) then has b.done m else false) && nat_le b.base m) (sym (both m) ∙ there) in
+    let behind : nat_le b.base m ≡ true = and_right (if nat_lt m (b.base + at) then has b.done m else false) (nat_le b.base m) older in
+    let below : nat_lt m (b.base + at) ≡ true = if_both (nat_lt m (b.base + at)) (has b.done m) (and_left (if nat_lt m (b.base + at) then has b.done m else false) (nat_le b.base m) older) in
+    (grind (arith, nat_tests), grind (arith, nat_tests))
+
+pub last_result_of : (w : List Entry) (b : Board) (s : MarkSet) (at n m : ℕ) → IsBoard w b → n < 32 → at ≤ 32
+    → AreResults b s (get_or b.writers n no_mark) at
+    → IsLast s 64 m → IsLastOf (has_result n) w at (m - b.base)
+last_result_of w b s at n m board h few both last =
+    let within = result_within b s (get_or b.writers n no_mark) at m both last.there in
+    let behind = within.0 in
+    let before = within.1 in
+    let base = board.base in
+    let here : b.base + (m - b.base) ≡ m = omega arith in
     record {
       before = omega arith;
-      there = sym (those (m - base)) ∙ ap (has s) here ∙ last.there;
-      last = λ i k l. sym (those i) ∙ last.last (base + i) (omega arith) (omega arith);
+      there = sym (results_among w b s at n (m - b.base) board h both (omega arith)) ∙ ap (has s) here ∙ last.there;
+      last = λ i k l. sym (results_among w b s at n i board h both l) ∙ last.last (b.base + i) (omega arith) (omega arith);
     }
 
-pub last_none_of : (p : Entry → Bool) (w : List Entry) (base : ℕ) (s : MarkSet) (at i : ℕ) → AreThose p w base s → ((k : ℕ) → k < base + at → has s k ≡ false) → i < at → holds_at p w i ≡ false
-last_none_of p w base s at i those none h = sym (those i) ∙ none (base + i) (omega arith)
-
-pub last_old_of : (p : Entry → Bool) (w : List Entry) (base : ℕ) (s : MarkSet) (at m i : ℕ) → AreThose p w base s → m < base → IsLast s (base + at) m → i < at → holds_at p w i ≡ false
-last_old_of p w base s at m i those old last h = sym (those i) ∙ last.last (base + i) (omega arith) (omega arith)
+pub no_result_of : (w : List Entry) (b : Board) (s : MarkSet) (at n i : ℕ) → IsBoard w b → n < 32
+    → AreResults b s (get_or b.writers n no_mark) at
+    → ((k : ℕ) → has s k ≡ false) → i < at → holds_at (has_result n) w i ≡ false
+no_result_of w b s at n i board h both none lt = sym (results_among w b s at n i board h both lt) ∙ none (b.base + i)
 
 -- ---- those that may begin
 
@@ -258,14 +343,6 @@ could_can_at : (older w : List Entry) (i : ℕ) → could_at older w i ≡ false
 could_can_at older [] i none = refl
 could_can_at older (e ∷ w) zero none = could_can older e none
 could_can_at older (e ∷ w) (suc i) none = could_can_at (older ++ e ∷ []) w i none
-
-and_right : (a b : Bool) → (a && b) ≡ true → b ≡ true
-and_right true b h = h
-and_right false b h = absurd (cc)
-
-and_left : (a b : Bool) → (a && b) ≡ true → a ≡ true
-and_left true b h = refl
-and_left false b h = absurd (cc)
 
 not_candidate : (a : Bool) (w : List Entry) (b : Board) (i : ℕ) → IsBoard w b → has b.candidates (b.base + i) ≡ a → (a && has b.waiting (b.base + i)) ≡ false → could_at [] w i ≡ false
 not_candidate true w b i board is none = could_waits [] w i (sym (board.waiting i) ∙ none)

@@ -1,8 +1,10 @@
 -- The board follows the entries of its window.
-use Rattle.std.proofs.Common.{◌≡◌, ℕ, ◌<◌, zero, suc, ◌+◌, ◌==◌, Bool, true, false, not, ◌&&◌, ◌||◌, ◌⊎◌, inl, inr, List, [], ◌∷◌, ◌++◌, length, get_or, replicate, take, Some, refl, ap, sym, ◌∙◌, arith, slice_get, append_assoc, if◌then◌else◌}
+use Rattle.std.proofs.Common.{◌≡◌, ℕ, ◌<◌, zero, suc, ◌+◌, ◌==◌, Bool, true, false, not, ◌&&◌, ◌||◌, ◌⊎◌, inl, inr, List, [], ◌∷◌, ◌++◌, length, get_or, replicate, take, Some, refl, ap, sym, ◌∙◌, arith, slice_get, subst, append_assoc, if◌then◌else◌}
 use Rattle.std.specs.Prelude.{slice_set, nat_lt}
 use Rattle.std.proofs.lemmas.Bool.Decides.{nat_tests}
+use Rattle.std.proofs.Math.ListN.{length-set}
 use Rattle.std.proofs.lemmas.List.{append-nil}
+use Rattle.std.proofs.lemmas.Nat.Bits.{bit_at-zero}
 use Rattle.diva_core.specs.Cycle.{is_store}
 use Rattle.diva_ooo.specs.declared.entry.Entry.{Entry}
 use Rattle.diva_ooo.specs.declared.entry.Stage.{Stage}
@@ -11,11 +13,11 @@ use Rattle.diva_ooo.specs.declared.board.Board.{Board}
 use Rattle.diva_ooo.specs.declared.mark_set.MarkSet.{MarkSet}
 use Rattle.diva_ooo.specs.declared.profile.Class.{Class}
 use Rattle.diva_ooo.specs.declared.profile.Profile.{Profile}
-use Rattle.diva_ooo.specs.Board.{IsBoard, IsNoted, IsWrittenBetween, could_at, is_load, is_loading, is_open_store, no_mark, reads, writes}
+use Rattle.diva_ooo.specs.Board.{IsBoard, IsWrittenBetween, could_at, is_load, is_loading, is_open_store, no_mark, reads, writes}
 use Rattle.diva_ooo.specs.Finish.{is_running}
 use Rattle.diva_ooo.specs.Issue.{is_available, is_awaited, is_done, is_storing, is_waiting}
 use Rattle.diva_ooo.specs.MarkSets.{AreThose, has, holds_at}
-use Rattle.diva_ooo.proofs.Marking.{holds_here, those_kept, those_lowered, those_none, those_pop, those_push, those_same, those_set}
+use Rattle.diva_ooo.proofs.Marking.{and_off, holds_here, those_kept, those_lowered, those_none, those_pop, those_push, those_same, those_set}
 
 -- ---- what holds of each stage
 
@@ -74,10 +76,6 @@ could_alike r o1 o2 (e ∷ w) zero alike not_read =
     ap (λ (b : Bool). is_waiting e.stage && (b && is_available o1 e.profile.rs2)) (alike e.profile.rs1 both.0)
     ∙ ap (λ (b : Bool). is_waiting e.stage && (is_available o2 e.profile.rs1 && b)) (alike e.profile.rs2 both.1)
 could_alike r o1 o2 (e ∷ w) (suc i) alike not_read = could_alike r (o1 ++ e ∷ []) (o2 ++ e ∷ []) w i (alike_more r o1 o2 e alike) not_read
-
-pub and_off : (b : Bool) → (b && false) ≡ false
-and_off true = refl
-and_off false = refl
 
 none_reads : (w : List Entry) (i : ℕ) → holds_at (reads 0) w i ≡ false
 none_reads [] i = refl
@@ -385,77 +383,102 @@ as_was : (c : Bool) (s : MarkSet) (mark i : ℕ) → (i == mark) ≡ c → has s
 as_was true s mark i is = let same : i ≡ mark = grind (arith, nat_tests) in ap (has s) same
 as_was false s mark i is = refl
 
-put_sets_by : (c : Bool) (xs : List MarkSet) (r mark : ℕ) (b : Bool) (t : MarkSet) (n i : ℕ) → n < length xs → (r == n) ≡ c
-    → ((k : ℕ) → has t k ≡ (if k == mark then b || has (get_or xs r no_mark) mark else has (get_or xs r no_mark) k))
-    → has (if c then t else get_or xs n no_mark) i ≡ (if i == mark then (c && b) || has (get_or xs n no_mark) mark else has (get_or xs n no_mark) i)
-put_sets_by true xs r mark b t n i h is puts =
-    let same : r ≡ n = grind (arith, nat_tests) in
-    puts i ∙ ap (λ (m : ℕ). if i == mark then b || has (get_or xs m no_mark) mark else has (get_or xs m no_mark) i) same
-put_sets_by false xs r mark b t n i h is puts = as_was (i == mark) (get_or xs n no_mark) mark i refl
+-- a mark was put into a set, if it was to be a member
+abbrev pub IsPut : (member : Bool) (mark : ℕ) → (before after : MarkSet) → Type 0
+IsPut member mark before after = (i : ℕ) → has after i ≡ (if i == mark then member || has before mark else has before i)
 
-put_sets : (xs : List MarkSet) (r mark : ℕ) (b : Bool) (t : MarkSet) → ((k : ℕ) → has t k ≡ (if k == mark then b || has (get_or xs r no_mark) mark else has (get_or xs r no_mark) k))
-    → (n : ℕ) → n < length xs → (i : ℕ) → has (get_or (slice_set xs r t) n no_mark) i ≡ (if i == mark then ((r == n) && b) || has (get_or xs n no_mark) mark else has (get_or xs n no_mark) i)
-put_sets xs r mark b t puts n h i = ap (λ (s : MarkSet). has s i) (get_set xs r n t h) ∙ put_sets_by (r == n) xs r mark b t n i h refl puts
+pub put_if : (member : Bool) (mark : ℕ) (s t : MarkSet) → member ≡ true → IsPut true mark s t → IsPut member mark s t
+put_if member mark s t is puts = λ i. puts i ∙ ap (λ (c : Bool). if i == mark then c || has s mark else has s i) (sym is)
 
--- a register that is not x0
-zero_same : (c : Bool) (r n : ℕ) → (r == n) ≡ c → ((r == n) && not (r == 0)) ≡ ((r == n) && not (n == 0))
-zero_same true r n is = let same : r ≡ n = grind (arith, nat_tests) in ap (λ (m : ℕ). (r == n) && not (m == 0)) same
-zero_same false r n is = rw is refl
+pub put_else : (member : Bool) (mark : ℕ) (s : MarkSet) → member ≡ false → IsPut member mark s s
+put_else member mark s is = λ i. as_was (i == mark) s mark i refl ∙ ap (λ (c : Bool). if i == mark then c || has s mark else has s i) (sym is)
 
-pub noted_some : (xs : List MarkSet) (r mark : ℕ) (t : MarkSet) → (r == 0) ≡ false → length xs ≡ 32 → ((k : ℕ) → has t k ≡ (if k == mark then true else has (get_or xs r no_mark) k)) → IsNoted xs (slice_set xs r t) r mark
-noted_some xs r mark t some long puts = λ n h i.
-    put_sets xs r mark true t puts n (omega arith) i
-    ∙ ap (λ (c : Bool). if i == mark then c || has (get_or xs n no_mark) mark else has (get_or xs n no_mark) i) (ap (λ (c : Bool). (r == n) && not c) (sym some) ∙ zero_same (r == n) r n refl)
+-- a mark was put into the set of a register
+abbrev ArePut : (before after : List MarkSet) → (r mark : ℕ) → Type 0
+ArePut before after r mark = (n : ℕ) → n < 32 → IsPut (r == n) mark (get_or before n no_mark) (get_or after n no_mark)
 
-pub noted_none : (xs : List MarkSet) (r mark : ℕ) → (r == 0) ≡ true → IsNoted xs xs r mark
-noted_none xs r mark none = λ n h i.
-    let unread' : ((r == n) && not (n == 0)) ≡ false = sym (zero_same (r == n) r n refl) ∙ ap (λ (c : Bool). (r == n) && not c) none ∙ and_off (r == n) in
-    as_was (i == mark) (get_or xs n no_mark) mark i refl
-    ∙ ap (λ (c : Bool). if i == mark then c || has (get_or xs n no_mark) mark else has (get_or xs n no_mark) i) (sym unread')
+put_sets_by : (c : Bool) (xs : List MarkSet) (r mark : ℕ) (t : MarkSet) (n : ℕ) → (r == n) ≡ c → IsPut true mark (get_or xs r no_mark) t → IsPut c mark (get_or xs n no_mark) (if c then t else get_or xs n no_mark)
+put_sets_by true xs r mark t n is puts = let same : r ≡ n = grind (arith, nat_tests) in λ i. puts i ∙ ap (λ (m : ℕ). if i == mark then true else has (get_or xs m no_mark) i) same
+put_sets_by false xs r mark t n is puts = λ i. as_was (i == mark) (get_or xs n no_mark) mark i refl
 
-pub writers_push : (w : List Entry) (e : Entry) (base : ℕ) (xs ys : List MarkSet) (r : ℕ) → r ≡ e.profile.rd → IsNoted xs ys r (base + length w)
+put_sets : (xs : List MarkSet) (r mark : ℕ) (t : MarkSet) → length xs ≡ 32 → IsPut true mark (get_or xs r no_mark) t → ArePut xs (slice_set xs r t) r mark
+put_sets xs r mark t long puts = λ n h i. ap (λ (s : MarkSet). has s i) (get_set xs r n t (omega arith)) ∙ put_sets_by (r == n) xs r mark t n refl puts i
+
+none_writes : (w : List Entry) (i : ℕ) → holds_at (writes 0) w i ≡ false
+none_writes [] i = refl
+none_writes (e ∷ w) zero = and_off (e.profile.rd == 0)
+none_writes (e ∷ w) (suc i) = none_writes w i
+
+-- those of x0 were taken out, of which there are none
+those_cleared : (c : Bool) (p : ℕ → Entry → Bool) (w : List Entry) (base : ℕ) (xs : List MarkSet) (n : ℕ) → (0 == n) ≡ c → n < length xs → ((i : ℕ) → holds_at (p 0) w i ≡ false)
+    → ((n == 0) ≡ false → AreThose (p n) w base (get_or xs n no_mark)) → AreThose (p n) w base (get_or (slice_set xs 0 no_mark) n no_mark)
+those_cleared true p w base xs n is h none those = λ i.
+    let same : 0 ≡ n = grind (arith, nat_tests) in
+    ap (λ (s : MarkSet). has s (base + i)) (get_set xs 0 n no_mark h ∙ ap (λ (c : Bool). if c then no_mark else get_or xs n no_mark) is)
+    ∙ ap (λ (z : ℕ). z == 1) (bit_at-zero (base + i))
+    ∙ sym (ap (λ (m : ℕ). holds_at (p m) w i) (sym same) ∙ none i)
+those_cleared false p w base xs n is h none those = λ i.
+    let some : (n == 0) ≡ false = grind (arith, nat_tests) in
+    ap (λ (s : MarkSet). has s (base + i)) (get_set xs 0 n no_mark h ∙ ap (λ (c : Bool). if c then no_mark else get_or xs n no_mark) is)
+    ∙ those some i
+
+not_x0 : (a z : Bool) → z ≡ false → a ≡ (a && not z)
+not_x0 true z is = rw is refl
+not_x0 false z is = refl
+
+writers_push : (w : List Entry) (e : Entry) (base : ℕ) (xs : List MarkSet) (t : MarkSet) (r : ℕ) → r ≡ e.profile.rd → length xs ≡ 32
+    → IsPut true (base + length w) (get_or xs r no_mark) t
     → ((n : ℕ) → n < 32 → AreThose (writes n) w base (get_or xs n no_mark))
-    → (n : ℕ) → n < 32 → AreThose (writes n) (w ++ e ∷ []) base (get_or ys n no_mark)
-writers_push w e base xs ys r is noted those n h =
-    those_push (writes n) w e base (get_or xs n no_mark) (get_or ys n no_mark) ((r == n) && not (n == 0)) (those n h)
-    (ap (λ (m : ℕ). (m == n) && not (n == 0)) is)
-    (noted n h)
+    → (n : ℕ) → n < 32 → AreThose (writes n) (w ++ e ∷ []) base (get_or (slice_set (slice_set xs r t) 0 no_mark) n no_mark)
+writers_push w e base xs t r is long puts those n h =
+    let ys = slice_set xs r t in
+    let same : length ys ≡ length xs = length-set xs r t in
+    those_cleared (0 == n) writes (w ++ e ∷ []) base ys n refl (omega arith) (none_writes (w ++ e ∷ []))
+    (λ some.
+    those_push (writes n) w e base (get_or xs n no_mark) (get_or ys n no_mark) (r == n) (those n h)
+    (ap (λ (m : ℕ). m == n) is ∙ not_x0 (e.profile.rd == n) (n == 0) some)
+    (put_sets xs r (base + length w) t long puts n h))
 
 either : (a b c : Bool) → (a || (b || c)) ≡ ((a || b) || c)
 either true b c = refl
 either false b c = refl
 
-or_self : (z : Bool) → (z || z) ≡ z
-or_self true = refl
-or_self false = refl
-
-joined : (a b z : Bool) → ((a && z) || (b && z)) ≡ ((b || a) && z)
-joined true true z = or_self z
-joined true false true = refl
-joined true false false = refl
-joined false true z = refl
-joined false false z = refl
+turned : (a b : Bool) → (a || b) ≡ (b || a)
+turned true true = refl
+turned true false = refl
+turned false true = refl
+turned false false = refl
 
 joint : (c a b : Bool) (i mark : ℕ) (s : MarkSet) → (i == mark) ≡ c → (if c then a || (if mark == mark then b || has s mark else has s mark) else (if i == mark then b || has s mark else has s i)) ≡ (if c then (a || b) || has s mark else has s i)
 joint true a b i mark s is = let same : (mark == mark) ≡ true = grind (arith, nat_tests) in rw same (either a b (has s mark))
 joint false a b i mark s is = rw is refl
 
-pub readers_push : (w : List Entry) (e : Entry) (base : ℕ) (xs ys zs : List MarkSet) (r1 r2 : ℕ) → r1 ≡ e.profile.rs1 → r2 ≡ e.profile.rs2
-    → IsNoted xs ys r1 (base + length w) → IsNoted ys zs r2 (base + length w)
+-- one mark and then another
+put_both : (a b : Bool) (mark : ℕ) (s t u : MarkSet) → IsPut b mark s t → IsPut a mark t u → IsPut (a || b) mark s u
+put_both a b mark s t u first second = λ i.
+    second i
+    ∙ ap (λ (c : Bool). if i == mark then a || c else has t i) (first mark)
+    ∙ ap (λ (c : Bool). if i == mark then a || (if mark == mark then b || has s mark else has s mark) else c) (first i)
+    ∙ joint (i == mark) a b i mark s refl
+
+readers_push : (w : List Entry) (e : Entry) (base : ℕ) (xs : List MarkSet) (t u : MarkSet) (r1 r2 : ℕ) → r1 ≡ e.profile.rs1 → r2 ≡ e.profile.rs2 → length xs ≡ 32
+    → IsPut true (base + length w) (get_or xs r1 no_mark) t → IsPut true (base + length w) (get_or (slice_set xs r1 t) r2 no_mark) u
     → ((n : ℕ) → n < 32 → AreThose (reads n) w base (get_or xs n no_mark))
-    → (n : ℕ) → n < 32 → AreThose (reads n) (w ++ e ∷ []) base (get_or zs n no_mark)
-readers_push w e base xs ys zs r1 r2 is1 is2 first second those n h =
+    → (n : ℕ) → n < 32 → AreThose (reads n) (w ++ e ∷ []) base (get_or (slice_set (slice_set (slice_set xs r1 t) r2 u) 0 no_mark) n no_mark)
+readers_push w e base xs t u r1 r2 is1 is2 long first second those n h =
     let mark = base + length w in
-    let s = get_or xs n no_mark in
-    those_push (reads n) w e base s (get_or zs n no_mark) (((r2 == n) && not (n == 0)) || ((r1 == n) && not (n == 0))) (those n h)
-    (joined (r2 == n) (r1 == n) (not (n == 0))
-    ∙ ap (λ (m : ℕ). ((m == n) || (r2 == n)) && not (n == 0)) is1
-    ∙ ap (λ (m : ℕ). ((e.profile.rs1 == n) || (m == n)) && not (n == 0)) is2)
-    (λ i.
-    second n h i
-    ∙ ap (λ (c : Bool). if i == mark then ((r2 == n) && not (n == 0)) || c else has (get_or ys n no_mark) i) (first n h mark)
-    ∙ ap (λ (c : Bool). if i == mark then ((r2 == n) && not (n == 0)) || (if mark == mark then ((r1 == n) && not (n == 0)) || has s mark else has s mark) else c) (first n h i)
-    ∙ joint (i == mark) ((r2 == n) && not (n == 0)) ((r1 == n) && not (n == 0)) i mark s refl)
+    let ys = slice_set xs r1 t in
+    let zs = slice_set ys r2 u in
+    let once : length ys ≡ length xs = length-set xs r1 t in
+    let twice : length zs ≡ length ys = length-set ys r2 u in
+    those_cleared (0 == n) reads (w ++ e ∷ []) base zs n refl (omega arith) (none_reads (w ++ e ∷ []))
+    (λ some.
+    those_push (reads n) w e base (get_or xs n no_mark) (get_or zs n no_mark) ((r2 == n) || (r1 == n)) (those n h)
+    (turned (r2 == n) (r1 == n)
+    ∙ ap (λ (m : ℕ). (m == n) || (r2 == n)) is1
+    ∙ ap (λ (m : ℕ). (e.profile.rs1 == n) || (m == n)) is2
+    ∙ not_x0 ((e.profile.rs1 == n) || (e.profile.rs2 == n)) (n == 0) some)
+    (put_both (r2 == n) (r1 == n) mark (get_or xs n no_mark) (get_or ys n no_mark) (get_or zs n no_mark) (put_sets xs r1 mark t long first n h) (put_sets ys r2 mark u (once ∙ long) second n h)))
 
 -- ---- an entry more, and an entry less
 
@@ -487,34 +510,61 @@ open_by_stage Done c waits = absurd (cc)
 pub open_waiting : (e : Entry) (p : Profile) → p ≡ e.profile → is_waiting e.stage ≡ true → is_storing p.class ≡ is_open_store e
 open_waiting e p is waits = ap (λ (q : Profile). is_storing q.class) is ∙ open_by_stage e.stage e.profile.class waits
 
-pub board_pushed : (w : List Entry) (e : Entry) (b c : Board) → IsBoard w b → is_waiting e.stage ≡ true → is_store e.effect ≡ false
-    → (bs bl ready : Bool) → bs ≡ is_open_store e → bl ≡ is_load e → ready ≡ (is_available w e.profile.rs1 && is_available w e.profile.rs2)
-    → ((i : ℕ) → has c.waiting i ≡ (if i == b.base + length w then true else has b.waiting i))
-    → ((i : ℕ) → has c.storing i ≡ (if i == b.base + length w then bs || has b.storing (b.base + length w) else has b.storing i))
-    → ((i : ℕ) → has c.loads i ≡ (if i == b.base + length w then bl || has b.loads (b.base + length w) else has b.loads i))
-    → ((i : ℕ) → has c.candidates i ≡ (if i == b.base + length w then ready || has b.candidates (b.base + length w) else has b.candidates i))
-    → length c.writers ≡ 32 → length c.readers ≡ 32
-    → ((n : ℕ) → n < 32 → AreThose (writes n) (w ++ e ∷ []) b.base (get_or c.writers n no_mark))
-    → ((n : ℕ) → n < 32 → AreThose (reads n) (w ++ e ∷ []) b.base (get_or c.readers n no_mark))
-    → IsBoard (w ++ e ∷ []) (record c { base = b.base; running = b.running; done = b.done; stored = b.stored })
-board_pushed w e b c i waits none bs bl ready iss isl sources putw puts putl putc ws rs writers readers =
+-- the sets by register behind an entry more
+abbrev with_registers : Board → (rd r1 r2 : ℕ) (writers first second : MarkSet) → Board
+with_registers b rd r1 r2 writers first second = record b {
+  writers = slice_set (slice_set b.writers rd writers) 0 no_mark;
+  readers = slice_set (slice_set (slice_set b.readers r1 first) r2 second) 0 no_mark;
+}
+
+board_more : (w : List Entry) (e : Entry) (b : Board) (candidates waiting storing loads writers first second : MarkSet) (rd r1 r2 : ℕ) (ready stores loading : Bool)
+    → IsBoard w b → is_waiting e.stage ≡ true → is_store e.effect ≡ false → rd ≡ e.profile.rd → r1 ≡ e.profile.rs1 → r2 ≡ e.profile.rs2
+    → ready ≡ (is_available w e.profile.rs1 && is_available w e.profile.rs2) → stores ≡ is_open_store e → loading ≡ is_load e
+    → IsPut ready (b.base + length w) b.candidates candidates → IsPut true (b.base + length w) b.waiting waiting
+    → IsPut stores (b.base + length w) b.storing storing → IsPut loading (b.base + length w) b.loads loads
+    → IsPut true (b.base + length w) (get_or b.writers rd no_mark) writers
+    → IsPut true (b.base + length w) (get_or b.readers r1 no_mark) first
+    → IsPut true (b.base + length w) (get_or (slice_set b.readers r1 first) r2 no_mark) second
+    → IsBoard (w ++ e ∷ []) (with_registers (record b { candidates = candidates; waiting = waiting; storing = storing; loads = loads }) rd r1 r2 writers first second)
+board_more w e b candidates waiting storing loads writers first second rd r1 r2 ready stores loading i waits none isd is1 is2 sources iss isl putc putw puts putl put1 put2 put3 =
     let idle = waits_only e.stage waits in
     let mark = b.base + length w in
     record {
       base = i.base;
-      waiting = those_push (λ x. is_waiting x.stage) w e b.base b.waiting c.waiting true i.waiting (sym waits) putw;
-      running = those_push (λ x. is_running x.stage) w e b.base b.running b.running false i.running (sym idle.0) (λ k. as_was (k == mark) b.running mark k refl);
-      done = those_push (λ x. is_done x.stage) w e b.base b.done b.done false i.done (sym idle.1) (λ k. as_was (k == mark) b.done mark k refl);
+      waiting = those_push (λ x. is_waiting x.stage) w e b.base b.waiting waiting true i.waiting (sym waits) putw;
+      running = those_push (λ x. is_running x.stage) w e b.base b.running b.running false i.running (sym idle.0) (put_else false mark b.running refl);
+      done = those_push (λ x. is_done x.stage) w e b.base b.done b.done false i.done (sym idle.1) (put_else false mark b.done refl);
       gone = i.gone;
-      storing = those_push is_open_store w e b.base b.storing c.storing bs i.storing iss puts;
-      stored = those_push (λ x. is_store x.effect) w e b.base b.stored b.stored false i.stored (sym none) (λ k. as_was (k == mark) b.stored mark k refl);
-      loads = those_push is_load w e b.base b.loads c.loads bl i.loads isl putl;
+      storing = those_push is_open_store w e b.base b.storing storing stores i.storing iss puts;
+      stored = those_push (λ x. is_store x.effect) w e b.base b.stored b.stored false i.stored (sym none) (put_else false mark b.stored refl);
+      loads = those_push is_load w e b.base b.loads loads loading i.loads isl putl;
       candidates = λ n no. pushed_by (b.base + n == b.base + length w) ready w e n b i sources refl (sym (putc (b.base + n)) ∙ no);
-      write_sets = ws;
-      read_sets = rs;
-      writers = writers;
-      readers = readers;
+      write_sets = length-set (slice_set b.writers rd writers) 0 no_mark ∙ length-set b.writers rd writers ∙ i.write_sets;
+      read_sets =
+          length-set (slice_set (slice_set b.readers r1 first) r2 second) 0 no_mark
+          ∙ length-set (slice_set b.readers r1 first) r2 second
+          ∙ length-set b.readers r1 first
+          ∙ i.read_sets;
+      writers = writers_push w e b.base b.writers writers rd isd i.write_sets put1 i.writers;
+      readers = readers_push w e b.base b.readers first second r1 r2 is1 is2 i.read_sets put2 put3 i.readers;
     }
+
+pub board_pushed : (w : List Entry) (e : Entry) (b c : Board) (candidates waiting storing loads writers first second : MarkSet) (rd r1 r2 : ℕ) (ready stores loading : Bool)
+    → IsBoard w b → is_waiting e.stage ≡ true → is_store e.effect ≡ false → rd ≡ e.profile.rd → r1 ≡ e.profile.rs1 → r2 ≡ e.profile.rs2
+    → ready ≡ (is_available w e.profile.rs1 && is_available w e.profile.rs2) → stores ≡ is_open_store e → loading ≡ is_load e
+    → c ≡ record b { candidates = candidates; waiting = waiting; storing = storing; loads = loads }
+    → IsPut ready (b.base + length w) b.candidates candidates → IsPut true (b.base + length w) b.waiting waiting
+    → IsPut stores (b.base + length w) b.storing storing → IsPut loading (b.base + length w) b.loads loads
+    → IsPut true (b.base + length w) (get_or c.writers rd no_mark) writers
+    → IsPut true (b.base + length w) (get_or c.readers r1 no_mark) first
+    → IsPut true (b.base + length w) (get_or (slice_set c.readers r1 first) r2 no_mark) second
+    → IsBoard (w ++ e ∷ []) (with_registers c rd r1 r2 writers first second)
+board_pushed w e b c candidates waiting storing loads writers first second rd r1 r2 ready stores loading i waits none isd is1 is2 sources iss isl is putc putw puts putl =
+    subst (λ (s : Board). IsPut true (b.base + length w) (get_or s.writers rd no_mark) writers
+    → IsPut true (b.base + length w) (get_or s.readers r1 no_mark) first
+    → IsPut true (b.base + length w) (get_or (slice_set s.readers r1 first) r2 no_mark) second
+    → IsBoard (w ++ e ∷ []) (with_registers s rd r1 r2 writers first second)) (sym is)
+    (board_more w e b candidates waiting storing loads writers first second rd r1 r2 ready stores loading i waits none isd is1 is2 sources iss isl putc putw puts putl)
 
 within_end : (base most n : ℕ) → n < base → nat_lt n (base + most) ≡ true
 within_end base most n h = grind (arith, nat_tests)

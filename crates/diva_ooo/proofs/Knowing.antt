@@ -9,10 +9,10 @@ use Rattle.diva_decode.specs.declared.instr.Instr.{Instr}
 use Rattle.diva_decode.specs.Table.{HasRegisters, row_of}
 use Rattle.diva_isa.specs.State.{State}
 use Rattle.diva_isa.specs.Kind.{kind}
-use Rattle.diva_isa.specs.declared.kind.Kind.TheVariants.{OpImm, OpReg}
-use Rattle.diva_isa.specs.Step.{HasRegister, record_fetched, continues, record_with}
+use Rattle.diva_isa.specs.declared.kind.Kind.{Kind}
+use Rattle.diva_isa.specs.Step.{HasRegister, effect, record_fetched}
 use Rattle.diva_isa.specs.declared.effect.Effect.{Effect}
-use Rattle.diva_isa.specs.declared.effect.Effect.TheVariants.{Nothing, Writes}
+use Rattle.diva_isa.specs.declared.effect.Effect.TheVariants.{Nothing}
 use Rattle.diva_isa.specs.declared.record.Record.{Record}
 use Rattle.diva_ahead.specs.Effects.{done_by}
 use Rattle.diva_ooo.specs.declared.entry.Entry.{Entry}
@@ -55,11 +55,7 @@ known_staged w at e stage is begun all =
     let k = known_at w at e is all in
     All-set IsKnown w at (record e { stage = stage }) (record { decoded = k.decoded; registers = k.registers; sources = k.sources; effect = k.effect; register = k.register; fresh = λ waits. absurd (true≢false (sym waits ∙ begun)) }) all
 
--- what an operation on registers does
-pub immediate_does : (pc word a b v : ℕ) (i : Instr) → row_of word ≡ Some i → kind i.op ≡ OpImm → Writes i.rd v ≡ done_by (record_with pc word a b 0 (continues pc v))
+-- what a record does that goes on
+pub going_does : (k : Kind) (r : Record) (i : Instr) → row_of r.word ≡ Some i → kind i.op ≡ k → r.end ≡ 0 → effect k i r ≡ done_by r
 unfolding done_by
-immediate_does pc word a b v i says is = rw (says, is) refl
-
-pub register_does : (pc word a b v : ℕ) (i : Instr) → row_of word ≡ Some i → kind i.op ≡ OpReg → Writes i.rd v ≡ done_by (record_with pc word a b 0 (continues pc v))
-unfolding done_by
-register_does pc word a b v i says is = rw (says, is) refl
+going_does k r i says is on = rw (on, says, is) refl

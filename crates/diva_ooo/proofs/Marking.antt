@@ -2,14 +2,14 @@
 use Rattle.std.proofs.Common.{◌≡◌, ◌≢◌, ◌<◌, ◌≤◌, ℕ, zero, suc, ◌+◌, ◌-◌, ◌*◌, ◌/◌, ◌%◌, ◌^◌, ◌==◌, Bool, true, false, ◌&&◌, ◌||◌, not, List, [], ◌∷◌, ◌++◌, length, take, drop, min, max, Some, refl, ap, sym, ◌∙◌, arith, slice_get, if◌then◌else◌, w64}
 use Rattle.std.specs.Prelude.{slice_set, nat_le, nat_lt}
 use Rattle.std.specs.Int.{bit_at, bit_not, trailing_zeros}
-use Rattle.std.specs.Int.Bits.{bit_and, bit_or}
+use Rattle.std.specs.Int.Bits.{bit_and, bit_or, bit_xor}
 use Rattle.std.specs.List.{position_or_len}
 use Rattle.std.proofs.lemmas.Bool.Decides.{nat_tests}
 use Rattle.std.proofs.lemmas.Grind.{common_steps}
 use Rattle.std.proofs.lemmas.List.{length-drop}
-use Rattle.std.proofs.lemmas.Nat.{div_below, le-div, one_shl, pow_pos, shr-shr}
-use Rattle.std.proofs.Math.Nat.{pow-suc}
-use Rattle.std.proofs.lemmas.Nat.Bits.{bit_at-zero, bit_at-lt, bit_at_above, bit_at_and, bit_at_or, bit_at_ones, bit_at_ones_above, bit_at_mask_below, bit_at_mask_inside, bit_at_not, bit_at_set_same, bit_at_set_other, bit_at_clear_same, bit_at_clear_other, bit_at-trailing_zeros, ones_shl, ones_shr, shr_and_one}
+use Rattle.std.proofs.lemmas.Nat.{div_below, le-div, mod_below, one_shl, pow_pos, shr-shr, shr_split}
+use Rattle.std.proofs.Math.Nat.{add-zero, pow-suc, suc-mul}
+use Rattle.std.proofs.lemmas.Nat.Bits.{bit_at-zero, bit_at-lt, bit_at_above, bit_at_and, bit_at_or, bit_at_ones, bit_at_ones_above, bit_at_cat_high, bit_at_cat_low, bit_at_lowest, bit_at_mask_below, bit_at_mask_inside, bit_at_not, bit_at-suc, bit_at_xor, bit_at_set_same, bit_at_set_other, bit_at_clear_same, bit_at_clear_other, bit_at-trailing_zeros, ones_shl, same_from_bits, same_from_bits_below, shr_and_one}
 use mir.Val.{bool_byte}
 use Rattle.diva_ooo.specs.declared.entry.Entry.{Entry}
 use Rattle.diva_ooo.specs.declared.mark_set.MarkSet.{MarkSet}
@@ -146,11 +146,6 @@ keep_by false n most i is =
 pub keep_has : (n most : ℕ) → most < 64 → (i : ℕ) → (bit_at (bit_and n (1 * 2 ^ most % 2 ^ 64 - 1)) i == 1) ≡ (if nat_lt i most then (bit_at n i == 1) else false)
 keep_has n most h i = rw (one_shl most 64 h) (keep_by (nat_lt i most) n most i refl)
 
-pub up_has : (n mark : ℕ) → mark < 64 → (i : ℕ) → (bit_at (bit_and n ((2 ^ 64 - 1) / 2 ^ (63 - mark))) i == 1) ≡ (if nat_lt i (mark + 1) then (bit_at n i == 1) else false)
-up_has n mark h i =
-    let ones : 64 - (63 - mark) ≡ mark + 1 = omega arith in
-    rw (ones_shr 64 (63 - mark) (omega arith), ones) (keep_by (nat_lt i (mark + 1)) n (mark + 1) i refl)
-
 -- ---- the lowest from a place on
 
 shifted : (n from i : ℕ) → bit_at (n / 2 ^ from) i ≡ bit_at n (from + i)
@@ -242,6 +237,149 @@ highest_some s k fits low high =
           let under : s.bits < 2 ^ (suc k) = rw (pow-suc 2 k) (omega arith) in
           unset (bit_at s.bits i) (bit_at_above s.bits (suc k) i under (omega arith));
     }
+
+-- ---- the bits up to the lowest
+
+pub and_off : (b : Bool) → (b && false) ≡ false
+and_off true = refl
+and_off false = refl
+
+pub and_on : (b : Bool) → (b && true) ≡ b
+and_on true = refl
+and_on false = refl
+
+low_bit : (n k i : ℕ) → i < k → bit_at (n % 2 ^ k) i ≡ bit_at n i
+low_bit n k i h = sym (bit_at_cat_low (n / 2 ^ k) k (n % 2 ^ k) i h) ∙ ap (λ (m : ℕ). bit_at m i) (shr_split n k)
+
+-- a number with no bit below a place
+lowest_at : (n k : ℕ) → ((i : ℕ) → i < k → bit_at n i ≡ 0) → n ≡ n / 2 ^ k * 2 ^ k
+lowest_at n k none =
+    let low : n % 2 ^ k ≡ 0 = same_from_bits_below k (n % 2 ^ k) 0 (mod_below n (2 ^ k) (pow_pos k)) (pow_pos k) (λ i h. low_bit n k i h ∙ none i h ∙ sym (bit_at-zero i)) in
+    let split : n / 2 ^ k * 2 ^ k + n % 2 ^ k ≡ n = shr_split n k in
+    omega arith
+
+-- and the number below it
+less_one : (n k m : ℕ) → n ≡ suc m * 2 ^ k → n - 1 ≡ m * 2 ^ k + (2 ^ k - 1)
+less_one n k m is =
+    let some : 0 < 2 ^ k = pow_pos k in
+    let more : suc m * 2 ^ k ≡ m * 2 ^ k + 2 ^ k = suc-mul m (2 ^ k) in
+    omega arith
+
+odd_bit : (m j : ℕ) → m % 2 ≡ 0 → bit_at (suc m) (suc j) ≡ bit_at m (suc j)
+odd_bit m j even =
+    let half : suc m / 2 ≡ m / 2 = omega arith in
+    bit_at-suc (suc m) j ∙ ap (λ (h : ℕ). bit_at h j) half ∙ sym (bit_at-suc m j)
+
+bits_xor : (m n i a b : ℕ) → bit_at m i ≡ a → bit_at n i ≡ b → bit_at (bit_xor m n) i ≡ (a + b) % 2
+bits_xor m n i a b here there = bit_at_xor m n i ∙ rw (here, there) refl
+
+twice_over : (a : ℕ) → (a + a) % 2 ≡ 0
+twice_over a = omega arith
+
+up_low : (n k m i : ℕ) → n ≡ suc m * 2 ^ k → i < k → bit_at (bit_xor n (n - 1)) i ≡ 1
+up_low n k m i is h =
+    bits_xor n (n - 1) i 0 1
+    (ap (λ (x : ℕ). bit_at x i) (is ∙ sym (add-zero (suc m * 2 ^ k))) ∙ bit_at_cat_low (suc m) k 0 i h ∙ bit_at-zero i)
+    (ap (λ (x : ℕ). bit_at x i) (less_one n k m is) ∙ bit_at_cat_low m k (2 ^ k - 1) i h ∙ bit_at_ones k i h)
+
+high_bit : (n k m i : ℕ) → n ≡ suc m * 2 ^ k → k ≤ i → bit_at n i ≡ bit_at (suc m) (i - k)
+high_bit n k m i is h = ap (λ (x : ℕ). bit_at x i) (is ∙ sym (add-zero (suc m * 2 ^ k))) ∙ bit_at_cat_high (suc m) k 0 i (pow_pos k) h
+
+high_less : (n k m i : ℕ) → n ≡ suc m * 2 ^ k → k ≤ i → bit_at (n - 1) i ≡ bit_at m (i - k)
+high_less n k m i is h =
+    let some : 0 < 2 ^ k = pow_pos k in
+    ap (λ (x : ℕ). bit_at x i) (less_one n k m is) ∙ bit_at_cat_high m k (2 ^ k - 1) i (omega arith) h
+
+up_high_by : (n k m i j : ℕ) → n ≡ suc m * 2 ^ k → m % 2 ≡ 0 → k ≤ i → i - k ≡ j → (bit_at (bit_xor n (n - 1)) i == 1) ≡ nat_lt i (k + 1)
+up_high_by n k m i zero is even h at =
+    let same : nat_lt i (k + 1) ≡ true = grind (arith, nat_tests) in
+    let one : suc m % 2 ≡ 1 = omega arith in
+    let bit : bit_at (bit_xor n (n - 1)) i ≡ 1 =
+    bits_xor n (n - 1) i 1 0
+    (high_bit n k m i is h ∙ ap (bit_at (suc m)) at ∙ bit_at_lowest (suc m) ∙ one)
+    (high_less n k m i is h ∙ ap (bit_at m) at ∙ bit_at_lowest m ∙ even) in
+    ap (λ (x : ℕ). x == 1) bit ∙ sym same
+up_high_by n k m i (suc j) is even h at =
+    let far : nat_lt i (k + 1) ≡ false = grind (arith, nat_tests) in
+    let bit : bit_at (bit_xor n (n - 1)) i ≡ 0 =
+    bits_xor n (n - 1) i (bit_at m (suc j)) (bit_at m (suc j))
+    (high_bit n k m i is h ∙ ap (bit_at (suc m)) at ∙ odd_bit m j even)
+    (high_less n k m i is h ∙ ap (bit_at m) at)
+    ∙ twice_over (bit_at m (suc j)) in
+    ap (λ (x : ℕ). x == 1) bit ∙ sym far
+
+up_by : (c : Bool) (n k m i : ℕ) → n ≡ suc m * 2 ^ k → m % 2 ≡ 0 → nat_lt i k ≡ c → (bit_at (bit_xor n (n - 1)) i == 1) ≡ nat_lt i (k + 1)
+up_by true n k m i is even below =
+    let h : i < k = grind (arith, nat_tests) in
+    let same : nat_lt i (k + 1) ≡ true = grind (arith, nat_tests) in
+    ap (λ (x : ℕ). x == 1) (up_low n k m i is h) ∙ sym same
+up_by false n k m i is even far = let h : k ≤ i = grind (arith, nat_tests) in up_high_by n k m i (i - k) is even h refl
+
+-- the mask of a number is the bits up to its lowest
+up_mask : (n k i : ℕ) → bit_at n k ≡ 1 → ((j : ℕ) → j < k → bit_at n j ≡ 0) → (bit_at (bit_xor n (n - 1)) i == 1) ≡ nat_lt i (k + 1)
+up_mask n k i there none =
+    let odd : n / 2 ^ k % 2 ≡ 1 = there in
+    let m = n / 2 ^ k - 1 in
+    let more : suc m ≡ n / 2 ^ k = omega arith in
+    let even : m % 2 ≡ 0 = omega arith in
+    up_by (nat_lt i k) n k m i (lowest_at n k none ∙ ap (λ (q : ℕ). q * 2 ^ k) (sym more)) even refl
+
+bit_on : (b : ℕ) → (b == 1) ≡ true → b ≡ 1
+bit_on b h = grind (arith, nat_tests)
+
+bit_off : (b : ℕ) → b < 2 → (b == 1) ≡ false → b ≡ 0
+bit_off b h k = let other : b ≢ 1 = grind (arith, nat_tests) in omega (arith, other)
+
+and_if : (a b : Bool) → (a && b) ≡ (if b then a else false)
+and_if true true = refl
+and_if true false = refl
+and_if false true = refl
+and_if false false = refl
+
+set_some : (n k : ℕ) → bit_at n k ≡ 1 → 0 < n
+set_some zero k is = let none = bit_at-zero k in absurd (omega arith)
+set_some (suc n) k is = omega arith
+
+none_by : (d : Bool) (o : MarkSet) (from i : ℕ) → nat_le from i ≡ d → ((k : ℕ) → from ≤ k → has o k ≡ false) → (has o i && d) ≡ false
+none_by true o from i is none = let behind : from ≤ i = grind (arith, nat_tests) in rw (none i behind) refl
+none_by false o from i is none = and_off (has o i)
+
+-- the same, where 0 wraps
+wrapped : (n : ℕ) → 0 < n → n < 2 ^ 64 → (n + (2 ^ 64 - 1)) % 2 ^ 64 ≡ n - 1
+wrapped n some fits = omega arith
+
+-- what is behind a place has the lowest bit from there on, and none below
+behind_off : (d : Bool) (o : MarkSet) (from n i : ℕ) → nat_le from i ≡ d → IsNext o from n → i < n → (has o i && d) ≡ false
+behind_off true o from n i is next h = let behind : from ≤ i = grind (arith, nat_tests) in rw (next.first i behind h) refl
+behind_off false o from n i is next h = and_off (has o i)
+
+pub up_some : (s o : MarkSet) (b from n i : ℕ) → b < 2 ^ 64 → ((k : ℕ) → (bit_at b k == 1) ≡ (has o k && nat_le from k)) → IsNext o from n
+    → (bit_at (bit_and s.bits (bit_xor b ((b + (2 ^ 64 - 1)) % 2 ^ 64))) i == 1) ≡ (if nat_lt i (n + 1) then has s i else false)
+up_some s o b from n i fits behind next =
+    let is : nat_le from n ≡ true = let h = next.behind in grind (arith, nat_tests) in
+    let there : bit_at b n ≡ 1 = bit_on (bit_at b n) (behind n ∙ rw (next.there, is) refl) in
+    let none : (k : ℕ) → k < n → bit_at b k ≡ 0 = λ k h. bit_off (bit_at b k) (bit_at-lt b k) (behind k ∙ behind_off (nat_le from k) o from n k refl next h) in
+    let some : 0 < b = set_some b n there in
+    and_has s.bits (bit_xor b ((b + (2 ^ 64 - 1)) % 2 ^ 64)) i
+    ∙ ap (λ (m : ℕ). has s i && (bit_at (bit_xor b m) i == 1)) (wrapped b some fits)
+    ∙ ap (λ (c : Bool). has s i && c) (up_mask b n i there none)
+    ∙ and_if (has s i) (nat_lt i (n + 1))
+
+all_by : (c : Bool) (s : MarkSet) (i : ℕ) → s.bits < 2 ^ 64 → nat_lt i 64 ≡ c → (has s i && (bit_at (bit_xor 0 (2 ^ 64 - 1)) i == 1)) ≡ has s i
+all_by true s i fits is =
+    let within : i < 64 = grind (arith, nat_tests) in
+    rw (bits_xor 0 (2 ^ 64 - 1) i 0 1 (bit_at-zero i) (bit_at_ones 64 i within)) (and_on (has s i))
+all_by false s i fits is =
+    let far : 64 ≤ i = grind (arith, nat_tests) in
+    rw (bit_at_above s.bits 64 i fits far) refl
+
+pub up_none : (s o : MarkSet) (b from i : ℕ) → s.bits < 2 ^ 64 → ((k : ℕ) → (bit_at b k == 1) ≡ (has o k && nat_le from k)) → ((k : ℕ) → from ≤ k → has o k ≡ false)
+    → (bit_at (bit_and s.bits (bit_xor b ((b + (2 ^ 64 - 1)) % 2 ^ 64))) i == 1) ≡ has s i
+up_none s o b from i fits behind none =
+    let zero' : b ≡ 0 = same_from_bits b 0 (λ k. bit_off (bit_at b k) (bit_at-lt b k) (behind k ∙ none_by (nat_le from k) o from k refl none) ∙ sym (bit_at-zero k)) in
+    and_has s.bits (bit_xor b ((b + (2 ^ 64 - 1)) % 2 ^ 64)) i
+    ∙ ap (λ (m : ℕ). has s i && (bit_at (bit_xor m ((m + (2 ^ 64 - 1)) % 2 ^ 64)) i == 1)) zero'
+    ∙ all_by (nat_lt i 64) s i fits refl
 
 -- ---- the entries
 

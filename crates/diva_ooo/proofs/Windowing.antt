@@ -10,7 +10,7 @@ use Rattle.diva_ooo.specs.Board.{IsBoard, IsLastOf, can_at, could_at, has_result
 use Rattle.diva_ooo.specs.Issue.{can_begin, is_available, is_done, is_free, is_ready, is_waiting, written}
 use Rattle.diva_ooo.specs.MarkSets.{holds_at}
 use Rattle.diva_ooo.proofs.Asking.{before_none}
-use Rattle.diva_ooo.proofs.Marking.{holds_take}
+use Rattle.diva_ooo.proofs.Marking.{and_off, holds_take}
 
 -- ---- the registers behind some entries
 
@@ -45,9 +45,6 @@ reg_left false b h = absurd (cc)
 and_never : (a : Bool) → (a && false) ≡ true → ⊥
 and_never true h = absurd (cc)
 and_never false h = absurd (cc)
-
-and_first : (a b : Bool) → (a && b) ≡ true → a ≡ true
-and_first a b h = reg_left a b h
 
 reg_none : (c z : Bool) (rd n : ℕ) → (rd == n) ≡ c → (n == 0) ≡ z → (rd == 0) ≡ true → ((rd == n) && not (n == 0)) ≡ true → ⊥
 reg_none c true rd n is zero' none there = and_never (rd == n) (ap (λ (k : Bool). (rd == n) && not k) (sym zero') ∙ there)
@@ -138,10 +135,6 @@ could_here_of older [] at e is = absurd (cc)
 could_here_of older (x ∷ w) zero e is = let here : x ≡ e = cc in ap (could older) here ∙ ap (λ (o : List Entry). could o e) (sym (append-nil older))
 could_here_of older (x ∷ w) (suc at) e is = could_here_of (older ++ x ∷ []) w at e is ∙ ap (λ (o : List Entry). could o e) (append_assoc older (x ∷ []) (take at w))
 
-and_off : (b : Bool) → (b && false) ≡ false
-and_off true = refl
-and_off false = refl
-
 pub could_not : (w : List Entry) (at : ℕ) (e : Entry) → slice_get w at ≡ Some e → (is_available (take at w) e.profile.rs1 && is_available (take at w) e.profile.rs2) ≡ false → could_at [] w at ≡ false
 could_not w at e is none = could_here_of [] w at e is ∙ rw none (and_off (is_waiting e.stage))
 
@@ -160,12 +153,6 @@ pub can_if_free : (w : List Entry) (at : ℕ) (e : Entry) → slice_get w at ≡
 unfolding is_ready
 can_if_free w at e is waits sources =
     all_sources (is_waiting e.stage) (is_available (take at w) e.profile.rs1) (is_available (take at w) e.profile.rs2) (is_free e.profile.class (take at w)) waits sources ∙ sym (can_here w at e is)
-
-begin_waits : (older : List Entry) (e : Entry) → can_begin older e ≡ true → is_waiting e.stage ≡ true
-begin_waits older e can = and_first (is_waiting e.stage) (is_ready older e) can
-
-pub can_waits : (w : List Entry) (at : ℕ) (e : Entry) → slice_get w at ≡ Some e → can_begin (take at w) e ≡ true → is_waiting e.stage ≡ true
-can_waits w at e is can = begin_waits (take at w) e can
 
 -- ---- the oldest goes
 

@@ -1,5 +1,5 @@
 -- What the core keeps of the entries of its window.
-use Rattle.std.specs.Prelude.{◌≡◌, ℕ, zero, suc, ◌<◌, ◌≤◌, ◌+◌, ◌==◌, ◌&&◌, ◌||◌, not, length, get_or, List, [], ◌∷◌, ◌++◌, Bool, true, false, if◌then◌else◌}
+use Rattle.std.specs.Prelude.{◌≡◌, ℕ, zero, suc, ◌<◌, ◌≤◌, ◌+◌, ◌==◌, ◌&&◌, ◌||◌, not, length, get_or, List, [], ◌∷◌, ◌++◌, Bool, true, false}
 use Rattle.diva_core.specs.Cycle.{is_store}
 use Rattle.diva_ooo.specs.declared.entry.Entry.{Entry}
 use Rattle.diva_ooo.specs.declared.board.Board.{Board}
@@ -40,12 +40,6 @@ could_at older (e ∷ rest) (suc i) = could_at (older ++ e ∷ []) rest i
 
 abbrev pub no_mark : MarkSet
 no_mark = record { bits = 0 }
-
--- a mark was put into the set of a register, unless that is x0
-abbrev pub IsNoted : (before after : List MarkSet) → (r mark : ℕ) → Type 0
-IsNoted before after r mark =
-    (n : ℕ) → n < 32 → (i : ℕ) → has (get_or after n no_mark) i
-    ≡ (if i == mark then ((r == n) && not (n == 0)) || has (get_or before n no_mark) mark else has (get_or before n no_mark) i)
 
 -- the board is that of the entries
 pub record IsBoard (w : List Entry) (b : Board) : Type 0 where
@@ -88,11 +82,6 @@ pub record IsCandidate (w : List Entry) (from n : ℕ) : Type 0 where
   pub behind : from ≤ n
   pub there : holds_at (λ e. is_waiting e.stage) w n ≡ true
   pub first : (i : ℕ) → from ≤ i → i < n → can_at [] w i ≡ false
-
--- how many entries behind the older ones come before the first that can begin
-abbrev pub passed : List Entry → List Entry → ℕ
-passed older [] = 0
-passed older (e ∷ rest) = if can_begin older e then 0 else suc (passed (older ++ e ∷ []) rest)
 
 -- an entry between two places writes a register
 pub record IsWrittenBetween (w : List Entry) (r from to : ℕ) : Type 0 where

@@ -2,7 +2,7 @@
 ghost use Rattle.std.specs.Prelude.{◌≡◌, ◌+◌, ◌&&◌, ◌<◌, ◌≤◌, ◌⊎◌, ℕ, List, [], ◌∷◌, ◌++◌, length, get_or, nat_lt, take, IfSome, IsNone, Some, false, if◌then◌else◌, slice_get, slice_set, true};
 ghost use Rattle.diva_ooo.specs.declared.entry.Entry.{Entry};
 ghost use Rattle.diva_core.specs.Cycle.{is_store};
-ghost use Rattle.diva_ooo.specs.Board.{IsBoard, IsCandidate, IsLastOf, IsNextOf, IsNoted, IsWrittenBetween, can_at, could_at, has_result, no_mark, reads};
+ghost use Rattle.diva_ooo.specs.Board.{IsBoard, IsCandidate, IsLastOf, IsNextOf, IsWrittenBetween, can_at, could_at, has_result, no_mark, reads};
 ghost use Rattle.diva_ooo.specs.Finish.{is_running};
 ghost use Rattle.diva_ooo.specs.Issue.{are_stored, is_available, is_done, is_free, is_waiting};
 ghost use Rattle.diva_ooo.specs.Known.{HasSources};
@@ -66,14 +66,22 @@ impl Board {
         ensures base { self.new.base ≡ self.old.base }
     {
         let mark = self.base + at;
-        let ready = self.has_sources_behind(profile);
+        if self.has_sources_behind(profile) {
+            self.candidates.put(mark, true);
+        }
         self.waiting.put(mark, true);
-        self.storing.put(mark, profile.class.is_storing());
-        self.loads.put(mark, profile.class.is_loading());
-        self.candidates.put(mark, ready);
-        note(&mut self.writers, profile.rd, mark);
-        note(&mut self.readers, profile.rs1, mark);
-        note(&mut self.readers, profile.rs2, mark);
+        if profile.class.is_storing() {
+            self.storing.put(mark, true);
+        }
+        if profile.class.is_loading() {
+            self.loads.put(mark, true);
+        }
+        self.writers[usize::from(profile.rd)].put(mark, true);
+        self.readers[usize::from(profile.rs1)].put(mark, true);
+        self.readers[usize::from(profile.rs2)].put(mark, true);
+        // None writes x0 or reads it.
+        self.writers[0] = MarkSet::NONE;
+        self.readers[0] = MarkSet::NONE;
     }
 
     // Whether an entry behind all these has its sources.
@@ -177,7 +185,6 @@ impl Board {
     }
 
     // The readers of the register that the entry at a place writes, up to the next entry that writes it.
-    #[tactic(auto, using(crate::proofs::Asking::woken_all, crate::proofs::Asking::woken_some))]
     fn readers_of(&self, at: usize, rd: u8) -> MarkSet
         requires base { self.now.base < 32 }
         requires place { at < 32 }
@@ -185,11 +192,8 @@ impl Board {
         ensures { (w : List Entry) → IsBoard w self.now → (i : ℕ) → has result (self.now.base + i) ≡ false
             → (holds_at (reads rd) w i ≡ false) ⊎ IsWrittenBetween w rd at i }
     {
-        let readers = self.readers[usize::from(rd)];
-        match self.writers[usize::from(rd)].next(self.base + at + 1) {
-            Some(next) => readers.up_to(next),
-            None => readers,
-        }
+        let n = usize::from(rd);
+        self.readers[n].up_to_next(self.writers[n], self.base + at + 1)
     }
 
     /// The entry at a place is no candidate.
@@ -278,9 +282,6 @@ impl Board {
         requires register { n < 32 }
         ensures { (w : List Entry) → IsBoard w self.now → at ≤ length w → result ≡ is_available (take at w) n }
     {
-        if n == 0 {
-            return true;
-        }
         match self.writers[usize::from(n)].last(self.base + at) {
             Some(mark) => self.done.has(mark),
             None => true,
@@ -321,25 +322,11 @@ impl Board {
         ensures none { (w : List Entry) → IsBoard w self.now → at ≤ length w → IsNone result
             → (i : ℕ) → i < at → holds_at (has_result n) w i ≡ false }
     {
-        let results = self.writers[usize::from(n)].both(self.done);
-        match results.last(self.base + at) {
-            Some(mark) if mark >= self.base => Some(mark - self.base),
-            _ => None,
+        let older = self.done.below(self.base + at).from(self.base);
+        match self.writers[usize::from(n)].both(older).highest() {
+            Some(mark) => Some(mark - self.base),
+            None => None,
         }
-    }
-}
-
-// Puts a mark into the set of a register, but for x0.
-#[tactic(auto, using(crate::proofs::Boarding::noted_some, crate::proofs::Boarding::noted_none))]
-#[inline(always)]
-fn note(sets: &mut [MarkSet; 32], n: u8, mark: usize)
-    requires register { n < 32 }
-    requires mark { mark < 64 }
-    ensures noted { IsNoted sets.old sets.new n mark }
-    ensures sets { length sets.new ≡ 32 }
-{
-    if n != 0 {
-        sets[usize::from(n)].put(mark, true);
     }
 }
 

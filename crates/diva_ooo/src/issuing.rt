@@ -4,7 +4,7 @@ ghost use Rattle.std.specs.Option.{option_and_then};
 ghost use Rattle.diva_decode.specs.Table.{HasRegisters, row_of};
 ghost use Rattle.diva_isa.specs.Kind.{kind};
 ghost use Rattle.diva_isa.specs.Step.{HasRegister, record_fetched, continues, record_with};
-ghost use Rattle.diva_isa.specs.declared.kind.Kind.TheVariants.{OpImm, OpReg};
+ghost use Rattle.diva_isa.specs.declared.kind.Kind.TheVariants.{Branch, Jal, Load, OpImm, OpReg, Store};
 ghost use Rattle.diva_isa.specs.declared.effect.Effect.TheVariants.{Writes};
 ghost use Rattle.diva_ahead.specs.Effects.{done_by};
 ghost use Rattle.diva_ooo.specs.declared.entry.Entry.{Entry};
@@ -16,21 +16,25 @@ use diva_ahead::Ahead;
 use diva_core::View;
 use diva_decode::Instr;
 use diva_isa::{
-    Effect, Kind, Look, Operands, Record, address, alu, effect_by, finish, kind_of, sources,
+    Effect, Kind, Look, Operands, Record, Width, address, alu, branch_taken, effect_by, finish,
+    kind_of, load_value, sources,
 };
 
 /// At most two waiting entries begin to run, oldest first.
 pub(crate) fn issue(window: &mut Window, ahead: &Ahead, view: &View<'_>)
     ensures { window.new ≡ issued ahead.now view.now window.old }
 {
-    let mut at = 0;
-    for _ in 0..2_u8 {
-        at = window.next_ready(at);
-        if at == window.len() {
-            return;
+    let mut begun: u8 = 0;
+    let mut at = window.next_candidate(0);
+    while at < window.len() {
+        if window.is_ready(at) {
+            begin_at(window, at, ahead, view);
+            begun += 1;
+            if begun == 2 {
+                return;
+            }
         }
-        begin_at(window, at, ahead, view);
-        at += 1;
+        at = window.next_candidate(at + 1);
     }
 }
 
@@ -47,10 +51,9 @@ fn begin_at(window: &mut Window, at: usize, ahead: &Ahead, view: &View<'_>)
     ensures length { length window.new ≡ length window.old }
 {
     let entry = window.entry(at);
-    let (pc, word, decoded) = (entry.pc, entry.word, entry.decoded);
-    if let (Some(word), Some(i)) = (word, decoded) {
+    if let (Some(word), Some(i)) = (&entry.word, &entry.decoded) {
         let flight = Flight {
-            pc,
+            pc: entry.pc,
             ahead: &*ahead,
             window,
             at,
@@ -58,18 +61,83 @@ fn begin_at(window: &mut Window, at: usize, ahead: &Ahead, view: &View<'_>)
         };
         match kind_of(i.op) {
             Kind::OpImm => {
-                let Begun { result, effect } = immediate(&flight, word, &i);
+                let Begun { result, effect } = immediate(&flight, *word, i);
                 window.begin(at, result, effect);
                 return;
             }
             Kind::OpReg => {
-                let Begun { result, effect } = register(&flight, word, &i);
+                let Begun { result, effect } = register(&flight, *word, i);
                 window.begin(at, result, effect);
                 return;
             }
             _ => {}
         }
     }
+    begin_other(window, at, ahead, view);
+}
+
+// The same of an entry of another kind: branches, loads and stores are told apart for the same reason.
+#[inline(never)]
+#[tactic(auto, unfolding(crate::specs::Issue::started))]
+fn begin_other(window: &mut Window, at: usize, ahead: &Ahead, view: &View<'_>)
+    requires place { at < length window.old }
+    requires waits { (e : Entry) → slice_get window.old at ≡ Some e → is_waiting e.stage ≡ true }
+    ensures started { (e : Entry) → slice_get window.old at ≡ Some e
+        → window.new ≡ slice_set window.old at (started ahead.now view.now (take at window.old) e) }
+    ensures length { length window.new ≡ length window.old }
+{
+    let entry = window.entry(at);
+    if let (Some(word), Some(i)) = (&entry.word, &entry.decoded) {
+        let flight = Flight {
+            pc: entry.pc,
+            ahead: &*ahead,
+            window,
+            at,
+            view: &*view,
+        };
+        match kind_of(i.op) {
+            Kind::Jal => {
+                if let Some(Begun { result, effect }) = jump(&flight, *word, i) {
+                    window.begin(at, result, effect);
+                    return;
+                }
+            }
+            Kind::Branch => {
+                if let Some(Begun { result, effect }) = branch(&flight, *word, i) {
+                    window.begin(at, result, effect);
+                    return;
+                }
+            }
+            Kind::Load(width) => {
+                if let Some(Begun { result, effect }) = load(&flight, *word, i, width) {
+                    window.begin(at, result, effect);
+                    return;
+                }
+            }
+            Kind::Store(width) => {
+                if let Some(Begun { result, effect }) = store(&flight, *word, i, width) {
+                    window.begin(at, result, effect);
+                    return;
+                }
+            }
+            _ => {}
+        }
+    }
+    begin_any(window, at, ahead, view);
+}
+
+// The same, whatever the word of the entry says.
+#[inline(never)]
+#[tactic(auto, unfolding(crate::specs::Issue::started))]
+fn begin_any(window: &mut Window, at: usize, ahead: &Ahead, view: &View<'_>)
+    requires place { at < length window.old }
+    requires waits { (e : Entry) → slice_get window.old at ≡ Some e → is_waiting e.stage ≡ true }
+    ensures started { (e : Entry) → slice_get window.old at ≡ Some e
+        → window.new ≡ slice_set window.old at (started ahead.now view.now (take at window.old) e) }
+    ensures length { length window.new ≡ length window.old }
+{
+    let entry = window.entry(at);
+    let (pc, word, decoded) = (entry.pc, entry.word, entry.decoded);
     let flight = Flight {
         pc,
         ahead: &*ahead,
@@ -79,6 +147,139 @@ fn begin_at(window: &mut Window, at: usize, ahead: &Ahead, view: &View<'_>)
     };
     let Begun { result, effect } = run(&flight, word, decoded);
     window.begin(at, result, effect);
+}
+
+// What a jump comes to, `None` where it traps.
+#[inline(always)]
+fn jump<L: Look>(state: &L, word: u32, i: &Instr) -> Option<Begun>
+    requires says { row_of word ≡ Some i.now }
+    requires kind { kind i.now.op ≡ Jal }
+    requires registers { HasRegisters i.now }
+    ensures record { IfSome result (λ b. b.result ≡ record_fetched (L.shows state.now) (Some word)) }
+    ensures effect { IfSome result (λ b. b.effect ≡ done_by b.result) }
+    ensures register { IfSome result (λ b. HasRegister b.effect) }
+{
+    let pc = state.pc();
+    let next = pc.wrapping_add(i.imm.cast_unsigned());
+    if next % 4 != 0 {
+        return None;
+    }
+    let value = pc.wrapping_add(4);
+    let result = Record {
+        pc,
+        word,
+        src1: 0,
+        src2: 0,
+        addr: 0,
+        value,
+        next,
+        end: 0,
+    };
+    let effect = Effect::Writes { rd: i.rd, value };
+    Some(Begun { result, effect })
+}
+
+// What a branch comes to, `None` where it traps.
+#[inline(always)]
+fn branch<L: Look>(state: &L, word: u32, i: &Instr) -> Option<Begun>
+    requires says { row_of word ≡ Some i.now }
+    requires kind { kind i.now.op ≡ Branch }
+    requires registers { HasRegisters i.now }
+    ensures record { IfSome result (λ b. b.result ≡ record_fetched (L.shows state.now) (Some word)) }
+    ensures effect { IfSome result (λ b. b.effect ≡ done_by b.result) }
+    ensures register { IfSome result (λ b. HasRegister b.effect) }
+{
+    let pc = state.pc();
+    let first = state.reg(i.rs1);
+    let second = state.reg(i.rs2);
+    let next = if branch_taken(i.op, first, second) {
+        pc.wrapping_add(i.imm.cast_unsigned())
+    } else {
+        pc.wrapping_add(4)
+    };
+    if next % 4 != 0 {
+        return None;
+    }
+    let result = Record {
+        pc,
+        word,
+        src1: first,
+        src2: second,
+        addr: 0,
+        value: 0,
+        next,
+        end: 0,
+    };
+    let effect = Effect::Nothing;
+    Some(Begun { result, effect })
+}
+
+// What a load comes to, `None` where it traps.
+#[inline(always)]
+fn load<L: Look>(state: &L, word: u32, i: &Instr, width: Width) -> Option<Begun>
+    requires says { row_of word ≡ Some i.now }
+    requires kind { kind i.now.op ≡ Load width }
+    requires registers { HasRegisters i.now }
+    ensures record { IfSome result (λ b. b.result ≡ record_fetched (L.shows state.now) (Some word)) }
+    ensures effect { IfSome result (λ b. b.effect ≡ done_by b.result) }
+    ensures register { IfSome result (λ b. HasRegister b.effect) }
+{
+    let pc = state.pc();
+    let base = state.reg(i.rs1);
+    let addr = base.wrapping_add(i.imm.cast_unsigned());
+    if addr % width.size() != 0 {
+        return None;
+    }
+    let number = state.number(addr, width)?;
+    let value = load_value(i.op, number);
+    let result = Record {
+        pc,
+        word,
+        src1: base,
+        src2: 0,
+        addr,
+        value,
+        next: pc.wrapping_add(4),
+        end: 0,
+    };
+    let effect = Effect::Writes { rd: i.rd, value };
+    Some(Begun { result, effect })
+}
+
+// What a store comes to, `None` where it traps.
+#[inline(always)]
+fn store<L: Look>(state: &L, word: u32, i: &Instr, width: Width) -> Option<Begun>
+    requires says { row_of word ≡ Some i.now }
+    requires kind { kind i.now.op ≡ Store width }
+    requires registers { HasRegisters i.now }
+    ensures record { IfSome result (λ b. b.result ≡ record_fetched (L.shows state.now) (Some word)) }
+    ensures effect { IfSome result (λ b. b.effect ≡ done_by b.result) }
+    ensures register { IfSome result (λ b. HasRegister b.effect) }
+{
+    let pc = state.pc();
+    let base = state.reg(i.rs1);
+    let stored = state.reg(i.rs2);
+    let addr = base.wrapping_add(i.imm.cast_unsigned());
+    if addr % width.size() != 0 || !state.has(addr, width) {
+        return None;
+    }
+    let value = match width {
+        Width::Byte => stored & 0xff,
+        Width::Half => stored & 0xffff,
+        Width::Word => stored,
+    };
+    let result = Record {
+        pc,
+        word,
+        src1: base,
+        src2: stored,
+        addr,
+        value,
+        next: pc.wrapping_add(4),
+        end: 0,
+    };
+    let effect = Effect::Stores { width, addr, value };
+    Some(Begun { result, effect })
 }
 
 // What an instruction comes to: its record, and what that does besides moving the pc.

@@ -73,13 +73,26 @@ impl MarkSet {
         }
     }
 
-    /// The marks up to one, and that one.
-    pub(crate) fn up_to(self, mark: usize) -> MarkSet
-        requires { mark < 64 }
-        ensures { (i : ℕ) → has result i ≡ (if nat_lt i (mark + 1) then has self i else false) }
+    /// The marks from one on.
+    pub(crate) fn from(self, start: usize) -> MarkSet
+        requires { start < 64 }
+        ensures { (i : ℕ) → has result i ≡ (has self i && nat_le start i) }
     {
         MarkSet {
-            bits: self.bits & (u64::MAX >> (63 - mark)),
+            bits: high_bits(self.bits, start),
+        }
+    }
+
+    /// The marks up to the lowest of another set from a mark on, and that one; all where it has none from there on.
+    pub(crate) fn up_to_next(self, others: MarkSet, from: usize) -> MarkSet
+        requires { from < 64 }
+        ensures some { (n : ℕ) → IsNext others from n
+            → (i : ℕ) → has result i ≡ (if nat_lt i (n + 1) then has self i else false) }
+        ensures none { ((i : ℕ) → from ≤ i → has others i ≡ false) → (i : ℕ) → has result i ≡ has self i }
+    {
+        let behind = high_bits(others.bits, from);
+        MarkSet {
+            bits: self.bits & (behind ^ behind.wrapping_sub(1)),
         }
     }
 

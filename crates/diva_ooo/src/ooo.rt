@@ -1,10 +1,10 @@
 // The core.
-ghost use Rattle.std.specs.Prelude.{◌≡◌, ◌≤◌, ◌<◌, ◌+◌, ℕ, suc, [], IfOk, length, if◌then◌else◌};
+ghost use Rattle.std.specs.Prelude.{◌≡◌, ◌≤◌, ◌<◌, ◌+◌, ℕ, suc, [], IfOk, IfSome, None, length, if◌then◌else◌};
 ghost use Rattle.std.specs.Option.{option_and_then};
-ghost use Rattle.diva_decode.specs.Table.{row_of};
-ghost use Rattle.diva_isa.specs.State.{State};
+ghost use Rattle.diva_decode.specs.Table.{HasRegisters, row_of};
+ghost use Rattle.diva_isa.specs.State.{State, word_of};
 ghost use Rattle.diva_ahead.specs.Ahead.{is_epoch};
-ghost use Rattle.diva_ooo.specs.Ooo.{IsOooCall, call_of, completed, dropped, fetched, fetching, handed_over, new_pipeline, ooo_call, restarted, with_issued, with_word, worked};
+ghost use Rattle.diva_ooo.specs.Ooo.{IsOooCall, call_of, completed, dropped, fetched, fetching, handed_over, new_pipeline, ooo_call, refilled, restarted, with_issued, with_word, worked};
 
 use crate::entry::{Entry, Stage};
 use crate::finishing::{Turn, finish};
@@ -14,6 +14,7 @@ use crate::profile::Profile;
 use crate::window::Window;
 use diva_ahead::Ahead;
 use diva_core::{Claims, Core, Told, View};
+use diva_decode::Instr;
 use diva_isa::{Effect, Record, decoded_of, effect_of};
 use std::alloc::{AllocError, Global};
 use std::marker::Model;
@@ -158,22 +159,50 @@ impl Ooo {
     }
 
     // Adds an entry, where there is room for it and the fetch goes on.
+    #[inline(always)]
     #[tactic(auto, unfolding(crate::specs::Ooo::fetched))]
     fn fetch(&mut self, view: &View<'_>)
         ensures { self.new ≡ fetched self.old view.now }
     {
         if self.window.len() < Window::MOST && !self.dry && !self.ahead.stopped() {
-            self.add(view.word(self.fetch_pc));
+            self.fetch_next(view);
         }
     }
 
-    // Adds an entry of a word.
-    fn add(&mut self, word: Option<u32>)
+    // Adds an entry of the word that is fetched next.
+    #[inline(never)]
+    fn fetch_next(&mut self, view: &View<'_>)
         requires { length self.old.window < 32 }
-        ensures { self.new ≡ with_word self.old word (option_and_then row_of word) }
+        ensures { self.new ≡ with_word self.old (word_of view.now self.old.fetch_pc)
+            (option_and_then row_of (word_of view.now self.old.fetch_pc)) }
+    {
+        let word = view.word(self.fetch_pc);
+        match decoded_of(word) {
+            Some(i) => self.add(word, Some(i)),
+            None => self.add_unread(word),
+        }
+    }
+
+    // Adds an entry of a word that says nothing, or of none.
+    #[cold]
+    #[inline(never)]
+    fn add_unread(&mut self, word: Option<u32>)
+        requires room { length self.old.window < 32 }
+        requires says { option_and_then row_of word ≡ None }
+        ensures { self.new ≡ with_word self.old word None }
+    {
+        self.add(word, None);
+    }
+
+    // Adds an entry of a word; `decoded` is what it says.
+    #[inline(always)]
+    fn add(&mut self, word: Option<u32>, decoded: Option<Instr>)
+        requires room { length self.old.window < 32 }
+        requires says { decoded ≡ option_and_then row_of word }
+        requires registers { IfSome decoded HasRegisters }
+        ensures { self.new ≡ with_word self.old word decoded }
     {
         let pc = self.fetch_pc;
-        let decoded = decoded_of(word);
         self.fetch_pc = predicted(decoded, pc);
         self.dry = word.is_none();
         self.window.push(Entry {
@@ -188,16 +217,17 @@ impl Ooo {
         });
     }
 
-    // All that follows once the core is of the machine's epoch.
-    #[tactic(auto, unfolding(crate::specs::Ooo::worked))]
-    fn work(&mut self, told: &Told, view: &View<'_>, out: &mut Claims)
-        requires { out.old ≡ [] }
-        ensures lists { out.new ≡ (worked self.old told.now view.now).list }
-        ensures keeps { self.new ≡ (worked self.old told.now view.now).core }
+    // All that follows once the core is of the machine's epoch, and what is no longer pending was dropped.
+    #[inline(never)]
+    fn work(&mut self, room: u32, view: &View<'_>, out: &mut Claims)
+        requires list { out.old ≡ [] }
+        requires room { room ≤ 4 }
+        requires ring { length self.old.ahead.ring + room ≤ 64 }
+        ensures { let now = completed self.old in
+            call_of out.new self.new ≡ refilled (handed_over room view.now [] now now.window) view.now }
     {
-        self.trim(told);
         self.finish();
-        self.hand_over(told.room, out);
+        self.hand_over(room, out);
         self.issue(view);
         self.fetch(view);
         self.fetch(view);
@@ -209,13 +239,16 @@ impl Core for Ooo {
 
     ghost gives = { IsOooCall };
 
-    #[tactic(auto, unfolding(crate::specs::Ooo::ooo_call))]
+    #[inline(always)]
+    #[tactic(auto, unfolding(crate::specs::Ooo::ooo_call, crate::specs::Ooo::worked))]
     fn cycle(&mut self, told: &Told, view: &View<'_>, out: &mut Claims) {
         if self.ahead.is_of(told.epoch) {
-            self.work(told, view, out);
+            self.trim(told);
+            self.work(told.room, view, out);
         } else if told.room != 0 {
             self.restart(told, view);
-            self.work(told, view, out);
+            self.trim(told);
+            self.work(told.room, view, out);
         }
     }
 }

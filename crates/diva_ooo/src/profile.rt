@@ -56,6 +56,7 @@ pub struct Profile {
 
 impl Profile {
     /// The profile of an instruction; `decoded` is what its word says.
+    #[inline(always)]
     pub fn of(decoded: Option<Instr>) -> Profile
         requires { IfSome decoded HasRegisters }
         ensures value { result ≡ profile_of decoded }
@@ -67,6 +68,7 @@ impl Profile {
         }
     }
 
+    #[inline(always)]
     fn by(i: &Instr) -> Profile
         requires { HasRegisters i.now }
         ensures value { result ≡ profile_by (kind i.now.op) i.now }

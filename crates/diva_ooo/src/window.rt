@@ -3,7 +3,7 @@ ghost use Rattle.std.specs.Prelude.{◌≡◌, ◌≤◌, ◌<◌, ◌+◌, ◌-
 ghost use Rattle.std.specs.List.{All, position_or_len};
 ghost use Rattle.diva_ooo.specs.declared.entry.Stage.TheVariants.{Done, Running};
 ghost use Rattle.diva_core.specs.Cycle.{is_store};
-ghost use Rattle.diva_ooo.specs.Board.{IsBoard, IsNextOf, can_at, passed};
+ghost use Rattle.diva_ooo.specs.Board.{IsBoard, IsNextOf, can_at};
 ghost use Rattle.diva_ooo.specs.Finish.{is_running};
 ghost use Rattle.diva_ooo.specs.Issue.{is_done, is_waiting, running, written};
 ghost use Rattle.diva_ooo.specs.Known.{IsKnown};
@@ -105,16 +105,32 @@ impl Window {
         }
     }
 
-    /// The place of the first entry that can begin, from a place on; how many there are where none can.
+    /// The place of the first entry that waits and may begin, from a place on; how many there are where none may.
     #[inline]
-    pub(crate) fn next_ready(&mut self, from: usize) -> usize
-        requires { from ≤ length self.old }
-        ensures value { result ≡ from + passed (take from self.old) (drop from self.old) }
-        ensures within { result ≤ length self.old }
+    pub(crate) fn next_candidate(&self, from: usize) -> usize
+        requires { from ≤ length self.now }
+        ensures behind { from ≤ result }
+        ensures within { result ≤ length self.now }
+        ensures waits { result < length self.now → holds_at (λ e. is_waiting e.stage) self.now result ≡ true }
+        ensures first { (i : ℕ) → from ≤ i → i < result → can_at [] self.now i ≡ false }
+    {
+        let len = self.len();
+        match self.board.next_candidate(from) {
+            Some(place) => place,
+            None => len,
+        }
+    }
+
+    /// Whether the entry at a place, which waits, can begin.
+    #[inline]
+    pub(crate) fn is_ready(&mut self, at: usize) -> bool
+        requires place { at < length self.old }
+        requires waits { holds_at (λ e. is_waiting e.stage) self.old at ≡ true }
+        ensures value { result ≡ can_at [] self.old at }
         ensures same { self.new ≡ self.old }
     {
         let _ = self.len();
-        next_ready(&self.entries, &mut self.board, from)
+        is_ready_at(&self.entries, &mut self.board, at)
     }
 
     /// The word in a register behind the entries before a place, of which those that are done have written theirs; before
@@ -163,6 +179,7 @@ impl Window {
     }
 
     /// Begins to run the entry at a place, which waits, and comes to a record that has this effect.
+    #[inline(always)]
     pub(crate) fn begin(&mut self, at: usize, r: Record, effect: Effect)
         requires waits { (e : Entry) → slice_get self.old at ≡ Some e → is_waiting e.stage ≡ true }
         requires place { at < length self.old }
@@ -181,14 +198,16 @@ impl Window {
     }
 
     /// Adds the youngest entry, which waits. There is room for it.
+    #[inline(always)]
     pub(crate) fn push(&mut self, entry: Entry)
         requires room { length self.old < 32 }
         requires known { IsKnown entry }
         requires waits { is_waiting entry.stage ≡ true }
         ensures { self.new ≡ self.old ++ entry ∷ [] }
     {
-        self.board.push(self.entries.len(), &entry.profile);
+        let at = self.entries.len();
         let _ = self.entries.try_push_back(entry);
+        self.board.push(at, &entry.profile);
     }
 
     /// Removes the oldest entry, if there is one. It is done.
@@ -224,28 +243,6 @@ impl Window {
         self.entries.clear();
         self.board = Board::new();
     }
-}
-
-// The place of the first entry that can begin, from a place on; how many there are where none can.
-fn next_ready(entries: &HeapCircularBuffer<Entry>, board: &mut Board, from: usize) -> usize
-    requires known { All IsKnown entries.now.items }
-    requires few { length entries.now.items ≤ 32 }
-    requires place { from ≤ length entries.now.items }
-    requires board { IsBoard entries.now.items board.old }
-    requires base { board.old.base < 32 }
-    ensures value { result ≡ from + passed (take from entries.now.items) (drop from entries.now.items) }
-    ensures within { result ≤ length entries.now.items }
-    ensures board { IsBoard entries.now.items board.new }
-    ensures base { board.new.base ≡ board.old.base }
-{
-    let mut at = from;
-    while let Some(place) = board.next_candidate(at) {
-        if is_ready_at(entries, board, place) {
-            return place;
-        }
-        at = place + 1;
-    }
-    entries.len()
 }
 
 // Whether the entry at a place, which waits, can begin; where it has not its sources, it is no candidate any more.

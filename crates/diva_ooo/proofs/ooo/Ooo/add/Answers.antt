@@ -3,4 +3,4 @@ use Rattle.diva_ooo.proofs.ooo.Ooo.add.Goals as goal
 
 pub push-requires-clause-known : goal.push-requires-clause-known
 push-requires-clause-known c =
-    rw (c.of.ensures.value, c.predicted-self-inside.ensures) (known_new c.self.inside.fetch_pc c.args.word c.decoded_of-decoded.result c.decoded_of-decoded.ensures.decoded c.decoded_of-decoded.ensures.registers (rw (← c.of.ensures.value) c.of.ensures.below))
+    rw (c.of.ensures.value, c.predicted-self-inside.ensures) (known_new c.self.inside.fetch_pc c.args.word c.args.decoded c.requires.says c.requires.registers (rw (← c.of.ensures.value) c.of.ensures.below))
