@@ -81,7 +81,7 @@ merge_at m e (suc (suc (suc zero))) lt =
 merge_at m e (suc (suc (suc (suc i)))) lt = absurd (omega arith)
 
 -- any other address
-merge_apart : (m : Bytes) (e : Masked) (a : ℕ) → (e.addr ≤ a → a < e.addr + 4 → ⊥) → byte_at (merge m e) a ≡ byte_at m a
+pub merge_apart : (m : Bytes) (e : Masked) (a : ℕ) → (e.addr ≤ a → a < e.addr + 4 → ⊥) → byte_at (merge m e) a ≡ byte_at m a
 unfolding merge
 merge_apart m e a h =
     lane_apart e 3 a _ (λ k. h (omega arith) (omega arith)) ∙ lane_apart e 2 a _ (λ k. h (omega arith) (omega arith))

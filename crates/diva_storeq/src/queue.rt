@@ -1,5 +1,5 @@
 // The stores that are not in memory yet, the oldest first.
-ghost use Rattle.std.specs.Prelude.{◌≡◌, ◌≤◌, ◌<◌, ℕ, ◌+◌, ◌-◌, ◌%◌, ◌^◌, ◌==◌, ◌⊎◌, ◌↔◌, [], ◌∷◌, ◌++◌, drop, take, length, slice_get, IfOk, IsSome};
+ghost use Rattle.std.specs.Prelude.{◌≡◌, ◌≤◌, ◌<◌, ℕ, ◌+◌, ◌-◌, ◌%◌, ◌^◌, ◌==◌, ◌⊎◌, ◌↔◌, [], ◌∷◌, ◌++◌, drop, take, length, slice_get, IfOk, IsSome, IsTrue};
 ghost use Rattle.std.specs.Option.{ForSome};
 ghost use Rattle.circular_buffer.specs.Buffer.{Buffer, buffer};
 ghost use Rattle.diva_memory.specs.Bytes.{Bytes, IsInside, byte_at, word_at};
@@ -14,9 +14,15 @@ use std::marker::Model;
 /// mask of the bytes that it writes.
 ///
 /// A reader of memory sees them laid over it, so that a load gets what the stores before it wrote.
+///
+/// Most reads are of words to which no store goes. So the queue knows an interval of addresses in which the words of its
+/// stores lie: a word outside of that is memory's.
 #[derive(Drop)]
 pub struct StoreQueue {
     entries: HeapCircularBuffer<Masked>,
+    /// The lowest address of the interval, and the highest.
+    low: u32,
+    high: u32,
 }
 
 impl Model for StoreQueue {
@@ -26,11 +32,11 @@ impl Model for StoreQueue {
     ghost Value = { Buffer Masked };
 
     ghost use Rattle.std.specs.List.{All};
-    ghost use Rattle.diva_storeq.specs.Masked.{IsMasked};
+    ghost use Rattle.diva_storeq.specs.Masked.{IsMasked, IsBetween};
 
     ghost view = { λ q. q.entries };
 
-    ghost invariant = { λ q. All IsMasked q.entries.items };
+    ghost invariant = { λ q. All IsMasked q.entries.items × All (IsBetween q.low q.high) q.entries.items };
 }
 
 impl StoreQueue {
@@ -43,6 +49,8 @@ impl StoreQueue {
     {
         Ok(StoreQueue {
             entries: HeapCircularBuffer::with_capacity(alloc, cap)?,
+            low: 0,
+            high: 0,
         })
     }
 
@@ -86,7 +94,15 @@ impl StoreQueue {
         ensures others { (m : Bytes) (a : ℕ) → ¬ IsInside (bytes_of s) a 1
             → byte_at (laid m self.new.items) a ≡ byte_at (laid m self.old.items) a }
     {
-        let _ = self.entries.try_push_back(s.masked());
+        let entry = s.masked();
+        if self.entries.is_empty() {
+            self.low = entry.addr;
+            self.high = entry.addr;
+        } else {
+            self.low = self.low.min(entry.addr);
+            self.high = self.high.max(entry.addr);
+        }
+        let _ = self.entries.try_push_back(entry);
     }
 
     /// Writes the oldest store to memory, where all its bytes are inside. Where there is no store,
@@ -112,6 +128,9 @@ impl StoreQueue {
         ensures value { result ≡ byte_at (laid memory.now self.now.items) addr }
         ensures inside { IsSome result ↔ IsInside memory.now addr 1 }
     {
+        if self.owed() == 0 {
+            return memory.byte(addr);
+        }
         let mut byte = memory.byte(addr)?;
         for entry in self.entries.iter() {
             byte = entry.byte(addr).unwrap_or(byte);
@@ -126,10 +145,18 @@ impl StoreQueue {
         ensures value { result ≡ word_at (laid memory.now self.now.items) addr }
         ensures inside { IsSome result ↔ ((addr % 4 ≡ 0) × IsInside memory.now addr 4) }
     {
-        if self.owed() == 0 {
+        if self.is_clear(addr) {
             return memory.word(addr);
         }
         self.merged(memory, addr)
+    }
+
+    // Whether there is no store, or the word at an address is outside the interval of those that the stores go to.
+    #[inline(always)]
+    fn is_clear(&self, addr: u32) -> bool
+        ensures { IsTrue result → (m : Bytes) → word_at (laid m self.now.items) addr ≡ word_at m addr }
+    {
+        self.owed() == 0 || addr < self.low || self.high < addr
     }
 
     // The same, with the entries laid over the word one after the other.
