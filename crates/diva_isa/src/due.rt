@@ -34,6 +34,7 @@ pub struct Due {
 /// 2.0.)
 ///
 /// `specs/Step.antt` has a table of it, kind by kind.
+#[inline(always)]
 pub fn record_of<L: Look>(state: &L) -> Record
     ensures { result ≡ record_of (L.shows state.now) }
 {
@@ -53,6 +54,7 @@ pub fn decoded_of(fetched: Option<u32>) -> Option<Instr>
 }
 
 /// The same record, where the word of the next instruction was fetched already: `decoded` is what it says.
+#[inline(always)]
 pub fn record_by<L: Look>(state: &L, fetched: Option<u32>, decoded: Option<Instr>) -> Record
     requires word { let s = L.shows state.now in fetched ≡ word_of s s.pc }
     requires decoded { decoded ≡ option_and_then row_of fetched }
@@ -74,13 +76,14 @@ pub fn due_by<L: Look>(state: &L, fetched: Option<u32>, decoded: Option<Instr>) 
     ensures register { HasRegister result.effect }
 {
     let word = fetched.unwrap_or(0);
-    match decoded {
-        // The kinds that programs have most of are told apart first: what is done for such a kind is then one piece.
+    match &decoded {
+        // The kinds that programs have most of are told apart first: what is done for such a kind is then one piece, and a
+        // short one, since no memory is looked at.
         Some(i) => match kind_of(i.op) {
-            Kind::OpImm => due_as(state, word, &i, Kind::OpImm),
-            Kind::OpReg => due_as(state, word, &i, Kind::OpReg),
-            Kind::Branch => due_as(state, word, &i, Kind::Branch),
-            kind => due_as(state, word, &i, kind),
+            Kind::OpImm => due_computed(state, word, i, Kind::OpImm),
+            Kind::OpReg => due_computed(state, word, i, Kind::OpReg),
+            Kind::Branch => due_computed(state, word, i, Kind::Branch),
+            kind => due_as(state, word, i, kind),
         },
         None => Due {
             record: unread(state.pc(), fetched),
@@ -99,8 +102,35 @@ fn due_as<L: Look>(state: &L, word: u32, i: &Instr, kind: Kind) -> Due
     ensures effect { result.effect ≡ effect kind i.now result.record }
     ensures register { HasRegister result.effect }
 {
+    let r = begun(state, word, i, kind);
+    completed(r, i, come_to(state, i, &r, kind), kind)
+}
+
+/// The same of a kind that looks at no memory and does not call the environment.
+#[inline(always)]
+fn due_computed<L: Look>(state: &L, word: u32, i: &Instr, kind: Kind) -> Due
+    requires registers { HasRegisters i.now }
+    requires memory { moves_memory kind ≡ false }
+    requires call { kind ≢ Kind.Ecall }
+    ensures record { let s = L.shows state.now in let a = source1 kind s i.now in let b = source2 kind s i.now in
+        let addr = address kind i.now a in
+        result.record ≡ record_with s.pc word a b addr (outcome kind s i.now s.pc a b addr) }
+    ensures effect { result.effect ≡ effect kind i.now result.record }
+    ensures register { HasRegister result.effect }
+{
+    let r = begun(state, word, i, kind);
+    completed(r, i, compute(kind, i, &r), kind)
+}
+
+/// The first five fields of the record of an instruction of a kind; the others are 0.
+#[inline(always)]
+fn begun<L: Look>(state: &L, word: u32, i: &Instr, kind: Kind) -> Record
+    requires { HasRegisters i.now }
+    ensures { let s = L.shows state.now in let a = source1 kind s i.now in
+        result ≡ record { pc = s.pc; word = word; src1 = a; src2 = source2 kind s i.now; addr = address kind i.now a; value = 0; next = 0; end = 0 } }
+{
     let read = reads(state, i, kind);
-    let r = Record {
+    Record {
         pc: state.pc(),
         word,
         src1: read.first,
@@ -109,8 +139,18 @@ fn due_as<L: Look>(state: &L, word: u32, i: &Instr, kind: Kind) -> Due
         value: 0,
         next: 0,
         end: 0,
-    };
-    let record = r.ending_in(come_to(state, i, &r, kind));
+    }
+}
+
+/// A record that comes to an outcome, with its effect.
+#[inline(always)]
+fn completed(r: Record, i: &Instr, outcome: Outcome, kind: Kind) -> Due
+    requires { HasRegisters i.now }
+    ensures record { result.record ≡ record r { value = outcome.value; next = outcome.next; end = outcome.end } }
+    ensures effect { result.effect ≡ effect kind i.now result.record }
+    ensures register { HasRegister result.effect }
+{
+    let record = r.ending_in(outcome);
     let effect = effect_as(i, &record, kind);
     Due { record, effect }
 }

@@ -61,6 +61,7 @@ pub trait Look {
     /// outside memory. The address is a multiple of the width.
     ///
     /// It is read byte by byte, unless an implementation has a shorter way.
+    #[inline(always)]
     fn number(&self, addr: u32, width: Width) -> Option<u32>
         requires { addr % size width ≡ 0 }
         ensures { result ≡ number_of (shows self.now) (size width) addr }
@@ -82,6 +83,7 @@ pub trait Look {
     /// Whether all bytes of this width from an address on are inside memory. The address is a multiple of the width.
     ///
     /// They are read, unless an implementation has a shorter way.
+    #[inline(always)]
     fn has(&self, addr: u32, width: Width) -> bool
         requires { addr % size width ≡ 0 }
         ensures { result ≡ is_some (number_of (shows self.now) (size width) addr) }
