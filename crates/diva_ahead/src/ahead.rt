@@ -109,21 +109,23 @@ impl Ahead {
         ensures { self.new ≡ synced self.old told.now view.now }
     {
         if !self.is_of(told.epoch) {
-            self.begin(told, view);
+            self.begin(told.epoch, view.regs(), view.pc(), view.out_len());
         }
     }
 
-    // Takes the machine's state: where the machine has flushed, and at first.
+    // Takes the machine's state: where the machine has flushed, and at first. It gets the parts that it takes, so that the view
+    // can stay in registers.
     #[cold]
     #[inline(never)]
     #[tactic(auto, unfolding(crate::specs::Ahead::begun))]
-    fn begin(&mut self, told: &Told, view: &View<'_>)
-        ensures { self.new ≡ begun told.now view.now }
+    fn begin(&mut self, epoch: u64, regs: &Regs, pc: u32, out_len: u32)
+        ensures { (told : Told) (s : State) → told.epoch ≡ epoch → s.regs ≡ regs.now → s.pc ≡ pc → length s.output ≡ out_len
+            → self.new ≡ begun told s }
     {
-        self.epoch = Some(told.epoch);
-        self.regs = *view.regs();
-        self.pc = view.pc();
-        self.out_len = view.out_len();
+        self.epoch = Some(epoch);
+        self.regs = *regs;
+        self.pc = pc;
+        self.out_len = out_len;
         self.ring.clear();
         self.stopped = false;
     }

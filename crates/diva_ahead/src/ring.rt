@@ -1,5 +1,5 @@
 // What the records that a core handed over did, the oldest first.
-ghost use Rattle.std.specs.Prelude.{◌≡◌, ◌≤◌, ◌<◌, ◌+◌, ◌-◌, ◌%◌, [], ◌∷◌, ◌++◌, length, drop, IfOk, IsSome, IsTrue, Some, true};
+ghost use Rattle.std.specs.Prelude.{◌≡◌, ◌≤◌, ◌<◌, ◌+◌, ◌-◌, ◌%◌, [], ◌∷◌, ◌++◌, length, drop, IfOk, IfSome, IsSome, IsTrue, Some, true};
 ghost use Rattle.std.specs.List.{list_all};
 ghost use Rattle.diva_isa.specs.State.{State, byte_of, word_of};
 ghost use Rattle.diva_core.specs.Effects.{is_apart, with_effects};
@@ -129,14 +129,18 @@ impl Ring {
         if self.is_clear(addr, 4) {
             return Some(word);
         }
-        self.latest(view, addr, word)
+        match self.latest(addr, word) {
+            Some(latest) => Some(latest),
+            None => self.overlaid(view, addr),
+        }
     }
 
-    // The same, where `word` is the one in the view: most stores near a word are apart from it, or cover it whole.
+    // The same, where `word` is the one in the view: most stores near a word are apart from it, or cover it whole. `None` where
+    // one of them does neither.
     #[inline(never)]
-    fn latest(&self, view: &View<'_>, addr: u32, word: u32) -> Option<u32>
-        requires { word_of view.now addr ≡ Some word }
-        ensures { result ≡ word_of (with_effects view.now self.now) addr }
+    fn latest(&self, addr: u32, word: u32) -> Option<u32>
+        ensures { IfSome result (λ latest. (s : State) → word_of s addr ≡ Some word
+            → word_of (with_effects s self.now) addr ≡ Some latest) }
     {
         let mut latest = word;
         for effect in self.effects.iter() {
@@ -147,7 +151,7 @@ impl Ring {
                     value,
                 } if from == addr => latest = value,
                 _ if is_apart(effect, addr, 4) => {}
-                _ => return self.overlaid(view, addr),
+                _ => return None,
             }
         }
         Some(latest)

@@ -34,6 +34,7 @@ impl Look for Stand<'_> {
         self.ahead.ring().word(self.view, addr)
     }
 
+    #[inline(always)]
     #[tactic(auto, using(diva_core::proofs::Laying::effects_there))]
     fn has(&self, addr: u32, width: Width) -> bool {
         self.view.has(addr, width)

@@ -11,9 +11,9 @@ loop-effect-preserved-then-from-addr c =
     let w = c.in-Stores-Word-default-default in
     let whole : c.in-Some.effect.now ≡ Stores Word c.args.addr w.value = search rules in
     let fits : w.value < 2 ^ 32 = search rules in
-    simp map-append (rw whole (whole_more c.args.view.now es c.args.addr w.value c.loop-effect.latest fits c.loop-effect.invariant))
+    λ s here. simp map-append (rw whole (whole_more s es c.args.addr w.value c.loop-effect.latest fits (c.loop-effect.invariant s here)))
 
 pub loop-effect-preserved : goal.loop-effect-preserved
 loop-effect-preserved c =
     let es = map (λ e. e.now) c.loop-effect.yielded in
-    simp map-append (apart_more c.args.view.now es c.in-Some.effect.now c.args.addr c.loop-effect.latest (sym c.is_apart.ensures ∙ c.if-is_apart.true) c.loop-effect.invariant)
+    λ s here. simp map-append (apart_more s es c.in-Some.effect.now c.args.addr c.loop-effect.latest (sym c.is_apart.ensures ∙ c.if-is_apart.true) (c.loop-effect.invariant s here))
