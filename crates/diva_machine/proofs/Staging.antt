@@ -23,8 +23,9 @@ use Rattle.diva_core.specs.Timed.{Timed, PendingClaim}
 use Rattle.diva_core.proofs.Bypassing.{after_goes, before_is}
 use Rattle.diva_core.proofs.Leaving.{claims_alike, future_begun}
 use Rattle.diva_machine.specs.Machine.{pending_claim_of}
-use Rattle.diva_machine.specs.Staged.{AreChecked, AreInOrder, IsAdvanced, IsChecked, IsFilled, IsSoloFilled, IsStaged, Parts, last_stage, passed_by}
-use Rattle.diva_machine.proofs.Verdicts.{form_kept, form_whole, stays_found, verdict_past, whole_verdict}
+use Rattle.diva_machine.specs.declared.stages.Stage.{Stage}
+use Rattle.diva_machine.specs.Staged.{age_of, earlier_of, own_of, AreChecked, AreInOrder, IsAdvanced, IsChecked, IsFilled, IsSoloFilled, IsStaged, Parts, last_stage, passed_by}
+use Rattle.diva_machine.proofs.Verdicts.{age_from, before_of, decodes_none, form_kept, form_whole, found_by, stays_found, verdict_past, whole_verdict}
 
 -- ---- entries by place
 
@@ -166,7 +167,7 @@ answers_there arch view entries at earlier own p v is answer = λ on.
     subst (λ (s : State). Answers earlier own (before_entry s entries at) p v) same answer on
 
 -- what its stage answers of an entry without a verdict is its verdict
-pub stage_passed :
+stage_passed :
     (arch view : State) (entries new : List Entry) (now at a : ℕ) (e : Entry) (earlier : List Field) (own : Bool → List Field) (v : Option Diff)
     → slice_get entries at ≡ Some e → new ≡ slice_set entries at (record e { verdict = v }) → view ≡ record arch { end = 0 } → now + 1 ≡ suc a + e.cycle → a ≢ 1
     → Answers earlier own (before_entry view entries at) e.claim v
@@ -217,7 +218,7 @@ verdict_kept arch entries now at a e here found age other adv =
     adv
 
 -- what its stage answers of an entry is its verdict, unless it has one
-pub stage_noted :
+stage_noted :
     (arch view : State) (entries new : List Entry) (now at a : ℕ) (e : Entry) (earlier : List Field) (own : Bool → List Field) (v : Option Diff)
     → slice_get entries at ≡ Some e → new ≡ slice_set entries at (record e { verdict = option_or e.verdict v }) → view ≡ record arch { end = 0 } → now + 1 ≡ suc a + e.cycle → a ≢ 1
     → Answers earlier own (before_entry view entries at) e.claim v
@@ -242,7 +243,7 @@ or_first None v h = absurd (true≢false (sym h))
 or_first (Some d) v h = refl
 
 -- where that is no difference, it stays as it is
-pub stage_agreed :
+stage_agreed :
     (arch view : State) (entries : List Entry) (now at a : ℕ) (e : Entry) (earlier : List Field) (own : Bool → List Field) (v : Option Diff)
     → slice_get entries at ≡ Some e → is_some v ≡ false → view ≡ record arch { end = 0 } → now + 1 ≡ suc a + e.cycle → a ≢ 1
     → Answers earlier own (before_entry view entries at) e.claim v
@@ -253,6 +254,23 @@ stage_agreed arch view entries now at a e earlier own None here none shows age o
     (sym (ap (λ (w : Option Diff). slice_set entries at (record e { verdict = w })) (or_none e.verdict) ∙ set_same entries at e here))
     shows age other answer found adv
 stage_agreed arch view entries now at a e earlier own (Some d) here none shows age other answer found adv = absurd (true≢false none)
+
+-- the same of a stage that compares
+module _ (arch view : State) (entries : List Entry) (now at : ℕ) (stage : Stage) (e : Entry) (v : Option Diff) where
+  age_before : now + 1 ≡ age_of stage + e.cycle → now + 1 ≡ suc (before_of stage) + e.cycle
+  age_before age = age ∙ ap (λ (n : ℕ). n + e.cycle) (age_from stage)
+
+  pub check_noted : (new : List Entry) → slice_get entries at ≡ Some e → new ≡ slice_set entries at (record e { verdict = option_or e.verdict v }) → view ≡ record arch { end = 0 }
+      → now + 1 ≡ age_of stage + e.cycle → Answers (earlier_of stage) (own_of stage) (before_entry view entries at) e.claim v
+      → IsAdvanced arch now at entries → IsAdvanced arch now (at + 1) new
+  check_noted new here is shows age answer =
+      stage_noted arch view entries new now at (before_of stage) e (earlier_of stage) (own_of stage) v here is shows (age_before age) (decodes_none stage) answer (λ none s. found_by s e stage v none)
+
+  pub check_agreed : slice_get entries at ≡ Some e → is_some v ≡ false → view ≡ record arch { end = 0 }
+      → now + 1 ≡ age_of stage + e.cycle → Answers (earlier_of stage) (own_of stage) (before_entry view entries at) e.claim v
+      → IsAdvanced arch now at entries → IsAdvanced arch now (at + 1) entries
+  check_agreed here none shows age answer =
+      stage_agreed arch view entries now at (before_of stage) e (earlier_of stage) (own_of stage) v here none shows (age_before age) (decodes_none stage) answer (λ none s. found_by s e stage v none)
 
 -- ---- claims in the order in which they were accepted
 

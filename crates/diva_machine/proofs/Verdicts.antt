@@ -11,8 +11,10 @@ use Rattle.diva_core.specs.declared.differences.Field.{Field}
 use Rattle.diva_core.specs.declared.differences.Diff.{Diff}
 use Rattle.diva_core.specs.declared.pending.Entry.{Entry}
 use Rattle.diva_core.specs.Difference.{difference_in, field_of, first_difference}
-use Rattle.diva_core.specs.Stages.{Answers, HasVerdict, fields_at, fetch_fields, operand_fields, read_fields, address_fields, outcome_fields, execute_fields, memory_fields, is_memory}
-use Rattle.diva_machine.specs.Staged.{decoded_at, last_stage}
+use Rattle.diva_core.specs.Stages.{Answers, HasVerdict, fields_at, fetch_fields, operand_fields, address_fields, outcome_fields, execute_fields, memory_fields, is_memory}
+use Rattle.diva_machine.specs.declared.stages.Stage.{Stage}
+use Rattle.diva_machine.specs.declared.stages.Stage.TheVariants.{Fetch, Operands, Execute, Access}
+use Rattle.diva_machine.specs.Staged.{age_of, decoded_at, earlier_of, last_stage, own_of}
 
 -- the verdict of a claim p of an age, where r is due
 abbrev pub verdict_at : ℕ → Record → Record → Option Diff
@@ -62,6 +64,26 @@ none_first : (c d : Option Diff) → None ≡ first_of_two c d → c ≡ None
 none_first None d h = refl
 none_first (Some c) d h = absurd (none-some _ h)
 
+-- the age of a claim that comes to a stage
+abbrev pub before_of : Stage → ℕ
+before_of Fetch = 0
+before_of Operands = 2
+before_of Execute = 3
+before_of Access = 4
+
+pub age_from : (stage : Stage) → age_of stage ≡ suc (before_of stage)
+age_from Fetch = refl
+age_from Operands = refl
+age_from Execute = refl
+age_from Access = refl
+
+-- it does not decode
+pub decodes_none : (stage : Stage) → before_of stage ≢ 1
+decodes_none Fetch = λ is. omega arith
+decodes_none Operands = λ is. omega arith
+decodes_none Execute = λ is. omega arith
+decodes_none Access = λ is. omega arith
+
 -- what the memory stage needs of the earlier fields
 address_agrees : (memory : Bool) (p r : Record) → difference_in (fields_at 4 memory) p r ≡ None → difference_in address_fields p r ≡ None
 address_agrees true p r h = h
@@ -84,17 +106,12 @@ module _ (s : State) (e : Entry) where
       let old : None ≡ verdict_at a e.claim (record_of s) = sym was ∙ h on in
       answer on (sym old) ∙ ap (λ o. first_of_two o (difference_in (own_at a (is_memory (record_of s))) e.claim (record_of s))) old ∙ sym (verdict_more a e.claim (record_of s))
 
-  pub found_fetch : (v : Option Diff) → e.verdict ≡ None → Answers [] (λ memory. fetch_fields) s e.claim v → HasVerdict s 0 e → HasVerdict s 1 (record e { verdict = v })
-  found_fetch v was answer = found_next 0 v was (λ on agrees. answer on agrees)
-
-  pub found_operands : (v : Option Diff) → e.verdict ≡ None → Answers fetch_fields (λ memory. operand_fields) s e.claim v → HasVerdict s 2 e → HasVerdict s 3 (record e { verdict = v })
-  found_operands v was answer = found_next 2 v was (λ on agrees. answer on agrees)
-
-  pub found_execute : (v : Option Diff) → e.verdict ≡ None → Answers read_fields execute_fields s e.claim v → HasVerdict s 3 e → HasVerdict s 4 (record e { verdict = v })
-  found_execute v was answer = found_next 3 v was (λ on agrees. answer on agrees)
-
-  pub found_memory : (v : Option Diff) → e.verdict ≡ None → Answers address_fields memory_fields s e.claim v → HasVerdict s 4 e → HasVerdict s 5 (record e { verdict = v })
-  found_memory v was answer = found_next 4 v was (λ on agrees. answer on (address_agrees (is_memory (record_of s)) e.claim (record_of s) agrees))
+  -- what a stage finds
+  pub found_by : (stage : Stage) (v : Option Diff) → e.verdict ≡ None → Answers (earlier_of stage) (own_of stage) s e.claim v → HasVerdict s (before_of stage) e → HasVerdict s (suc (before_of stage)) (record e { verdict = v })
+  found_by Fetch v was answer = found_next 0 v was (λ on agrees. answer on agrees)
+  found_by Operands v was answer = found_next 2 v was (λ on agrees. answer on agrees)
+  found_by Execute v was answer = found_next 3 v was (λ on agrees. answer on agrees)
+  found_by Access v was answer = found_next 4 v was (λ on agrees. answer on (address_agrees (is_memory (record_of s)) e.claim (record_of s) agrees))
 
   -- nor behind the last one
   pub verdict_past : (a : ℕ) → last_stage ≤ a → HasVerdict s a e → HasVerdict s (suc a) e

@@ -9,8 +9,11 @@ use Rattle.diva_core.specs.declared.pending.Entry.{Entry}
 use Rattle.diva_core.specs.Future.{FutureFile, IsFuture, committed_file, without_oldest}
 use Rattle.diva_core.specs.Older.{before_entry}
 use Rattle.diva_core.specs.Difference.{difference_in}
-use Rattle.diva_core.specs.Stages.{fields_at, HasVerdict}
+use Rattle.diva_core.specs.declared.differences.Field.{Field}
+use Rattle.diva_core.specs.Stages.{fields_at, HasVerdict, fetch_fields, operand_fields, execute_fields, memory_fields, read_fields, address_fields}
 use Rattle.diva_core.specs.Timed.{Timed, PendingClaim}
+use Rattle.diva_machine.specs.declared.stages.Stage.{Stage}
+use Rattle.diva_machine.specs.declared.stages.Stage.TheVariants.{Fetch, Operands, Execute, Access}
 use Rattle.diva_machine.specs.Machine.{pending_claim_of}
 
 -- the decoded form of a claim with this word: it is noted at age 2
@@ -34,6 +37,27 @@ AreChecked arch now entries =
 -- the age at which a claim passes through the last stage
 abbrev pub last_stage : ℕ
 last_stage = 5
+
+-- the age at which a claim passes through a stage that compares
+abbrev pub age_of : Stage → ℕ
+age_of Fetch = 1
+age_of Operands = 3
+age_of Execute = 4
+age_of Access = last_stage
+
+-- the fields that such a stage compares; `memory` says whether the due record is a load or a store
+abbrev pub own_of : Stage → (memory : Bool) → List Field
+own_of Fetch memory = fetch_fields
+own_of Operands memory = operand_fields
+own_of Execute memory = execute_fields memory
+own_of Access memory = memory_fields memory
+
+-- those that have to agree before: where they do not, nothing is said of its answer
+abbrev pub earlier_of : Stage → List Field
+earlier_of Fetch = []
+earlier_of Operands = fetch_fields
+earlier_of Execute = read_fields
+earlier_of Access = address_fields
 
 -- how many of the claims, from the oldest on, are past the last stage
 abbrev pub passed_by : (now : ℕ) → List PendingClaim → ℕ

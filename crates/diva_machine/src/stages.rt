@@ -5,9 +5,9 @@ ghost use Rattle.diva_decode.specs.Table.{row_of};
 ghost use Rattle.diva_core.specs.declared.pending.Entry.{Entry};
 ghost use Rattle.diva_core.specs.Future.{IsFuture};
 ghost use Rattle.diva_core.specs.Older.{before_entry};
-ghost use Rattle.diva_core.specs.Stages.{Answers, address_fields, memory_fields};
+ghost use Rattle.diva_core.specs.Stages.{Answers};
 ghost use Rattle.diva_machine.specs.Machine.{pending_claim_of};
-ghost use Rattle.diva_machine.specs.Staged.{HasPassed, IsFilled, last_stage};
+ghost use Rattle.diva_machine.specs.Staged.{HasPassed, IsFilled, age_of, earlier_of, last_stage, own_of};
 
 use crate::arch::Arch;
 use diva_core::{Diff, Field, FutureFile, Pending, View};
@@ -43,29 +43,30 @@ pub(crate) fn pass(pending: &mut Pending, future: &mut FutureFile, at: usize, ar
     }
 }
 
+/// A stage that compares, and what it compares.
+#[derive(Clone, Copy, Debug, PartialEq, Eq)]
+enum Stage {
+    /// The pc, and the word there.
+    Fetch,
+    /// The words that the instruction reads.
+    Operands,
+    /// The address, and what the instruction comes to, unless it is a load or a store.
+    Execute,
+    /// What a load or a store comes to.
+    Access,
+}
+
 /// The stage of the fetch.
 #[inline(always)]
 fn pass_fetch(pending: &mut Pending, at: usize, arch: &Arch)
     requires { at < length pending.old.items }
     ensures waits { map pending_claim_of pending.new.items ≡ map pending_claim_of pending.old.items }
     ensures capacity { pending.new.capacity ≡ pending.old.capacity }
-    ensures advanced { HasPassed arch.now.state 1 at pending.old.items pending.new.items }
+    ensures advanced { HasPassed arch.now.state (age_of Stage.Fetch) at pending.old.items pending.new.items }
 {
     if diva_fetchchk::check(pending, at, &arch.view()).is_some() {
-        note_fetch(pending, at, arch);
+        note_check(Stage::Fetch, pending, at, arch);
     }
-}
-
-#[cold]
-#[inline(never)]
-fn note_fetch(pending: &mut Pending, at: usize, arch: &Arch)
-    requires { at < length pending.old.items }
-    ensures waits { map pending_claim_of pending.new.items ≡ map pending_claim_of pending.old.items }
-    ensures capacity { pending.new.capacity ≡ pending.old.capacity }
-    ensures advanced { HasPassed arch.now.state 1 at pending.old.items pending.new.items }
-{
-    let found = diva_fetchchk::check(pending, at, &arch.view());
-    note(pending, at, found);
 }
 
 /// The stage of operands. The future file has the registers after the older claims, and takes in the result of this one.
@@ -104,15 +105,11 @@ fn note_operands(pending: &mut Pending, future: &mut FutureFile, at: usize, arch
     ensures capacity { pending.new.capacity ≡ pending.old.capacity }
     ensures advanced { HasPassed arch.now.state 3 at pending.old.items pending.new.items }
 {
-    if future.claims() != at {
-        note(pending, at, diva_opchk::check(pending, at, &arch.view()));
-        return;
+    if future.claims() == at {
+        let _ = pending.len();
+        future.keep(pending.at(at));
     }
-    let _ = pending.len();
-    let entry = pending.at(at);
-    let found = diva_opchk::check_in(entry, future.regs());
-    future.keep(entry);
-    note(pending, at, found);
+    note_check(Stage::Operands, pending, at, arch);
 }
 
 /// The stage that executes.
@@ -121,25 +118,13 @@ fn pass_execute(pending: &mut Pending, at: usize, arch: &Arch)
     requires { at < length pending.old.items }
     ensures waits { map pending_claim_of pending.new.items ≡ map pending_claim_of pending.old.items }
     ensures capacity { pending.new.capacity ≡ pending.old.capacity }
-    ensures advanced { HasPassed arch.now.state 4 at pending.old.items pending.new.items }
+    ensures advanced { HasPassed arch.now.state (age_of Stage.Execute) at pending.old.items pending.new.items }
 {
     if pending.at(at).decoded.is_none()
         || diva_execchk::check(pending, at, &arch.view()).is_some()
     {
-        note_execute(pending, at, arch);
+        note_check(Stage::Execute, pending, at, arch);
     }
-}
-
-#[cold]
-#[inline(never)]
-fn note_execute(pending: &mut Pending, at: usize, arch: &Arch)
-    requires { at < length pending.old.items }
-    ensures waits { map pending_claim_of pending.new.items ≡ map pending_claim_of pending.old.items }
-    ensures capacity { pending.new.capacity ≡ pending.old.capacity }
-    ensures advanced { HasPassed arch.now.state 4 at pending.old.items pending.new.items }
-{
-    let found = diva_execchk::check(pending, at, &arch.view());
-    note(pending, at, found);
 }
 
 /// The last stage: of a claim that is no load and no store it compares nothing, and needs no view.
@@ -164,31 +149,38 @@ fn pass_access(pending: &mut Pending, at: usize, arch: &Arch)
     ensures capacity { pending.new.capacity ≡ pending.old.capacity }
     ensures advanced { HasPassed arch.now.state LAST_STAGE at pending.old.items pending.new.items }
 {
-    if pending.at(at).decoded.is_none() || check_access(pending, at, &arch.view()).is_some() {
-        note_access(pending, at, arch);
+    if pending.at(at).decoded.is_none()
+        || diva_execchk::check_memory(pending, at, &arch.view()).is_some()
+    {
+        note_check(Stage::Access, pending, at, arch);
     }
 }
 
+/// Notes what the check of a stage finds in the claim at a place.
 #[cold]
 #[inline(never)]
-fn note_access(pending: &mut Pending, at: usize, arch: &Arch)
+fn note_check(stage: Stage, pending: &mut Pending, at: usize, arch: &Arch)
     requires { at < length pending.old.items }
     ensures waits { map pending_claim_of pending.new.items ≡ map pending_claim_of pending.old.items }
     ensures capacity { pending.new.capacity ≡ pending.old.capacity }
-    ensures advanced { HasPassed arch.now.state LAST_STAGE at pending.old.items pending.new.items }
+    ensures advanced { HasPassed arch.now.state (age_of stage) at pending.old.items pending.new.items }
 {
-    let found = check_access(pending, at, &arch.view());
+    let found = check(stage, pending, at, &arch.view());
     note(pending, at, found);
 }
 
-/// What the last stage finds of a load or a store.
-#[inline(always)]
-fn check_access(pending: &Pending, at: usize, view: &View<'_>) -> Option<Diff>
+/// What the check of a stage finds in the claim at a place.
+fn check(stage: Stage, pending: &Pending, at: usize, view: &View<'_>) -> Option<Diff>
     requires { at < length pending.now.items }
     ensures { (e : Entry) → slice_get pending.now.items at ≡ Some e
-        → Answers address_fields memory_fields (before_entry view.now pending.now.items at) e.claim result }
+        → Answers (earlier_of stage) (own_of stage) (before_entry view.now pending.now.items at) e.claim result }
 {
-    diva_execchk::check_memory(pending, at, view)
+    match stage {
+        Stage::Fetch => diva_fetchchk::check(pending, at, view),
+        Stage::Operands => diva_opchk::check(pending, at, view),
+        Stage::Execute => diva_execchk::check(pending, at, view),
+        Stage::Access => diva_execchk::check_memory(pending, at, view),
+    }
 }
 
 /// Decodes the claim at a place.

@@ -1,10 +1,8 @@
-use Rattle.std.proofs.Common.{sym, ◌∙◌, arith}
-use Rattle.diva_core.specs.Stages.{address_fields, memory_fields}
-use Rattle.diva_machine.proofs.Staging.{stage_agreed}
-use Rattle.diva_machine.proofs.Verdicts.{found_memory}
+use Rattle.std.proofs.Common.{sym, ◌∙◌}
+use Rattle.diva_machine.specs.declared.stages.Stage.TheVariants.{Access}
+use Rattle.diva_machine.proofs.Staging.{check_agreed}
 use Rattle.diva_machine.proofs.stages.pass_access.Goals as goal
 
 pub returns-else-is_some-clause-advanced : goal.returns-else-is_some-clause-advanced
 returns-else-is_some-clause-advanced c = λ now e here age adv.
-    stage_agreed _ _ _ now c.args.at 4 e address_fields memory_fields _ here (sym c.is_some.ensures ∙ c.if-is_some.false) c.view.ensures (omega arith) (λ z. omega arith) (c.check_access.ensures e here)
-    (λ none s. found_memory s e _ none) adv
+    check_agreed _ _ _ now c.args.at Access e _ here (sym c.is_some.ensures ∙ c.if-is_some.false) c.view.ensures age (c.check_memory.ensures e here) adv

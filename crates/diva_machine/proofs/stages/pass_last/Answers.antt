@@ -11,8 +11,8 @@ use Rattle.diva_core.specs.Difference.{difference_in}
 use Rattle.diva_core.specs.Older.{before_entry}
 use Rattle.diva_core.specs.Stages.{Answers, address_fields, memory_fields, read_fields, is_memory_by}
 use Rattle.diva_core.proofs.Agreeing.{same_memory}
-use Rattle.diva_machine.proofs.Staging.{stage_agreed}
-use Rattle.diva_machine.proofs.Verdicts.{found_memory}
+use Rattle.diva_machine.specs.declared.stages.Stage.TheVariants.{Access}
+use Rattle.diva_machine.proofs.Staging.{check_agreed}
 use Rattle.diva_machine.proofs.stages.pass_last.Goals as goal
 
 agrees_before : (p r : Record) → difference_in address_fields p r ≡ None → difference_in read_fields p r ≡ None
@@ -30,5 +30,5 @@ returns-in-Some-clause-advanced c = λ now e here age adv.
     let row : row_of c.at.result.now.claim.word ≡ Some c.in-Some.decoded = subst (λ (decoded : Option Instr). IfSome decoded (λ i. row_of c.at.result.now.claim.word ≡ Some i)) c.in-Some.is c.at.ensures.decoded in
     let apart : is_memory_by (Some c.in-Some.decoded) ≡ false = sym c.is_memory.ensures ∙ c.if-not-is_memory.true in
     let s = before_entry (record c.args.arch.now.state { end = 0 }) items c.args.at in
-    stage_agreed _ _ items now c.args.at 4 e address_fields memory_fields None here refl
-    refl (omega arith) (λ z. omega arith) (subst (λ (x : Entry). Answers address_fields memory_fields s x.claim None) same (answers_none s c.at.result.now.claim c.in-Some.decoded row apart)) (λ none t. found_memory t e None none) adv
+    check_agreed _ _ items now c.args.at Access e None here refl refl age
+    (subst (λ (x : Entry). Answers address_fields memory_fields s x.claim None) same (answers_none s c.at.result.now.claim c.in-Some.decoded row apart)) adv

@@ -1,4 +1,4 @@
-use Rattle.std.proofs.Common.{◌≡◌, Option, None, Some, slice_get, ap, refl, sym, ◌∙◌, arith, rules}
+use Rattle.std.proofs.Common.{◌≡◌, Option, None, Some, slice_get, ap, refl, sym, ◌∙◌, rules}
 use Rattle.std.specs.Option.{is_some}
 use Rattle.std.proofs.lemmas.Option.{same_Some}
 use Rattle.diva_isa.specs.State.{State}
@@ -7,8 +7,8 @@ use Rattle.diva_core.specs.Older.{before_entry}
 use Rattle.diva_core.specs.Stages.{Answers, fetch_fields, operand_fields}
 use Rattle.diva_core.proofs.Leaving.{future_kept}
 use Rattle.diva_core.proofs.Phases.{is_none-none}
-use Rattle.diva_machine.proofs.Staging.{future_there, stage_agreed}
-use Rattle.diva_machine.proofs.Verdicts.{found_operands}
+use Rattle.diva_machine.specs.declared.stages.Stage.TheVariants.{Operands}
+use Rattle.diva_machine.proofs.Staging.{check_agreed, future_there}
 use Rattle.diva_machine.proofs.stages.pass_operands.Goals as goal
 
 pub returns-then-is_none-clause-future : goal.returns-then-is_none-clause-future
@@ -28,6 +28,4 @@ returns-then-is_none-clause-advanced c = λ now e here age adv.
     let answers : Answers fetch_fields (λ memory. operand_fields) (before_entry view items c.args.at) c.at-entry.result.now.claim c.check_in.result = λ on.
     c.check_in.ensures (before_entry view items c.args.at) (future_there arch items c.args.future.now c.args.at c.requires.future claims on ∙ sym c.regs.ensures) on in
     let none : c.check_in.result ≡ None = is_none-none c.check_in.result (search rules) in
-    stage_agreed _ _ _ now c.args.at 2 e fetch_fields (λ memory. operand_fields) _ here (ap (λ (v : Option Diff). is_some v) none) refl (omega arith) (λ z. omega arith)
-    (rw one at answers)
-    (λ none s. found_operands s e _ none) adv
+    check_agreed _ _ _ now c.args.at Operands e _ here (ap (λ (v : Option Diff). is_some v) none) refl age (rw one at answers) adv
