@@ -134,20 +134,24 @@ impl Ooo {
         if self.window.len() == 0 {
             return false;
         }
-        let oldest = self.window.entry(0);
-        if !oldest.stage.is_done() {
+        let Entry {
+            stage,
+            result,
+            effect,
+            ..
+        } = *self.window.entry(0);
+        if !stage.is_done() {
             return false;
         }
-        out.push(oldest.result);
-        if oldest.result.end != 0 {
-            self.ahead
-                .hand_over(&oldest.result, effect_of(&oldest.result));
+        self.window.pop();
+        out.push(result);
+        if result.end != 0 {
+            self.ahead.hand_over(&result, effect_of(&result));
             self.window.clear();
             self.dry = true;
             return false;
         }
-        self.ahead.hand_over(&oldest.result, oldest.effect);
-        self.window.pop();
+        self.ahead.hand_over(&result, effect);
         true
     }
 
@@ -170,7 +174,7 @@ impl Ooo {
     }
 
     // Adds an entry of the word that is fetched next.
-    #[inline(never)]
+    #[inline(always)]
     fn fetch_next(&mut self, view: &View<'_>)
         requires { length self.old.window < 32 }
         ensures { self.new ≡ with_word self.old (word_of view.now self.old.fetch_pc)
@@ -207,8 +211,8 @@ impl Ooo {
         self.dry = word.is_none();
         self.window.push(Entry {
             pc,
-            word,
             decoded,
+            word,
             profile: Profile::of(decoded),
             predicted: self.fetch_pc,
             stage: Stage::Waiting,
@@ -242,13 +246,13 @@ impl Core for Ooo {
     #[inline(always)]
     #[tactic(auto, unfolding(crate::specs::Ooo::ooo_call, crate::specs::Ooo::worked))]
     fn cycle(&mut self, told: &Told, view: &View<'_>, out: &mut Claims) {
-        if self.ahead.is_of(told.epoch) {
-            self.trim(told);
-            self.work(told.room, view, out);
-        } else if told.room != 0 {
+        if !self.ahead.is_of(told.epoch) {
+            if told.room == 0 {
+                return;
+            }
             self.restart(told, view);
-            self.trim(told);
-            self.work(told.room, view, out);
         }
+        self.trim(told);
+        self.work(told.room, view, out);
     }
 }
