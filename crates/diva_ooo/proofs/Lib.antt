@@ -8,3 +8,4 @@ pub mod Marking
 pub mod Boarding
 pub mod Asking
 pub mod Windowing
+pub mod Profiling

@@ -1,14 +1,14 @@
 // What the core notes of an instruction that it fetches.
-ghost use Rattle.std.specs.Prelude.{◌≡◌, IfSome};
-ghost use Rattle.diva_decode.specs.Table.{HasRegisters};
+ghost use Rattle.std.specs.Prelude.{◌≡◌, ℕ, Option, IfSome, Some};
+ghost use Rattle.std.specs.Option.{option_and_then};
+ghost use Rattle.diva_decode.specs.Table.{HasRegisters, row_of};
 ghost use Rattle.diva_isa.specs.Kind.{kind};
 ghost use Rattle.diva_ooo.specs.Board.{is_loading};
 ghost use Rattle.diva_ooo.specs.Issue.{is_storing};
 ghost use Rattle.diva_ooo.specs.Known.{HasSources};
-ghost use Rattle.diva_ooo.specs.Profile.{cycles_of, profile_by, profile_of, profiled};
+ghost use Rattle.diva_ooo.specs.Profile.{class_of, cycles_of, profile_by, profile_of, profiled};
 
 use diva_decode::{Instr, Op};
-use diva_isa::{Kind, kind_of};
 
 /// What else than its sources an instruction waits for.
 #[derive(Clone, Copy, Debug, PartialEq, Eq)]
@@ -55,10 +55,11 @@ pub struct Profile {
 }
 
 impl Profile {
-    /// The profile of an instruction; `decoded` is what its word says.
+    /// The profile of an instruction; `decoded` is what a word says, if there is one.
     #[inline(always)]
     pub fn of(decoded: Option<Instr>) -> Profile
-        requires { IfSome decoded HasRegisters }
+        requires registers { IfSome decoded HasRegisters }
+        requires says { (word : Option ℕ) × (decoded ≡ option_and_then row_of word) }
         ensures value { result ≡ profile_of decoded }
         ensures below { HasSources result }
     {
@@ -68,25 +69,16 @@ impl Profile {
         }
     }
 
+    // An instruction has x0 where its format has no register: that is what the words of the table say.
     #[inline(always)]
     fn by(i: &Instr) -> Profile
-        requires { HasRegisters i.now }
+        requires registers { HasRegisters i.now }
+        requires says { (word : ℕ) × (row_of word ≡ Some i.now) }
         ensures value { result ≡ profile_by (kind i.now.op) i.now }
         ensures below { HasSources result }
     {
-        let cycles = cycles_of(i.op);
-        match kind_of(i.op) {
-            Kind::Lui | Kind::Auipc | Kind::Jal => {
-                Profile::with(0, 0, i.rd, Class::Plain, cycles)
-            }
-            Kind::Jalr | Kind::OpImm => { Profile::with(i.rs1, 0, i.rd, Class::Plain, cycles) }
-            Kind::Branch => Profile::with(i.rs1, i.rs2, 0, Class::Plain, cycles),
-            Kind::Load(_) => Profile::with(i.rs1, 0, i.rd, Class::Loads, cycles),
-            Kind::Store(_) => Profile::with(i.rs1, i.rs2, 0, Class::Stores, cycles),
-            Kind::OpReg => Profile::with(i.rs1, i.rs2, i.rd, Class::Plain, cycles),
-            Kind::Fence | Kind::Ebreak => Profile::with(0, 0, 0, Class::Plain, cycles),
-            Kind::Ecall => Profile::with(0, 0, 0, Class::Calls, cycles),
-        }
+        let (class, cycles) = needs_of(i.op);
+        Profile::with(i.rs1, i.rs2, i.rd, class, cycles)
     }
 
     fn with(rs1: u8, rs2: u8, rd: u8, class: Class, cycles: u8) -> Profile
@@ -102,14 +94,17 @@ impl Profile {
     }
 }
 
-/// The cycles that an operation runs.
-fn cycles_of(op: Op) -> u8
-    ensures { result ≡ cycles_of op }
+// What else than its sources an operation waits for, and the cycles that it runs.
+fn needs_of(op: Op) -> (Class, u8)
+    ensures class { result.0 ≡ class_of (kind op) }
+    ensures cycles { result.1 ≡ cycles_of op }
 {
     match op {
-        Op::Lb | Op::Lh | Op::Lw | Op::Lbu | Op::Lhu => 2,
-        Op::Mul | Op::Mulh | Op::Mulhsu | Op::Mulhu => 3,
-        Op::Div | Op::Divu | Op::Rem | Op::Remu => 8,
-        _ => 1,
+        Op::Lb | Op::Lh | Op::Lw | Op::Lbu | Op::Lhu => (Class::Loads, 2),
+        Op::Sb | Op::Sh | Op::Sw => (Class::Stores, 1),
+        Op::Mul | Op::Mulh | Op::Mulhsu | Op::Mulhu => (Class::Plain, 3),
+        Op::Div | Op::Divu | Op::Rem | Op::Remu => (Class::Plain, 8),
+        Op::Ecall => (Class::Calls, 1),
+        _ => (Class::Plain, 1),
     }
 }
