@@ -9,7 +9,7 @@ use Rattle.diva_ooo.specs.declared.board.Board.{Board}
 use Rattle.diva_ooo.specs.declared.mark_set.MarkSet.{MarkSet}
 use Rattle.diva_ooo.specs.declared.profile.Class.{Class}
 use Rattle.diva_ooo.specs.declared.profile.Class.TheVariants.{Plain, Loads, Stores, Calls}
-use Rattle.diva_ooo.specs.Board.{IsBoard, IsCandidate, IsLastOf, IsNextOf, IsWrittenBetween, can_at, could_at, has_result, is_load, is_loading, is_open_store, no_mark, reads, writes}
+use Rattle.diva_ooo.specs.Board.{IsBoard, IsLastOf, IsNextOf, IsWrittenBetween, can_at, could_at, has_result, is_load, is_loading, is_open_store, no_mark, reads, writes}
 use Rattle.diva_ooo.specs.Issue.{are_stored, can_begin, is_available, is_awaited, is_done, is_free, is_ready, is_storing, is_waiting}
 use Rattle.diva_ooo.specs.MarkSets.{AreThose, IsLast, IsNext, has, holds_at}
 use Rattle.diva_ooo.proofs.Marking.{and_off, and_on, holds_end, holds_take, holds_within}
@@ -396,14 +396,3 @@ eligible_but w b s t m i board both next but none = except_by (has s (b.base + i
 pub eligible_but_waits : (w : List Entry) (b : Board) (s t : MarkSet) (m i : ℕ) → IsBoard w b → ((k : ℕ) → has s k ≡ (has b.candidates k && has b.waiting k))
     → ((k : ℕ) → has t k ≡ (has s k && not (has b.loads k && nat_le m k))) → has t (b.base + i) ≡ true → holds_at (λ e. is_waiting e.stage) w i ≡ true
 eligible_but_waits w b s t m i board both but there = eligible_waits w b s i board both (and_left (has s (b.base + i)) (not (has b.loads (b.base + i) && nat_le m (b.base + i))) (sym (but (b.base + i)) ∙ there))
-
-pub candidate_of : (w : List Entry) (b : Board) (s : MarkSet) (from m : ℕ) → ((i : ℕ) → has s (b.base + i) ≡ true → holds_at (λ e. is_waiting e.stage) w i ≡ true) → ((i : ℕ) → has s (b.base + i) ≡ false → can_at [] w i ≡ false)
-    → IsNext s (b.base + from) m → IsCandidate w from (m - b.base)
-candidate_of w b s from m waiting others next =
-    let behind = next.behind in
-    let at : b.base + (m - b.base) ≡ m = omega arith in
-    record {
-      behind = omega arith;
-      there = waiting (m - b.base) (ap (has s) at ∙ next.there);
-      first = λ i h k. others i (next.first (b.base + i) (omega arith) (omega arith));
-    }

@@ -53,7 +53,7 @@ more_by false z d a b h = h
 abbrev AreAlike : (r : ℕ) → List Entry → List Entry → Type 0
 AreAlike r o1 o2 = (n : ℕ) → ((n == r) && not (r == 0)) ≡ false → is_available o1 n ≡ is_available o2 n
 
-alike_more : (r : ℕ) (o1 o2 : List Entry) (x : Entry) → AreAlike r o1 o2 → AreAlike r (o1 ++ x ∷ []) (o2 ++ x ∷ [])
+pub alike_more : (r : ℕ) (o1 o2 : List Entry) (x : Entry) → AreAlike r o1 o2 → AreAlike r (o1 ++ x ∷ []) (o2 ++ x ∷ [])
 alike_more r o1 o2 x alike = λ n other.
     available_more o1 x n
     ∙ more_by (x.profile.rd == n) (n == 0) (is_done x.stage) (is_awaited false o1 n) (is_awaited false o2 n) (alike n other)
@@ -87,7 +87,7 @@ could_same o1 o2 w i same = could_alike 0 o1 o2 w i (λ n other. same n) (none_r
 
 -- ---- an entry that is further
 
-staged_same : (o : List Entry) (x y : Entry) → y.profile ≡ x.profile → is_done y.stage ≡ is_done x.stage → (n : ℕ) → is_available (o ++ y ∷ []) n ≡ is_available (o ++ x ∷ []) n
+pub staged_same : (o : List Entry) (x y : Entry) → y.profile ≡ x.profile → is_done y.stage ≡ is_done x.stage → (n : ℕ) → is_available (o ++ y ∷ []) n ≡ is_available (o ++ x ∷ []) n
 staged_same o x y profile stage n =
     available_more o y n
     ∙ ap (λ (p : Profile). (n == 0) || not (if p.rd == n then not (is_done y.stage) else is_awaited false o n)) profile

@@ -1,16 +1,18 @@
 -- One entry after the other finishes.
-use Rattle.std.proofs.Common.{◌≡◌, ◌<◌, ◌≤◌, ℕ, ◌+◌, ◌-◌, nat_le, suc, Bool, true, false, arith, append_assoc, List, [], ◌∷◌, ◌++◌, take, drop, Some, refl, ap, sym, ◌∙◌, slice_get}
+use Rattle.std.proofs.Common.{◌≡◌, ◌<◌, ◌≤◌, ℕ, zero, ◌+◌, ◌-◌, nat_le, suc, length, true, false, arith, append_assoc, List, [], ◌∷◌, ◌++◌, take, drop, Some, refl, ap, sym, ◌∙◌, slice_get}
 use Rattle.std.specs.Prelude.{slice_set}
 use Rattle.std.proofs.lemmas.Bool.Decides.{nat_tests}
 use Rattle.std.proofs.lemmas.Bool.{true≢false}
 use Rattle.std.proofs.lemmas.List.{append-nil}
-use Rattle.std.specs.List.{position_or_len}
+use Rattle.std.proofs.lemmas.Grind.{common_steps}
 use Rattle.diva_ooo.specs.declared.entry.Entry.{Entry}
 use Rattle.diva_ooo.specs.declared.entry.Stage.{Stage}
 use Rattle.diva_ooo.specs.declared.entry.Stage.TheVariants.{Waiting, Running, Done}
 use Rattle.diva_ooo.specs.declared.finishing.Turn.{Turn}
 use Rattle.diva_ooo.specs.declared.finishing.Turn.TheVariants.{On}
 use Rattle.diva_ooo.specs.Finish.{finished_from, is_running, later, ran, turn_by, turn_of, turned}
+use Rattle.diva_ooo.specs.MarkSets.{holds_at}
+use Rattle.diva_ooo.proofs.Marking.{holds_drop}
 use Rattle.diva_ooo.proofs.Places.{drop_at, drop_more, take_more, take_set_at, drop_set_at, set_same}
 
 finish_one : (w : List Entry) (at : ℕ) (e : Entry) → slice_get w at ≡ Some e
@@ -57,25 +59,34 @@ idle_one older rest e Waiting is idle = rw is refl
 idle_one older rest e (Running left) is idle = absurd (true≢false idle)
 idle_one older rest e Done is idle = rw is refl
 
-abbrev pub running_place : List Entry → ℕ
-running_place w = position_or_len (λ e. is_running e.stage) w
+idle_to : (older w : List Entry) (n : ℕ) → ((i : ℕ) → i < n → holds_at (λ e. is_running e.stage) w i ≡ false) → finished_from older w ≡ finished_from (older ++ take n w) (drop n w)
+idle_to older w zero none = ap (λ (x : List Entry). finished_from x w) (sym (append-nil older))
+idle_to older [] (suc n) none = ap (λ (x : List Entry). finished_from x []) (sym (append-nil older))
+idle_to older (e ∷ w) (suc n) none =
+    idle_one older w e e.stage refl (none 0 (omega arith))
+    ∙ idle_to (older ++ e ∷ []) w n (λ i lt. none (suc i) (omega arith))
+    ∙ ap (λ (x : List Entry). finished_from x (drop n w)) (append_assoc older (e ∷ []) (take n w))
 
-place_first : (e : Entry) (rest : List Entry) → is_running e.stage ≡ true → running_place (e ∷ rest) ≡ 0
-place_first e rest is = rw is refl
+-- none runs from one place on up to another
+pub passed : (w : List Entry) (at n : ℕ) → at ≤ n → ((i : ℕ) → at ≤ i → i < n → holds_at (λ e. is_running e.stage) w i ≡ false) → finished_from (take at w) (drop at w) ≡ finished_from (take n w) (drop n w)
+passed w at n h none =
+    let sum : at + (n - at) ≡ n = omega arith in
+    idle_to (take at w) (drop at w) (n - at) (λ i lt. holds_drop (λ e. is_running e.stage) w at i ∙ none (at + i) (omega arith) (omega arith))
+    ∙ rw (sym (take_more w at (n - at)), sym (drop_more w at (n - at)), sum) refl
 
-place_later : (e : Entry) (rest : List Entry) → is_running e.stage ≡ false → running_place (e ∷ rest) ≡ suc (running_place rest)
-place_later e rest is = rw is (omega arith)
+-- behind the youngest nothing is left
+pub finished_end : (w : List Entry) (at : ℕ) → length w ≤ at → finished_from (take at w) (drop at w) ≡ record { window = w; turn = On }
+finished_end w at h =
+    let all : take at w ≡ w = grind (arith, common_steps) in
+    let none : drop at w ≡ [] = grind (arith, common_steps) in
+    rw (all, none) refl
 
-idle_by : (b : Bool) (older rest : List Entry) (e : Entry) → is_running e.stage ≡ b
-    → ((longer : List Entry) → finished_from longer rest ≡ finished_from (longer ++ take (running_place rest) rest) (drop (running_place rest) rest))
-    → finished_from older (e ∷ rest) ≡ finished_from (older ++ take (running_place (e ∷ rest)) (e ∷ rest)) (drop (running_place (e ∷ rest)) (e ∷ rest))
-idle_by true older rest e is more = rw (place_first e rest is) (ap (λ (x : List Entry). finished_from x (e ∷ rest)) (sym (append-nil older)))
-idle_by false older rest e is more =
-    rw (place_later e rest is) (idle_one older rest e e.stage refl is ∙ more (older ++ e ∷ []) ∙ ap (λ (x : List Entry). finished_from x (drop (running_place rest) rest)) (append_assoc older (e ∷ []) (take (running_place rest) rest)))
-
-idle_passed : (older rest : List Entry) → finished_from older rest ≡ finished_from (older ++ take (running_place rest) rest) (drop (running_place rest) rest)
-idle_passed older [] = ap (λ (x : List Entry). finished_from x []) (sym (append-nil older))
-idle_passed older (e ∷ rest) = idle_by (is_running e.stage) older rest e refl (λ longer. idle_passed longer rest)
-
-pub passed : (w : List Entry) (at n : ℕ) → n ≡ at + running_place (drop at w) → finished_from (take at w) (drop at w) ≡ finished_from (take n w) (drop n w)
-passed w at n is = rw is (idle_passed (take at w) (drop at w) ∙ rw (sym (take_more w at (running_place (drop at w))), drop_more w at (running_place (drop at w))) refl)
+-- an entry behind the one that was looked at is as it was
+pub runs_behind : (w new : List Entry) (at i : ℕ) → drop at new ≡ drop at w → at ≤ i → holds_at (λ e. is_running e.stage) new i ≡ holds_at (λ e. is_running e.stage) w i
+runs_behind w new at i same h =
+    let sum : at + (i - at) ≡ i = omega arith in
+    ap (holds_at (λ e. is_running e.stage) new) (sym sum)
+    ∙ sym (holds_drop (λ e. is_running e.stage) new at (i - at))
+    ∙ ap (λ (x : List Entry). holds_at (λ e. is_running e.stage) x (i - at)) same
+    ∙ holds_drop (λ e. is_running e.stage) w at (i - at)
+    ∙ ap (holds_at (λ e. is_running e.stage) w) sum

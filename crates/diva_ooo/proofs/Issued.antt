@@ -1,15 +1,19 @@
 -- Entries are passed until one can begin.
-use Rattle.std.proofs.Common.{◌≡◌, ◌<◌, ◌≤◌, ℕ, zero, suc, ◌+◌, ◌-◌, List, [], ◌∷◌, ◌++◌, length, take, drop, Some, Bool, true, false, ◌&&◌, refl, ap, sym, ◌∙◌, arith, slice_get, append_assoc, subst}
+use Rattle.std.proofs.Common.{◌≡◌, ◌<◌, ◌≤◌, ℕ, zero, suc, ◌+◌, ◌-◌, List, [], ◌∷◌, ◌++◌, length, take, drop, Some, Bool, true, false, ◌&&◌, ◌||◌, ◌==◌, not, refl, ap, sym, ◌∙◌, arith, slice_get, append_assoc, subst}
 use Rattle.std.specs.Prelude.{slice_set, nat_lt}
 use Rattle.std.proofs.lemmas.Bool.Decides.{nat_tests}
 use Rattle.std.proofs.lemmas.Grind.{common_steps}
-use Rattle.std.proofs.lemmas.List.{append-nil, length-drop, take-append-drop}
+use Rattle.std.proofs.lemmas.List.{append-nil, take-append-drop}
 use Rattle.diva_isa.specs.State.{State}
 use Rattle.diva_ahead.specs.Ahead.{Ahead}
 use Rattle.diva_ooo.specs.declared.entry.Entry.{Entry}
+use Rattle.diva_ooo.specs.declared.profile.Class.{Class}
+use Rattle.diva_ooo.specs.declared.profile.Class.TheVariants.{Plain, Loads, Stores, Calls}
+use Rattle.diva_ooo.specs.declared.profile.Profile.{Profile}
 use Rattle.diva_ooo.specs.Board.{can_at}
-use Rattle.diva_ooo.specs.Issue.{begins, can_begin, is_waiting, issued_from, started}
+use Rattle.diva_ooo.specs.Issue.{are_stored, begins, can_begin, is_available, is_done, is_free, is_ready, is_storing, is_waiting, issued_from, started}
 use Rattle.diva_ooo.specs.MarkSets.{holds_at}
+use Rattle.diva_ooo.proofs.Boarding.{alike_more, staged_same, waits_only}
 use Rattle.diva_ooo.proofs.Places.{drop_at, drop_more, take_more, take_set_at, drop_set_at}
 use Rattle.diva_ooo.proofs.Windowing.{can_here}
 
@@ -34,12 +38,12 @@ begins_not begun older e idle = rw idle (and_off (nat_lt begun 2))
 stay_one : (lead : Ahead) (s : State) (begun : ℕ) (older rest : List Entry) (e : Entry) → can_begin older e ≡ false → issued_from lead s begun older (e ∷ rest) ≡ issued_from lead s begun (older ++ e ∷ []) rest
 stay_one lead s begun older rest e idle = rw (begins_not begun older e idle) refl
 
-stay : (lead : Ahead) (s : State) (begun : ℕ) (older w : List Entry) (n : ℕ) → n ≤ length w → ((i : ℕ) → i < n → can_at older w i ≡ false) → issued_from lead s begun older w ≡ issued_from lead s begun (older ++ take n w) (drop n w)
-stay lead s begun older w zero h none = ap (λ (o : List Entry). issued_from lead s begun o w) (sym (append-nil older))
-stay lead s begun older [] (suc n) h none = absurd (omega arith)
-stay lead s begun older (e ∷ w) (suc n) h none =
+stay : (lead : Ahead) (s : State) (begun : ℕ) (older w : List Entry) (n : ℕ) → ((i : ℕ) → i < n → can_at older w i ≡ false) → issued_from lead s begun older w ≡ issued_from lead s begun (older ++ take n w) (drop n w)
+stay lead s begun older w zero none = ap (λ (o : List Entry). issued_from lead s begun o w) (sym (append-nil older))
+stay lead s begun older [] (suc n) none = ap (λ (o : List Entry). issued_from lead s begun o []) (sym (append-nil older))
+stay lead s begun older (e ∷ w) (suc n) none =
     stay_one lead s begun older w e (none 0 (omega arith))
-    ∙ stay lead s begun (older ++ e ∷ []) w n (omega arith) (λ i lt. none (suc i) (omega arith))
+    ∙ stay lead s begun (older ++ e ∷ []) w n (λ i lt. none (suc i) (omega arith))
     ∙ ap (λ (o : List Entry). issued_from lead s begun o (drop n w)) (append_assoc older (e ∷ []) (take n w))
 
 can_behind : (older w : List Entry) (at i : ℕ) → can_at (older ++ take at w) (drop at w) i ≡ can_at older w (at + i)
@@ -50,16 +54,15 @@ can_behind older (e ∷ w) (suc at) i =
     rw e' (ap (λ (o : List Entry). can_at o (drop at w) i) (sym (append_assoc older (e ∷ []) (take at w))) ∙ can_behind (older ++ e ∷ []) w at i)
 
 -- none can begin from one place on up to another
-pub passed_stay : (lead : Ahead) (s : State) (begun : ℕ) (w : List Entry) (at n : ℕ) → at ≤ n → n ≤ length w → ((i : ℕ) → at ≤ i → i < n → can_at [] w i ≡ false) → issued_from lead s begun (take at w) (drop at w) ≡ issued_from lead s begun (take n w) (drop n w)
-passed_stay lead s begun w at n h within none =
-    let rest : length (drop at w) ≡ length w - at = length-drop at w in
+pub passed_stay : (lead : Ahead) (s : State) (begun : ℕ) (w : List Entry) (at n : ℕ) → at ≤ n → ((i : ℕ) → at ≤ i → i < n → can_at [] w i ≡ false) → issued_from lead s begun (take at w) (drop at w) ≡ issued_from lead s begun (take n w) (drop n w)
+passed_stay lead s begun w at n h none =
     let sum : at + (n - at) ≡ n = omega arith in
-    stay lead s begun (take at w) (drop at w) (n - at) (omega arith) (λ i lt. can_behind [] w at i ∙ none (at + i) (omega arith) (omega arith))
+    stay lead s begun (take at w) (drop at w) (n - at) (λ i lt. can_behind [] w at i ∙ none (at + i) (omega arith) (omega arith))
     ∙ rw (sym (take_more w at (n - at)), sym (drop_more w at (n - at)), sum) refl
 
 -- the one at a place cannot begin
 pub passed_one : (lead : Ahead) (s : State) (begun : ℕ) (w : List Entry) (at : ℕ) → at < length w → can_at [] w at ≡ false → issued_from lead s begun (take at w) (drop at w) ≡ issued_from lead s begun (take (at + 1) w) (drop (at + 1) w)
-passed_one lead s begun w at h idle = passed_stay lead s begun w at (at + 1) (omega arith) (omega arith) (λ i a b. let same : i ≡ at = omega arith in ap (can_at [] w) same ∙ idle)
+passed_one lead s begun w at h idle = passed_stay lead s begun w at (at + 1) (omega arith) (λ i a b. let same : i ≡ at = omega arith in ap (can_at [] w) same ∙ idle)
 
 -- ---- one begins
 
@@ -87,6 +90,102 @@ begun_next lead s begun w asked new at few h can same sets =
     subst (λ (z : List Entry). (e : Entry) → slice_get z at ≡ Some e → new ≡ slice_set z at (started lead s (take at z) e)) same sets in
     get_some w at h (issued_from lead s (begun + 1) (take (at + 1) new) (drop (at + 1) new) ≡ issued_from lead s begun (take at w) (drop at w))
     (λ e is. begun_one lead s begun w new at e is few (sym (can_here w at e is) ∙ can) (sets_here e is))
+
+-- ---- those behind one that begins
+
+and_true : (a : Bool) → (a && true) ≡ (true && a)
+and_true true = refl
+and_true false = refl
+
+and_more : (a b c : Bool) → (a && (b && c)) ≡ ((a && b) && c)
+and_more true b c = refl
+and_more false b c = refl
+
+abbrev is_stored : Entry → Bool
+is_stored e = is_done e.stage || not (is_storing e.profile.class)
+
+stored_more : (o : List Entry) (x : Entry) → are_stored (o ++ x ∷ []) ≡ (are_stored o && is_stored x)
+stored_more [] x = and_true (is_stored x)
+stored_more (e ∷ o) x = ap (λ (c : Bool). is_stored e && c) (stored_more o x) ∙ and_more (is_stored e) (are_stored o) (is_stored x)
+
+-- behind both an entry can begin, or behind none
+record AreLike (o1 o2 : List Entry) : Type 0 where
+  available : (n : ℕ) → is_available o1 n ≡ is_available o2 n
+  stored : are_stored o1 ≡ are_stored o2
+  long : length o1 ≡ length o2
+
+like_more : (o1 o2 : List Entry) (x : Entry) → AreLike o1 o2 → AreLike (o1 ++ x ∷ []) (o2 ++ x ∷ [])
+like_more o1 o2 x like =
+    record {
+      available = λ n. alike_more 0 o1 o2 x (λ k other. like.available k) n (and_off (n == 0));
+      stored = stored_more o1 x ∙ ap (λ (c : Bool). c && is_stored x) like.stored ∙ sym (stored_more o2 x);
+      long = let long = like.long in grind (arith, common_steps);
+    }
+
+like_staged : (o : List Entry) (x y : Entry) → y.profile ≡ x.profile → is_done y.stage ≡ is_done x.stage → AreLike (o ++ y ∷ []) (o ++ x ∷ [])
+like_staged o x y profile stage =
+    record {
+      available = staged_same o x y profile stage;
+      stored =
+          stored_more o y
+          ∙ ap (λ (p : Profile). are_stored o && (is_done y.stage || not (is_storing p.class))) profile
+          ∙ ap (λ (c : Bool). are_stored o && (c || not (is_storing x.profile.class))) stage
+          ∙ sym (stored_more o x);
+      long = grind (arith, common_steps);
+    }
+
+free_like : (c : Class) (o1 o2 : List Entry) → AreLike o1 o2 → is_free c o1 ≡ is_free c o2
+free_like Plain o1 o2 like = refl
+free_like Loads o1 o2 like = like.stored
+free_like Stores o1 o2 like = refl
+free_like Calls o1 o2 like = ap (λ (n : ℕ). n == 0) like.long
+
+can_like : (o1 o2 w : List Entry) (i : ℕ) → AreLike o1 o2 → can_at o1 w i ≡ can_at o2 w i
+unfolding is_ready
+can_like o1 o2 [] i like = refl
+can_like o1 o2 (e ∷ w) zero like = rw (like.available e.profile.rs1, like.available e.profile.rs2, free_like e.profile.class o1 o2 like) refl
+can_like o1 o2 (e ∷ w) (suc i) like = can_like (o1 ++ e ∷ []) (o2 ++ e ∷ []) w i (like_more o1 o2 e like)
+
+can_staged : (older w : List Entry) (at i : ℕ) (x y : Entry) → slice_get w at ≡ Some x → y.profile ≡ x.profile → is_done y.stage ≡ is_done x.stage → at < i → can_at older (slice_set w at y) i ≡ can_at older w i
+can_staged older [] at i x y is profile stage h = refl
+can_staged older (e ∷ w) zero zero x y is profile stage h = absurd (omega arith)
+can_staged older (e ∷ w) zero (suc i) x y is profile stage h =
+    let here : e ≡ x = cc in
+    can_like (older ++ y ∷ []) (older ++ x ∷ []) w i (like_staged older x y profile stage) ∙ ap (λ (z : Entry). can_at (older ++ z ∷ []) w i) (sym here)
+can_staged older (e ∷ w) (suc at) zero x y is profile stage h = absurd (omega arith)
+can_staged older (e ∷ w) (suc at) (suc i) x y is profile stage h = can_staged (older ++ e ∷ []) w at i x y is profile stage (omega arith)
+
+waits_behind : (p : Entry → Bool) (w : List Entry) (at i : ℕ) (y : Entry) → at < i → holds_at p (slice_set w at y) i ≡ holds_at p w i
+waits_behind p [] at i y h = refl
+waits_behind p (e ∷ w) zero zero y h = absurd (omega arith)
+waits_behind p (e ∷ w) zero (suc i) y h = refl
+waits_behind p (e ∷ w) (suc at) zero y h = absurd (omega arith)
+waits_behind p (e ∷ w) (suc at) (suc i) y h = waits_behind p w at i y (omega arith)
+
+-- what is asked of the entries behind one place has the same answers in two windows
+pub record AreAsBefore (w new : List Entry) (at : ℕ) : Type 0 where
+  pub waits : (i : ℕ) → at < i → holds_at (λ e. is_waiting e.stage) new i ≡ holds_at (λ e. is_waiting e.stage) w i
+  pub can : (i : ℕ) → at < i → can_at [] new i ≡ can_at [] w i
+
+pub before_same : (w new : List Entry) (at : ℕ) → new ≡ w → AreAsBefore w new at
+before_same w new at same = record { waits = λ i h. ap (λ (x : List Entry). holds_at (λ e. is_waiting e.stage) x i) same; can = λ i h. ap (λ (x : List Entry). can_at [] x i) same }
+
+before_begun : (w new : List Entry) (at : ℕ) (e y : Entry) → slice_get w at ≡ Some e → is_waiting e.stage ≡ true → y.profile ≡ e.profile → is_done y.stage ≡ false → new ≡ slice_set w at y → AreAsBefore w new at
+before_begun w new at e y is waits profile not_done sets =
+    record {
+      waits = λ i h. rw sets (waits_behind (λ x. is_waiting x.stage) w at i y h);
+      can = λ i h. rw sets (can_staged [] w at i e y is profile (not_done ∙ sym (waits_only e.stage waits).1) h);
+    }
+
+-- those behind the one that begins are asked as before
+pub before_next : (lead : Ahead) (s : State) (w asked new : List Entry) (at : ℕ) → at < length w → holds_at (λ x. is_waiting x.stage) w at ≡ true → asked ≡ w
+    → ((e : Entry) → slice_get asked at ≡ Some e → new ≡ slice_set asked at (started lead s (take at asked) e))
+    → AreAsBefore w new at
+unfolding started
+before_next lead s w asked new at h waits same sets =
+    let sets_here : (e : Entry) → slice_get w at ≡ Some e → new ≡ slice_set w at (started lead s (take at w) e) =
+    subst (λ (z : List Entry). (e : Entry) → slice_get z at ≡ Some e → new ≡ slice_set z at (started lead s (take at z) e)) same sets in
+    get_some w at h (AreAsBefore w new at) (λ e is. before_begun w new at e (started lead s (take at w) e) is (waits_here w at e waits is) refl refl (sets_here e is))
 
 -- ---- the end of the walk
 

@@ -3,10 +3,9 @@ use Rattle.std.proofs.Common.{◌≡◌, ◌≢◌, ◌<◌, ◌≤◌, ℕ, zer
 use Rattle.std.specs.Prelude.{slice_set, nat_le, nat_lt}
 use Rattle.std.specs.Int.{bit_at, bit_not, trailing_zeros}
 use Rattle.std.specs.Int.Bits.{bit_and, bit_or, bit_xor}
-use Rattle.std.specs.List.{position_or_len}
+use Rattle.std.proofs.lemmas.Bool.{true≢false}
 use Rattle.std.proofs.lemmas.Bool.Decides.{nat_tests}
 use Rattle.std.proofs.lemmas.Grind.{common_steps}
-use Rattle.std.proofs.lemmas.List.{length-drop}
 use Rattle.std.proofs.lemmas.Nat.{div_below, le-div, mod_below, one_shl, pow_pos, shr-shr, shr_split}
 use Rattle.std.proofs.Math.Nat.{add-zero, pow-suc, suc-mul}
 use Rattle.std.proofs.lemmas.Nat.Bits.{bit_at-zero, bit_at-lt, bit_at_above, bit_at_and, bit_at_or, bit_at_ones, bit_at_ones_above, bit_at_cat_high, bit_at_cat_low, bit_at_lowest, bit_at_mask_below, bit_at_mask_inside, bit_at_not, bit_at-suc, bit_at_xor, bit_at_set_same, bit_at_set_other, bit_at_clear_same, bit_at_clear_other, bit_at-trailing_zeros, ones_shl, same_from_bits, same_from_bits_below, shr_and_one}
@@ -14,7 +13,6 @@ use mir.Val.{bool_byte}
 use Rattle.diva_ooo.specs.declared.entry.Entry.{Entry}
 use Rattle.diva_ooo.specs.declared.mark_set.MarkSet.{MarkSet}
 use Rattle.diva_ooo.specs.MarkSets.{AreThose, IsLast, IsNext, has, holds_at}
-use Rattle.diva_ooo.specs.Board.{IsNextOf}
 
 -- ---- the bits
 
@@ -151,8 +149,8 @@ keep_has n most h i = rw (one_shl most 64 h) (keep_by (nat_lt i most) n most i r
 shifted : (n from i : ℕ) → bit_at (n / 2 ^ from) i ≡ bit_at n (from + i)
 shifted n from i = rw (shr-shr n from i) refl
 
-pub lowered_has : (n i : ℕ) → (bit_at (n / 2 ^ 32) i == 1) ≡ (bit_at n (32 + i) == 1)
-lowered_has n i = ap (λ (b : ℕ). b == 1) (shifted n 32 i)
+pub lowered_has : (n by i : ℕ) → (bit_at (n / 2 ^ by) i == 1) ≡ (bit_at n (by + i) == 1)
+lowered_has n by i = ap (λ (b : ℕ). b == 1) (shifted n by i)
 
 unset : (n : ℕ) → n ≡ 0 → (n == 1) ≡ false
 unset n is = rw is refl
@@ -407,7 +405,7 @@ holds_take p (e ∷ w) zero i h = absurd (omega arith)
 holds_take p (e ∷ w) (suc n) zero h = refl
 holds_take p (e ∷ w) (suc n) (suc i) h = holds_take p w n i (omega arith)
 
-holds_set : (p : Entry → Bool) (w : List Entry) (at i : ℕ) (x y : Entry) → slice_get w at ≡ Some x → holds_at p (slice_set w at y) i ≡ (if i == at then p y else holds_at p w i)
+pub holds_set : (p : Entry → Bool) (w : List Entry) (at i : ℕ) (x y : Entry) → slice_get w at ≡ Some x → holds_at p (slice_set w at y) i ≡ (if i == at then p y else holds_at p w i)
 holds_set p [] at i x y is = absurd (cc)
 holds_set p (e ∷ w) zero zero x y is = refl
 holds_set p (e ∷ w) zero (suc i) x y is = let other : (suc i == 0) ≡ false = grind (arith, nat_tests) in rw other refl
@@ -489,38 +487,52 @@ those_set p w at x y base b s t those is now sets =
 pub those_same : (p : Entry → Bool) (w : List Entry) (at : ℕ) (x y : Entry) (base : ℕ) (s : MarkSet) → AreThose p w base s → slice_get w at ≡ Some x → p y ≡ p x → AreThose p (slice_set w at y) base s
 those_same p w at x y base s those is same = λ i. those i ∙ sym (holds_same p w at i x y is same)
 
--- ---- the first of them from a place on
+-- ---- those from a place on
 
 pub holds_drop : (p : Entry → Bool) (w : List Entry) (at i : ℕ) → holds_at p (drop at w) i ≡ holds_at p w (at + i)
 holds_drop p w zero i = let e : 0 + i ≡ i = omega arith in rw e refl
 holds_drop p [] (suc at) i = refl
 holds_drop p (e ∷ w) (suc at) i = let e' : suc at + i ≡ suc (at + i) = omega arith in rw e' (holds_drop p w at i)
 
-position_none : (p : Entry → Bool) (w : List Entry) → ((i : ℕ) → holds_at p w i ≡ false) → position_or_len p w ≡ length w
-position_none p [] none = refl
-position_none p (e ∷ w) none =
-    let here : p e ≡ false = none 0 in
-    rw here (let more = position_none p w (λ i. none (suc i)) in omega arith)
+-- ---- a set whose lowest mark is taken out
 
-position_first : (p : Entry → Bool) (w : List Entry) (n : ℕ) → holds_at p w n ≡ true → ((i : ℕ) → i < n → holds_at p w i ≡ false) → position_or_len p w ≡ n
-position_first p [] n there first = absurd (cc)
-position_first p (e ∷ w) zero there first = rw there refl
-position_first p (e ∷ w) (suc n) there first =
-    let here : p e ≡ false = first 0 (omega arith) in
-    rw here (let more = position_first p w n there (λ i h. first (suc i) (omega arith)) in omega arith)
+behind_by : (c : Bool) (s t : MarkSet) (at i : ℕ) → (i == at) ≡ c → has t i ≡ (if c then false else has s i) → (i ≡ at → ⊥) → has t i ≡ has s i
+behind_by true s t at i is gone other = absurd (other (grind (arith, nat_tests)))
+behind_by false s t at i is gone other = gone
 
-pub first_none : (p : Entry → Bool) (w : List Entry) (from : ℕ) → from ≤ length w → ((i : ℕ) → from ≤ i → holds_at p w i ≡ false) → from + position_or_len p (drop from w) ≡ length w
-first_none p w from h none =
-    let all : position_or_len p (drop from w) ≡ length (drop from w) = position_none p (drop from w) (λ i. holds_drop p w from i ∙ none (from + i) (omega arith)) in
-    let rest : length (drop from w) ≡ length w - from = length-drop from w in
-    omega arith
+-- those behind it stay
+pub without_first : (s t : MarkSet) (at i : ℕ) → ((k : ℕ) → has t k ≡ (if k == at then false else has s k)) → at + 1 ≤ i → has t i ≡ has s i
+without_first s t at i gone h = behind_by (i == at) s t at i refl (gone i) (λ same. omega arith)
 
-pub first_some : (p : Entry → Bool) (w : List Entry) (from n : ℕ) → IsNextOf p w from n → from + position_or_len p (drop from w) ≡ n
-first_some p w from n next =
-    let behind = next.behind in
-    let at : from + (n - from) ≡ n = omega arith in
-    let first : position_or_len p (drop from w) ≡ n - from =
-    position_first p (drop from w) (n - from)
-    (holds_drop p w from (n - from) ∙ ap (holds_at p w) at ∙ next.there)
-    (λ i h. holds_drop p w from i ∙ next.first (from + i) (omega arith) (omega arith)) in
-    omega arith
+was_by : (c : Bool) (s t : MarkSet) (at i : ℕ) → (i == at) ≡ c → has t i ≡ (if c then false else has s i) → has t i ≡ true → (has s i ≡ true) × ((i == at) ≡ false)
+was_by true s t at i is gone there = absurd (true≢false (sym there ∙ gone))
+was_by false s t at i is gone there = (sym gone ∙ there, is)
+
+was_there : (s t : MarkSet) (at i : ℕ) → ((k : ℕ) → has t k ≡ (if k == at then false else has s k)) → has t i ≡ true → (has s i ≡ true) × ((i == at) ≡ false)
+was_there s t at i gone there = was_by (i == at) s t at i refl (gone i) there
+
+past_by : (c : Bool) (s t : MarkSet) (at i : ℕ) → nat_lt i (at + 1) ≡ c → ((k : ℕ) → has t k ≡ (if k == at then false else has s k)) → ((k : ℕ) → k < at → has s k ≡ false) → has t i ≡ true → at + 1 ≤ i
+past_by true s t at i is gone none there =
+    let near : i < at + 1 = grind (arith, nat_tests) in
+    let both = was_there s t at i gone there in
+    let other : i ≡ at → ⊥ = λ same. absurd (grind (arith, nat_tests)) in
+    absurd (true≢false (sym both.0 ∙ none i (omega (arith, other))))
+past_by false s t at i is gone none there = grind (arith, nat_tests)
+
+-- the rest lies behind it
+pub rest_past : (s t : MarkSet) (at i : ℕ) → ((k : ℕ) → has t k ≡ (if k == at then false else has s k)) → ((k : ℕ) → k < at → has s k ≡ false) → has t i ≡ true → at + 1 ≤ i
+rest_past s t at i gone none there = past_by (nat_lt i (at + 1)) s t at i refl gone none there
+
+-- a mark of the rest is one of the set
+pub rest_among : (s t : MarkSet) (at i : ℕ) → ((k : ℕ) → has t k ≡ (if k == at then false else has s k)) → has t i ≡ true → has s i ≡ true
+rest_among s t at i gone there = (was_there s t at i gone there).0
+
+first_by : (c : Bool) (s t : MarkSet) (at next : ℕ) → nat_lt next 64 ≡ c → ((k : ℕ) → has t k ≡ (if k == at then false else has s k)) → ((k : ℕ) → k < at → has s k ≡ false)
+    → (next < 64 → has t next ≡ true) → at < 64 → at + 1 ≤ next
+first_by true s t at next is gone none there few = rest_past s t at next gone none (there (grind (arith, nat_tests)))
+first_by false s t at next is gone none there few = let far : 64 ≤ next = grind (arith, nat_tests) in omega arith
+
+-- so does the lowest of the rest, or 64 where there is none
+pub past_first : (s t : MarkSet) (at next : ℕ) → ((k : ℕ) → has t k ≡ (if k == at then false else has s k)) → ((k : ℕ) → k < at → has s k ≡ false)
+    → (next < 64 → has t next ≡ true) → at < 64 → at + 1 ≤ next
+past_first s t at next gone none there few = first_by (nat_lt next 64) s t at next refl gone none there few

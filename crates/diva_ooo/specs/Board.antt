@@ -77,12 +77,6 @@ pub record IsLastOf (p : Entry → Bool) (w : List Entry) (end n : ℕ) : Type 0
   pub there : holds_at p w n ≡ true
   pub last : (i : ℕ) → n < i → i < end → holds_at p w i ≡ false
 
--- the entry at place n waits, and none from a place on before it can begin
-pub record IsCandidate (w : List Entry) (from n : ℕ) : Type 0 where
-  pub behind : from ≤ n
-  pub there : holds_at (λ e. is_waiting e.stage) w n ≡ true
-  pub first : (i : ℕ) → from ≤ i → i < n → can_at [] w i ≡ false
-
 -- an entry between two places writes a register
 pub record IsWrittenBetween (w : List Entry) (r from to : ℕ) : Type 0 where
   pub place : ℕ

@@ -2,7 +2,7 @@
 ghost use Rattle.std.specs.Prelude.{◌≡◌, ◌+◌, ◌&&◌, ◌<◌, ◌≤◌, ◌⊎◌, ℕ, List, [], ◌∷◌, ◌++◌, length, get_or, nat_lt, take, IfSome, IsNone, Some, false, if◌then◌else◌, slice_get, slice_set, true};
 ghost use Rattle.diva_ooo.specs.declared.entry.Entry.{Entry};
 ghost use Rattle.diva_core.specs.Cycle.{is_store};
-ghost use Rattle.diva_ooo.specs.Board.{IsBoard, IsCandidate, IsLastOf, IsNextOf, IsWrittenBetween, can_at, could_at, has_result, no_mark, reads};
+ghost use Rattle.diva_ooo.specs.Board.{IsBoard, IsLastOf, IsNextOf, IsWrittenBetween, can_at, could_at, has_result, no_mark, reads};
 ghost use Rattle.diva_ooo.specs.Finish.{is_running};
 ghost use Rattle.diva_ooo.specs.Issue.{are_stored, is_available, is_done, is_free, is_waiting};
 ghost use Rattle.diva_ooo.specs.Known.{HasSources};
@@ -140,13 +140,13 @@ impl Board {
         ensures base { self.new.base ≡ 0 }
     {
         self.base = 0;
-        self.waiting = self.waiting.lowered();
-        self.running = self.running.lowered();
-        self.done = self.done.lowered();
-        self.storing = self.storing.lowered();
-        self.stored = self.stored.lowered();
-        self.loads = self.loads.lowered();
-        self.candidates = self.candidates.lowered();
+        self.waiting = self.waiting.lowered(32);
+        self.running = self.running.lowered(32);
+        self.done = self.done.lowered(32);
+        self.storing = self.storing.lowered(32);
+        self.stored = self.stored.lowered(32);
+        self.loads = self.loads.lowered(32);
+        self.candidates = self.candidates.lowered(32);
         lower(&mut self.writers);
         lower(&mut self.readers);
     }
@@ -206,18 +206,13 @@ impl Board {
         self.candidates.remove(self.base + at);
     }
 
-    /// The place of the first entry that runs, from a place on.
-    pub(crate) fn next_running(&self, from: usize) -> Option<usize>
-        requires base { self.now.base < 32 }
-        requires place { from ≤ 32 }
-        ensures some { (w : List Entry) → IsBoard w self.now → IfSome result (IsNextOf (λ e. is_running e.stage) w from) }
-        ensures none { (w : List Entry) → IsBoard w self.now → IsNone result
-            → (i : ℕ) → from ≤ i → holds_at (λ e. is_running e.stage) w i ≡ false }
+    /// The places of the entries that run.
+    pub(crate) fn running_places(&self) -> MarkSet
+        requires { self.now.base < 32 }
+        ensures { (w : List Entry) → IsBoard w self.now
+            → (i : ℕ) → has result i ≡ holds_at (λ e. is_running e.stage) w i }
     {
-        match self.running.next(self.base + from) {
-            Some(mark) => Some(mark - self.base),
-            None => None,
-        }
+        self.running.lowered(self.base)
     }
 
     /// The place of the first entry whose result stores, from a place on.
@@ -235,18 +230,15 @@ impl Board {
         }
     }
 
-    /// The place of the first entry that waits and may begin, from a place on.
-    pub(crate) fn next_candidate(&self, from: usize) -> Option<usize>
-        requires base { self.now.base < 32 }
-        requires place { from ≤ 32 }
-        ensures some { (w : List Entry) → IsBoard w self.now → IfSome result (IsCandidate w from) }
-        ensures none { (w : List Entry) → IsBoard w self.now → IsNone result
-            → (i : ℕ) → from ≤ i → can_at [] w i ≡ false }
+    /// Places of entries that wait: each that can begin is one of them.
+    pub(crate) fn candidate_places(&self) -> MarkSet
+        requires { self.now.base < 32 }
+        ensures waiting { (w : List Entry) → IsBoard w self.now → (i : ℕ) → has result i ≡ true
+            → holds_at (λ e. is_waiting e.stage) w i ≡ true }
+        ensures others { (w : List Entry) → IsBoard w self.now → (i : ℕ) → has result i ≡ false
+            → can_at [] w i ≡ false }
     {
-        match self.eligible().next(self.base + from) {
-            Some(mark) => Some(mark - self.base),
-            None => None,
-        }
+        self.eligible().lowered(self.base)
     }
 
     // The candidates that wait, but for loads behind a store that is not done.
@@ -349,6 +341,6 @@ fn lower(sets: &mut [MarkSet; 32])
     ensures sets { length sets.new ≡ 32 }
 {
     for n in 0..32 {
-        sets[n] = sets[n].lowered();
+        sets[n] = sets[n].lowered(32);
     }
 }

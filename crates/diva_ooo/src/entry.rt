@@ -31,10 +31,10 @@ impl Stage {
 pub struct Entry {
     /// The address where it was fetched.
     pub pc: u32,
-    /// The word that was fetched, none outside memory.
-    pub word: Option<u32>,
     /// What the word says, `None` where it says nothing.
     pub decoded: Option<Instr>,
+    /// The word that was fetched, none outside memory.
+    pub word: Option<u32>,
     /// What it waits for, and how long it runs.
     pub profile: Profile,
     /// Where the next instruction was fetched.

@@ -2,7 +2,7 @@
 ghost use Rattle.std.specs.Prelude.{◌≡◌, ◌+◌, ◌<◌, ◌≤◌, drop, length, take};
 ghost use Rattle.diva_ooo.specs.Finish.{Finish, finished, finished_from, turn_by, turned};
 
-use crate::entry::Stage;
+use crate::entry::{Entry, Stage};
 use crate::window::Window;
 use diva_isa::Record;
 
@@ -19,18 +19,19 @@ pub enum Turn {
 
 /// Each entry that runs has one cycle less to run, oldest first. One that becomes done, and behind which the fetch has to
 /// turn, removes all younger ones.
-#[tactic(auto, using(crate::proofs::Finished::passed))]
 pub(crate) fn finish(window: &mut Window) -> Turn
     ensures { record { window = window.new; turn = result } ≡ finished window.old }
 {
-    let mut at = window.next_running(0);
+    let mut running = window.running_places();
+    let mut at = running.first();
     while at < window.len() {
         let turn = finish_at(window, at);
         if turn != Turn::On {
             window.keep(at + 1);
             return turn;
         }
-        at = window.next_running(at + 1);
+        running.remove(at);
+        at = running.first();
     }
     Turn::On
 }
@@ -41,6 +42,7 @@ fn finish_at(window: &mut Window, at: usize) -> Turn
     requires { at < length window.old }
     ensures finishes { turned (take (at + 1) window.new) result (finished_from (take (at + 1) window.new) (drop (at + 1) window.new))
         ≡ finished_from (take at window.old) (drop at window.old) }
+    ensures behind { drop (at + 1) window.new ≡ drop (at + 1) window.old }
     ensures length { length window.new ≡ length window.old }
 {
     let entry = window.entry(at);
@@ -52,9 +54,13 @@ fn finish_at(window: &mut Window, at: usize) -> Turn
             Turn::On
         }
         Stage::Running(_) => {
-            let turn = turn_by(&entry.result, entry.predicted);
+            let Entry {
+                result,
+                predicted,
+                ..
+            } = *entry;
             window.complete(at);
-            turn
+            turn_by(&result, predicted)
         }
     }
 }

@@ -1,7 +1,8 @@
 // The state that an instruction reads.
-ghost use Rattle.std.specs.Prelude.{◌≡◌, ◌≤◌, ◌<◌, ◌++◌, length, map, take, IsSome, IsTrue, Some, true};
+ghost use Rattle.std.specs.Prelude.{◌≡◌, ◌≤◌, ◌<◌, ◌++◌, length, map, take, IsSome, IsTrue, Some, slice_get, true};
 ghost use Rattle.std.specs.List.{list_all};
 ghost use Rattle.diva_isa.specs.State.{State, byte_of, word_of};
+ghost use Rattle.diva_ooo.specs.declared.entry.Entry.{Entry};
 ghost use Rattle.diva_core.specs.Effects.{is_apart, with_effects};
 
 use crate::window::Window;
@@ -19,6 +20,27 @@ pub(crate) struct Flight<'a> {
     pub at: usize,
     pub view: &'a View<'a>,
     pub ghost within: { at < length window.now },
+}
+
+impl<'a> Flight<'a> {
+    /// The state that the entry at a place reads.
+    #[inline(always)]
+    pub(crate) fn of(window: &'a Window, at: usize, ahead: &'a Ahead, view: &'a View<'a>) -> Self
+        requires { at < length window.now }
+        ensures pc { (e : Entry) → slice_get window.now at ≡ Some e → result.pc ≡ e.pc }
+        ensures ahead { result.ahead.now ≡ ahead.now }
+        ensures window { result.window.now ≡ window.now }
+        ensures place { result.at ≡ at }
+        ensures view { result.view.now ≡ view.now }
+    {
+        Flight {
+            pc: window.entry(at).pc,
+            ahead,
+            window,
+            at,
+            view,
+        }
+    }
 }
 
 impl Flight<'_> {

@@ -25,7 +25,8 @@ pub(crate) fn issue(window: &mut Window, ahead: &Ahead, view: &View<'_>)
     ensures { window.new ≡ issued ahead.now view.now window.old }
 {
     let mut begun: u8 = 0;
-    let mut at = window.next_candidate(0);
+    let mut candidates = window.candidate_places();
+    let mut at = candidates.first();
     while at < window.len() {
         if window.is_ready(at) {
             begin_at(window, at, ahead, view);
@@ -34,7 +35,8 @@ pub(crate) fn issue(window: &mut Window, ahead: &Ahead, view: &View<'_>)
                 return;
             }
         }
-        at = window.next_candidate(at + 1);
+        candidates.remove(at);
+        at = candidates.first();
     }
 }
 
@@ -52,75 +54,26 @@ fn begin_at(window: &mut Window, at: usize, ahead: &Ahead, view: &View<'_>)
 {
     let entry = window.entry(at);
     if let (Some(word), Some(i)) = (&entry.word, &entry.decoded) {
-        let flight = Flight {
-            pc: entry.pc,
-            ahead: &*ahead,
-            window,
-            at,
-            view: &*view,
-        };
         match kind_of(i.op) {
             Kind::OpImm => {
+                let flight = Flight::of(window, at, &*ahead, &*view);
                 let Begun { result, effect } = immediate(&flight, *word, i);
                 window.begin(at, result, effect);
                 return;
             }
             Kind::OpReg => {
+                let flight = Flight::of(window, at, &*ahead, &*view);
                 let Begun { result, effect } = register(&flight, *word, i);
                 window.begin(at, result, effect);
                 return;
             }
-            _ => {}
-        }
-    }
-    begin_other(window, at, ahead, view);
-}
-
-// The same of an entry of another kind: branches, loads and stores are told apart for the same reason.
-#[inline(never)]
-#[tactic(auto, unfolding(crate::specs::Issue::started))]
-fn begin_other(window: &mut Window, at: usize, ahead: &Ahead, view: &View<'_>)
-    requires place { at < length window.old }
-    requires waits { (e : Entry) → slice_get window.old at ≡ Some e → is_waiting e.stage ≡ true }
-    ensures started { (e : Entry) → slice_get window.old at ≡ Some e
-        → window.new ≡ slice_set window.old at (started ahead.now view.now (take at window.old) e) }
-    ensures length { length window.new ≡ length window.old }
-{
-    let entry = window.entry(at);
-    if let (Some(word), Some(i)) = (&entry.word, &entry.decoded) {
-        let flight = Flight {
-            pc: entry.pc,
-            ahead: &*ahead,
-            window,
-            at,
-            view: &*view,
-        };
-        match kind_of(i.op) {
-            Kind::Jal => {
-                if let Some(Begun { result, effect }) = jump(&flight, *word, i) {
+            _ => {
+                let flight = Flight::of(window, at, &*ahead, &*view);
+                if let Some(Begun { result, effect }) = going(&flight, *word, i) {
                     window.begin(at, result, effect);
                     return;
                 }
             }
-            Kind::Branch => {
-                if let Some(Begun { result, effect }) = branch(&flight, *word, i) {
-                    window.begin(at, result, effect);
-                    return;
-                }
-            }
-            Kind::Load(width) => {
-                if let Some(Begun { result, effect }) = load(&flight, *word, i, width) {
-                    window.begin(at, result, effect);
-                    return;
-                }
-            }
-            Kind::Store(width) => {
-                if let Some(Begun { result, effect }) = store(&flight, *word, i, width) {
-                    window.begin(at, result, effect);
-                    return;
-                }
-            }
-            _ => {}
         }
     }
     begin_any(window, at, ahead, view);
@@ -137,16 +90,28 @@ fn begin_any(window: &mut Window, at: usize, ahead: &Ahead, view: &View<'_>)
     ensures length { length window.new ≡ length window.old }
 {
     let entry = window.entry(at);
-    let (pc, word, decoded) = (entry.pc, entry.word, entry.decoded);
-    let flight = Flight {
-        pc,
-        ahead: &*ahead,
-        window,
-        at,
-        view: &*view,
-    };
+    let (word, decoded) = (entry.word, entry.decoded);
+    let flight = Flight::of(window, at, &*ahead, &*view);
     let Begun { result, effect } = run(&flight, word, decoded);
     window.begin(at, result, effect);
+}
+
+// What a jump, a branch, a load or a store comes to; `None` where it traps, and for other kinds.
+#[inline(always)]
+fn going<L: Look>(state: &L, word: u32, i: &Instr) -> Option<Begun>
+    requires says { row_of word ≡ Some i.now }
+    requires registers { HasRegisters i.now }
+    ensures record { IfSome result (λ b. b.result ≡ record_fetched (L.shows state.now) (Some word)) }
+    ensures effect { IfSome result (λ b. b.effect ≡ done_by b.result) }
+    ensures register { IfSome result (λ b. HasRegister b.effect) }
+{
+    match kind_of(i.op) {
+        Kind::Jal => jump(state, word, i),
+        Kind::Branch => branch(state, word, i),
+        Kind::Load(width) => load(state, word, i, width),
+        Kind::Store(width) => store(state, word, i, width),
+        _ => None,
+    }
 }
 
 // What a jump comes to, `None` where it traps.

@@ -96,12 +96,24 @@ impl MarkSet {
         }
     }
 
-    /// The marks from 32 on, each of them lower by 32.
-    pub(crate) fn lowered(self) -> MarkSet
-        ensures { (i : ℕ) → has result i ≡ has self (32 + i) }
+    /// The marks from one on, each of them lower by that one.
+    pub(crate) fn lowered(self, by: usize) -> MarkSet
+        requires { by < 64 }
+        ensures { (i : ℕ) → has result i ≡ has self (by + i) }
     {
         MarkSet {
-            bits: self.bits >> 32,
+            bits: self.bits >> by,
+        }
+    }
+
+    /// The lowest mark, 64 where there is none.
+    pub(crate) fn first(self) -> usize
+        ensures there { result < 64 → has self result ≡ true }
+        ensures lower { (i : ℕ) → i < result → has self i ≡ false }
+    {
+        match self.next(0) {
+            Some(mark) => mark,
+            None => 64,
         }
     }
 

@@ -7,10 +7,11 @@ ghost use Rattle.diva_ooo.specs.Board.{IsBoard, IsNextOf, can_at};
 ghost use Rattle.diva_ooo.specs.Finish.{is_running};
 ghost use Rattle.diva_ooo.specs.Issue.{is_done, is_waiting, running, written};
 ghost use Rattle.diva_ooo.specs.Known.{IsKnown};
-ghost use Rattle.diva_ooo.specs.MarkSets.{holds_at};
+ghost use Rattle.diva_ooo.specs.MarkSets.{has, holds_at};
 
 use crate::board::Board;
 use crate::entry::{Entry, Stage};
+use crate::mark_set::MarkSet;
 use circular_buffer::HeapCircularBuffer;
 use diva_ahead::is_store;
 use diva_isa::{Effect, Record, Regs};
@@ -91,34 +92,21 @@ impl Window {
         }
     }
 
-    /// The place of the first entry that runs, from a place on; how many there are where none does.
+    /// The places of the entries that run.
     #[inline]
-    pub(crate) fn next_running(&self, from: usize) -> usize
-        requires { from ≤ length self.now }
-        ensures value { result ≡ from + position_or_len (λ e. is_running e.stage) (drop from self.now) }
-        ensures within { result ≤ length self.now }
+    pub(crate) fn running_places(&self) -> MarkSet
+        ensures { (i : ℕ) → has result i ≡ holds_at (λ e. is_running e.stage) self.now i }
     {
-        let len = self.len();
-        match self.board.next_running(from) {
-            Some(place) => place,
-            None => len,
-        }
+        self.board.running_places()
     }
 
-    /// The place of the first entry that waits and may begin, from a place on; how many there are where none may.
+    /// Places of entries that wait: each that can begin is one of them.
     #[inline]
-    pub(crate) fn next_candidate(&self, from: usize) -> usize
-        requires { from ≤ length self.now }
-        ensures behind { from ≤ result }
-        ensures within { result ≤ length self.now }
-        ensures waits { result < length self.now → holds_at (λ e. is_waiting e.stage) self.now result ≡ true }
-        ensures first { (i : ℕ) → from ≤ i → i < result → can_at [] self.now i ≡ false }
+    pub(crate) fn candidate_places(&self) -> MarkSet
+        ensures waiting { (i : ℕ) → has result i ≡ true → holds_at (λ e. is_waiting e.stage) self.now i ≡ true }
+        ensures others { (i : ℕ) → has result i ≡ false → can_at [] self.now i ≡ false }
     {
-        let len = self.len();
-        match self.board.next_candidate(from) {
-            Some(place) => place,
-            None => len,
-        }
+        self.board.candidate_places()
     }
 
     /// Whether the entry at a place, which waits, can begin.

@@ -1,14 +1,17 @@
-use Rattle.std.proofs.Common.{◌≡◌, ◌-◌, ◌<◌, ◌≤◌, [], length, take, drop, true}
+use Rattle.std.proofs.Common.{◌≡◌, ℕ, ◌-◌, ◌<◌, ◌≤◌, [], length, take, drop, true, false}
+use Rattle.diva_ooo.specs.Board.{can_at}
 use Rattle.diva_ooo.specs.Issue.{is_waiting, issued_from}
-use Rattle.diva_ooo.specs.MarkSets.{holds_at}
+use Rattle.diva_ooo.specs.MarkSets.{has, holds_at}
 use Rattle.diva_ooo.proofs.issuing.issue.Given as goal
 
 abbrev pub invariant-loop-at : goal.invariant-loop-at
 invariant-loop-at l = record {
   left : issued_from l.ahead l.view l.begun (take l.at l.window) (drop l.at l.window) ≡ issued_from l.ahead l.view 0 [] l.fn.window;
-  within : l.at ≤ length l.window;
   few : l.begun < 2;
-  waits : l.at < length l.window → holds_at (λ e. is_waiting e.stage) l.window l.at ≡ true;
+  passed : (i : ℕ) → i < l.at → has l.candidates i ≡ false;
+  here : l.at < 64 → has l.candidates l.at ≡ true;
+  waits : (i : ℕ) → has l.candidates i ≡ true → holds_at (λ e. is_waiting e.stage) l.window i ≡ true;
+  others : (i : ℕ) → l.at ≤ i → has l.candidates i ≡ false → can_at [] l.window i ≡ false;
 }
 
 abbrev pub decreases-loop-at : goal.decreases-loop-at
