@@ -396,3 +396,17 @@ eligible_but w b s t m i board both next but none = except_by (has s (b.base + i
 pub eligible_but_waits : (w : List Entry) (b : Board) (s t : MarkSet) (m i : ℕ) → IsBoard w b → ((k : ℕ) → has s k ≡ (has b.candidates k && has b.waiting k))
     → ((k : ℕ) → has t k ≡ (has s k && not (has b.loads k && nat_le m k))) → has t (b.base + i) ≡ true → holds_at (λ e. is_waiting e.stage) w i ≡ true
 eligible_but_waits w b s t m i board both but there = eligible_waits w b s i board both (and_left (has s (b.base + i)) (not (has b.loads (b.base + i) && nat_le m (b.base + i))) (sym (but (b.base + i)) ∙ there))
+
+not_behind : (l c : Bool) → l ≡ true → not (l && c) ≡ true → c ≡ false
+not_behind true true load h = absurd (cc)
+not_behind true false load h = refl
+not_behind false c load h = absurd (cc)
+
+-- a load is among them only where each older store is done
+pub eligible_stored : (w : List Entry) (b : Board) (s t : MarkSet) (m i : ℕ) → IsBoard w b → IsNext b.storing b.base m
+    → ((k : ℕ) → has t k ≡ (has s k && not (has b.loads k && nat_le m k))) → has t (b.base + i) ≡ true → holds_at is_load w i ≡ true → are_stored (take i w) ≡ true
+eligible_stored w b s t m i board next but there load =
+    let apart : not (has b.loads (b.base + i) && nat_le m (b.base + i)) ≡ true = and_right (has s (b.base + i)) (not (has b.loads (b.base + i) && nat_le m (b.base + i))) (sym (but (b.base + i)) ∙ there) in
+    let near : nat_le m (b.base + i) ≡ false = not_behind (has b.loads (b.base + i)) (nat_le m (b.base + i)) (board.loads i ∙ load) apart in
+    let before : nat_le (b.base + i) m ≡ true = grind (arith, nat_tests) in
+    sym (stored_at w b i m board next) ∙ before

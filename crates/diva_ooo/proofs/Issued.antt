@@ -10,7 +10,7 @@ use Rattle.diva_ooo.specs.declared.entry.Entry.{Entry}
 use Rattle.diva_ooo.specs.declared.profile.Class.{Class}
 use Rattle.diva_ooo.specs.declared.profile.Class.TheVariants.{Plain, Loads, Stores, Calls}
 use Rattle.diva_ooo.specs.declared.profile.Profile.{Profile}
-use Rattle.diva_ooo.specs.Board.{can_at}
+use Rattle.diva_ooo.specs.Board.{can_at, is_load}
 use Rattle.diva_ooo.specs.Issue.{are_stored, begins, can_begin, is_available, is_done, is_free, is_ready, is_storing, is_waiting, issued_from, started}
 use Rattle.diva_ooo.specs.MarkSets.{holds_at}
 use Rattle.diva_ooo.proofs.Boarding.{alike_more, staged_same, waits_only}
@@ -155,26 +155,48 @@ can_staged older (e ∷ w) zero (suc i) x y is profile stage h =
 can_staged older (e ∷ w) (suc at) zero x y is profile stage h = absurd (omega arith)
 can_staged older (e ∷ w) (suc at) (suc i) x y is profile stage h = can_staged (older ++ e ∷ []) w at i x y is profile stage (omega arith)
 
-waits_behind : (p : Entry → Bool) (w : List Entry) (at i : ℕ) (y : Entry) → at < i → holds_at p (slice_set w at y) i ≡ holds_at p w i
-waits_behind p [] at i y h = refl
-waits_behind p (e ∷ w) zero zero y h = absurd (omega arith)
-waits_behind p (e ∷ w) zero (suc i) y h = refl
-waits_behind p (e ∷ w) (suc at) zero y h = absurd (omega arith)
-waits_behind p (e ∷ w) (suc at) (suc i) y h = waits_behind p w at i y (omega arith)
+holds_behind : (p : Entry → Bool) (w : List Entry) (at i : ℕ) (y : Entry) → at < i → holds_at p (slice_set w at y) i ≡ holds_at p w i
+holds_behind p [] at i y h = refl
+holds_behind p (e ∷ w) zero zero y h = absurd (omega arith)
+holds_behind p (e ∷ w) zero (suc i) y h = refl
+holds_behind p (e ∷ w) (suc at) zero y h = absurd (omega arith)
+holds_behind p (e ∷ w) (suc at) (suc i) y h = holds_behind p w at i y (omega arith)
+
+stored_staged : (w : List Entry) (at i : ℕ) (x y : Entry) → slice_get w at ≡ Some x → y.profile ≡ x.profile → is_done y.stage ≡ is_done x.stage → are_stored (take i (slice_set w at y)) ≡ are_stored (take i w)
+stored_staged [] at i x y is profile stage = refl
+stored_staged (e ∷ w) zero zero x y is profile stage = refl
+stored_staged (e ∷ w) zero (suc i) x y is profile stage =
+    let here : e ≡ x = cc in
+    ap (λ (p : Profile). (is_done y.stage || not (is_storing p.class)) && are_stored (take i w)) profile
+    ∙ ap (λ (c : Bool). (c || not (is_storing x.profile.class)) && are_stored (take i w)) stage
+    ∙ ap (λ (z : Entry). is_stored z && are_stored (take i w)) (sym here)
+stored_staged (e ∷ w) (suc at) zero x y is profile stage = refl
+stored_staged (e ∷ w) (suc at) (suc i) x y is profile stage = ap (λ (c : Bool). is_stored e && c) (stored_staged w at i x y is profile stage)
 
 -- what is asked of the entries behind one place has the same answers in two windows
 pub record AreAsBefore (w new : List Entry) (at : ℕ) : Type 0 where
   pub waits : (i : ℕ) → at < i → holds_at (λ e. is_waiting e.stage) new i ≡ holds_at (λ e. is_waiting e.stage) w i
   pub can : (i : ℕ) → at < i → can_at [] new i ≡ can_at [] w i
+  pub loads : (i : ℕ) → at < i → holds_at is_load new i ≡ holds_at is_load w i
+  pub stored : (i : ℕ) → are_stored (take i new) ≡ are_stored (take i w)
 
 pub before_same : (w new : List Entry) (at : ℕ) → new ≡ w → AreAsBefore w new at
-before_same w new at same = record { waits = λ i h. ap (λ (x : List Entry). holds_at (λ e. is_waiting e.stage) x i) same; can = λ i h. ap (λ (x : List Entry). can_at [] x i) same }
+before_same w new at same =
+    record {
+      waits = λ i h. ap (λ (x : List Entry). holds_at (λ e. is_waiting e.stage) x i) same;
+      can = λ i h. ap (λ (x : List Entry). can_at [] x i) same;
+      loads = λ i h. ap (λ (x : List Entry). holds_at is_load x i) same;
+      stored = λ i. ap (λ (x : List Entry). are_stored (take i x)) same;
+    }
 
 before_begun : (w new : List Entry) (at : ℕ) (e y : Entry) → slice_get w at ≡ Some e → is_waiting e.stage ≡ true → y.profile ≡ e.profile → is_done y.stage ≡ false → new ≡ slice_set w at y → AreAsBefore w new at
 before_begun w new at e y is waits profile not_done sets =
+    let stage : is_done y.stage ≡ is_done e.stage = not_done ∙ sym (waits_only e.stage waits).1 in
     record {
-      waits = λ i h. rw sets (waits_behind (λ x. is_waiting x.stage) w at i y h);
-      can = λ i h. rw sets (can_staged [] w at i e y is profile (not_done ∙ sym (waits_only e.stage waits).1) h);
+      waits = λ i h. rw sets (holds_behind (λ x. is_waiting x.stage) w at i y h);
+      can = λ i h. rw sets (can_staged [] w at i e y is profile stage h);
+      loads = λ i h. rw sets (holds_behind is_load w at i y h);
+      stored = λ i. rw sets (stored_staged w at i e y is profile stage);
     }
 
 -- those behind the one that begins are asked as before

@@ -2,14 +2,14 @@
 ghost use Rattle.std.specs.Prelude.{◌≡◌, ◌+◌, ◌&&◌, ◌<◌, ◌≤◌, ◌⊎◌, ℕ, List, [], ◌∷◌, ◌++◌, length, get_or, nat_lt, take, IfSome, IsNone, Some, false, if◌then◌else◌, slice_get, slice_set, true};
 ghost use Rattle.diva_ooo.specs.declared.entry.Entry.{Entry};
 ghost use Rattle.diva_core.specs.Cycle.{is_store};
-ghost use Rattle.diva_ooo.specs.Board.{IsBoard, IsLastOf, IsNextOf, IsWrittenBetween, can_at, could_at, has_result, no_mark, reads};
+ghost use Rattle.diva_ooo.specs.Board.{IsBoard, IsLastOf, IsNextOf, IsWrittenBetween, can_at, could_at, has_result, is_load, no_mark, reads};
 ghost use Rattle.diva_ooo.specs.Finish.{is_running};
-ghost use Rattle.diva_ooo.specs.Issue.{are_stored, is_available, is_done, is_free, is_waiting};
+ghost use Rattle.diva_ooo.specs.Issue.{are_stored, is_available, is_done, is_waiting};
 ghost use Rattle.diva_ooo.specs.Known.{HasSources};
 ghost use Rattle.diva_ooo.specs.MarkSets.{has, holds_at};
 
 use crate::mark_set::MarkSet;
-use crate::profile::{Class, Profile};
+use crate::profile::Profile;
 
 /// Which entries of a window are how far, and which registers they read and write. So no entry has to look for the ones
 /// that it waits for.
@@ -230,13 +230,15 @@ impl Board {
         }
     }
 
-    /// Places of entries that wait: each that can begin is one of them.
+    /// Places of entries that wait: each that can begin is one of them. Where one is a load, each older store is done.
     pub(crate) fn candidate_places(&self) -> MarkSet
         requires { self.now.base < 32 }
         ensures waiting { (w : List Entry) → IsBoard w self.now → (i : ℕ) → has result i ≡ true
             → holds_at (λ e. is_waiting e.stage) w i ≡ true }
         ensures others { (w : List Entry) → IsBoard w self.now → (i : ℕ) → has result i ≡ false
             → can_at [] w i ≡ false }
+        ensures stored { (w : List Entry) → IsBoard w self.now → (i : ℕ) → has result i ≡ true
+            → holds_at is_load w i ≡ true → are_stored (take i w) ≡ true }
     {
         self.eligible().lowered(self.base)
     }
@@ -248,6 +250,8 @@ impl Board {
             → holds_at (λ e. is_waiting e.stage) w i ≡ true }
         ensures others { (w : List Entry) (i : ℕ) → IsBoard w self.now → has result (self.now.base + i) ≡ false
             → can_at [] w i ≡ false }
+        ensures stored { (w : List Entry) (i : ℕ) → IsBoard w self.now → has result (self.now.base + i) ≡ true
+            → holds_at is_load w i ≡ true → are_stored (take i w) ≡ true }
     {
         let waiting = self.candidates.both(self.waiting);
         match self.storing.next(self.base) {
@@ -276,31 +280,6 @@ impl Board {
     {
         match self.writers[usize::from(n)].last(self.base + at) {
             Some(mark) => self.done.has(mark),
-            None => true,
-        }
-    }
-
-    /// Whether an entry at a place has what it waits for besides its sources.
-    pub(crate) fn is_free(&self, at: usize, class: Class) -> bool
-        requires base { self.now.base ≤ 32 }
-        requires place { at < 32 }
-        ensures { (w : List Entry) → IsBoard w self.now → at ≤ length w → result ≡ is_free class (take at w) }
-    {
-        match class {
-            Class::Plain | Class::Stores => true,
-            Class::Loads => self.are_stored(at),
-            Class::Calls => at == 0,
-        }
-    }
-
-    // Whether each store before a place is done.
-    fn are_stored(&self, at: usize) -> bool
-        requires base { self.now.base ≤ 32 }
-        requires place { at < 32 }
-        ensures { (w : List Entry) → IsBoard w self.now → at ≤ length w → result ≡ are_stored (take at w) }
-    {
-        match self.storing.next(self.base) {
-            Some(mark) => mark >= self.base + at,
             None => true,
         }
     }

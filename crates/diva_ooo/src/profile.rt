@@ -1,10 +1,11 @@
 // What the core notes of an instruction that it fetches.
-ghost use Rattle.std.specs.Prelude.{◌≡◌, ℕ, Option, IfSome, Some};
+ghost use Rattle.std.specs.Prelude.{◌≡◌, ℕ, List, length, true, Option, IfSome, Some};
 ghost use Rattle.std.specs.Option.{option_and_then};
 ghost use Rattle.diva_decode.specs.Table.{HasRegisters, row_of};
 ghost use Rattle.diva_isa.specs.Kind.{kind};
+ghost use Rattle.diva_ooo.specs.declared.entry.Entry.{Entry};
 ghost use Rattle.diva_ooo.specs.Board.{is_loading};
-ghost use Rattle.diva_ooo.specs.Issue.{is_storing};
+ghost use Rattle.diva_ooo.specs.Issue.{are_stored, is_free, is_storing};
 ghost use Rattle.diva_ooo.specs.Known.{HasSources};
 ghost use Rattle.diva_ooo.specs.Profile.{class_of, cycles_of, profile_by, profile_of, profiled};
 
@@ -36,6 +37,17 @@ impl Class {
         ensures { result ≡ is_loading self }
     {
         matches!(self, Class::Loads)
+    }
+
+    /// Whether an entry at a place has what else it waits for. It is asked of a load only where each older store is done.
+    pub fn is_free_at(self, at: usize) -> bool
+        ensures { (older : List Entry) → length older ≡ at → (is_loading self ≡ true → are_stored older ≡ true)
+            → result ≡ is_free self older }
+    {
+        match self {
+            Class::Plain | Class::Loads | Class::Stores => true,
+            Class::Calls => at == 0,
+        }
     }
 }
 

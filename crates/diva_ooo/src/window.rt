@@ -3,9 +3,9 @@ ghost use Rattle.std.specs.Prelude.{◌≡◌, ◌≤◌, ◌<◌, ◌+◌, ◌-
 ghost use Rattle.std.specs.List.{All, position_or_len};
 ghost use Rattle.diva_ooo.specs.declared.entry.Stage.TheVariants.{Done, Running};
 ghost use Rattle.diva_core.specs.Cycle.{is_store};
-ghost use Rattle.diva_ooo.specs.Board.{IsBoard, IsNextOf, can_at};
+ghost use Rattle.diva_ooo.specs.Board.{IsBoard, IsNextOf, can_at, is_load};
 ghost use Rattle.diva_ooo.specs.Finish.{is_running};
-ghost use Rattle.diva_ooo.specs.Issue.{is_done, is_waiting, running, written};
+ghost use Rattle.diva_ooo.specs.Issue.{are_stored, is_done, is_waiting, running, written};
 ghost use Rattle.diva_ooo.specs.Known.{IsKnown};
 ghost use Rattle.diva_ooo.specs.MarkSets.{has, holds_at};
 
@@ -100,20 +100,23 @@ impl Window {
         self.board.running_places()
     }
 
-    /// Places of entries that wait: each that can begin is one of them.
+    /// Places of entries that wait: each that can begin is one of them. Where one is a load, each older store is done.
     #[inline]
     pub(crate) fn candidate_places(&self) -> MarkSet
         ensures waiting { (i : ℕ) → has result i ≡ true → holds_at (λ e. is_waiting e.stage) self.now i ≡ true }
         ensures others { (i : ℕ) → has result i ≡ false → can_at [] self.now i ≡ false }
+        ensures stored { (i : ℕ) → has result i ≡ true → holds_at is_load self.now i ≡ true
+            → are_stored (take i self.now) ≡ true }
     {
         self.board.candidate_places()
     }
 
-    /// Whether the entry at a place, which waits, can begin.
+    /// Whether the entry at a place, which waits, can begin. Where it is a load, each older store is done.
     #[inline]
     pub(crate) fn is_ready(&mut self, at: usize) -> bool
         requires place { at < length self.old }
         requires waits { holds_at (λ e. is_waiting e.stage) self.old at ≡ true }
+        requires stored { holds_at is_load self.old at ≡ true → are_stored (take at self.old) ≡ true }
         ensures value { result ≡ can_at [] self.old at }
         ensures same { self.new ≡ self.old }
     {
@@ -233,12 +236,13 @@ impl Window {
     }
 }
 
-// Whether the entry at a place, which waits, can begin; where it has not its sources, it is no candidate any more.
+// The same of a window in its parts; where the entry has not its sources, it is no candidate any more.
 fn is_ready_at(entries: &HeapCircularBuffer<Entry>, board: &mut Board, at: usize) -> bool
     requires known { All IsKnown entries.now.items }
     requires few { length entries.now.items ≤ 32 }
     requires place { at < length entries.now.items }
     requires waits { holds_at (λ e. is_waiting e.stage) entries.now.items at ≡ true }
+    requires stored { holds_at is_load entries.now.items at ≡ true → are_stored (take at entries.now.items) ≡ true }
     requires board { IsBoard entries.now.items board.old }
     requires base { board.old.base < 32 }
     ensures value { result ≡ can_at [] entries.now.items at }
@@ -250,5 +254,5 @@ fn is_ready_at(entries: &HeapCircularBuffer<Entry>, board: &mut Board, at: usize
         board.pass(at);
         return false;
     }
-    board.is_free(at, profile.class)
+    profile.class.is_free_at(at)
 }

@@ -17,6 +17,7 @@ loop-at-init c =
       passed = first.lower;
       here = first.there;
       waits = among.waiting;
+      stored = among.stored;
       others = λ i from. among.others i;
     }
 
@@ -65,6 +66,9 @@ loop-at-preserved c =
       waits = λ i there.
           let behind = rest_past c.loop-at.candidates c.remove.new.self at i c.remove.ensures kept.passed there in
           as_before.waits i (omega arith) ∙ kept.waits i (rest_among c.loop-at.candidates c.remove.new.self at i c.remove.ensures there);
+      stored = λ i there load.
+          let behind = rest_past c.loop-at.candidates c.remove.new.self at i c.remove.ensures kept.passed there in
+          as_before.stored i ∙ kept.stored i (rest_among c.loop-at.candidates c.remove.new.self at i c.remove.ensures there) (sym (as_before.loads i (omega arith)) ∙ load);
       others = λ i from. others i (omega arith);
     }
 

@@ -1,6 +1,6 @@
 use Rattle.std.proofs.Common.{◌≡◌, ℕ, ◌-◌, ◌<◌, ◌≤◌, [], length, take, drop, true, false}
-use Rattle.diva_ooo.specs.Board.{can_at}
-use Rattle.diva_ooo.specs.Issue.{is_waiting, issued_from}
+use Rattle.diva_ooo.specs.Board.{can_at, is_load}
+use Rattle.diva_ooo.specs.Issue.{are_stored, is_waiting, issued_from}
 use Rattle.diva_ooo.specs.MarkSets.{has, holds_at}
 use Rattle.diva_ooo.proofs.issuing.issue.Given as goal
 
@@ -11,6 +11,7 @@ invariant-loop-at l = record {
   passed : (i : ℕ) → i < l.at → has l.candidates i ≡ false;
   here : l.at < 64 → has l.candidates l.at ≡ true;
   waits : (i : ℕ) → has l.candidates i ≡ true → holds_at (λ e. is_waiting e.stage) l.window i ≡ true;
+  stored : (i : ℕ) → has l.candidates i ≡ true → holds_at is_load l.window i ≡ true → are_stored (take i l.window) ≡ true;
   others : (i : ℕ) → l.at ≤ i → has l.candidates i ≡ false → can_at [] l.window i ≡ false;
 }
 

@@ -1,4 +1,6 @@
-use Rattle.std.proofs.Common.{◌≡◌, Some, arith, rules, slice_get, sym, true, ◌∙◌}
+use Rattle.std.proofs.Common.{◌≡◌, length, take, Some, arith, rules, slice_get, sym, true, ◌∙◌}
+use Rattle.std.proofs.lemmas.Grind.{common_steps}
+use Rattle.diva_ooo.specs.Board.{is_load}
 use Rattle.diva_ooo.specs.Issue.{is_waiting}
 use Rattle.diva_ooo.proofs.Marking.{holds_here}
 use Rattle.diva_ooo.proofs.Windowing.{can_if_free, can_not, could_not}
@@ -24,4 +26,5 @@ returns-clause-value c =
     let e = c.unwrap.result.now in
     let here : slice_get w c.args.at ≡ Some e = search rules in
     let waits : is_waiting e.stage ≡ true = sym (holds_here (λ x. is_waiting x.stage) w c.args.at e here) ∙ c.requires.waits in
-    c.is_free.ensures w c.requires.board (omega arith) ∙ can_if_free w c.args.at e here waits (sym (c.has_sources.ensures w c.requires.board (omega arith)) ∙ c.if-not-has_sources.false)
+    let place : length (take c.args.at w) ≡ c.args.at = grind (arith, common_steps) in
+    c.is_free_at.ensures (take c.args.at w) place (λ load. c.requires.stored (holds_here is_load w c.args.at e here ∙ load)) ∙ can_if_free w c.args.at e here waits (sym (c.has_sources.ensures w c.requires.board (omega arith)) ∙ c.if-not-has_sources.false)
