@@ -78,7 +78,7 @@ fn pass_operands(pending: &mut Pending, future: &mut FutureFile, at: usize, arch
     ensures future { IsFuture arch.now.state pending.new.items future.new }
     ensures waits { map pending_claim_of pending.new.items ≡ map pending_claim_of pending.old.items }
     ensures capacity { pending.new.capacity ≡ pending.old.capacity }
-    ensures advanced { HasPassed arch.now.state 3 at pending.old.items pending.new.items }
+    ensures advanced { HasPassed arch.now.state (age_of Stage.Operands) at pending.old.items pending.new.items }
 {
     let _ = pending.len();
     let entry = pending.at(at);
@@ -103,7 +103,7 @@ fn note_operands(pending: &mut Pending, future: &mut FutureFile, at: usize, arch
     ensures future { IsFuture arch.now.state pending.new.items future.new }
     ensures waits { map pending_claim_of pending.new.items ≡ map pending_claim_of pending.old.items }
     ensures capacity { pending.new.capacity ≡ pending.old.capacity }
-    ensures advanced { HasPassed arch.now.state 3 at pending.old.items pending.new.items }
+    ensures advanced { HasPassed arch.now.state (age_of Stage.Operands) at pending.old.items pending.new.items }
 {
     if future.claims() == at {
         let _ = pending.len();
