@@ -9,6 +9,7 @@ use diva_decode::Op;
 /// computes nothing. (RISC-V Unprivileged ISA, RV32I 2.1, "Integer Computational Instructions", and chapter M 2.0.)
 ///
 /// Nothing traps: a shift takes the low 5 bits of its amount, and a division by zero has its results by the manual.
+#[inline(always)]
 pub fn alu(op: Op, a: u32, b: u32) -> u32
     ensures { result ≡ alu op a b }
 {
