@@ -30,18 +30,10 @@ cycles_of op = 1
 
 -- what else than its sources an instruction of a kind waits for
 abbrev pub class_of : Kind → Class
-class_of Lui = Plain
-class_of Auipc = Plain
-class_of Jal = Plain
-class_of Jalr = Plain
-class_of Branch = Plain
 class_of (Load width) = Loads
 class_of (Store width) = Stores
-class_of OpImm = Plain
-class_of OpReg = Plain
-class_of Fence = Plain
 class_of Ecall = Calls
-class_of Ebreak = Plain
+class_of other = Plain
 
 abbrev pub profiled : (rs1 rs2 rd : ℕ) → Class → (cycles : ℕ) → Profile
 profiled rs1 rs2 rd class cycles = record { rs1 = rs1; rs2 = rs2; rd = rd; class = class; cycles = cycles }
