@@ -9,6 +9,7 @@ pub mod Differing
 pub mod Ending
 pub mod Forms
 pub mod Holding
+pub mod Inside
 pub mod Judging
 pub mod Keeping
 pub mod Laying

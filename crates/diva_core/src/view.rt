@@ -4,7 +4,7 @@ ghost use Rattle.diva_isa.specs.State.{State, reg_of, byte_of, word_of, output_l
 ghost use Rattle.diva_storeq.specs.Stores.{laid};
 
 use crate::output::Output;
-use diva_isa::{Look, Regs};
+use diva_isa::{Look, Regs, Width};
 use diva_memory::Memory;
 use diva_storeq::StoreQueue;
 use std::marker::Model;
@@ -153,6 +153,11 @@ impl Look for View<'_> {
     #[inline(always)]
     fn word(&self, addr: u32) -> Option<u32> {
         View::word(self, addr)
+    }
+
+    #[inline(always)]
+    fn has(&self, addr: u32, width: Width) -> bool {
+        self.memory.inside(addr, width.size())
     }
 
     #[inline(always)]

@@ -50,7 +50,7 @@ pub fn check_memory(pending: &Pending, at: usize, view: &View<'_>) -> Option<Dif
             compare_outcome(&entry.claim, Some(decoded), &Bypass::new(pending, at, view))
         }
         Some(_) => None,
-        None => check_memory_anew(pending, at, view),
+        None => check_memory_anew(pending, at, &view.copied()),
     }
 }
 

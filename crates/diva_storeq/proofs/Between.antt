@@ -1,5 +1,5 @@
 -- A word outside the interval of those that the entries go to.
-use Rattle.std.proofs.Common.{◌≡◌, ◌≤◌, ◌<◌, ℕ, zero, suc, ◌+◌, ◌%◌, ◌==◌, List, [], ◌∷◌, ◌++◌, length, Option, None, Bool, true, false, ◌⊎◌, inl, inr, if◌then◌else◌, refl, ◌∙◌, arith}
+use Rattle.std.proofs.Common.{◌≡◌, ◌≤◌, ◌<◌, ℕ, zero, suc, ◌+◌, ◌-◌, ◌%◌, ◌==◌, List, [], ◌∷◌, ◌++◌, length, Option, None, Bool, true, false, ◌⊎◌, inl, inr, if◌then◌else◌, refl, ◌∙◌, arith}
 use Rattle.std.proofs.lemmas.Bool.Decides.{nat_tests}
 use Rattle.std.specs.List.{All}
 use Rattle.std.proofs.lemmas.List.Elements.{All-head, All-tail, All-push, All-weaker}
@@ -21,6 +21,27 @@ outside_byte m [] low high a i sound between aligned outside lt = refl
 outside_byte m (e ∷ entries) low high a i sound between aligned outside lt =
     outside_byte (merge m e) entries low high a i (All-tail IsMasked e entries sound) (All-tail (IsBetween low high) e entries between) aligned outside lt
     ∙ merge_apart m e (a + i) (one_apart e low high a i (All-head IsMasked e entries sound) (All-head (IsBetween low high) e entries between) aligned outside lt)
+
+lane_outside : (low high a : ℕ) → (a < low) ⊎ (high < a - a % 4) → (a - a % 4 < low) ⊎ (high < a - a % 4)
+lane_outside low high a (inl below) = inl (omega arith)
+lane_outside low high a (inr above) = inr above
+
+-- the word in which it lies is outside
+outside_lane : (m : Bytes) (entries : List Masked) (low high a : ℕ) → All IsMasked entries → All (IsBetween low high) entries → (a < low) ⊎ (high < a - a % 4)
+    → byte_at (laid m entries) a ≡ byte_at m a
+outside_lane m entries low high a sound between outside =
+    let here : a - a % 4 + a % 4 ≡ a = omega arith in
+    rw here at (outside_byte m entries low high (a - a % 4) (a % 4) sound between (omega arith) (lane_outside low high a outside) (omega arith))
+
+pub none_byte : (m : Bytes) (entries : List Masked) (a : ℕ) → length entries ≡ 0 → byte_at (laid m entries) a ≡ byte_at m a
+none_byte m [] a none = refl
+none_byte m (e ∷ entries) a none = absurd (omega arith)
+
+pub below_byte : (m : Bytes) (entries : List Masked) (low high a : ℕ) → All IsMasked entries → All (IsBetween low high) entries → a < low → byte_at (laid m entries) a ≡ byte_at m a
+below_byte m entries low high a sound between below = outside_lane m entries low high a sound between (inl below)
+
+pub above_byte : (m : Bytes) (entries : List Masked) (low high a : ℕ) → All IsMasked entries → All (IsBetween low high) entries → high < a - a % 4 → byte_at (laid m entries) a ≡ byte_at m a
+above_byte m entries low high a sound between above = outside_lane m entries low high a sound between (inr above)
 
 -- ---- and so the word stays
 

@@ -128,7 +128,7 @@ impl StoreQueue {
         ensures value { result ≡ byte_at (laid memory.now self.now.items) addr }
         ensures inside { IsSome result ↔ IsInside memory.now addr 1 }
     {
-        if self.owed() == 0 {
+        if self.is_byte_clear(addr) {
             return memory.byte(addr);
         }
         let mut byte = memory.byte(addr)?;
@@ -159,7 +159,15 @@ impl StoreQueue {
         self.owed() == 0 || addr < self.low || self.high < addr
     }
 
-    // The same, with the entries laid over the word one after the other.
+    // The same of the word in which a byte lies, and so of the byte.
+    #[inline(always)]
+    fn is_byte_clear(&self, addr: u32) -> bool
+        ensures { IsTrue result → (m : Bytes) → byte_at (laid m self.now.items) addr ≡ byte_at m addr }
+    {
+        self.owed() == 0 || addr < self.low || self.high < addr - addr % 4
+    }
+
+    // The word, with the entries laid over it one after the other.
     #[tactic(auto, using(crate::proofs::Laying::laid_word_none))]
     fn merged(&self, memory: &Memory, addr: u32) -> Option<u32>
         ensures value { result ≡ word_at (laid memory.now self.now.items) addr }
