@@ -1,7 +1,4 @@
 // A core that does one instruction at a time.
-ghost use Rattle.std.specs.Prelude.{◌≡◌, [], ◌∷◌};
-ghost use Rattle.diva_isa.specs.Step.{record_of};
-
 use diva_core::{Claims, Core, Told, View};
 use diva_isa::record_of;
 
@@ -15,19 +12,10 @@ impl Core for Lockstep {
 
     ghost gives = { IsLockstepCall };
 
-    #[inline]
+    #[inline(always)]
     fn cycle(&mut self, told: &Told, view: &View<'_>, out: &mut Claims) {
         if told.pending == 0 && told.room > 0 {
-            hand_over(&view.copied(), out);
+            out.push(record_of(view));
         }
     }
-}
-
-// Hands over the due record.
-#[inline(never)]
-fn hand_over(view: &View<'_>, out: &mut Claims)
-    requires { out.old ≡ [] }
-    ensures { out.new ≡ record_of view.now ∷ [] }
-{
-    out.push(record_of(view));
 }
