@@ -1,6 +1,7 @@
 // The committed state as a core sees it.
 ghost use Rattle.std.specs.Prelude.{◌≡◌, ◌<◌, ◌≤◌, ◌%◌, length};
-ghost use Rattle.diva_isa.specs.State.{State, reg_of, byte_of, word_of, output_limit};
+ghost use Rattle.diva_isa.specs.Kind.{size};
+ghost use Rattle.diva_isa.specs.State.{State, reg_of, byte_of, word_of, number_of, output_limit};
 ghost use Rattle.diva_storeq.specs.Stores.{laid};
 
 use crate::output::Output;
@@ -122,6 +123,24 @@ impl View<'_> {
         self.queue.word(self.memory, addr)
     }
 
+    // The number that the bytes of a width from an address on are. Loads alone ask for it, so it is read by a call, which is made
+    // on a copy of the view: the view itself can then stay in registers.
+    #[inline(never)]
+    #[tactic(auto, using(crate::proofs::Bypassing::half_none, crate::proofs::Bypassing::half_high_none))]
+    fn read_number(&self, addr: u32, width: Width) -> Option<u32>
+        requires { addr % size width ≡ 0 }
+        ensures { result ≡ number_of self.now (size width) addr }
+    {
+        match width {
+            Width::Byte => Some(u32::from(self.byte(addr)?)),
+            Width::Half => Some(u32::from(u16::from_le_bytes([
+                self.byte(addr)?,
+                self.byte(addr + 1)?,
+            ]))),
+            Width::Word => self.word(addr),
+        }
+    }
+
     /// How many bytes were put: at most 65,536.
     #[inline(always)]
     pub fn out_len(&self) -> u32
@@ -153,6 +172,11 @@ impl Look for View<'_> {
     #[inline(always)]
     fn word(&self, addr: u32) -> Option<u32> {
         View::word(self, addr)
+    }
+
+    #[inline(always)]
+    fn number(&self, addr: u32, width: Width) -> Option<u32> {
+        self.copied().read_number(addr, width)
     }
 
     #[inline(always)]
