@@ -4,7 +4,7 @@ use Rattle.std.proofs.Math.Seq.{take-add}
 use Rattle.std.proofs.lemmas.List.{take-append-drop, take_rest}
 use Rattle.std.specs.List.{concat}
 use Rattle.std.specs.Io.KnownBytes.{Appends, Keeps}
-use Rattle.diva_outside.specs.Sink.{AppendsPart, Puts}
+use Rattle.diva_outside.specs.Sink.{AppendsPart, AppendsPast, Puts}
 
 appends_then : (old mid new : Option (List ℕ)) (a b : List ℕ) → Appends old mid a → Appends mid new b → Appends old new (a ++ b)
 appends_then None mid new a b first second = tt
@@ -19,6 +19,18 @@ part_then old mid new a b first part = record {
   whole = ap (λ (l : List ℕ). a ++ l) part.whole ∙ sym (append_assoc a part.front part.rest);
   appended = appends_then old mid new a part.front first part.appended;
 }
+
+past_then : (old mid new : Option (List ℕ)) (a b : List ℕ) → Appends old mid a → AppendsPart mid new b → AppendsPast old new a (a ++ b)
+past_then old mid new a b first part = record {
+  front = part.front;
+  rest = part.rest;
+  whole = ap (λ (l : List ℕ). a ++ l) part.whole ∙ sym (append_assoc a part.front part.rest);
+  appended = appends_then old mid new a part.front first part.appended;
+}
+
+-- nothing had been put
+pub past_nothing : (old new : Option (List ℕ)) (text : List ℕ) → AppendsPart old new text → AppendsPast old new [] text
+past_nothing old new text part = record { front = part.front; rest = part.rest; whole = part.whole; appended = part.appended }
 
 appends_nothing : (old : Option (List ℕ)) → Appends old old []
 appends_nothing None = tt
@@ -43,6 +55,11 @@ puts_then a b c0 c1 c2 f0 f1 f2 (Err e) first second = record {
   part = part_then c0 c1 c2 a b first.ok second.part;
   failed = omega (arith, first.later, second.failed);
 }
+
+-- a piece was put, and then one failed
+pub puts_past : {E : Type 0} (a b : List ℕ) (c0 c1 c2 : Option (List ℕ)) (f0 f1 f2 : ℕ) (e : E)
+    → Puts {E = E} a c0 c1 f0 f1 (Ok tt) → Puts b c1 c2 f1 f2 (Err e) → AppendsPast c0 c2 a (a ++ b)
+puts_past a b c0 c1 c2 f0 f1 f2 e first second = past_then c0 c1 c2 a b first.ok second.part
 
 -- a put failed, and the pieces after it were not put
 pub puts_cut : {E : Type 0} (a b : List ℕ) (c0 c1 : Option (List ℕ)) (f0 f1 : ℕ) (e : E)

@@ -26,7 +26,7 @@ raised_at f Tape = record f { tape = raised f.tape }
 raised_at f Source = record f { source = raised f.source }
 raised_at f Commands = record f { commands = raised f.commands }
 
--- a load that answered `Failed` was counted, and no other
+-- what a load leaves of the counts, by its answer: one more fault of its kind where that is `Failed`, else the same
 abbrev pub Counts : {T : Type 0} → Faults → Faults → What → Result T LoadFault → Type 0
 Counts old new what (Ok bytes) = new ≡ old
 Counts old new what (Err Failed) = new ≡ raised_at old what

@@ -10,6 +10,13 @@ pub record AppendsPart (old new : Option (List ℕ)) (piece : List ℕ) : Type 0
   pub whole : piece ≡ front ++ rest
   pub appended : Appends old new front
 
+-- the same of a text that begins with what was put already: all of that was appended, and a prefix of what stands behind it
+pub record AppendsPast (old new : Option (List ℕ)) (put text : List ℕ) : Type 0 where
+  pub front : List ℕ
+  pub rest : List ℕ
+  pub whole : text ≡ put ++ front ++ rest
+  pub appended : Appends old new (put ++ front)
+
 -- the piece was put: all of it, or a prefix of it and a fault was counted
 pub record Puts {E : Type 0} (piece : List ℕ) (old new : Option (List ℕ)) (before now : ℕ) (result : Result (Unit {0}) E) : Type 0 where
   pub later : before ≤ now

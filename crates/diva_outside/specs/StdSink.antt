@@ -1,7 +1,13 @@
 -- A sink over a writer.
-use Rattle.std.specs.Prelude.{ℕ, List, Option}
+use Rattle.std.specs.Prelude.{◌≡◌, ℕ, List, Option, Result, Ok, Err}
+use Rattle.diva_outside.specs.Causes.{raised}
 
 -- the contents of the writer, `None` where they are not known, and how many faults there were
 pub record StdSink : Type 0 where
   pub bytes : Option (List ℕ)
   pub faults : ℕ
+
+-- what a put leaves of the count of faults, by its answer: one more where that is a failure, else the same
+abbrev pub CountsPut : {T E : Type 0} → ℕ → ℕ → Result T E → Type 0
+CountsPut before now (Ok done) = now ≡ before
+CountsPut before now (Err failure) = now ≡ raised before

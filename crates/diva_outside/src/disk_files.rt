@@ -1,5 +1,7 @@
 // The files of the operating system.
-ghost use Rattle.std.specs.Prelude.{◌≡◌, ◌≤◌, ◌<◌, None, IfOk, IfSome, IsErrOf, length};
+ghost use Rattle.std.specs.Prelude.{◌≡◌, ◌≤◌, ◌<◌, ◌≢◌, ◌⊎◌, IfOk, IfSome, IsErrOf, length};
+ghost use Rattle.diva_outside.specs.Causes.{Rose};
+ghost use Rattle.diva_outside.specs.Files.{unknown, Has, IsMissing, IsLonger};
 
 use crate::faults::Faults;
 use crate::{Files, LoadFault, What};
@@ -38,9 +40,10 @@ impl<'a, R: rt::Files> DiskFiles<'a, R> {
 }
 
 impl<R: rt::Files> Files for DiskFiles<'_, R> {
-    ghost use Rattle.diva_outside.specs.Faults.{faults_of};
+    ghost use Rattle.diva_outside.specs.declared.files.What.{What};
+    ghost use Rattle.diva_outside.specs.Faults.{faults_of, Counts};
 
-    ghost contents = { λ _. None };
+    ghost contents = { λ _. unknown };
 
     ghost faults = { faults_of };
 
@@ -50,7 +53,24 @@ impl<R: rt::Files> Files for DiskFiles<'_, R> {
         what: What,
         name: &str,
         limit: usize,
-    ) -> Result<Vec<u8>, LoadFault> {
+    ) -> Result<Vec<u8>, LoadFault>
+        ensures stays { unknown ≡ unknown }
+        ensures later { (w : What) → faults_of self.old w ≤ faults_of self.new w }
+        ensures others { (w : What) → w ≢ what → faults_of self.new w ≡ faults_of self.old w }
+        ensures whole { IfOk result (λ v. Has unknown name.now v.items) }
+        ensures within { IfOk result (λ v. length v.items ≤ limit) }
+        ensures too_long { IsErrOf result LoadFault.TooLong
+            → IsLonger unknown name.now limit }
+        ensures failed { IsErrOf result LoadFault.Failed
+            → Rose (faults_of self.old what) (faults_of self.new what) ⊎ IsMissing unknown name.now }
+        ensures missing { IsMissing unknown name.now
+            → IsErrOf result LoadFault.Failed ⊎ IsErrOf result LoadFault.Memory }
+        ensures uncounted { IsMissing unknown name.now
+            → (w : What) → faults_of self.new w ≡ faults_of self.old w }
+
+        // A fault is counted exactly where the load answers `Failed`, and for its kind alone.
+        ensures counts { Counts self.old self.new what result }
+    {
         let answer = read_file(self.rt, alloc, name, limit);
         self.faults.count(what, &answer);
         answer

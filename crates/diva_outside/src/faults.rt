@@ -1,5 +1,5 @@
 // How often the files of each kind have failed.
-ghost use Rattle.std.specs.Prelude.{◌≡◌, ◌≤◌, IsErrOf};
+ghost use Rattle.std.specs.Prelude.{◌≡◌, ◌≤◌, ◌≢◌, IsErrOf};
 ghost use Rattle.diva_outside.specs.Causes.{Rose};
 
 use crate::{LoadFault, What};
@@ -36,6 +36,7 @@ impl Faults {
         ensures raised { self.new ≡ raised_at self.old what }
         ensures rose { Rose (faults_of self.old what) (faults_of self.new what) }
         ensures later { (w : What) → faults_of self.old w ≤ faults_of self.new w }
+        ensures others { (w : What) → w ≢ what → faults_of self.new w ≡ faults_of self.old w }
     {
         match what {
             What::Image => self.image = self.image.saturating_add(1),
@@ -52,6 +53,7 @@ impl Faults {
         ensures failed { IsErrOf answer.now LoadFault.Failed
             → Rose (faults_of self.old what) (faults_of self.new what) }
         ensures later { (w : What) → faults_of self.old w ≤ faults_of self.new w }
+        ensures others { (w : What) → w ≢ what → faults_of self.new w ≡ faults_of self.old w }
     {
         if let Err(LoadFault::Failed) = answer {
             self.raise(what);

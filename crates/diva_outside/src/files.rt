@@ -1,5 +1,5 @@
 // Files by name, as a program that only loads them sees them.
-ghost use Rattle.std.specs.Prelude.{◌≡◌, ◌≤◌, ◌⊎◌, List, ℕ, Option, length, IfOk, IsErrOf};
+ghost use Rattle.std.specs.Prelude.{◌≡◌, ◌≤◌, ◌≢◌, ◌⊎◌, List, ℕ, Option, length, IfOk, IsErrOf};
 ghost use Rattle.diva_outside.specs.declared.files.What.{What};
 ghost use Rattle.diva_outside.specs.declared.files.LoadFault.TheVariants.{Memory};
 ghost use Rattle.diva_outside.specs.Causes.{Rose};
@@ -59,7 +59,7 @@ pub trait Files {
     ghost faults: { Self → What → ℕ };
 
     /// Loads the whole file of that name, which may have `limit` bytes at most. `what` is the kind of file for which a
-    /// failure is counted.
+    /// failure is counted; the counts of the other kinds stay as they are.
     ///
     /// The error is `TooLong` where the file has more than `limit` bytes, `Memory` where memory runs out, and `Failed`
     /// where there is no such file or the load fails otherwise. Where the contents are known, a name that no file has
@@ -74,6 +74,9 @@ pub trait Files {
         // The files stay as they are, and no count falls.
         ensures stays { contents self.new ≡ contents self.old }
         ensures later { (w : What) → faults self.old w ≤ faults self.new w }
+
+        // A load counts for its own kind alone.
+        ensures others { (w : What) → w ≢ what → faults self.new w ≡ faults self.old w }
 
         // `Ok` is the whole file, where the contents are known, and never longer than the limit.
         ensures whole { IfOk result (λ v. Has (contents self.old) name.now v.items) }

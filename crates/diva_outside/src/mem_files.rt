@@ -64,6 +64,7 @@ impl Files for MemFiles {
     ) -> Result<Vec<u8>, LoadFault>
         ensures stays { contents_of self.new ≡ contents_of self.old }
         ensures later { (w : What) → faults_in self.old w ≤ faults_in self.new w }
+        ensures others { (w : What) → w ≢ what → faults_in self.new w ≡ faults_in self.old w }
         ensures whole { IfOk result (λ v. Has (contents_of self.old) name.now v.items) }
         ensures within { IfOk result (λ v. length v.items ≤ limit) }
         ensures too_long { IsErrOf result LoadFault.TooLong

@@ -2,6 +2,7 @@
 ghost use Rattle.std.specs.Prelude.{◌≡◌, None, OnOk, OnErr};
 ghost use Rattle.std.specs.Io.KnownBytes.{Appends};
 ghost use Rattle.diva_outside.specs.Sink.{AppendsPart, Puts};
+ghost use Rattle.diva_outside.specs.StdSink.{CountsPut};
 
 use crate::{Sink, SinkFailed};
 use std::io::Write;
@@ -42,6 +43,9 @@ impl<W: Write> Sink for StdSink<W> {
 
         // The writer took what was put, where its contents are known.
         ensures written { Puts piece.now self.old.bytes self.new.bytes self.old.faults self.new.faults result }
+
+        // A fault is counted exactly where the put answers that it failed.
+        ensures counts { CountsPut self.old.faults self.new.faults result }
     {
         let answer = write_whole(&mut self.out, piece);
         if answer.is_err() {
