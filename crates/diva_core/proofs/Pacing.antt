@@ -1,20 +1,18 @@
 -- What turns promise, whatever the core hands over.
-use Rattle.std.proofs.Common.{◌≡◌, true, List, [], ◌∷◌, sym, subst}
-use Rattle.diva_isa.specs.State.{goes_on}
+use Rattle.std.proofs.Common.{◌≡◌, List, [], ◌∷◌, sym, subst}
 use Rattle.diva_isa.specs.declared.record.Record.{Record}
 use Rattle.diva_core.specs.Timed.{Timed}
 use Rattle.diva_core.specs.Cycle.{cycle_of, run_of}
-use Rattle.diva_core.specs.Told.{told_of}
 use Rattle.diva_core.specs.History.{Meaning, Turns, lists_of}
 use Rattle.diva_core.specs.Machine.{IsMachine}
-use Rattle.diva_core.specs.Headline.{Rises, AddsRows, WillCount, KeepsPace, AreCommitted, Drives}
+use Rattle.diva_core.specs.Headline.{Rises, AddsRows, WillCount, KeepsPace, AreCommitted}
 use Rattle.diva_core.proofs.Progressing.{progress, run-rises, run-stays}
 use Rattle.diva_core.proofs.Reaching.{run-pace}
-use Rattle.diva_core.specs.Right.{StaysCalm}
+use Rattle.diva_core.specs.Right.{AreRight, IsCalm, StaysCalm}
 use Rattle.diva_core.proofs.Adding.{run-adds}
 use Rattle.diva_core.proofs.Listing.{run_calm}
-use Rattle.diva_core.proofs.Turning.{IsHistory-run, Turns-none, Turns-more}
-use Rattle.diva_core.proofs.Outcomes.{cycle-cycles, records_by}
+use Rattle.diva_core.proofs.Turning.{IsHistory-run}
+use Rattle.diva_core.proofs.Outcomes.{records_by}
 use Rattle.diva_core.proofs.Keeping.{stays}
 
 pub will_count : (m : Timed) → IsMachine m → WillCount m
@@ -41,17 +39,11 @@ module _ {C : Type 0} (gives : Meaning C) (m : Timed) (core : C) (last : Timed) 
   pub turns-pace : KeepsPace m last
   turns-pace = subst (KeepsPace m) (sym reached) (run-pace m lists inv)
 
-  pub turns-drive : Drives gives m core last final
-  turns-drive = record { turns = t; commits = are_committed m lists inv; rows = subst (AddsRows m lists) (sym reached) (run-adds lists m inv); calm = λ calm right. subst (StaysCalm m) (sym reached) (run_calm m lists inv calm right) }
+  pub turns-commit : AreCommitted m lists
+  turns-commit = are_committed m lists inv
 
-  -- one turn more
-  pub turns-next :
-      (list : List Record) (after : C)
-      → goes_on last.arch ≡ true
-      → gives final (told_of last) last.arch list after
-      → Turns gives m core (cycle_of last list) after
-  turns-next list after on asked = Turns-more gives m core last final list after t on asked (cycle-cycles last list turns-stay on)
+  pub turns-rows : AddsRows m lists last
+  turns-rows = subst (AddsRows m lists) (sym reached) (run-adds lists m inv)
 
--- nothing changes
-pub drives_none : {C : Type 0} (gives : Meaning C) (m : Timed) (core : C) → IsMachine m → Drives gives m core m core
-drives_none gives m core inv = turns-drive gives m core m core inv (Turns-none gives m core)
+  pub turns-calm : IsCalm m → AreRight m lists → StaysCalm m last
+  turns-calm calm right = subst (StaysCalm m) (sym reached) (run_calm m lists inv calm right)

@@ -1,14 +1,11 @@
 -- Turns one after another.
-use Rattle.std.proofs.Common.{◌≡◌, ◌+◌, List, [], ◌∷◌, ◌++◌, length, refl, true, arith, length-append}
+use Rattle.std.proofs.Common.{◌≡◌, List, [], ◌∷◌, ◌++◌, length, refl, true, arith}
 use Rattle.diva_isa.specs.State.{goes_on}
 use Rattle.diva_isa.specs.declared.record.Record.{Record}
 use Rattle.diva_core.specs.Timed.{Timed}
 use Rattle.diva_core.specs.Cycle.{cycle_of, run_of}
 use Rattle.diva_core.specs.Told.{told_of}
-use Rattle.diva_core.specs.History.{Meaning, IsHistory, Turns, lists_of, FollowRule}
-
-pub Turns-none : {C : Type 0} (gives : Meaning C) (m : Timed) (core : C) → Turns gives m core m core
-Turns-none gives m core = record { history = []; good = (refl, refl); each = omega arith }
+use Rattle.diva_core.specs.History.{Meaning, IsHistory, lists_of, FollowRule}
 
 pub IsHistory-more :
     {C : Type 0} (gives : Meaning C) (m : Timed) (core : C) (history : List (List Record × C)) (mid : Timed) (between : C) (list : List Record) (after : C)
@@ -20,20 +17,6 @@ IsHistory-more gives m core [] mid between list after h on asked =
     rw (← h.0, ← h.1) (on, (asked, (refl, refl)))
 IsHistory-more gives m core (turn ∷ rest) mid between list after h on asked =
     (h.0, (h.1.0, IsHistory-more gives (cycle_of m turn.0) turn.1 rest mid between list after h.1.1 on asked))
-
-pub Turns-more :
-    {C : Type 0} (gives : Meaning C) (m : Timed) (core : C) (mid : Timed) (between : C) (list : List Record) (after : C)
-    → Turns gives m core mid between
-    → goes_on mid.arch ≡ true
-    → gives between (told_of mid) mid.arch list after
-    → (cycle_of mid list).cycles ≡ mid.cycles + 1
-    → Turns gives m core (cycle_of mid list) after
-Turns-more gives m core mid between list after t on asked next =
-    record {
-      history = t.history ++ (list, after) ∷ [];
-      good = IsHistory-more gives m core t.history mid between list after t.good on asked;
-      each = rw length-append (let e = t.each in omega arith);
-    }
 
 -- a history leads to the run of its lists
 pub IsHistory-run :

@@ -1,4 +1,4 @@
--- What a cycle, a turn and a drive promise, whatever is handed over.
+-- What a cycle, a turn and a run promise, whatever is handed over.
 use Rattle.std.specs.Prelude.{ℕ, zero, suc, ◌≡◌, ◌≢◌, ◌≤◌, ◌<◌, ◌+◌, ◌-◌, ◌*◌, ◌/◌, List, [], ◌∷◌, ◌++◌, ◌⊎◌, length, take, slice_get, count_by, Option, Some, Bool, true, false}
 use Rattle.std.specs.List.{All}
 use Rattle.diva_isa.specs.State.{State, goes_on}
@@ -11,8 +11,6 @@ use Rattle.diva_core.specs.declared.differences.Diff.{Diff}
 use Rattle.diva_core.specs.Difference.{field_of, first_difference}
 use Rattle.diva_core.specs.Timed.{Timed, PendingClaim, depth, rows_kept}
 use Rattle.diva_core.specs.Cycle.{cycle_of, kept, number, is_silent, run_of}
-use Rattle.diva_core.specs.History.{Meaning, Turns, lists_of}
-use Rattle.diva_core.specs.Right.{AreRight, IsCalm, StaysCalm}
 
 -- ---- counted: the count rises, and the state has moved by as many steps
 pub record Rises (m last : Timed) : Type 0 where
@@ -51,12 +49,20 @@ pub record BySolo (m : Timed) (records : List Record) : Type 0 where
   pub passed : m.cycles + 1 ≡ start + depth
   pub one : length records ≡ 1
 
+-- the records that a cycle commits
+abbrev pub committed_in : Timed → (list : List Record) → List Record
+committed_in m list = dues ((cycle_of m list).count - m.count) m.arch
+
 -- so it is in each cycle of a run
 abbrev pub AreCommitted : Timed → List (List Record) → Type 0
 AreCommitted m [] = Unit {0}
 AreCommitted m (list ∷ rest) =
-    let records = dues ((cycle_of m list).count - m.count) m.arch in
-    (ByClaims m records ⊎ BySolo m records) × AreCommitted (cycle_of m list) rest
+    (ByClaims m (committed_in m list) ⊎ BySolo m (committed_in m list)) × AreCommitted (cycle_of m list) rest
+
+-- the records that the last cycle of a run commits; where there is none, those before it
+abbrev pub last_committed : (before : List Record) → Timed → List (List Record) → List Record
+last_committed before m [] = before
+last_committed before m (list ∷ rest) = last_committed (committed_in m list) (cycle_of m list) rest
 
 -- the front claim p is judged: an equal one commits, another flushes
 pub record IsJudged (m last : Timed) (p : PendingClaim) : Type 0 where
@@ -162,13 +168,3 @@ KeepsPace m last = (d : ℕ) → m.cycles + d * (m.config.limit + depth) ≤ las
 -- since a machine was new
 abbrev pub HasPace : Timed → Type 0
 HasPace m = m.cycles / (m.config.limit + depth) ≤ m.count
-
--- ---- a drive
-
--- turns lead from a machine and a core to others, and of the lists of their log it holds what each cycle committed and which
--- rows it added; where each is right for its machine, a calm machine is not flushed
-pub record Drives {C : Type 0} (gives : Meaning C) (m : Timed) (core : C) (last : Timed) (final : C) : Type 0 where
-  pub turns : Turns gives m core last final
-  pub commits : AreCommitted m (lists_of turns.history)
-  pub rows : AddsRows m (lists_of turns.history) last
-  pub calm : IsCalm m → AreRight m (lists_of turns.history) → StaysCalm m last

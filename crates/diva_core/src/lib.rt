@@ -16,9 +16,9 @@
 //! `specs/` holds the timed machine that contracts speak of: the machine and what a core is told of
 //! it (`Timed`, `Told`), its cycle phase by phase (`Cycle`), first differences (`Difference`), what is
 //! noted of pending claims (`Entries`), the state in which each of them stands (`Older`, over
-//! `Effects`), what the oldest of them leave in the registers (`Future`), what each stage of the checker compares (`Stages`), turns of a machine and a core (`Log`), what holds between
+//! `Effects`), what the oldest of them leave in the registers (`Future`), what each stage of the checker compares (`Stages`), turns of a machine and a core (`History`), what holds between
 //! cycles (`Machine`), right lists and calm machines (`Right`), and the words of what a cycle, a turn and a
-//! drive promise (`Headline`).
+//! run promise (`Headline`).
 //! `proofs/` has the laws that follow.
 #![tactic(auto)]
 

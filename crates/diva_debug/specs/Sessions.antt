@@ -1,10 +1,10 @@
 -- What a session holds.
 use Rattle.std.specs.Prelude.{ℕ}
-use Rattle.diva_core.specs.Timed.{Timed}
+use Rattle.diva_machine.specs.Machine.{Machine}
 use Rattle.diva_debug.specs.declared.session.Session.{Session}
 
-abbrev pub machine_of : {C : Type 0} → Session C → Timed
-machine_of s = s.machine.timed
+abbrev pub machine_of : {C : Type 0} → Session C → Machine
+machine_of s = s.machine
 
 -- the core, as it is now
 abbrev pub core_of : {C : Type 0} → Session C → C

@@ -7,7 +7,7 @@
 //! - `session`: a machine and the core that it borrows, `Session`; `reply_to`, the same over a machine that is kept elsewhere.
 //!
 //! `specs/Reading.antt` has the commands of a text, `specs/Moves.antt` how far a command moves a machine, `specs/Replies.antt`
-//! the replies, and `specs/Sessions.antt` what a reply does to a machine.
+//! the replies, and `specs/Sessions.antt` what a session holds.
 #![tactic(auto)]
 
 mod command;

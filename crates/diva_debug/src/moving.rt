@@ -1,9 +1,9 @@
 // A machine of width 1 and a core, moved by instructions.
 ghost use Rattle.std.specs.Prelude.{◌≡◌, ◌+◌, ◌*◌, ◌≤◌, ◌^◌};
-ghost use Rattle.diva_core.specs.History.{Turns};
 ghost use Rattle.diva_core.specs.Machine.{IsMachine};
 ghost use Rattle.diva_core.specs.Timed.{depth};
 ghost use Rattle.diva_machine.specs.Counts.{StopsAtOnce};
+ghost use Rattle.diva_machine.specs.Drives.{TakesTurns};
 ghost use Rattle.diva_debug.specs.Moves.{Moves, most_cycles, stands_at, steps_by, steps_in, steps_until};
 
 use crate::command::Command;
@@ -19,7 +19,7 @@ pub(crate) fn move_by<C: Core>(m: &mut Machine, core: &mut C, command: &Command)
     requires width { m.old.timed.config.width ≡ 1 }
     requires cycles { m.old.timed.cycles + most_cycles command.now m.old.timed ≤ 2 ^ 60 }
     ensures began { IsMachine m.old.timed }
-    ensures turns { Turns C.gives m.old.timed core.old m.new.timed core.new }
+    ensures turns { TakesTurns C.gives m.old core.old m.new core.new }
     ensures within { m.new.timed.cycles ≤ m.old.timed.cycles + most_cycles command.now m.old.timed }
     ensures million { m.new.timed.cycles
         ≤ m.old.timed.cycles + 1000000 * (m.old.timed.config.limit + depth) }
@@ -45,7 +45,7 @@ fn advance<C: Core>(m: &mut Machine, core: &mut C, count: u32)
     requires width { m.old.timed.config.width ≡ 1 }
     requires few { count ≤ 1000000 }
     requires cycles { m.old.timed.cycles + count * (m.old.timed.config.limit + depth) ≤ 2 ^ 60 }
-    ensures turns { Turns C.gives m.old.timed core.old m.new.timed core.new }
+    ensures turns { TakesTurns C.gives m.old core.old m.new core.new }
     ensures within { m.new.timed.cycles ≤ m.old.timed.cycles + count * (m.old.timed.config.limit + depth) }
     ensures config { m.new.timed.config ≡ m.old.timed.config }
     ensures moved { Moves (steps_in count m.old.timed.arch) m.old.timed m.new.timed }
@@ -61,7 +61,7 @@ fn seek<C: Core>(m: &mut Machine, core: &mut C, pc: u32, most: u32)
     requires width { m.old.timed.config.width ≡ 1 }
     requires few { most ≤ 1000000 }
     requires cycles { m.old.timed.cycles + most * (m.old.timed.config.limit + depth) ≤ 2 ^ 60 }
-    ensures turns { Turns C.gives m.old.timed core.old m.new.timed core.new }
+    ensures turns { TakesTurns C.gives m.old core.old m.new core.new }
     ensures within { m.new.timed.cycles ≤ m.old.timed.cycles + most * (m.old.timed.config.limit + depth) }
     ensures config { m.new.timed.config ≡ m.old.timed.config }
     ensures moved { Moves (steps_until most pc m.old.timed.arch) m.old.timed m.new.timed }

@@ -2,8 +2,8 @@
 ghost use Rattle.std.specs.Prelude.{◌≡◌, ◌↔◌, ◌+◌, ◌*◌, ◌≤◌, ◌^◌, ℕ};
 ghost use Rattle.diva_core.specs.Timed.{depth};
 ghost use Rattle.diva_core.specs.Machine.{IsMachine};
-ghost use Rattle.diva_core.specs.Headline.{Drives};
 ghost use Rattle.diva_machine.specs.Counts.{StopsAtOnce};
+ghost use Rattle.diva_machine.specs.Drives.{Drives};
 ghost use Rattle.diva_debug.specs.declared.command.Command.TheVariants.{Until, Why};
 ghost use Rattle.diva_debug.specs.Moves.{IsFar, Moves, most_cycles, steps_by};
 ghost use Rattle.diva_debug.specs.Replies.{far_line, no_flush, reply_of};
@@ -39,7 +39,7 @@ pub fn reply_to<C: Core>(m: &mut Machine, core: &mut C, command: &Command) -> Li
         ≤ m.old.timed.cycles + 1000000 * (m.old.timed.config.limit + depth) }
 
     // Machine and core are reached by turns, one for each cycle, of which the same holds as in a drive.
-    ensures drives { Drives C.gives m.old.timed core.old m.new.timed core.new }
+    ensures drives { Drives C.gives m.old core.old m.new core.new }
     ensures config { m.new.timed.config ≡ m.old.timed.config }
     ensures sound { IsMachine m.new.timed }
 {
@@ -61,7 +61,7 @@ impl<'a, C: Core> Session<'a, C> {
     /// A session of a machine of width 1.
     pub fn new(machine: Machine, core: &'a mut C) -> Session<'a, C>
         requires { machine.timed.config.width ≡ 1 }
-        ensures machine { machine_of result ≡ machine.timed }
+        ensures machine { machine_of result ≡ machine }
         ensures core { core_of result ≡ core.old }
         ensures same_core { lent_name result ≡ core.entry.ghost_name }
     {
@@ -70,25 +70,25 @@ impl<'a, C: Core> Session<'a, C> {
 
     /// Does a command, and replies to it, as `reply_to` does.
     pub fn reply(&mut self, command: &Command) -> Line
-        requires { (machine_of self.old).cycles + most_cycles command.now (machine_of self.old) ≤ 2 ^ 60 }
-        ensures reply { result ≡ reply_of command.now (machine_of self.old).count (machine_of self.old).arch
-            (machine_of self.new).newest }
+        requires { (machine_of self.old).timed.cycles + most_cycles command.now (machine_of self.old).timed ≤ 2 ^ 60 }
+        ensures reply { result ≡ reply_of command.now (machine_of self.old).timed.count (machine_of self.old).timed.arch
+            (machine_of self.new).timed.newest }
         ensures far { (pc : ℕ) → command.now ≡ Until pc
-            → (result ≡ far_line (machine_of self.new).count (machine_of self.new).arch.pc)
-            ↔ IsFar pc (machine_of self.old) (machine_of self.new) }
+            → (result ≡ far_line (machine_of self.new).timed.count (machine_of self.new).timed.arch.pc)
+            ↔ IsFar pc (machine_of self.old).timed (machine_of self.new).timed }
         ensures no_flush { command.now ≡ Why
-            → (result ≡ no_flush) ↔ ((machine_of self.new).flushes ≡ 0) }
-        ensures moved { Moves (steps_by command.now (machine_of self.old).arch)
-            (machine_of self.old) (machine_of self.new) }
-        ensures at_once { StopsAtOnce (machine_of self.old) (machine_of self.new) }
-        ensures within { (machine_of self.new).cycles
-            ≤ (machine_of self.old).cycles + most_cycles command.now (machine_of self.old) }
-        ensures million { (machine_of self.new).cycles
-            ≤ (machine_of self.old).cycles + 1000000 * ((machine_of self.old).config.limit + depth) }
+            → (result ≡ no_flush) ↔ ((machine_of self.new).timed.flushes ≡ 0) }
+        ensures moved { Moves (steps_by command.now (machine_of self.old).timed.arch)
+            (machine_of self.old).timed (machine_of self.new).timed }
+        ensures at_once { StopsAtOnce (machine_of self.old).timed (machine_of self.new).timed }
+        ensures within { (machine_of self.new).timed.cycles
+            ≤ (machine_of self.old).timed.cycles + most_cycles command.now (machine_of self.old).timed }
+        ensures million { (machine_of self.new).timed.cycles
+            ≤ (machine_of self.old).timed.cycles + 1000000 * ((machine_of self.old).timed.config.limit + depth) }
         ensures drives { Drives C.gives (machine_of self.old) (core_of self.old)
             (machine_of self.new) (core_of self.new) }
-        ensures config { (machine_of self.new).config ≡ (machine_of self.old).config }
-        ensures sound { IsMachine (machine_of self.new) }
+        ensures config { (machine_of self.new).timed.config ≡ (machine_of self.old).timed.config }
+        ensures sound { IsMachine (machine_of self.new).timed }
         ensures same_core { lent_name self.new ≡ lent_name self.old }
     {
         reply_to(&mut self.machine, self.core, command)
@@ -96,14 +96,14 @@ impl<'a, C: Core> Session<'a, C> {
 
     /// How many cycles the machine has run.
     pub fn cycles(&self) -> u64
-        ensures { result ≡ (machine_of self.now).cycles }
+        ensures { result ≡ (machine_of self.now).timed.cycles }
     {
         self.machine.cycles()
     }
 
     /// The machine and the core, as the last reply left them.
     pub fn into_parts(self) -> (Machine, &'a mut C)
-        ensures machine { result.0.timed ≡ machine_of self.entry }
+        ensures machine { result.0 ≡ machine_of self.entry }
         ensures core { result.1.now ≡ core_of self.entry }
         ensures same_core { result.1.ghost_name ≡ lent_name self.entry }
     {

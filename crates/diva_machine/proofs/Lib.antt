@@ -7,3 +7,4 @@ pub mod Verdicts
 pub mod Staging
 pub mod Judged
 pub mod Counting
+pub mod Driving

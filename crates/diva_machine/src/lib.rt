@@ -13,8 +13,9 @@
 //! How wide and deep the machine is, `Config`, is told by `diva_core`.
 //!
 //! What a cycle does is `cycle_of` of `diva_core`'s definitions; `specs/Start.antt` says in which
-//! state an image starts, `specs/Machine.antt` what contracts see of a machine, and
-//! `specs/Staged.antt` what the stages note of a claim by its age.
+//! state an image starts, `specs/Machine.antt` what contracts see of a machine, `specs/Drives.antt` what a
+//! drive leaves of one, `specs/Counts.antt` how it stands to a count, and `specs/Staged.antt` what the stages
+//! note of a claim by its age.
 #![tactic(auto)]
 
 mod arch;

@@ -5,8 +5,9 @@ ghost use Rattle.diva_core.specs.Told.{told_of};
 ghost use Rattle.diva_core.specs.Cycle.{cycle_of};
 ghost use Rattle.diva_core.specs.Timed.{room_of};
 ghost use Rattle.diva_core.specs.Machine.{IsMachine};
-ghost use Rattle.diva_core.specs.Headline.{AddsRow, ByClaims, BySolo, Drives, HasPace, KeepsPace, Rises, SameLog, WillCount, dues};
+ghost use Rattle.diva_core.specs.Headline.{AddsRow, ByClaims, BySolo, HasPace, KeepsPace, Rises, SameLog, WillCount, dues};
 ghost use Rattle.diva_core.specs.Right.{IsRight, IsCalm, StaysCalm};
+ghost use Rattle.diva_machine.specs.Drives.{Drives};
 
 use crate::ends::Drive;
 use crate::machine::Machine;
@@ -65,9 +66,9 @@ fn ask<C: Core>(m: &Machine, core: &mut C, list: &mut Claims) -> u32
 pub fn drive<C: Core>(m: &mut Machine, core: &mut C, budget: u64) -> Drive
     requires { m.old.timed.cycles + budget ≤ 2 ^ 60 }
     // Machine and core are reached by turns, one for each cycle. In each cycle equal claims committed,
-    // or the checker's own instruction, and each row of the log is that of a cycle, with its cause.
-    // Where each list is right for its machine, a calm machine is not flushed.
-    ensures drives { Drives C.gives m.old.timed core.old m.new.timed core.new }
+    // or the checker's own instruction; the machine shows those of the last one. Each row of the log is
+    // that of a cycle, with its cause. Where each list is right for its machine, a calm machine is not flushed.
+    ensures drives { Drives C.gives m.old core.old m.new core.new }
     ensures ended { (result ≡ Drive.Ended) ↔ (goes_on m.new.timed.arch ≡ false) }
     ensures budget { (result ≡ Drive.Budget)
         ↔ ((m.new.timed.cycles ≡ m.old.timed.cycles + budget) × (goes_on m.new.timed.arch ≡ true)) }

@@ -1,12 +1,12 @@
 use Rattle.std.proofs.Common.{◌≡◌, ◌+◌, true}
 use Rattle.diva_isa.specs.State.{goes_on}
-use Rattle.diva_core.specs.History.{Turns}
 use Rattle.diva_core.specs.Machine.{IsMachine}
+use Rattle.diva_machine.specs.Drives.{TakesTurns}
 use Rattle.diva_machine.proofs.turns.drive.Given as goal
 
 abbrev pub invariant-loop : goal.invariant-loop
 invariant-loop g l = record {
-  turns : Turns g.C.Core.gives l.fn.m.timed l.fn.core l.m.timed l.core;
+  turns : TakesTurns g.C.Core.gives l.fn.m l.fn.core l.m l.core;
   on : goes_on l.m.timed.arch ≡ true;
   began : goes_on l.fn.m.timed.arch ≡ true;
   cycles : l.m.timed.cycles ≡ l.fn.m.timed.cycles + l.counter;
