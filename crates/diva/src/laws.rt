@@ -1,5 +1,5 @@
 //! What follows of the program's runs. The function has no body of its own: its clauses are about the definitions.
-ghost use Rattle.std.specs.Prelude.{◌≡◌, ℕ, true, Option, IsSome};
+ghost use Rattle.std.specs.Prelude.{◌≡◌, ℕ, true, Result, IsOk};
 ghost use Rattle.diva_outside.specs.Text.{Text};
 ghost use Rattle.diva_args.specs.Options.{RunOptions, SoakOptions};
 ghost use Rattle.diva_args.specs.declared.job.CoreChoice.TheVariants.{Own};
@@ -14,13 +14,13 @@ use diva_ooo::Ooo;
 /// The text of a run under the program's own core, a new one, is determined by the words and the bytes of the files. Of a run
 /// with commit lines that is said where they were all written. The text of `soak` is determined by its words.
 pub fn text_is_determined()
-    ensures run { (options : RunOptions) (bytes : FileBytes) (after last : Ooo) (status other : Option ℕ) (text same : Text)
+    ensures run { (options : RunOptions) (bytes : FileBytes) (after last : Ooo) (ended other : Result ℕ Text) (text same : Text)
         → options.setup.core ≡ Own
-        → HasRun IsOooCall options bytes new_pipeline after status text
+        → HasRun IsOooCall options bytes new_pipeline after ended text
         → HasRun IsOooCall options bytes new_pipeline last other same
-        → (options.trace ≡ true → IsSome status × IsSome other) → text ≡ same }
-    ensures soak { (options : SoakOptions) (after last : Ooo) (status other : Option ℕ) (text same : Text)
-        → HasSoaked IsOooCall options new_pipeline after status text
+        → (options.trace ≡ true → IsOk ended × IsOk other) → text ≡ same }
+    ensures soak { (options : SoakOptions) (after last : Ooo) (ended other : Result ℕ Text) (text same : Text)
+        → HasSoaked IsOooCall options new_pipeline after ended text
         → HasSoaked IsOooCall options new_pipeline last other same → text ≡ same }
 {
     own_run_is_determined::<Ooo>();

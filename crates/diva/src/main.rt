@@ -2,6 +2,8 @@
 //!
 //! All that it does is `top` of `diva_cli`; this crate hands in the files of the disk, standard
 //! output and a core, and ends with the status that `top` answers.
+//!
+//! - `laws`: that the text of a run under the program's own core is determined.
 #![tactic(auto)]
 
 ghost use Rattle.std.specs.Prelude.{◌≡◌, IfOk, map};

@@ -1,7 +1,8 @@
 -- What a command answers that asks no core, of what was put of its text.
-use Rattle.std.proofs.Common.{ℕ, List, Option, Some, None, Ok, Err}
+use Rattle.std.proofs.Common.{ℕ, List, [], Option, Some, Ok, Err}
 use Rattle.diva_outside.specs.Files.{Contents}
 use Rattle.diva_outside.specs.Sink.{Puts}
+use Rattle.diva_outside.proofs.Sinks.{past_nothing}
 use Rattle.diva_outside.specs.declared.files.What.{What}
 use Rattle.diva_outside.specs.declared.sink.SinkFailed.{SinkFailed}
 use Rattle.diva_core.specs.History.{Meaning}
@@ -14,12 +15,12 @@ use Rattle.diva_cli.proofs.Working.{done_answers}
 
 module _ {C : Type 0} (gives : Meaning C) (job : Job) (contents : Contents) (before now : What → ℕ) (bytes : FileBytes) (core : C)
     (old new : Option (List ℕ)) (faults faults' : ℕ) (text : List ℕ) (sound : AreSound contents (wanted job) bytes) where
-  pub wrote_all : HasText gives job bytes core core (Some 0) text → Puts {E = SinkFailed} text old new faults faults' (Ok tt)
+  pub wrote_all : HasText gives job bytes core core (Ok 0) text → Puts {E = SinkFailed} text old new faults faults' (Ok tt)
       → Answers gives (Some job) contents before now core core old new faults faults' (Ok 0)
   wrote_all means put =
       done_answers gives contents before now core old new faults faults' job bytes core (Ok 0) sound (record { text = text; means = means; written = put.ok })
 
-  pub wrote_part : (fault : SinkFailed) → HasText gives job bytes core core None text → Puts text old new faults faults' (Err fault)
+  pub wrote_part : (fault : SinkFailed) → HasText gives job bytes core core (Err []) text → Puts text old new faults faults' (Err fault)
       → Answers gives (Some job) contents before now core core old new faults faults' (Err Cut)
   wrote_part fault means put =
-      done_answers gives contents before now core old new faults faults' job bytes core (Err Cut) sound (record { rose = put.failed; text = text; means = means; written = put.part })
+      done_answers gives contents before now core old new faults faults' job bytes core (Err Cut) sound (record { rose = put.failed; put = []; text = text; means = means; written = past_nothing old new text put.part })

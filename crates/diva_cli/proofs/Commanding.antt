@@ -1,7 +1,8 @@
 -- Replies, one command after the other.
-use Rattle.std.proofs.Common.{◌≡◌, ◌≤◌, ◌<◌, ℕ, ◌+◌, ◌*◌, ◌^◌, List, [], ◌∷◌, ◌++◌, length, Option, Some, None, Result, Ok, Err, OnOk, IfSome, refl, ap, sym, ◌∙◌, append_assoc, append-nil, arith, subst, length-append, slice_get}
+use Rattle.std.proofs.Common.{◌≡◌, ◌≤◌, ◌<◌, ℕ, ◌+◌, ◌*◌, ◌^◌, List, [], ◌∷◌, ◌++◌, length, Option, Some, Result, Ok, Err, OnOk, OnErr, IfOk, IfErr, refl, ap, sym, ◌∙◌, append_assoc, append-nil, arith, subst, length-append, slice_get}
 use Rattle.std.proofs.Math.Nat.{mul-le-mul_right}
 use Rattle.std.proofs.lemmas.Option.{same_Some, none-some}
+use Rattle.diva_isa.specs.State.{State}
 use Rattle.diva_isa.specs.Step.{steps}
 use Rattle.diva_isa.specs.declared.record.Record.{Record}
 use Rattle.diva_core.specs.Cycle.{cycle_of, run_of}
@@ -10,12 +11,13 @@ use Rattle.diva_core.specs.declared.flushes.FlushRow.{FlushRow}
 use Rattle.diva_core.proofs.Turning.{IsHistory-run, length-lists_of}
 use Rattle.diva_machine.specs.Counts.{StopsAtOnce}
 use Rattle.diva_machine.proofs.Counting.{IsHistory-then}
-use Rattle.diva_outside.specs.Sink.{Puts}
+use Rattle.diva_outside.specs.Sink.{AppendsPast, Puts}
 use Rattle.diva_outside.specs.declared.sink.SinkFailed.{SinkFailed}
-use Rattle.diva_outside.proofs.Sinks.{puts_nothing, puts_then}
+use Rattle.diva_outside.proofs.Sinks.{puts_nothing, puts_past, puts_then}
 use Rattle.diva_debug.specs.Moves.{Moves, steps_by}
 use Rattle.diva_debug.specs.Replies.{reply_of}
 use Rattle.diva_debug.specs.declared.command.Command.{Command}
+use Rattle.diva_cli.specs.Cuts.{BeforeLast}
 use Rattle.diva_cli.specs.Replies.{AreLed, IsReplied, cycles_of, joined, newest_after, replies_of}
 use Rattle.diva_core.specs.Timed.{Timed, depth, new_timed}
 use Rattle.diva_core.specs.Machine.{IsConfig, most_config}
@@ -92,6 +94,16 @@ replies-more (d ∷ done) c m (first ∷ parts) row mid is r =
     ∙ ap (λ (t : List ℕ). t ++ reply_of c mid.count mid.arch row) (ap (λ s. replies_of done n.count s later) (sym state) ∙ ap (λ p. replies_of done p (steps (steps_by d m.arch) m.arch) later) (sym place)))
     ∙ sym (append_assoc here (replies_of done (m.count + steps_by d m.arch) (steps (steps_by d m.arch) m.arch) later) (reply_of c mid.count mid.arch row))
 
+-- the replies to some commands, of more newest flushes
+replies-front : (done : List Command) (m : Timed) (parts : List (List (List Record))) (rows : List (Option FlushRow)) (place : ℕ) (s : State)
+    → AreLed done m parts
+    → replies_of done place s (newest_after m parts ++ rows) ≡ replies_of done place s (newest_after m parts)
+replies-front [] m parts rows place s r = refl
+replies-front (d ∷ done) m [] rows place s r = absurd r
+replies-front (d ∷ done) m (first ∷ parts) rows place s r =
+    ap (λ (t : List ℕ). reply_of d place s (run_of m first).newest ++ t)
+    (replies-front done (run_of m first) parts rows (place + steps_by d s) (steps (steps_by d s) s) r.1.1)
+
 -- ---- the commands that are left
 
 record NextIs (c : Command) (left : List Command) : Type 0 where
@@ -109,6 +121,11 @@ nil-left commands done (x ∷ rest) e n = absurd (let l : length commands ≡ le
 
 -- ---- what was replied so far: to n commands
 
+-- where the sink failed, it did so at the last of these replies
+abbrev pub CutAt : List Command → Timed → (parts : List (List (List Record))) → (old new : Option (List ℕ)) → Type 0
+CutAt done m parts old new =
+    BeforeLast done (λ earlier. AppendsPast old new (replies_of earlier m.count m.arch (newest_after m parts)) (replies_of done m.count m.arch (newest_after m parts)))
+
 pub record RepliesSoFar {C : Type 0} (gives : Meaning C) (commands : List Command) (n : ℕ) (m : Timed) (core : C) (last : Timed) (after : C)
     (old new : Option (List ℕ)) (before now : ℕ) (result : Result (Unit {0}) SinkFailed) : Type 0 where
   pub turns : Turns gives m core last after
@@ -120,6 +137,7 @@ pub record RepliesSoFar {C : Type 0} (gives : Meaning C) (commands : List Comman
   pub together : lists_of turns.history ≡ joined parts
   pub led : AreLed done m parts
   pub put : Puts (replies_of done m.count m.arch (newest_after m parts)) old new before now result
+  pub cut : OnErr result (CutAt done m parts old new)
 
 pub replies_none : {C : Type 0} (gives : Meaning C) (commands : List Command) (m : Timed) (core : C) (old : Option (List ℕ)) (before : ℕ)
     → RepliesSoFar gives commands 0 m core m core old old before before (Ok tt)
@@ -134,6 +152,7 @@ replies_none gives commands m core old before =
       together = refl;
       led = refl;
       put = puts_nothing old before;
+      cut = tt;
     }
 
 pub replies_more :
@@ -163,6 +182,7 @@ replies_more gives commands n m core mid between old now new f g h c last after 
       led = led-more s.done c m s.parts (lists_of t.history) mid here s.led (subst (Moves (steps_by c mid.arch) mid) there moved) (subst (StopsAtOnce mid) there once);
       put = subst (λ (x : List ℕ). Puts x old new f h result) (sym text)
           (puts_then (replies_of s.done m.count m.arch (newest_after m s.parts)) _ old now new f g h result s.put (subst (λ (x : List ℕ). Puts x now new g h result) is puts));
+      cut = broke result (subst (λ (x : List ℕ). Puts x now new g h result) is puts);
     }
   where
     next : NextIs c s.left
@@ -179,6 +199,23 @@ replies_more gives commands n m core mid between old now new f g h c last after 
         ap (replies_of (s.done ++ c ∷ []) m.count m.arch) (newest-more m s.parts (lists_of t.history) mid here)
         ∙ ap (λ (k : Timed). replies_of (s.done ++ c ∷ []) m.count m.arch (newest_after m s.parts ++ k.newest ∷ [])) (sym there)
         ∙ replies-more s.done c m s.parts last.newest mid here s.led
+
+    before_it : replies_of s.done m.count m.arch (newest_after m (s.parts ++ lists_of t.history ∷ [])) ≡ replies_of s.done m.count m.arch (newest_after m s.parts)
+    before_it =
+        ap (replies_of s.done m.count m.arch) (newest-more m s.parts (lists_of t.history) mid here)
+        ∙ replies-front s.done m s.parts ((run_of mid (lists_of t.history)).newest ∷ []) m.count m.arch s.led
+
+    broke : (r : Result (Unit {0}) SinkFailed) → Puts (reply_of c mid.count mid.arch last.newest) now new g h r → OnErr r (CutAt (s.done ++ c ∷ []) m (s.parts ++ lists_of t.history ∷ []) old new)
+    broke (Ok u) p = tt
+    broke (Err e) p =
+        record {
+          earlier = s.done;
+          last = c;
+          in_order = refl;
+          holds = subst (λ (x : List ℕ). AppendsPast old new x (replies_of (s.done ++ c ∷ []) m.count m.arch (newest_after m (s.parts ++ lists_of t.history ∷ [])))) (sym before_it)
+              (subst (λ (x : List ℕ). AppendsPast old new (replies_of s.done m.count m.arch (newest_after m s.parts)) x) (sym text)
+              (puts_past (replies_of s.done m.count m.arch (newest_after m s.parts)) _ old now new f g h e s.put p));
+        }
 
 pub replied :
     {C : Type 0} (gives : Meaning C) (commands : List Command) (n : ℕ) (m : Timed) (core : C) (last : Timed) (after : C) (old new : Option (List ℕ)) (f g : ℕ) (result : Result (Unit {0}) SinkFailed)
@@ -199,6 +236,7 @@ replied gives commands n m core last after old new f g result s within all =
         led = s.led;
         most = rw s.many (let e = s.turns.each in let l = length-lists_of s.turns.history in omega arith);
         put = s.put;
+        cut = s.cut;
       };
     }
   where
@@ -253,8 +291,11 @@ module _ {C : Type 0} (gives : Meaning C) (options : DebugOptions) (bytes : File
   abbrev text : List ℕ
   text = replies_of p.done.done 0 (start_in bytes) (newest_after first p.done.parts)
 
-  has_replies : (status : Option ℕ) → IfSome status (λ s. (s ≡ 0) × (p.done.left ≡ [])) → HasReplies gives options bytes core after status text
-  has_replies status whole =
+  has_replies : (ended : Result ℕ (List ℕ))
+      → IfOk ended (λ s. (s ≡ 0) × (p.done.left ≡ []))
+      → IfErr ended (λ put. BeforeLast p.done.done (λ earlier. put ≡ replies_of earlier 0 (start_in bytes) (newest_after first p.done.parts)))
+      → HasReplies gives options bytes core after ended text
+  has_replies ended whole cut =
       record {
         done = p.done.done;
         left = p.done.left;
@@ -266,6 +307,7 @@ module _ {C : Type 0} (gives : Meaning C) (options : DebugOptions) (bytes : File
         together = all_lists ∙ p.done.together;
         led = subst (λ (m : Timed). AreLed p.done.done m p.done.parts) is.ready.begun p.done.led;
         lines = refl;
+        cut = cut;
       }
 
   puts : Puts text old new before now result
@@ -275,11 +317,21 @@ module _ {C : Type 0} (gives : Meaning C) (options : DebugOptions) (bytes : File
   wrote_replies ok =
       record {
         text = text;
-        means = has_replies (Some 0) (refl, subst (λ (r : Result (Unit {0}) SinkFailed). OnOk r (p.done.left ≡ [])) ok p.done.whole);
+        means = has_replies (Ok 0) (refl, subst (λ (r : Result (Unit {0}) SinkFailed). OnOk r (p.done.left ≡ [])) ok p.done.whole) tt;
         written = (subst (λ (r : Result (Unit {0}) SinkFailed). Puts text old new before now r) ok puts).ok;
       }
 
   pub cut_replies : (e : SinkFailed) → result ≡ Err e → WritesPart gives (Debug options) bytes core after old new before now
   cut_replies e err =
       let q = subst (λ (r : Result (Unit {0}) SinkFailed). Puts text old new before now r) err puts in
-      record { rose = q.failed; text = text; means = has_replies None tt; written = q.part }
+      let b : CutAt p.done.done first p.done.parts old new =
+      subst (λ (m : Timed). CutAt p.done.done m p.done.parts old new) is.ready.begun
+      (subst (λ (r : Result (Unit {0}) SinkFailed). OnErr r (CutAt p.done.done session.ready.machine.timed p.done.parts old new)) err p.done.cut) in
+      let put : List ℕ = replies_of b.earlier 0 (start_in bytes) (newest_after first p.done.parts) in
+      record {
+        rose = q.failed;
+        put = put;
+        text = text;
+        means = has_replies (Err put) tt (record { earlier = b.earlier; last = b.last; in_order = b.in_order; holds = refl });
+        written = b.holds;
+      }

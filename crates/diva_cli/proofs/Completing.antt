@@ -16,7 +16,7 @@ use Rattle.diva_args.specs.declared.job.Job.TheVariants.{Run, Tape, Debug, Asm, 
 use Rattle.diva_cli.specs.declared.stop.Failure.{Failure}
 use Rattle.diva_cli.specs.declared.stop.Failure.TheVariants.{Cut, Memory}
 use Rattle.diva_cli.specs.Wanted.{Wanted, FileBytes, wanted, IsFaultless, HasFault}
-use Rattle.diva_cli.specs.Stops.{StopsAt, IsUnread, IsRefused, IsTooLong, HasFirstFault}
+use Rattle.diva_cli.specs.Stops.{StopsAt, StopsLoading, IsUnread, IsRefused, IsTooLong, HasFirstFault}
 use Rattle.diva_cli.specs.Runs.{EndsWith, end_status}
 use Rattle.diva_cli.specs.Texts.{HasText, CanEnd, IsDone}
 use Rattle.diva_cli.specs.Answers.{IsAnswer, misused, unread, refused, done}
@@ -34,13 +34,17 @@ ends_done : (last : Timed) (cycles status : ℕ) → EndsWith last cycles status
 ends_done last cycles status h = subst IsDone (sym h.by_end) (done_by (end_of last.arch.end))
 
 can_end : {C : Type 0} (gives : Meaning C) (job : Job) (bytes : FileBytes) (core after : C) (status : ℕ) (text : List ℕ)
-    → HasText gives job bytes core after (Some status) text → CanEnd job status
-can_end gives (Run options) bytes core after status text h = ends_done h.last options.cycles status h.ended
-can_end gives (Tape options) bytes core after status text h = ends_done h.last options.cycles status h.ended.ended
+    → HasText gives job bytes core after (Ok status) text → CanEnd job status
+can_end gives (Run options) bytes core after status text h =
+    elim h.written [
+      | inl s ↦ ends_done h.last options.cycles status s.says
+      | inr b ↦ absurd (let e = b.cut.holds in cc)
+    ]
+can_end gives (Tape options) bytes core after status text h = ends_done h.last options.cycles status h.whole.ended
 can_end gives (Debug options) bytes core after status text h = h.whole.0
-can_end gives (Asm name) bytes core after status text h = h.alone.ended
-can_end gives (Dis name) bytes core after status text h = h.alone.ended
-can_end gives (Soak options) bytes core after status text h = h.ended
+can_end gives (Asm name) bytes core after status text h = h.alone.whole
+can_end gives (Dis name) bytes core after status text h = h.alone.whole
+can_end gives (Soak options) bytes core after status text h = h.whole
 
 -- ---- a file that is held is no cause to stop
 
@@ -66,17 +70,18 @@ held-refused (Some bytes_of) text w h r = go r.cause
         let same : h.bytes ≡ f.bytes = some_same (bytes_of w.name) h.bytes f.bytes h.held f.has in
         faultless-fault w.what f.bytes r.kind r.place (subst (λ (b : List ℕ). IsFaultless w.what b) same h.faultless) f.first
 
-held-unread : (contents : Contents) (before now : What → ℕ) (text : List ℕ) (w : Wanted) → ((what : What) → Rose (before what) (now what) → ⊥) → IsHeld contents w → IsUnread contents before now text w → ⊥
-held-unread None before now text w none h r = h.held
-held-unread (Some bytes_of) before now text w none h r = go r.cause
+held-unread : (contents : Contents) (before now : What → ℕ) (text : List ℕ) (w : Wanted) (behind : List Wanted) → ((what : What) → Rose (before what) (now what) → ⊥)
+    → IsHeld contents w → IsUnread contents before now text w behind → ⊥
+held-unread None before now text w behind none h r = h.held
+held-unread (Some bytes_of) before now text w behind none h r = go r.cause
   where
     go : Rose (before w.what) (now w.what) ⊎ (bytes_of w.name ≡ None) → ⊥
     go (inl rose) = none w.what rose
     go (inr missing) = let e = sym h.held ∙ missing in cc
 
-held-stops : (contents : Contents) (this : Wanted → Type 0) → ((w : Wanted) → IsHeld contents w → this w → ⊥) → (ws : List Wanted) → AreHeld contents ws → StopsAt contents this ws → ⊥
+held-stops : (contents : Contents) (this : Wanted → List Wanted → Type 0) → ((w : Wanted) (behind : List Wanted) → IsHeld contents w → this w behind → ⊥) → (ws : List Wanted) → AreHeld contents ws → StopsAt contents this ws → ⊥
 held-stops contents this never [] h s = s
-held-stops contents this never (w ∷ ws) h (inl here) = never w h.0 here
+held-stops contents this never (w ∷ ws) h (inl here) = never w ws h.0 here
 held-stops contents this never (w ∷ ws) h (inr later) = held-stops contents this never ws h.1 later.1
 
 -- ---- so it is done
@@ -89,12 +94,12 @@ module _ {C : Type 0} (gives : Meaning C) (command : Option Job) (contents : Con
   abbrev pub Ended : ℕ → Type 0
   Ended status = HasEnded gives command contents core after old new status
 
-  answered : (status : ℕ) (text : List ℕ) → IsAnswer gives command contents before now core after (Some status) text → Appends old new text → Ended status
+  answered : (status : ℕ) (text : List ℕ) → IsAnswer gives command contents before now core after (Ok status) text → Appends old new text → Ended status
   answered status text (misused m same s) w = absurd (let e = sym can.named ∙ m.none in cc)
   answered status text (unread u same s) w =
-      absurd (held-stops contents (IsUnread contents before now text) (λ w. held-unread contents before now text w files_well) (wanted u.job) (held_of u.job u.named) u.first)
+      absurd (held-stops contents (IsUnread contents before now text) (λ w behind. held-unread contents before now text w behind files_well) (wanted u.job) (held_of u.job u.named) u.first)
   answered status text (refused r same s) w =
-      absurd (held-stops contents (IsRefused contents text) (held-refused contents text) (wanted r.job) (held_of r.job r.named) r.first)
+      absurd (held-stops contents (StopsLoading contents before now text) (λ w behind h s. held-refused contents text w h s.refused) (wanted r.job) (held_of r.job r.named) r.first)
   answered status text (done d) w = record {
     job = d.job;
     named = d.named;

@@ -1,5 +1,5 @@
 -- Texts that are written cycle by cycle.
-use Rattle.std.proofs.Common.{◌≡◌, ◌≤◌, ◌<◌, ℕ, ◌+◌, ◌-◌, ◌*◌, ◌^◌, List, [], ◌∷◌, ◌++◌, length, Option, Result, Ok, Err, OnOk, true, false, refl, ap, sym, ◌∙◌, append_assoc, append-nil, arith, subst, length-append}
+use Rattle.std.proofs.Common.{◌≡◌, ◌≤◌, ◌<◌, ℕ, ◌+◌, ◌-◌, ◌*◌, ◌^◌, List, [], ◌∷◌, ◌++◌, length, Option, Result, Ok, Err, OnOk, OnErr, true, false, refl, ap, sym, ◌∙◌, append_assoc, append-nil, arith, subst, length-append}
 use Rattle.std.proofs.Math.Nat.{mul-le-mul_right}
 use Rattle.std.proofs.lemmas.Bool.{true≢false}
 use Rattle.std.proofs.lemmas.List.Elements.{All-nil, All-push}
@@ -11,12 +11,13 @@ use Rattle.diva_core.specs.Timed.{Timed}
 use Rattle.diva_core.specs.Cycle.{cycle_of, run_of}
 use Rattle.diva_core.specs.History.{Meaning, Turns, lists_of}
 use Rattle.diva_core.specs.Machine.{IsMachine}
-use Rattle.diva_core.specs.Headline.{dues}
+use Rattle.diva_core.specs.Headline.{committed_in, dues}
 use Rattle.diva_core.proofs.Outcomes.{cycle-cycles}
 use Rattle.diva_core.proofs.Turning.{IsHistory-more, IsHistory-run, length-lists_of}
-use Rattle.diva_outside.specs.Sink.{Puts}
+use Rattle.diva_outside.specs.Sink.{AppendsPast, Puts}
 use Rattle.diva_outside.specs.declared.sink.SinkFailed.{SinkFailed}
-use Rattle.diva_outside.proofs.Sinks.{puts_nothing, puts_then}
+use Rattle.diva_outside.proofs.Sinks.{puts_nothing, puts_past, puts_then}
+use Rattle.diva_cli.specs.Cuts.{BeforeLast}
 use Rattle.diva_cli.specs.Tasks.{CycleText, cycles_text, IsWritten, Performs}
 
 -- ---- one cycle more
@@ -28,21 +29,26 @@ lists_more (turn ∷ history) list after = ap (λ (lists : List (List Record)). 
 
 text_more : (text : CycleText) (m : Timed) (lists : List (List Record)) (list : List Record)
     → cycles_text text m (lists ++ list ∷ [])
-    ≡ cycles_text text m lists ++ text (run_of m lists).count (dues ((cycle_of (run_of m lists) list).count - (run_of m lists).count) (run_of m lists).arch) list
+    ≡ cycles_text text m lists ++ text (run_of m lists).count (committed_in (run_of m lists) list) list
 text_more text m [] list = append-nil _
 text_more text m (first ∷ lists) list =
-    ap (λ (t : List ℕ). text m.count (dues ((cycle_of m first).count - m.count) m.arch) first ++ t) (text_more text (cycle_of m first) lists list)
-    ∙ sym (append_assoc (text m.count (dues ((cycle_of m first).count - m.count) m.arch) first) (cycles_text text (cycle_of m first) lists) _)
+    ap (λ (t : List ℕ). text m.count (committed_in m first) first ++ t) (text_more text (cycle_of m first) lists list)
+    ∙ sym (append_assoc (text m.count (committed_in m first) first) (cycles_text text (cycle_of m first) lists) _)
 
 -- ---- turns were taken, and the text of each was put
 
 module _ {D : Type 0} (gives : Meaning D) (text : CycleText) (says : List Record → Type 0) (m : Timed) (core : D) (old : Option (List ℕ)) (before : ℕ) where
+  -- where the sink failed, it did so in the last of these cycles
+  abbrev pub CutIn : List (List Record) → (new : Option (List ℕ)) → Type 0
+  CutIn lists new = BeforeLast lists (λ earlier. AppendsPast old new (cycles_text text m earlier) (cycles_text text m lists))
+
   -- so far, n of them
   pub record WritesSoFar (n : ℕ) (last : Timed) (after : D) (new : Option (List ℕ)) (now : ℕ) (result : Result (Unit {0}) SinkFailed) : Type 0 where
     pub turns : Turns gives m core last after
     pub many : last.cycles ≡ m.cycles + n
     pub said : OnOk result (All says (lists_of turns.history))
     pub put : Puts (cycles_text text m (lists_of turns.history)) old new before now result
+    pub cut : OnErr result (CutIn (lists_of turns.history) new)
 
   pub writes_none : WritesSoFar 0 m core old before (Ok tt)
   writes_none =
@@ -51,6 +57,7 @@ module _ {D : Type 0} (gives : Meaning D) (text : CycleText) (says : List Record
         many = omega arith;
         said = All-nil says;
         put = puts_nothing old before;
+        cut = tt;
       }
 
   module _ (n : ℕ) (mid : Timed) (between : D) (now : Option (List ℕ)) (g : ℕ) (so_far : WritesSoFar n mid between now g (Ok tt)) where
@@ -59,7 +66,7 @@ module _ {D : Type 0} (gives : Meaning D) (text : CycleText) (says : List Record
         → IsMachine mid
         → goes_on mid.arch ≡ true
         → gives between (told_of mid) mid.arch list after
-        → Puts (text mid.count (dues ((cycle_of mid list).count - mid.count) mid.arch) list) now new g h result
+        → Puts (text mid.count (committed_in mid list) list) now new g h result
         → OnOk result (says list)
         → WritesSoFar (n + 1) (cycle_of mid list) after new h result
     writes_more list after new h result sound on asked puts says_it =
@@ -72,6 +79,7 @@ module _ {D : Type 0} (gives : Meaning D) (text : CycleText) (says : List Record
           many = (let e = so_far.many in let c = next in omega arith);
           said = told result says_it;
           put = subst (λ (x : List ℕ). Puts x old new before h result) (sym more) (puts_then _ _ old now new before g h result so_far.put puts);
+          cut = broke result puts;
         }
       where
         next : (cycle_of mid list).cycles ≡ mid.cycles + 1
@@ -82,11 +90,21 @@ module _ {D : Type 0} (gives : Meaning D) (text : CycleText) (says : List Record
         told (Err e) s = tt
 
         more : cycles_text text m (lists_of (so_far.turns.history ++ (list, after) ∷ []))
-            ≡ cycles_text text m (lists_of so_far.turns.history) ++ text mid.count (dues ((cycle_of mid list).count - mid.count) mid.arch) list
+            ≡ cycles_text text m (lists_of so_far.turns.history) ++ text mid.count (committed_in mid list) list
         more =
             ap (cycles_text text m) (lists_more so_far.turns.history list after)
             ∙ text_more text m (lists_of so_far.turns.history) list
-            ∙ ap (λ (k : Timed). cycles_text text m (lists_of so_far.turns.history) ++ text k.count (dues ((cycle_of k list).count - k.count) k.arch) list) (sym (IsHistory-run gives m core so_far.turns.history mid between so_far.turns.good))
+            ∙ ap (λ (k : Timed). cycles_text text m (lists_of so_far.turns.history) ++ text k.count (committed_in k list) list) (sym (IsHistory-run gives m core so_far.turns.history mid between so_far.turns.good))
+
+        broke : (r : Result (Unit {0}) SinkFailed) → Puts (text mid.count (committed_in mid list) list) now new g h r → OnErr r (CutIn (lists_of (so_far.turns.history ++ (list, after) ∷ [])) new)
+        broke (Ok u) p = tt
+        broke (Err e) p =
+            record {
+              earlier = lists_of so_far.turns.history;
+              last = list;
+              in_order = lists_more so_far.turns.history list after;
+              holds = subst (λ (x : List ℕ). AppendsPast old new (cycles_text text m (lists_of so_far.turns.history)) x) (sym more) (puts_past _ _ old now new before g h e so_far.put p);
+            }
 
     -- the same, of a turn that is known by equations
     pub writes_turn : (list : List Record) (after : D) (new : Option (List ℕ)) (h : ℕ) (result : Result (Unit {0}) SinkFailed) (first : ℕ) (committed : List Record) (next : Timed)
@@ -114,7 +132,7 @@ module _ {D : Type 0} (gives : Meaning D) (text : CycleText) (says : List Record
   writes_performs n budget last after new now result w most whole =
       record {
         turns = w.turns;
-        done = record { most = (let l = long in omega arith); whole = go result whole; said = w.said; put = w.put };
+        done = record { most = (let l = long in omega arith); whole = go result whole; said = w.said; put = w.put; cut = w.cut };
       }
     where
       long : length (lists_of w.turns.history) ≡ n

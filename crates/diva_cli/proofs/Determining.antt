@@ -1,5 +1,5 @@
 -- Two runs of one core from one machine are one.
-use Rattle.std.proofs.Common.{◌≡◌, ◌≤◌, ℕ, ◌+◌, ◌-◌, ◌==◌, true, false, List, [], ◌∷◌, ◌++◌, length, Option, Some, None, IsSome, refl, ap, sym, ◌∙◌, arith, subst}
+use Rattle.std.proofs.Common.{◌≡◌, ◌≤◌, ℕ, ◌+◌, ◌-◌, ◌==◌, true, false, List, [], ◌∷◌, ◌++◌, length, Option, Some, None, Result, IsOk, refl, ap, sym, ◌∙◌, arith, subst}
 use Rattle.std.proofs.lemmas.Bool.{true≢false}
 use Rattle.std.proofs.lemmas.List.{length-map}
 use Rattle.diva_outside.specs.Text.{Text}
@@ -26,9 +26,10 @@ use Rattle.diva_cli.specs.Determined.{IsDetermined}
 use Rattle.diva_cli.specs.Driven.{AreHanded, ByTurns}
 use Rattle.diva_cli.specs.Runs.{AreRows, HasRun, asked_trace, shown_dump, start_in}
 use Rattle.diva_cli.specs.SoakTexts.{HasSoaked, soak_cycles, soak_start}
+use Rattle.diva_cli.proofs.Running.{shown_whole}
 
 module _ {C : Type 0} (gives : Meaning C) (determined : IsDetermined gives) where
-  -- the turns of two logs that were not broken off
+  -- the turns of two histories that were not broken off
   last_same : (n : ℕ) (m last last' : Timed) (core after after' : C) (history history' : List (List Record × C))
       → IsHistory gives m core history last after → IsHistory gives m core history' last' after'
       → length history ≤ n → length history' ≤ n
@@ -69,35 +70,38 @@ record Ran {C : Type 0} (gives : Meaning C) (n : ℕ) (m : Timed) (core : C) (la
   most : length history ≤ n
   all : goes_on last.arch ≡ true → length history ≡ n
 
-ran : {C : Type 0} (gives : Meaning C) (options : RunOptions) (bytes : FileBytes) (core after : C) (status : Option ℕ) (text : Text) (rows : List Row)
-    → options.setup.core ≡ Own → (h : HasRun gives options bytes core after status text) → (options.trace ≡ true → IsSome status) → h.over.script ≡ rows
+ran : {C : Type 0} (gives : Meaning C) (options : RunOptions) (bytes : FileBytes) (core after : C) (ended : Result ℕ Text) (text : Text) (rows : List Row)
+    → options.setup.core ≡ Own → (h : HasRun gives options bytes core after ended text) → (options.trace ≡ true → IsOk ended) → h.over.script ≡ rows
     → Ran (spoiled rows gives) options.cycles (new_timed options.setup.config (start_in bytes)) core h.last after
-ran gives options bytes core after status text rows own h asked is =
+ran gives options bytes core after ended text rows own h asked is =
+    let shown = shown_whole gives options bytes core after ended text h asked in
     let driven = h.over.run.driven in
     let turns = own_turns gives options.setup.core h.over.tape h.over.script (new_timed options.setup.config (start_in bytes)) core driven.lists h.last after own driven.handed in
     let long : length driven.lists ≡ length turns.history = ap length turns.in_order ∙ length-map turns.history (λ turn. turn.0) in
     let most = driven.most in
     let each = driven.each in
     subst (λ (r : List Row). Ran (spoiled r gives) options.cycles (new_timed options.setup.config (start_in bytes)) core h.last after) is
-    (record { history = turns.history; good = turns.good; most = omega arith; all = λ on. (let e = (h.whole asked).all on in omega arith) })
+    (record { history = turns.history; good = turns.good; most = omega arith; all = λ on. (let e = shown.0.all on in omega arith) })
 
-pub text_same : {C : Type 0} (gives : Meaning C) → IsDetermined gives → (options : RunOptions) (bytes : FileBytes) (core after last : C) (status other : Option ℕ) (text same : Text)
-    → options.setup.core ≡ Own → HasRun gives options bytes core after status text → HasRun gives options bytes core last other same
-    → (options.trace ≡ true → IsSome status × IsSome other) → text ≡ same
-text_same gives determined options bytes core after last status other text same own h k asked =
+pub text_same : {C : Type 0} (gives : Meaning C) → IsDetermined gives → (options : RunOptions) (bytes : FileBytes) (core after last : C) (ended other : Result ℕ Text) (text same : Text)
+    → options.setup.core ≡ Own → HasRun gives options bytes core after ended text → HasRun gives options bytes core last other same
+    → (options.trace ≡ true → IsOk ended × IsOk other) → text ≡ same
+text_same gives determined options bytes core after last ended other text same own h k asked =
     let rows = k.over.script in
-    let i = ran gives options bytes core after status text rows own h (λ on. (asked on).0) (rows_same options.setup.script (bytes Script) h.over.script rows h.over.rows k.over.rows) in
+    let i = ran gives options bytes core after ended text rows own h (λ on. (asked on).0) (rows_same options.setup.script (bytes Script) h.over.script rows h.over.rows k.over.rows) in
     let j = ran gives options bytes core last other same rows own k (λ on. (asked on).1) refl in
     let ends : h.last ≡ k.last = last_same (spoiled rows gives) (spoiled_determined gives rows determined) options.cycles (new_timed options.setup.config (start_in bytes)) h.last k.last core after last i.history j.history i.good j.good i.most j.most i.all j.all in
-    h.lines ∙ ap (λ (m : Timed). asked_trace options.trace (start_in bytes) m.count ++ text_of m (shown_dump options.dump)) ends ∙ sym k.lines
+    (shown_whole gives options bytes core after ended text h (λ on. (asked on).0)).1
+    ∙ ap (λ (m : Timed). asked_trace options.trace (start_in bytes) m.count ++ text_of m (shown_dump options.dump)) ends
+    ∙ sym (shown_whole gives options bytes core last other same k (λ on. (asked on).1)).1
 
 -- ---- the text of `soak`
 
 -- the turns of its second run, which has ended
-soak_ran : {C : Type 0} (gives : Meaning C) (options : SoakOptions) (core after : C) (status : Option ℕ) (text : Text)
-    → (h : HasSoaked gives options core after status text)
+soak_ran : {C : Type 0} (gives : Meaning C) (options : SoakOptions) (core after : C) (ended : Result ℕ Text) (text : Text)
+    → (h : HasSoaked gives options core after ended text)
     → Ran (spoiled [] gives) (soak_cycles options.instructions) (new_timed default_config (soak_start options)) core h.second after
-soak_ran gives options core after status text h =
+soak_ran gives options core after ended text h =
     let driven = h.under_own.driven in
     let turns : ByTurns (spoiled [] gives) (new_timed default_config (soak_start options)) core driven.lists h.second after = driven.handed in
     let long : length driven.lists ≡ length turns.history = ap length turns.in_order ∙ length-map turns.history (λ turn. turn.0) in
@@ -108,10 +112,10 @@ soak_ran gives options core after status text h =
 line_same : (core : SoakCore) (n n' y y' f f' : ℕ) → n ≡ n' → y ≡ y' → f ≡ f' → soak_line core n y f ≡ soak_line core n' y' f'
 line_same core n n' y y' f f' a b c = cc
 
-pub soak_same : {C : Type 0} (gives : Meaning C) → IsDetermined gives → (options : SoakOptions) (core after last : C) (status other : Option ℕ) (text same : Text)
-    → HasSoaked gives options core after status text → HasSoaked gives options core last other same → text ≡ same
-soak_same gives determined options core after last status other text same h k =
-    let i = soak_ran gives options core after status text h in
+pub soak_same : {C : Type 0} (gives : Meaning C) → IsDetermined gives → (options : SoakOptions) (core after last : C) (ended other : Result ℕ Text) (text same : Text)
+    → HasSoaked gives options core after ended text → HasSoaked gives options core last other same → text ≡ same
+soak_same gives determined options core after last ended other text same h k =
+    let i = soak_ran gives options core after ended text h in
     let j = soak_ran gives options core last other same k in
     let ends : h.second ≡ k.second = last_same (spoiled [] gives) (spoiled_determined gives [] determined) (soak_cycles options.instructions) (new_timed default_config (soak_start options)) h.second k.second core after last i.history j.history i.good j.good i.most j.most i.all j.all in
     let counted : h.first.count ≡ k.first.count = sym h.same.1 ∙ ap (λ (m : Timed). m.count) ends ∙ k.same.1 in

@@ -16,7 +16,7 @@ use Rattle.diva_args.specs.declared.job.Job.{Job}
 use Rattle.diva_cli.specs.declared.stop.Failure.{Failure}
 use Rattle.diva_cli.specs.declared.stop.Failure.TheVariants.{Cut, Memory}
 use Rattle.diva_cli.specs.Wanted.{Wanted, FileBytes, AreSound, HasFault, wanted}
-use Rattle.diva_cli.specs.Stops.{CanBeUsed, StopsAt, IsRefused, IsTooLong, HasFirstFault}
+use Rattle.diva_cli.specs.Stops.{CanBeUsed, StopsAt, StopsLoading, IsRefused, IsTooLong, HasFirstFault}
 use Rattle.diva_cli.specs.Answers.{IsAnswer, misused, unread, refused, done}
 use Rattle.diva_cli.specs.Statuses.{HasMissing, IsHindered, MustRefuse}
 use Rattle.diva_cli.specs.Parts.{Answers, status_of}
@@ -82,60 +82,69 @@ module _ (bytes_of : List ℕ → Option (List ℕ)) where
           one_fault w.what b.bytes r.kind r.place r'.kind r'.place (subst (λ (z : List ℕ). HasFault w.what z r.kind r.place) same a.first) b.first
 
   -- two stops, each at a file that can't be used, are at the same one
-  both_stop : (this that : Wanted → Type 0) (So : Type 0)
-      → ((w : Wanted) → CanBeUsed (Some bytes_of) w → this w → ⊥) → ((w : Wanted) → CanBeUsed (Some bytes_of) w → that w → ⊥)
-      → ((w : Wanted) → this w → that w → So)
+  both_stop : (this that : Wanted → List Wanted → Type 0) (So : Type 0)
+      → ((w : Wanted) (behind : List Wanted) → CanBeUsed (Some bytes_of) w → this w behind → ⊥)
+      → ((w : Wanted) (behind : List Wanted) → CanBeUsed (Some bytes_of) w → that w behind → ⊥)
+      → ((w : Wanted) (behind : List Wanted) → this w behind → that w behind → So)
       → (ws : List Wanted) → StopsAt (Some bytes_of) this ws → StopsAt (Some bytes_of) that ws → So
   both_stop this that So never never' so [] s t = absurd s
-  both_stop this that So never never' so (w ∷ ws) (inl a) (inl b) = so w a b
-  both_stop this that So never never' so (w ∷ ws) (inl a) (inr t) = absurd (never w t.0 a)
-  both_stop this that So never never' so (w ∷ ws) (inr s) (inl b) = absurd (never' w s.0 b)
+  both_stop this that So never never' so (w ∷ ws) (inl a) (inl b) = so w ws a b
+  both_stop this that So never never' so (w ∷ ws) (inl a) (inr t) = absurd (never w ws t.0 a)
+  both_stop this that So never never' so (w ∷ ws) (inr s) (inl b) = absurd (never' w ws s.0 b)
   both_stop this that So never never' so (w ∷ ws) (inr s) (inr t) = both_stop this that So never never' so ws s.1 t.1
 
-  sound-stops : (this : Wanted → Type 0) → ((w : Wanted) → CanBeUsed (Some bytes_of) w → this w → ⊥) → (ws : List Wanted) (bytes : FileBytes) → AreSound (Some bytes_of) ws bytes → StopsAt (Some bytes_of) this ws → ⊥
+  sound-stops : (this : Wanted → List Wanted → Type 0) → ((w : Wanted) (behind : List Wanted) → CanBeUsed (Some bytes_of) w → this w behind → ⊥) → (ws : List Wanted) (bytes : FileBytes) → AreSound (Some bytes_of) ws bytes → StopsAt (Some bytes_of) this ws → ⊥
   sound-stops this never [] bytes sound s = s
-  sound-stops this never (w ∷ ws) bytes sound (inl here) = never w (record { bytes = bytes w.what; sound = sound.0 }) here
+  sound-stops this never (w ∷ ws) bytes sound (inl here) = never w ws (record { bytes = bytes w.what; sound = sound.0 }) here
   sound-stops this never (w ∷ ws) bytes sound (inr later) = sound-stops this never ws bytes sound.1 later.1
 
 -- ---- what is answered
 
 module _ {C : Type 0} (gives : Meaning C) (command : Option Job) (bytes_of : List ℕ → Option (List ℕ)) (before now : What → ℕ) (core after : C) (old new : Option (List ℕ)) (faults faults' : ℕ)
     (job : Job) (named : command ≡ Some job) where
-  first_of : (this : Wanted → Type 0) (other : Job) → command ≡ Some other → StopsAt (Some bytes_of) this (wanted job) → StopsAt (Some bytes_of) this (wanted other)
+  first_of : (this : Wanted → List Wanted → Type 0) (other : Job) → command ≡ Some other → StopsAt (Some bytes_of) this (wanted job) → StopsAt (Some bytes_of) this (wanted other)
   first_of this other e s = subst (λ (j : Job). StopsAt (Some bytes_of) this (wanted j)) (some_same command job other named e) s
 
   abbrev pub Refuses : List ℕ → ℕ → Type 0
   Refuses text status = ((status ≡ 5) × Appends old new text) ⊎ IsHindered status
 
-  answered_refused : (text : List ℕ) → StopsAt (Some bytes_of) (IsRefused (Some bytes_of) text) (wanted job)
-      → (status : ℕ) (line : List ℕ) → IsAnswer gives command (Some bytes_of) before now core after (Some status) line → Appends old new line → Refuses text status
+  abbrev pub Refused : List ℕ → Wanted → List Wanted → Type 0
+  Refused text w behind = IsRefused (Some bytes_of) text w
+
+  abbrev pub Stopped : List ℕ → Wanted → List Wanted → Type 0
+  Stopped line = StopsLoading (Some bytes_of) before now line
+
+  answered_refused : (text : List ℕ) → StopsAt (Some bytes_of) (Refused text) (wanted job)
+      → (status : ℕ) (line : List ℕ) → IsAnswer gives command (Some bytes_of) before now core after (Ok status) line → Appends old new line → Refuses text status
   answered_refused text first status line (misused m same s) w = absurd (let e = sym named ∙ m.none in cc)
   answered_refused text first status line (unread u same s) w = inr (inl s)
   answered_refused text first status line (refused r same s) w =
-      let one : line ≡ text = both_stop bytes_of (IsRefused (Some bytes_of) line) (IsRefused (Some bytes_of) text) (line ≡ text)
-      (usable-refused bytes_of line) (usable-refused bytes_of text) (one_refusal bytes_of line text) (wanted r.job) r.first (first_of (IsRefused (Some bytes_of) text) r.job r.named first) in
+      let one : line ≡ text = both_stop bytes_of (Stopped line) (Refused text) (line ≡ text)
+      (λ w behind u s. usable-refused bytes_of line w u s.refused) (λ w behind. usable-refused bytes_of text w) (λ w behind s t. one_refusal bytes_of line text w s.refused t)
+      (wanted r.job) r.first (first_of (Refused text) r.job r.named first) in
       inl (s, subst (λ (t : List ℕ). Appends old new t) one w)
   answered_refused text first status line (done d) w =
-      absurd (sound-stops bytes_of (IsRefused (Some bytes_of) text) (usable-refused bytes_of text) (wanted d.job) d.bytes d.sound (first_of (IsRefused (Some bytes_of) text) d.job d.named first))
+      absurd (sound-stops bytes_of (Refused text) (λ w behind. usable-refused bytes_of text w) (wanted d.job) d.bytes d.sound (first_of (Refused text) d.job d.named first))
 
-  refuses_known : (text : List ℕ) → StopsAt (Some bytes_of) (IsRefused (Some bytes_of) text) (wanted job)
+  refuses_known : (text : List ℕ) → StopsAt (Some bytes_of) (Refused text) (wanted job)
       → (result : Result ℕ Failure) → Answers gives command (Some bytes_of) before now core after old new faults faults' result → Refuses text (status_of result)
   refuses_known text first (Ok status) w = answered_refused text first status w.text w.answer w.written
   refuses_known text first (Err Cut) w = inr (inr (inl refl))
   refuses_known text first (Err Memory) w = inr (inr (inr refl))
 
-  abbrev pub Missing : Wanted → Type 0
-  Missing w = IsMissing (Some bytes_of) w.name
+  abbrev pub Missing : Wanted → List Wanted → Type 0
+  Missing w behind = IsMissing (Some bytes_of) w.name
 
   answered_missing : StopsAt (Some bytes_of) Missing (wanted job)
-      → (status : ℕ) (line : List ℕ) → IsAnswer gives command (Some bytes_of) before now core after (Some status) line → IsHindered status
+      → (status : ℕ) (line : List ℕ) → IsAnswer gives command (Some bytes_of) before now core after (Ok status) line → IsHindered status
   answered_missing first status line (misused m same s) = absurd (let e = sym named ∙ m.none in cc)
   answered_missing first status line (unread u same s) = inl s
   answered_missing first status line (refused r same s) =
-      absurd (both_stop bytes_of Missing (IsRefused (Some bytes_of) line) ⊥
-      (usable-missing bytes_of) (usable-refused bytes_of line) (missing-refused bytes_of line) (wanted r.job) (first_of Missing r.job r.named first) r.first)
+      absurd (both_stop bytes_of Missing (Stopped line) ⊥
+      (λ w behind. usable-missing bytes_of w) (λ w behind u s. usable-refused bytes_of line w u s.refused) (λ w behind m s. missing-refused bytes_of line w m s.refused)
+      (wanted r.job) (first_of Missing r.job r.named first) r.first)
   answered_missing first status line (done d) =
-      absurd (sound-stops bytes_of Missing (usable-missing bytes_of) (wanted d.job) d.bytes d.sound (first_of Missing d.job d.named first))
+      absurd (sound-stops bytes_of Missing (λ w behind. usable-missing bytes_of w) (wanted d.job) d.bytes d.sound (first_of Missing d.job d.named first))
 
   misses_known : StopsAt (Some bytes_of) Missing (wanted job)
       → (result : Result ℕ Failure) → Answers gives command (Some bytes_of) before now core after old new faults faults' result → IsHindered (status_of result)
@@ -143,7 +152,7 @@ module _ {C : Type 0} (gives : Meaning C) (command : Option Job) (bytes_of : Lis
   misses_known first (Err Cut) w = inr (inl refl)
   misses_known first (Err Memory) w = inr (inr refl)
 
-nothing-stops : (ws : List Wanted) → StopsAt None (λ w. IsMissing None w.name) ws → ⊥
+nothing-stops : (ws : List Wanted) → StopsAt None (λ w behind. IsMissing None w.name) ws → ⊥
 nothing-stops [] s = s
 nothing-stops (w ∷ ws) (inl here) = here
 nothing-stops (w ∷ ws) (inr later) = nothing-stops ws later.1
@@ -153,7 +162,7 @@ module _ {C : Type 0} (gives : Meaning C) (command : Option Job) (contents : Con
   pub refuses : (text : List ℕ) → MustRefuse command contents text → ((status_of result ≡ 5) × Appends old new text) ⊎ IsHindered (status_of result)
   refuses text must = go contents must.known must.refused.first answers
     where
-      go : (told : Contents) → IsSome told → StopsAt told (IsRefused told text) (wanted must.refused.job)
+      go : (told : Contents) → IsSome told → StopsAt told (λ w behind. IsRefused told text w) (wanted must.refused.job)
           → Answers gives command told before now core after old new faults faults' result → ((status_of result ≡ 5) × Appends old new text) ⊎ IsHindered (status_of result)
       go None known first a = absurd (true≢false (sym known))
       go (Some bytes_of) known first a =
@@ -162,7 +171,7 @@ module _ {C : Type 0} (gives : Meaning C) (command : Option Job) (contents : Con
   pub misses : HasMissing command contents → IsHindered (status_of result)
   misses missing = go contents missing.first answers
     where
-      go : (told : Contents) → StopsAt told (λ w. IsMissing told w.name) (wanted missing.job)
+      go : (told : Contents) → StopsAt told (λ w behind. IsMissing told w.name) (wanted missing.job)
           → Answers gives command told before now core after old new faults faults' result → IsHindered (status_of result)
       go None first a = absurd (nothing-stops (wanted missing.job) first)
       go (Some bytes_of) first a =

@@ -1,5 +1,5 @@
 -- A tape of all that was handed over drives the machine to the same end.
-use Rattle.std.proofs.Common.{◌≡◌, ℕ, zero, suc, ◌+◌, ◌≤◌, Bool, true, false, List, [], ◌∷◌, ◌++◌, length, Option, Some, IsSome, Result, Ok, Err, OnOk, refl, sym, ◌∙◌, ap, subst, arith}
+use Rattle.std.proofs.Common.{◌≡◌, ℕ, zero, suc, ◌+◌, ◌≤◌, Bool, true, false, List, [], ◌∷◌, ◌++◌, length, Option, Some, Result, Ok, Err, IsOk, OnOk, OnErr, refl, sym, ◌∙◌, ap, subst, arith}
 use Rattle.std.specs.List.{All}
 use Rattle.diva_isa.specs.End.{end_of}
 use Rattle.diva_isa.specs.State.{State, goes_on}
@@ -18,7 +18,7 @@ use Rattle.diva_tape.specs.TapeText.{IsList, list_text, tape_text}
 use Rattle.diva_tape.specs.TapeCalls.{next_list, later_lists, played}
 use Rattle.diva_tape.proofs.Playing.{played-next}
 use Rattle.diva_tape.proofs.ReadingBack.{tape_read_back}
-use Rattle.diva_outside.specs.Sink.{Puts}
+use Rattle.diva_outside.specs.Sink.{AppendsPast, Puts}
 use Rattle.diva_outside.specs.declared.files.What.TheVariants.{Script, Tape as TapeFile}
 use Rattle.diva_outside.specs.declared.sink.SinkFailed.{SinkFailed}
 use Rattle.diva_args.specs.Options.{RunOptions, TapeOptions}
@@ -28,12 +28,13 @@ use Rattle.diva_args.specs.declared.job.Job.TheVariants.{Tape}
 use Rattle.diva_trace.specs.Text.{text_of}
 use Rattle.diva_cli.specs.declared.loading.Ready.{Ready}
 use Rattle.diva_cli.specs.Wanted.{FileBytes, tape_name}
+use Rattle.diva_cli.specs.Cuts.{BeforeLast}
 use Rattle.diva_cli.specs.Driven.{IsDriven, scripted_lists}
 use Rattle.diva_cli.specs.Runs.{IsRunOver, IsWhole, HasRun, AreRows, AreLists, end_status, asked_trace, shown_dump, start_in}
 use Rattle.diva_cli.specs.TapeTexts.{IsHandedFor, IsReplay, IsTapeOf}
 use Rattle.diva_cli.specs.Tasks.{IsWritten, PerformsBy, cycles_text, tape_line}
 use Rattle.diva_cli.specs.Parts.{IsReady, WritesWhole, WritesPart}
-use Rattle.diva_cli.proofs.Running.{ends_with, run_over, over_lists, run_whole, each_new}
+use Rattle.diva_cli.proofs.Running.{ends_with, run_over, over_lists, run_whole, each_new, shown_whole}
 
 -- ---- lists of a tape, and then empty ones
 
@@ -95,8 +96,12 @@ module _ (options : TapeOptions) (bytes : FileBytes) (lists : List (List Record)
 
   module _ {C : Type 0} (gives : Meaning C) (text : List ℕ) (reads : tape_of text ≡ Ok lists)
       (replay : RunOptions) (its_bytes : FileBytes) (is : IsReplay options bytes text replay its_bytes)
-      (core after : C) (status : Option ℕ) (shown : List ℕ) (run : HasRun gives replay its_bytes core after status shown)
-      (asked : replay.trace ≡ true → IsSome status) where
+      (core after : C) (ended : Result ℕ (List ℕ)) (shown : List ℕ) (run : HasRun gives replay its_bytes core after ended shown)
+      (asked : replay.trace ≡ true → IsOk ended) where
+    abbrev whole_run : IsWhole replay.setup replay.cycles (start_in its_bytes) run.last
+        × (shown ≡ asked_trace replay.trace (start_in its_bytes) run.last.count ++ text_of run.last (shown_dump replay.dump))
+    whole_run = shown_whole gives replay its_bytes core after ended shown run asked
+
     none : run.over.script ≡ []
     none = subst (λ (name : Option (List ℕ)). AreRows name (its_bytes Script) run.over.script) is.script run.over.rows
 
@@ -121,7 +126,7 @@ module _ (options : TapeOptions) (bytes : FileBytes) (lists : List (List Record)
     handed =
         record {
           most = driven.most;
-          whole = λ on. (let e = (run.whole asked).all (ap (λ (m : Timed). goes_on m.arch) driven.ran ∙ on) in let f = driven.each in let g = is.cycles in omega arith);
+          whole = λ on. (let e = whole_run.0.all (ap (λ (m : Timed). goes_on m.arch) driven.ran ∙ on) in let f = driven.each in let g = is.cycles in omega arith);
         }
 
     same_start : start_in its_bytes ≡ start_in bytes
@@ -129,7 +134,7 @@ module _ (options : TapeOptions) (bytes : FileBytes) (lists : List (List Record)
 
     pub same_text : shown ≡ asked_trace replay.trace (start_in bytes) last.count ++ text_of last (shown_dump replay.dump)
     same_text =
-        run.lines
+        whole_run.1
         ∙ ap (λ (s : State). asked_trace replay.trace s run.last.count ++ text_of run.last (shown_dump replay.dump)) same_start
         ∙ ap (λ (m : Timed). asked_trace replay.trace (start_in bytes) m.count ++ text_of m (shown_dump replay.dump))
         (driven.ran ∙ same_machine driven.lists (driven.handed.in_order ∙ lists-unscripted (first.cycles + 1) (played (length driven.lists) lists)) handed)
@@ -171,7 +176,7 @@ module _ {C : Type 0} (gives : Meaning C) (options : TapeOptions) (bytes : FileB
           last = last;
           over = over;
           lines = ap tape_text (sym all_lists);
-          ended = subst (λ (lists : List (List Record)). IsTapeOf gives options bytes lists last (tape_text p.lists) status) (sym all_lists) (record {
+          whole = subst (λ (lists : List (List Record)). IsTapeOf gives options bytes lists last (tape_text p.lists) status) (sym all_lists) (record {
             whole = whole;
             ended = ends_with options.setup options.cycles (start_in bytes) last status whole says;
             reads = reads;
@@ -179,6 +184,7 @@ module _ {C : Type 0} (gives : Meaning C) (options : TapeOptions) (bytes : FileB
             replays = λ replay its_bytes r core' after' status' shown run asked.
                 same_text options bytes p.lists last ran_new each few whole gives (tape_text p.lists) reads replay its_bytes r core' after' status' shown run asked;
           });
+          cut = tt;
         };
         written = (subst (λ (r : Result (Unit {0}) SinkFailed). Puts (tape_text p.lists) old new before now r) ok puts).ok;
       }
@@ -186,9 +192,20 @@ module _ {C : Type 0} (gives : Meaning C) (options : TapeOptions) (bytes : FileB
   pub cut_tape : (e : SinkFailed) → result ≡ Err e → WritesPart gives (Tape options) bytes core after old new before now
   cut_tape e err =
       let q = subst (λ (r : Result (Unit {0}) SinkFailed). Puts (tape_text p.lists) old new before now r) err puts in
+      let b : BeforeLast p.lists (λ earlier. AppendsPast old new (cycles_text tape_line ready.machine.timed earlier) (cycles_text tape_line ready.machine.timed p.lists)) =
+      subst (λ (r : Result (Unit {0}) SinkFailed). OnErr r (BeforeLast p.lists (λ earlier. AppendsPast old new (cycles_text tape_line ready.machine.timed earlier) (cycles_text tape_line ready.machine.timed p.lists))))
+      err p.done.cut in
       record {
         rose = q.failed;
+        put = tape_text b.earlier;
         text = tape_text p.lists;
-        means = record { last = last; over = over; lines = ap tape_text (sym all_lists); ended = tt };
-        written = q.part;
+        means = record {
+          last = last;
+          over = over;
+          lines = ap tape_text (sym all_lists);
+          whole = tt;
+          cut = record { earlier = b.earlier; last = b.last; in_order = all_lists ∙ b.in_order; holds = refl };
+        };
+        written = subst (λ (x : List ℕ). AppendsPast old new x (tape_text p.lists)) (tape_lines ready.machine.timed b.earlier)
+            (subst (λ (x : List ℕ). AppendsPast old new (cycles_text tape_line ready.machine.timed b.earlier) x) (tape_lines ready.machine.timed p.lists) b.holds);
       }

@@ -1,5 +1,5 @@
 -- What holds of a run, whatever the core hands over, and what is written of it.
-use Rattle.std.proofs.Common.{◌≡◌, ◌⊎◌, ℕ, suc, ◌+◌, ◌-◌, ◌/◌, ◌≤◌, ◌==◌, ◌%◌, ◌^◌, nat_lt, cond, Bool, true, false, List, [], ◌∷◌, ◌++◌, length, Option, Result, Ok, Err, OnOk, refl, inl, inr, sym, ◌∙◌, ap, subst, arith}
+use Rattle.std.proofs.Common.{◌≡◌, ◌⊎◌, ℕ, suc, ◌+◌, ◌-◌, ◌/◌, ◌≤◌, ◌==◌, ◌%◌, ◌^◌, nat_lt, cond, Bool, true, false, List, [], ◌∷◌, ◌++◌, length, Option, Result, Ok, Err, IsOk, OnOk, OnErr, refl, inl, inr, sym, ◌∙◌, ap, subst, arith}
 use Rattle.diva_isa.specs.End.{end_of}
 use Rattle.diva_isa.specs.declared.end.End.TheVariants.{GoesOn, Halt, Trap}
 use Rattle.diva_isa.specs.State.{State, goes_on}
@@ -8,7 +8,7 @@ use Rattle.diva_isa.specs.declared.record.Record.{Record}
 use Rattle.diva_core.specs.Timed.{Timed, Config, depth, new_timed}
 use Rattle.diva_core.specs.Cycle.{cycle_of, run_of}
 use Rattle.diva_core.specs.History.{Meaning, IsHistory, FollowRule}
-use Rattle.std.proofs.lemmas.Bool.{cases_Bool, true≢false}
+use Rattle.std.proofs.lemmas.Bool.{true≢false}
 use Rattle.diva_core.specs.Machine.{IsMachine, IsConfig}
 use Rattle.diva_core.specs.Told.{Told}
 use Rattle.diva_core.specs.Right.{AreRight}
@@ -31,21 +31,22 @@ use Rattle.diva_tape.specs.TapeCalls.{next_list, played, tape_call}
 use Rattle.diva_tape.proofs.Playing.{played-next}
 use Rattle.diva_tape.proofs.Following.{scalar_history, scalar_history_right, new_leads}
 use Rattle.diva_tape.proofs.Righting.{rule_right}
-use Rattle.diva_outside.specs.Sink.{Puts}
+use Rattle.diva_outside.specs.Sink.{AppendsPast, Puts}
 use Rattle.diva_outside.specs.declared.sink.SinkFailed.{SinkFailed}
-use Rattle.diva_outside.proofs.Sinks.{puts_cut, puts_nothing, puts_then}
+use Rattle.diva_outside.proofs.Sinks.{puts_nothing, puts_past, puts_then}
 use Rattle.diva_args.specs.Options.{Setup, RunOptions, DumpRange}
 use Rattle.diva_args.specs.declared.job.CoreChoice.{CoreChoice}
 use Rattle.diva_args.specs.declared.job.CoreChoice.TheVariants.{Own, Lockstep, Scalar, Silent, Flood, Echo, Noise, Tape}
 use Rattle.diva_args.specs.declared.job.Job.TheVariants.{Run}
-use Rattle.diva_trace.specs.Text.{commits_text, text_of}
+use Rattle.diva_trace.specs.Text.{commits_text, text_of, trace_of}
 use Rattle.diva_trace.proofs.Numbered.{commits_text-append, commits_text-none}
 use Rattle.diva_cli.specs.declared.driving.CoreInUse.{CoreInUse}
 use Rattle.diva_cli.specs.declared.loading.Ready.{Ready}
 use Rattle.diva_cli.specs.Wanted.{FileBytes}
+use Rattle.diva_cli.specs.Cuts.{BeforeLast}
 use Rattle.diva_cli.specs.Driven.{IsDriven, AreHanded, ByCalls, ByOther, scripted_lists, scripted_rule}
 use Rattle.diva_cli.proofs.Handing.{calls_made}
-use Rattle.diva_cli.specs.Runs.{IsRunFrom, IsRunOver, IsUnflushed, IsWhole, EndsWith, end_status, asked_trace, shown_dump, start_in}
+use Rattle.diva_cli.specs.Runs.{IsRunFrom, IsRunOver, IsUnflushed, IsWhole, EndsWith, HasRun, end_status, asked_trace, shown_dump, start_in}
 use Rattle.diva_cli.specs.declared.tasks.Task.{Task}
 use Rattle.diva_cli.specs.Tasks.{AreHandedBy, Does, PerformsBy, cycles_text, run_task, trace_lines}
 use Rattle.diva_cli.specs.Parts.{IsReady, WritesWhole, WritesPart, core_for}
@@ -242,13 +243,22 @@ trace-run z s lists last true ok ran =
     trace-cycles lists (new_timed z s) (new-machine z s ok)
     ∙ ap (λ k. commits_text 0 (dues k s)) (let e = ap (λ (m : Timed). m.count) ran in omega arith)
 
+-- where the sink failed, it did so among the commit lines
+abbrev CutLines : (trace : Bool) → Timed → List (List Record) → (old new : Option (List ℕ)) → Type 0
+CutLines trace m lists old new =
+    (trace ≡ true) × BeforeLast lists (λ earlier. AppendsPast old new (cycles_text trace_lines m earlier) (cycles_text trace_lines m lists))
+
 -- a machine was driven, and its commit lines were put if they are asked for
 record Went (trace : Bool) (cycles : ℕ) (m : Timed) (lists : List (List Record)) (last : Timed) (old new : Option (List ℕ)) (before now : ℕ)
     (result : Result (Unit {0}) SinkFailed) : Type 0 where
   most : length lists ≤ cycles
   whole : OnOk result (goes_on last.arch ≡ true → length lists ≡ cycles)
-  quiet : trace ≡ false → goes_on last.arch ≡ true → length lists ≡ cycles
   put : Puts (commits_if trace m lists) old new before now result
+  cut : OnErr result (CutLines trace m lists old new)
+
+on_err : {A E : Type 0} {P Q : Type 0} (r : Result A E) → (P → Q) → OnErr r P → OnErr r Q
+on_err (Ok a) f h = tt
+on_err (Err e) f h = f h
 
 went : (trace : Bool) (cycles : ℕ) (m : Timed) (lists : List (List Record)) (last : Timed) (old new : Option (List ℕ)) (before now : ℕ) (result : Result (Unit {0}) SinkFailed)
     → Does (run_task trace cycles) m lists last old new before now result → Went trace cycles m lists last old new before now result
@@ -256,13 +266,25 @@ went false cycles m lists last old new before now result q =
     record {
       most = q.most;
       whole = subst (λ (r : Result (Unit {0}) SinkFailed). OnOk r (goes_on last.arch ≡ true → length lists ≡ cycles)) (sym q.never_fails) q.whole;
-      quiet = λ off. q.whole;
       put = subst (λ (r : Result (Unit {0}) SinkFailed). Puts [] old new before now r) (sym q.never_fails)
           (subst (λ (c : Option (List ℕ)). Puts {E = SinkFailed} [] old c before now (Ok tt)) (sym q.contents)
           (subst (λ f. Puts {E = SinkFailed} [] old old before f (Ok tt)) (sym q.faults) (puts_nothing old before)));
+      cut = subst (λ (r : Result (Unit {0}) SinkFailed). OnErr r (CutLines false m lists old new)) (sym q.never_fails) tt;
     }
 went true cycles m lists last old new before now result w =
-    record { most = w.most; whole = w.whole; quiet = λ off. absurd (true≢false off); put = w.put }
+    record { most = w.most; whole = w.whole; put = w.put; cut = on_err result (λ b. (refl, b)) w.cut }
+
+-- ---- the text of a run, where its commit lines were all put if they are asked for
+
+pub shown_whole : {C : Type 0} (gives : Meaning C) (options : RunOptions) (bytes : FileBytes) (core after : C) (ended : Result ℕ (List ℕ)) (text : List ℕ)
+    (h : HasRun gives options bytes core after ended text) → (options.trace ≡ true → IsOk ended)
+    → IsWhole options.setup options.cycles (start_in bytes) h.last
+    × (text ≡ asked_trace options.trace (start_in bytes) h.last.count ++ text_of h.last (shown_dump options.dump))
+shown_whole gives options bytes core after ended text h asked =
+    elim h.written [
+      | inl s ↦ (s.whole, s.lines)
+      | inr b ↦ absurd (true≢false (sym (subst IsOk b.cut.holds (asked b.traced))))
+    ]
 
 module _ {C : Type 0} (gives : Meaning C) (options : RunOptions) (bytes : FileBytes) (ready : Ready) (core : C) (last : Timed) (after : C)
     (trace : Bool) (cycles : ℕ) (dump : Option DumpRange) (old mid new : Option (List ℕ)) (before between now : ℕ) (result : Result (Unit {0}) SinkFailed)
@@ -284,7 +306,7 @@ module _ {C : Type 0} (gives : Meaning C) (options : RunOptions) (bytes : FileBy
       (subst (λ (x : List ℕ). Puts x old mid before between result)
       (ap (λ (m : Timed). commits_if trace m p.lists) is.begun ∙ trace-run options.setup.config (start_in bytes) p.lists last trace fits run_from_new) w.put)
 
-  over : IsRunOver gives options.setup options.cycles bytes core last after
+  abbrev over : IsRunOver gives options.setup options.cycles bytes core last after
   over = run_over gives options.setup options.cycles bytes ready core last after fits is p.lists p.ran p.each p.handed (let m = w.most in omega arith)
 
   whole_if : (goes_on last.arch ≡ true → length p.lists ≡ cycles) → IsWhole options.setup options.cycles (start_in bytes) last
@@ -293,25 +315,31 @@ module _ {C : Type 0} (gives : Meaning C) (options : RunOptions) (bytes : FileBy
   whole_ok : result ≡ Ok tt → IsWhole options.setup options.cycles (start_in bytes) last
   whole_ok ok = whole_if (subst (λ (r : Result (Unit {0}) SinkFailed). OnOk r (goes_on last.arch ≡ true → length p.lists ≡ cycles)) ok w.whole)
 
-  -- without commit lines the machine has run as far as it should
-  whole_quiet : (options.trace ≡ true → ⊥) → IsWhole options.setup options.cycles (start_in bytes) last
-  whole_quiet off =
-      elim (cases_Bool options.trace) [
-        | inl on ↦ absurd (off on)
-        | inr quiet ↦ whole_if (w.quiet (t ∙ quiet))
-      ]
+  all_lists : over.run.driven.lists ≡ p.lists
+  all_lists = over_lists gives options.setup options.cycles bytes ready core last after fits is p.lists p.ran p.each p.handed (let m = w.most in omega arith)
 
   both : result ≡ Ok tt → (r : Result (Unit {0}) SinkFailed) → Puts (text_of last (shown_dump dump)) mid new between now r → Puts run_text old new before now r
   both ok r puts =
       puts_then _ _ old mid new before between now r (subst (λ (x : Result (Unit {0}) SinkFailed). Puts (asked_trace options.trace (start_in bytes) last.count) old mid before between x) ok puts_trace)
       (subst (λ (x : Option DumpRange). Puts (text_of last (shown_dump x)) mid new between now r) d puts)
 
+  -- what was put before the text that shows the machine
+  past : result ≡ Ok tt → (e : SinkFailed) → Puts (text_of last (shown_dump dump)) mid new between now (Err e)
+      → AppendsPast old new (asked_trace options.trace (start_in bytes) last.count) run_text
+  past ok e puts =
+      puts_past _ _ old mid new before between now e (subst (λ (x : Result (Unit {0}) SinkFailed). Puts (asked_trace options.trace (start_in bytes) last.count) old mid before between x) ok puts_trace)
+      (subst (λ (x : Option DumpRange). Puts (text_of last (shown_dump x)) mid new between now (Err e)) d puts)
+
   pub wrote_run : result ≡ Ok tt → (status : ℕ) → status ≡ end_status (end_of last.arch.end) → Puts {E = SinkFailed} (text_of last (shown_dump dump)) mid new between now (Ok tt)
       → WritesWhole gives (Run options) bytes core after old new status
   wrote_run ok status says puts =
       record {
         text = run_text;
-        means = record { last = last; over = over; whole = λ asked. whole_ok ok; ended = ends_with options.setup options.cycles (start_in bytes) last status (whole_ok ok) says; lines = refl };
+        means = record {
+          last = last;
+          over = over;
+          written = inl (record { whole = whole_ok ok; says = ends_with options.setup options.cycles (start_in bytes) last status (whole_ok ok) says; lines = refl; cut = tt });
+        };
         written = (both ok (Ok tt) puts).ok;
       }
 
@@ -321,17 +349,43 @@ module _ {C : Type 0} (gives : Meaning C) (options : RunOptions) (bytes : FileBy
       let q = both ok (Err e) puts in
       record {
         rose = q.failed;
+        put = asked_trace options.trace (start_in bytes) last.count;
         text = run_text;
-        means = record { last = last; over = over; whole = λ asked. whole_ok ok; ended = tt; lines = refl };
-        written = q.part;
+        means = record { last = last; over = over; written = inl (record { whole = whole_ok ok; says = tt; lines = refl; cut = refl }) };
+        written = past ok e puts;
       }
+
+  abbrev start : Timed
+  start = new_timed options.setup.config (start_in bytes)
+
+  -- where the sink failed among the commit lines
+  cut_lines : (e : SinkFailed) → result ≡ Err e → CutLines trace start p.lists old mid
+  cut_lines e err =
+      subst (λ (m : Timed). CutLines trace m p.lists old mid) is.begun
+      (subst (λ (r : Result (Unit {0}) SinkFailed). OnErr r (CutLines trace ready.machine.timed p.lists old mid)) err w.cut)
+
+  lines_to : (lists : List (List Record)) (m : Timed) → m ≡ run_of start lists → cycles_text trace_lines start lists ≡ trace_of (start_in bytes) m.count
+  lines_to lists m ran = trace-run options.setup.config (start_in bytes) lists m true fits ran
 
   pub cut_trace : (e : SinkFailed) → result ≡ Err e → WritesPart gives (Run options) bytes core after old mid before between
   cut_trace e err =
-      let q = puts_cut _ (text_of last (shown_dump options.dump)) old mid before between e (subst (λ (x : Result (Unit {0}) SinkFailed). Puts (asked_trace options.trace (start_in bytes) last.count) old mid before between x) err puts_trace) in
+      let q = subst (λ (x : Result (Unit {0}) SinkFailed). Puts (asked_trace options.trace (start_in bytes) last.count) old mid before between x) err puts_trace in
+      let c = cut_lines e err in
+      let b = c.1 in
+      let put : List ℕ = trace_of (start_in bytes) (run_of start b.earlier).count in
       record {
         rose = q.failed;
-        text = run_text;
-        means = record { last = last; over = over; whole = λ asked. whole_quiet (λ on. true≢false (sym (asked on))); ended = tt; lines = refl };
-        written = q.part;
+        put = put;
+        text = trace_of (start_in bytes) last.count;
+        means = record {
+          last = last;
+          over = over;
+          written = inr (record {
+            traced = sym t ∙ c.0;
+            lines = refl;
+            cut = record { earlier = b.earlier; last = b.last; in_order = all_lists ∙ b.in_order; holds = refl };
+          });
+        };
+        written = subst (λ (x : List ℕ). AppendsPast old mid x (trace_of (start_in bytes) last.count)) (lines_to b.earlier (run_of start b.earlier) refl)
+            (subst (λ (x : List ℕ). AppendsPast old mid (cycles_text trace_lines start b.earlier) x) (lines_to p.lists last run_from_new) b.holds);
       }

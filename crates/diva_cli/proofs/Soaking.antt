@@ -1,6 +1,7 @@
 -- What the two runs of `soak` come to, and what is written of them.
-use Rattle.std.proofs.Common.{◌≡◌, ◌↔◌, ◌≤◌, ◌+◌, ◌==◌, ℕ, true, false, List, [], length, Option, Some, None, IfSome, Ok, Err, refl, ap, sym, ◌∙◌, subst, arith}
+use Rattle.std.proofs.Common.{◌≡◌, ◌↔◌, ◌≤◌, ◌+◌, ◌==◌, ℕ, true, false, List, [], length, Option, Result, IfOk, Ok, Err, refl, ap, sym, ◌∙◌, subst, arith}
 use Rattle.diva_outside.specs.Sink.{Puts}
+use Rattle.diva_outside.proofs.Sinks.{past_nothing}
 use Rattle.diva_outside.specs.declared.sink.SinkFailed.{SinkFailed}
 use Rattle.diva_isa.specs.State.{State, goes_on}
 use Rattle.diva_isa.specs.End.{halt}
@@ -166,8 +167,8 @@ module _ {C : Type 0} (gives : Meaning C) (options : SoakOptions) (bytes : FileB
   first_halts : first.arch.end ≡ halt 0
   first_halts = halted IsScalarCall options new_scalar first lead few one
 
-  means : (status : Option ℕ) → IfSome status (λ s. s ≡ 0) → HasSoaked gives options core after status (soak_text first second)
-  means status ended = record {
+  means : (ended : Result ℕ (List ℕ)) → IfOk ended (λ s. s ≡ 0) → HasSoaked gives options core after ended (soak_text first second)
+  means ended whole = record {
     first = first;
     under_scalar = scalar_run gives options core first lead few one;
     second = second;
@@ -178,11 +179,11 @@ module _ {C : Type 0} (gives : Meaning C) (options : SoakOptions) (bytes : FileB
     paced = scalar_ends default_config (soak_start options) first lead one.turns.history sizes_fit refl one.turns.good (ap (λ end. end == 0) first_halts);
     unflushed = scalar_unflushed default_config (soak_start options) first lead one.turns.history sizes_fit one.turns.good;
     lines = refl;
-    ended = ended;
+    whole = whole;
   }
 
   pub wrote_soaked : Puts {E = SinkFailed} (soak_text first second) old new before now (Ok tt) → WritesWhole gives (Soak options) bytes core after old new 0
-  wrote_soaked put = record { text = soak_text first second; means = means (Some 0) refl; written = put.ok }
+  wrote_soaked put = record { text = soak_text first second; means = means (Ok 0) refl; written = put.ok }
 
   pub cut_soaked : (e : SinkFailed) → Puts (soak_text first second) old new before now (Err e) → WritesPart gives (Soak options) bytes core after old new before now
-  cut_soaked e put = record { rose = put.failed; text = soak_text first second; means = means None tt; written = put.part }
+  cut_soaked e put = record { rose = put.failed; put = []; text = soak_text first second; means = means (Err []) tt; written = past_nothing old new (soak_text first second) put.part }

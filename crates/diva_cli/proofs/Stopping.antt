@@ -1,5 +1,5 @@
 -- Where the loading of files stops, and groups of files that are sound.
-use Rattle.std.proofs.Common.{◌≡◌, ◌≤◌, ◌⊎◌, ℕ, List, [], ◌∷◌, ◌++◌, Option, Some, None, inl, inr, arith, subst}
+use Rattle.std.proofs.Common.{◌≡◌, ◌≢◌, ◌≤◌, ◌⊎◌, ℕ, List, [], ◌∷◌, ◌++◌, Option, Some, None, inl, inr, arith, subst, ◌∙◌}
 use Rattle.diva_outside.specs.Causes.{Rose}
 use Rattle.diva_outside.specs.Files.{Contents, IsMissing}
 use Rattle.diva_outside.specs.declared.files.What.{What}
@@ -12,7 +12,7 @@ use Rattle.diva_cli.specs.declared.stop.Stop.{Stop}
 use Rattle.diva_cli.specs.declared.stop.Stop.TheVariants.{Memory, Unread, Refused}
 use Rattle.diva_cli.specs.Lines.{unreadable_line, refused_line}
 use Rattle.diva_cli.specs.Wanted.{Wanted, FileBytes, AreSound, file, file_if, machine_files, session_files, tape_name}
-use Rattle.diva_cli.specs.Stops.{StopsAt, IsUnread, IsRefused}
+use Rattle.diva_cli.specs.Stops.{AreUncounted, StopsAt, StopsLoading, IsUnread}
 use Rattle.diva_cli.specs.Parts.{Stops, Holds, HoldsRows}
 
 -- ---- files that are sound
@@ -25,76 +25,120 @@ pub sound_if : (contents : Contents) (what : What) (name : Option (List ℕ)) (b
 sound_if contents what None bytes s = tt
 sound_if contents what (Some name) bytes s = s
 
+-- ---- files for which nothing was counted
+
+uncounted_both : (before now : What → ℕ) (ws vs : List Wanted) → AreUncounted before now ws → AreUncounted before now vs → AreUncounted before now (ws ++ vs)
+uncounted_both before now [] vs a b = b
+uncounted_both before now (w ∷ ws) vs a b = (a.0, uncounted_both before now ws vs a.1 b)
+
+uncounted_since : (b0 b1 now : What → ℕ) (ws : List Wanted) → AreUncounted b0 b1 ws → AreUncounted b1 now ws → AreUncounted b0 now ws
+uncounted_since b0 b1 now [] a b = tt
+uncounted_since b0 b1 now (w ∷ ws) a b = (b.0 ∙ a.0, uncounted_since b0 b1 now ws a.1 b.1)
+
+uncounted_if : (before now : What → ℕ) (what : What) (name : Option (List ℕ)) → now what ≡ before what → AreUncounted before now (file_if what name)
+uncounted_if before now what None e = tt
+uncounted_if before now what (Some name) e = (e, tt)
+
 -- ---- where the loading stops
 
-at_front : (contents : Contents) (this : Wanted → Type 0) (ws vs : List Wanted) → StopsAt contents this ws → StopsAt contents this (ws ++ vs)
-at_front contents this [] vs s = absurd s
-at_front contents this (w ∷ ws) vs (inl here) = inl here
-at_front contents this (w ∷ ws) vs (inr later) = inr (later.0, at_front contents this ws vs later.1)
+at_front : (contents : Contents) (this : Wanted → List Wanted → Type 0) (ws vs : List Wanted) → ((w : Wanted) (behind : List Wanted) → this w behind → this w (behind ++ vs))
+    → StopsAt contents this ws → StopsAt contents this (ws ++ vs)
+at_front contents this [] vs more s = absurd s
+at_front contents this (w ∷ ws) vs more (inl here) = inl (more w ws here)
+at_front contents this (w ∷ ws) vs more (inr later) = inr (later.0, at_front contents this ws vs more later.1)
 
-at_later : (contents : Contents) (this : Wanted → Type 0) (ws vs : List Wanted) (bytes : FileBytes) → AreSound contents ws bytes → StopsAt contents this vs → StopsAt contents this (ws ++ vs)
+at_later : (contents : Contents) (this : Wanted → List Wanted → Type 0) (ws vs : List Wanted) (bytes : FileBytes) → AreSound contents ws bytes → StopsAt contents this vs → StopsAt contents this (ws ++ vs)
 at_later contents this [] vs bytes sound s = s
 at_later contents this (w ∷ ws) vs bytes sound s = inr (record { bytes = bytes w.what; sound = sound.0 }, at_later contents this ws vs bytes sound.1 s)
 
-at_weaker : (contents : Contents) (this that : Wanted → Type 0) (ws : List Wanted) → ((w : Wanted) → this w → that w) → StopsAt contents this ws → StopsAt contents that ws
-at_weaker contents this that [] f s = s
-at_weaker contents this that (w ∷ ws) f (inl here) = inl (f w here)
-at_weaker contents this that (w ∷ ws) f (inr later) = inr (later.0, at_weaker contents this that ws f later.1)
+at_weaker : (contents : Contents) (this that : Wanted → List Wanted → Type 0) (b0 b1 : What → ℕ) (ws : List Wanted)
+    → ((w : Wanted) (behind : List Wanted) → AreUncounted b0 b1 behind → this w behind → that w behind)
+    → AreUncounted b0 b1 ws → StopsAt contents this ws → StopsAt contents that ws
+at_weaker contents this that b0 b1 [] f u s = s
+at_weaker contents this that b0 b1 (w ∷ ws) f u (inl here) = inl (f w ws u.1 here)
+at_weaker contents this that b0 b1 (w ∷ ws) f u (inr later) = inr (later.0, at_weaker contents this that b0 b1 ws f u.1 later.1)
 
--- it stops at one of the first files
-stops_front : (contents : Contents) (before now : What → ℕ) (ws vs : List Wanted) (stop : Stop) → Stops contents before now ws stop → Stops contents before now (ws ++ vs) stop
-stops_front contents before now ws vs Memory s = s
-stops_front contents before now ws vs (Unread what) s = at_front contents (IsUnread contents before now (unreadable_line what)) ws vs s
-stops_front contents before now ws vs (Refused what kind place) s = at_front contents (IsRefused contents (refused_line what kind place)) ws vs s
+-- it stops at one of the first files, and nothing was counted for the others
+stops_front : (contents : Contents) (before now : What → ℕ) (ws vs : List Wanted) (stop : Stop) → AreUncounted before now vs → Stops contents before now ws stop → Stops contents before now (ws ++ vs) stop
+stops_front contents before now ws vs Memory u s = s
+stops_front contents before now ws vs (Unread what) u s =
+    at_front contents (IsUnread contents before now (unreadable_line what)) ws vs
+    (λ w behind h. record { cause = h.cause; line = h.line; uncounted = uncounted_both before now behind vs h.uncounted u }) s
+stops_front contents before now ws vs (Refused what kind place) u s =
+    at_front contents (StopsLoading contents before now (refused_line what kind place)) ws vs
+    (λ w behind h. record { refused = h.refused; uncounted = uncounted_both before now behind vs h.uncounted u }) s
 
 -- the first are sound, and it stops at one of the others
 stops_later : (contents : Contents) (before now : What → ℕ) (ws vs : List Wanted) (stop : Stop) (bytes : FileBytes) → AreSound contents ws bytes → Stops contents before now vs stop → Stops contents before now (ws ++ vs) stop
 stops_later contents before now ws vs Memory bytes sound s = s
 stops_later contents before now ws vs (Unread what) bytes sound s = at_later contents (IsUnread contents before now (unreadable_line what)) ws vs bytes sound s
-stops_later contents before now ws vs (Refused what kind place) bytes sound s = at_later contents (IsRefused contents (refused_line what kind place)) ws vs bytes sound s
+stops_later contents before now ws vs (Refused what kind place) bytes sound s = at_later contents (StopsLoading contents before now (refused_line what kind place)) ws vs bytes sound s
 
--- the counts of faults are told from earlier on
-stops_since : (contents : Contents) (b0 b1 now : What → ℕ) (ws : List Wanted) (stop : Stop) → ((w : What) → b0 w ≤ b1 w) → Stops contents b1 now ws stop → Stops contents b0 now ws stop
-stops_since contents b0 b1 now ws Memory f s = s
-stops_since contents b0 b1 now ws (Unread what) f s =
-    at_weaker contents (IsUnread contents b1 now (unreadable_line what)) (IsUnread contents b0 now (unreadable_line what)) ws (λ w u. record { cause = go w u.cause; line = u.line }) s
+-- the counts of faults are told from earlier on; for these files nothing had been counted
+stops_since : (contents : Contents) (b0 b1 now : What → ℕ) (ws : List Wanted) (stop : Stop) → ((w : What) → b0 w ≤ b1 w) → AreUncounted b0 b1 ws → Stops contents b1 now ws stop → Stops contents b0 now ws stop
+stops_since contents b0 b1 now ws Memory f u s = s
+stops_since contents b0 b1 now ws (Unread what) f u s =
+    at_weaker contents (IsUnread contents b1 now (unreadable_line what)) (IsUnread contents b0 now (unreadable_line what)) b0 b1 ws
+    (λ w behind u h. record { cause = go w h.cause; line = h.line; uncounted = uncounted_since b0 b1 now behind u h.uncounted }) u s
   where
     go : (w : Wanted) → Rose (b1 w.what) (now w.what) ⊎ IsMissing contents w.name → Rose (b0 w.what) (now w.what) ⊎ IsMissing contents w.name
     go w (inl rose) = inl (let a = f w.what in omega arith)
     go w (inr missing) = inr missing
-stops_since contents b0 b1 now ws (Refused what kind place) f s = s
+stops_since contents b0 b1 now ws (Refused what kind place) f u s =
+    at_weaker contents (StopsLoading contents b1 now (refused_line what kind place)) (StopsLoading contents b0 now (refused_line what kind place)) b0 b1 ws
+    (λ w behind u h. record { refused = h.refused; uncounted = uncounted_since b0 b1 now behind u h.uncounted }) u s
 
 -- ---- the files of a machine
+
+-- it stops at the image
+pub at_image : (contents : Contents) (setup : Setup) (f0 f1 : What → ℕ) (stop : Stop) → ((w : What) → w ≢ Image → f1 w ≡ f0 w)
+    → Stops contents f0 f1 (file Image setup.image ∷ []) stop
+    → Stops contents f0 f1 (machine_files setup) stop
+at_image contents setup f0 f1 stop others s =
+    stops_front contents f0 f1 (file Image setup.image ∷ []) (file_if Script setup.script ++ file_if TapeFile (tape_name setup.core)) stop
+    (uncounted_both f0 f1 (file_if Script setup.script) (file_if TapeFile (tape_name setup.core))
+    (uncounted_if f0 f1 Script setup.script (others Script (λ e. cc))) (uncounted_if f0 f1 TapeFile (tape_name setup.core) (others TapeFile (λ e. cc)))) s
 
 module _ (contents : Contents) (setup : Setup) (image : Layout) (h : Holds contents (file Image setup.image) (λ bytes. image_of bytes ≡ image)) where
   -- it stops at the script
   pub at_script : (contents1 : Contents) (f0 f1 f2 : What → ℕ) (stop : Stop) → contents1 ≡ contents → ((w : What) → f0 w ≤ f1 w)
+      → ((w : What) → w ≢ Image → f1 w ≡ f0 w) → ((w : What) → w ≢ Script → f2 w ≡ f1 w)
       → Stops contents1 f1 f2 (file_if Script setup.script) stop
       → Stops contents f0 f2 (machine_files setup) stop
-  at_script contents1 f0 f1 f2 stop same le s =
+  at_script contents1 f0 f1 f2 stop same le first second s =
       stops_later contents f0 f2 (file Image setup.image ∷ []) (file_if Script setup.script ++ file_if TapeFile (tape_name setup.core)) stop (λ _. h.bytes) (h.sound, tt)
       (stops_front contents f0 f2 (file_if Script setup.script) (file_if TapeFile (tape_name setup.core)) stop
-      (stops_since contents f0 f1 f2 (file_if Script setup.script) stop le
+      (uncounted_if f0 f2 TapeFile (tape_name setup.core) (second TapeFile (λ e. cc) ∙ first TapeFile (λ e. cc)))
+      (stops_since contents f0 f1 f2 (file_if Script setup.script) stop le (uncounted_if f0 f1 Script setup.script (first Script (λ e. cc)))
       (subst (λ (t : Contents). Stops t f1 f2 (file_if Script setup.script) stop) same s)))
 
   -- it stops at the tape
   pub at_tape : (contents1 contents2 : Contents) (f0 f1 f2 : What → ℕ) (stop : Stop) (rows : List Row) → contents1 ≡ contents → contents2 ≡ contents → ((w : What) → f0 w ≤ f1 w)
+      → f1 TapeFile ≡ f0 TapeFile
       → HoldsRows contents1 setup.script rows
       → Stops contents2 f1 f2 (file_if TapeFile (tape_name setup.core)) stop
       → Stops contents f0 f2 (machine_files setup) stop
-  at_tape contents1 contents2 f0 f1 f2 stop rows same1 same2 le r s =
+  at_tape contents1 contents2 f0 f1 f2 stop rows same1 same2 le none r s =
       let k : HoldsRows contents setup.script rows = subst (λ (t : Contents). HoldsRows t setup.script rows) same1 r in
       stops_later contents f0 f2 (file Image setup.image ∷ []) (file_if Script setup.script ++ file_if TapeFile (tape_name setup.core)) stop (λ _. h.bytes) (h.sound, tt)
       (stops_later contents f0 f2 (file_if Script setup.script) (file_if TapeFile (tape_name setup.core)) stop (λ _. k.bytes) k.sound
-      (stops_since contents f0 f1 f2 (file_if TapeFile (tape_name setup.core)) stop le
+      (stops_since contents f0 f1 f2 (file_if TapeFile (tape_name setup.core)) stop le (uncounted_if f0 f1 TapeFile (tape_name setup.core) none)
       (subst (λ (t : Contents). Stops t f1 f2 (file_if TapeFile (tape_name setup.core)) stop) same2 s)))
+
+-- ---- the files of a session
+
+-- it stops at one of the machine's files
+pub at_machine : (contents : Contents) (options : DebugOptions) (f0 f1 : What → ℕ) (stop : Stop) → f1 Commands ≡ f0 Commands
+    → Stops contents f0 f1 (machine_files options.setup) stop
+    → Stops contents f0 f1 (session_files options) stop
+at_machine contents options f0 f1 stop none s = stops_front contents f0 f1 (machine_files options.setup) (file Commands options.commands ∷ []) stop (none, tt) s
 
 -- the files of a machine can be used, and it stops at the commands
 pub at_commands : (contents contents1 : Contents) (options : DebugOptions) (bytes : FileBytes) (f0 f1 f2 : What → ℕ) (stop : Stop) → AreSound contents (machine_files options.setup) bytes
-    → contents1 ≡ contents → ((w : What) → f0 w ≤ f1 w)
+    → contents1 ≡ contents → ((w : What) → f0 w ≤ f1 w) → f1 Commands ≡ f0 Commands
     → Stops contents1 f1 f2 (file Commands options.commands ∷ []) stop
     → Stops contents f0 f2 (session_files options) stop
-at_commands contents contents1 options bytes f0 f1 f2 stop sound same le s =
+at_commands contents contents1 options bytes f0 f1 f2 stop sound same le none s =
     stops_later contents f0 f2 (machine_files options.setup) (file Commands options.commands ∷ []) stop bytes sound
-    (stops_since contents f0 f1 f2 (file Commands options.commands ∷ []) stop le
+    (stops_since contents f0 f1 f2 (file Commands options.commands ∷ []) stop le (none, tt)
     (subst (λ (t : Contents). Stops t f1 f2 (file Commands options.commands ∷ []) stop) same s))

@@ -1,7 +1,8 @@
 -- What a command answers, from what was loaded for it and what was written of it.
-use Rattle.std.proofs.Common.{◌≡◌, ℕ, List, Option, Some, Result, Ok, Err, refl, sym, ◌∙◌, ap, subst}
+use Rattle.std.proofs.Common.{◌≡◌, ℕ, List, [], Option, Some, None, Result, Ok, Err, refl, sym, ◌∙◌, ap, subst}
 use Rattle.diva_outside.specs.Files.{Contents}
 use Rattle.diva_outside.specs.declared.files.What.{What}
+use Rattle.diva_outside.proofs.Sinks.{past_nothing}
 use Rattle.diva_core.specs.History.{Meaning}
 use Rattle.diva_args.specs.Options.{Setup}
 use Rattle.diva_args.specs.declared.job.Job.{Job}
@@ -11,8 +12,9 @@ use Rattle.diva_cli.specs.declared.stop.Stop.TheVariants.{Memory, Unread, Refuse
 use Rattle.diva_cli.specs.declared.stop.Failure.{Failure}
 use Rattle.diva_cli.specs.declared.stop.Failure.TheVariants.{Cut, Memory as NoMemory}
 use Rattle.diva_cli.specs.Wanted.{Wanted, FileBytes, AreSound, machine_files, wanted}
-use Rattle.diva_cli.specs.Answers.{unread, refused, done}
-use Rattle.diva_cli.specs.Parts.{HoldsReady, IsReady, Stops, WritesStop, WritesText, Answers}
+use Rattle.diva_cli.specs.Lines.{usage_line}
+use Rattle.diva_cli.specs.Answers.{misused, unread, refused, done}
+use Rattle.diva_cli.specs.Parts.{HoldsReady, IsReady, Stops, WritesLine, WritesStop, WritesText, Answers}
 
 module _ {C : Type 0} (gives : Meaning C) (contents : Contents) (before now : What → ℕ) (core : C) (old new : Option (List ℕ)) (faults faults' : ℕ) where
   -- the files are sound, and the job's text was written
@@ -23,7 +25,7 @@ module _ {C : Type 0} (gives : Meaning C) (contents : Contents) (before now : Wh
   done_answers job bytes after (Ok status) sound w =
       record { text = w.text; answer = done (record { job = job; named = refl; bytes = bytes; sound = sound; means = w.means }); written = w.written }
   done_answers job bytes after (Err Cut) sound w =
-      record { rose = w.rose; text = w.text; answer = done (record { job = job; named = refl; bytes = bytes; sound = sound; means = w.means }); written = w.written }
+      record { rose = w.rose; put = w.put; text = w.text; answer = done (record { job = job; named = refl; bytes = bytes; sound = sound; means = w.means }); written = w.written }
   done_answers job bytes after (Err NoMemory) sound w = absurd w
 
   -- the loading stopped, and a line was written of it
@@ -37,13 +39,24 @@ module _ {C : Type 0} (gives : Meaning C) (contents : Contents) (before now : Wh
   stop_answers job (Unread what) (Ok status) s w =
       record { text = _; answer = unread (record { job = job; named = refl; first = s }) refl w.0; written = w.1 }
   stop_answers job (Unread what) (Err Cut) s w =
-      record { rose = w.0; text = _; answer = unread (record { job = job; named = refl; first = s }) refl tt; written = w.1 }
+      record { rose = w.0; put = []; text = _; answer = unread (record { job = job; named = refl; first = s }) refl tt; written = past_nothing old new _ w.1 }
   stop_answers job (Unread what) (Err NoMemory) s w = absurd w
   stop_answers job (Refused what kind place) (Ok status) s w =
       record { text = _; answer = refused (record { job = job; named = refl; first = s }) refl w.0; written = w.1 }
   stop_answers job (Refused what kind place) (Err Cut) s w =
-      record { rose = w.0; text = _; answer = refused (record { job = job; named = refl; first = s }) refl tt; written = w.1 }
+      record { rose = w.0; put = []; text = _; answer = refused (record { job = job; named = refl; first = s }) refl tt; written = past_nothing old new _ w.1 }
   stop_answers job (Refused what kind place) (Err NoMemory) s w = absurd w
+
+  -- the words ask for no job, and the usage line was written
+  pub misused_answers : (command : Option Job) (line : List ℕ) (result : Result ℕ Failure)
+      → command ≡ None → line ≡ usage_line → ((what : What) → now what ≡ before what)
+      → WritesLine line 2 old new faults faults' result
+      → Answers gives command contents before now core core old new faults faults' result
+  misused_answers command line (Ok status) none is same w =
+      record { text = line; answer = misused (record { none = none; line = is; uncounted = same }) refl w.0; written = w.1 }
+  misused_answers command line (Err Cut) none is same w =
+      record { rose = w.0; put = []; text = line; answer = misused (record { none = none; line = is; uncounted = same }) refl tt; written = past_nothing old new line w.1 }
+  misused_answers command line (Err NoMemory) none is same w = absurd w
 
   -- ---- a job whose files are those of a machine
 

@@ -1,5 +1,5 @@
 -- The text that the command `debug` writes: the replies to commands.
-use Rattle.std.specs.Prelude.{ℕ, ◌≡◌, List, [], ◌++◌, length, Option, IfSome, Ok}
+use Rattle.std.specs.Prelude.{ℕ, ◌≡◌, List, [], ◌++◌, length, Result, Ok, IfOk, IfErr}
 use Rattle.diva_outside.specs.Text.{Text}
 use Rattle.diva_outside.specs.declared.files.What.TheVariants.{Commands}
 use Rattle.diva_isa.specs.declared.record.Record.{Record}
@@ -10,16 +10,17 @@ use Rattle.diva_debug.specs.Reading.{commands_of}
 use Rattle.diva_debug.specs.declared.command.Command.{Command}
 use Rattle.diva_cli.specs.Wanted.{FileBytes}
 use Rattle.diva_cli.specs.Runs.{IsRunOver, start_in}
+use Rattle.diva_cli.specs.Cuts.{BeforeLast}
 use Rattle.diva_cli.specs.Replies.{AreLed, cycles_of, joined, newest_after, replies_of}
 
--- the text of `debug` over files with these bytes, and the status that goes with it where it was written whole. Each reply is
--- told from the table's state at its place, but for the newest flush; that is the machine's, which runs as any other does
+-- the text of `debug` over files with these bytes, and how the writing of it ended. Each reply is told from the table's state at
+-- its place, but for the newest flush; that is the machine's, which runs as any other does
 pub record HasReplies {C : Type 0} (gives : Meaning C) (options : DebugOptions) (bytes : FileBytes) (core after : C)
-    (status : Option ℕ) (text : Text) : Type 0 where
+    (ended : Result ℕ Text) (text : Text) : Type 0 where
   pub done : List Command
   pub left : List Command
   pub read : commands_of (bytes Commands) ≡ Ok (done ++ left)
-  pub whole : IfSome status (λ s. (s ≡ 0) × (left ≡ []))
+  pub whole : IfOk ended (λ s. (s ≡ 0) × (left ≡ []))
   pub last : Timed
   pub over : IsRunOver gives options.setup (cycles_of (length done) options.setup.config.limit) bytes core last after
   pub parts : List (List (List Record))
@@ -27,3 +28,6 @@ pub record HasReplies {C : Type 0} (gives : Meaning C) (options : DebugOptions) 
   pub led : AreLed done (new_timed options.setup.config (start_in bytes)) parts
   pub lines : text
       ≡ replies_of done 0 (start_in bytes) (newest_after (new_timed options.setup.config (start_in bytes)) parts)
+  -- where the sink failed, it did so at the last of these replies; those before it had been put
+  pub cut : IfErr ended (λ put. BeforeLast done (λ earlier. put
+      ≡ replies_of earlier 0 (start_in bytes) (newest_after (new_timed options.setup.config (start_in bytes)) parts)))

@@ -1,5 +1,5 @@
 -- What the commands `asm` and `dis` write. They ask no core.
-use Rattle.std.specs.Prelude.{◌≡◌, ℕ, Option, Ok, IfSome}
+use Rattle.std.specs.Prelude.{◌≡◌, ℕ, Result, Ok, IfOk}
 use Rattle.std.specs.List.{concat}
 use Rattle.diva_outside.specs.Text.{Text}
 use Rattle.diva_outside.specs.declared.files.What.TheVariants.{Image, Source}
@@ -10,18 +10,18 @@ use Rattle.diva_asm.specs.Sources.{source_of}
 use Rattle.diva_cli.specs.Wanted.{FileBytes}
 
 -- the core stays as it was, and the status is 0 where the text was written whole
-pub record IsAlone {C : Type 0} (core after : C) (status : Option ℕ) : Type 0 where
+pub record IsAlone {C : Type 0} (core after : C) (ended : Result ℕ Text) : Type 0 where
   pub unasked : after ≡ core
-  pub ended : IfSome status (λ s. s ≡ 0)
+  pub whole : IfOk ended (λ s. s ≡ 0)
 
 -- the bytes of the image of a source
-pub record HasAssembled {C : Type 0} (bytes : FileBytes) (core after : C) (status : Option ℕ) (text : Text) : Type 0 where
+pub record HasAssembled {C : Type 0} (bytes : FileBytes) (core after : C) (ended : Result ℕ Text) (text : Text) : Type 0 where
   pub image : Layout
   pub assembled : source_of (bytes Source) ≡ Ok image
   pub written : text ≡ bytes_of image
-  pub alone : IsAlone core after status
+  pub alone : IsAlone core after ended
 
 -- a line for each word of an image
-pub record HasListing {C : Type 0} (bytes : FileBytes) (core after : C) (status : Option ℕ) (text : Text) : Type 0 where
+pub record HasListing {C : Type 0} (bytes : FileBytes) (core after : C) (ended : Result ℕ Text) (text : Text) : Type 0 where
   pub lines : text ≡ concat (listing_of (image_of (bytes Image)))
-  pub alone : IsAlone core after status
+  pub alone : IsAlone core after ended

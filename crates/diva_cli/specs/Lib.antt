@@ -3,6 +3,7 @@ pub mod Lines
 pub mod Wanted
 pub mod Stops
 pub mod Driven
+pub mod Cuts
 pub mod Runs
 pub mod TapeTexts
 pub mod Replies

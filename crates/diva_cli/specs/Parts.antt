@@ -1,9 +1,9 @@
 -- What the parts of the program promise one another.
-use Rattle.std.specs.Prelude.{◌≡◌, ◌≤◌, ℕ, true, List, Option, Some, None, Result, Ok, Err}
+use Rattle.std.specs.Prelude.{◌≡◌, ◌≤◌, ℕ, true, List, Option, Result, Ok, Err}
 use Rattle.std.specs.Io.KnownBytes.{Appends}
 use Rattle.diva_outside.specs.Causes.{Rose}
 use Rattle.diva_outside.specs.Files.{Contents}
-use Rattle.diva_outside.specs.Sink.{AppendsPart}
+use Rattle.diva_outside.specs.Sink.{AppendsPart, AppendsPast}
 use Rattle.diva_outside.specs.Text.{Text}
 use Rattle.diva_outside.specs.declared.files.What.{What}
 use Rattle.diva_outside.specs.declared.files.What.TheVariants.{Script, Tape as TapeFile, Commands}
@@ -31,7 +31,7 @@ use Rattle.diva_cli.specs.Lines.{unreadable_line, refused_line}
 use Rattle.diva_cli.specs.Wanted.{Wanted, FileBytes, IsSound, AreSound, file_if, machine_files, session_files, tape_name}
 use Rattle.diva_cli.specs.Runs.{AreRows, AreLists, start_in}
 use Rattle.diva_cli.specs.SoakTexts.{soak_cycles, soak_start}
-use Rattle.diva_cli.specs.Stops.{StopsAt, IsUnread, IsRefused}
+use Rattle.diva_cli.specs.Stops.{StopsAt, IsUnread, StopsLoading}
 use Rattle.diva_cli.specs.Texts.{HasText}
 use Rattle.diva_cli.specs.Answers.{IsAnswer}
 use Rattle.diva_cli.specs.Statuses.{IsCut}
@@ -42,7 +42,7 @@ use Rattle.diva_cli.specs.Statuses.{IsCut}
 abbrev pub Stops : Contents → (before now : What → ℕ) → List Wanted → Stop → Type 0
 Stops contents before now ws Memory = Unit {0}
 Stops contents before now ws (Unread what) = StopsAt contents (IsUnread contents before now (unreadable_line what)) ws
-Stops contents before now ws (Refused what kind place) = StopsAt contents (IsRefused contents (refused_line what kind place)) ws
+Stops contents before now ws (Refused what kind place) = StopsAt contents (StopsLoading contents before now (refused_line what kind place)) ws
 
 -- the file is sound, and this holds of its bytes
 pub record Holds (contents : Contents) (w : Wanted) (this : List ℕ → Type 0) : Type 0 where
@@ -135,15 +135,16 @@ WritesStop (Refused what kind place) old new faults faults' result =
 pub record WritesWhole {C : Type 0} (gives : Meaning C) (job : Job) (bytes : FileBytes) (core after : C)
     (old new : Option Text) (status : ℕ) : Type 0 where
   pub text : Text
-  pub means : HasText gives job bytes core after (Some status) text
+  pub means : HasText gives job bytes core after (Ok status) text
   pub written : Appends old new text
 
 pub record WritesPart {C : Type 0} (gives : Meaning C) (job : Job) (bytes : FileBytes) (core after : C)
     (old new : Option Text) (faults faults' : ℕ) : Type 0 where
   pub rose : Rose faults faults'
+  pub put : Text
   pub text : Text
-  pub means : HasText gives job bytes core after None text
-  pub written : AppendsPart old new text
+  pub means : HasText gives job bytes core after (Err put) text
+  pub written : AppendsPast old new put text
 
 -- the text of a job was written, with its status; or a prefix of it
 abbrev pub WritesText : {C : Type 0} → Meaning C → Job → FileBytes → (core after : C) → (old new : Option Text)
@@ -157,7 +158,7 @@ WritesText gives job bytes core after old new faults faults' (Err NoMemory) = �
 pub record WritesAnswer {C : Type 0} (gives : Meaning C) (command : Option Job) (contents : Contents) (before now : What → ℕ)
     (core after : C) (old new : Option Text) (status : ℕ) : Type 0 where
   pub text : Text
-  pub answer : IsAnswer gives command contents before now core after (Some status) text
+  pub answer : IsAnswer gives command contents before now core after (Ok status) text
   pub written : Appends old new text
 
 -- the answer was written, with its status; or a prefix of it; or memory ran out, and no core was asked

@@ -1,7 +1,7 @@
 -- Commands one after the other, and the replies to them.
-use Rattle.std.specs.Prelude.{ℕ, ◌≡◌, ◌≤◌, ◌+◌, ◌*◌, ◌^◌, List, [], ◌∷◌, ◌++◌, length, Option, Result, OnOk}
+use Rattle.std.specs.Prelude.{ℕ, ◌≡◌, ◌≤◌, ◌+◌, ◌*◌, ◌^◌, List, [], ◌∷◌, ◌++◌, length, Option, Result, OnOk, OnErr}
 use Rattle.std.specs.List.{All}
-use Rattle.diva_outside.specs.Sink.{Puts}
+use Rattle.diva_outside.specs.Sink.{AppendsPast, Puts}
 use Rattle.diva_outside.specs.Text.{Text}
 use Rattle.diva_outside.specs.declared.sink.SinkFailed.{SinkFailed}
 use Rattle.diva_isa.specs.State.{State}
@@ -14,6 +14,7 @@ use Rattle.diva_machine.specs.Counts.{StopsAtOnce}
 use Rattle.diva_debug.specs.Moves.{IsShort, Moves, steps_by}
 use Rattle.diva_debug.specs.Replies.{reply_of}
 use Rattle.diva_debug.specs.declared.command.Command.{Command}
+use Rattle.diva_cli.specs.Cuts.{BeforeLast}
 
 -- the replies to commands from a place on, the state there being s; the newest flush behind each command is given, which is
 -- all that a core has a part in
@@ -62,3 +63,6 @@ pub record IsReplied (commands : List Command) (m : Timed) (lists : List (List R
   pub led : AreLed done m parts
   pub most : length lists ≤ cycles_of (length done) m.config.limit
   pub put : Puts (replies_of done m.count m.arch (newest_after m parts)) old new before now result
+  -- where the sink failed, it did so at the last of these replies; those before it had been put
+  pub cut : OnErr result (BeforeLast done (λ earlier. AppendsPast old new
+      (replies_of earlier m.count m.arch (newest_after m parts)) (replies_of done m.count m.arch (newest_after m parts))))

@@ -1,5 +1,5 @@
 -- What is promised of a run, and the text that the command `run` leaves of it.
-use Rattle.std.specs.Prelude.{◌≡◌, ◌⊎◌, ◌≤◌, ◌/◌, ◌*◌, ◌+◌, ◌++◌, ℕ, Bool, true, false, List, [], Option, Some, None, IfSome, IsSome, Ok}
+use Rattle.std.specs.Prelude.{◌≡◌, ◌⊎◌, ◌≤◌, ◌/◌, ◌*◌, ◌+◌, ◌++◌, ℕ, Bool, true, false, List, [], Option, Some, None, Result, Ok, Err, IfOk, IfErr}
 use Rattle.diva_outside.specs.Text.{Text}
 use Rattle.diva_outside.specs.declared.files.What.TheVariants.{Image, Script, Tape as TapeFile}
 use Rattle.diva_image.specs.Images.{image_of}
@@ -10,6 +10,7 @@ use Rattle.diva_isa.specs.declared.end.End.TheVariants.{GoesOn, Halt, Trap}
 use Rattle.diva_isa.specs.Step.{steps}
 use Rattle.diva_isa.specs.declared.record.Record.{Record}
 use Rattle.diva_core.specs.Timed.{Timed, new_timed, depth}
+use Rattle.diva_core.specs.Cycle.{run_of}
 use Rattle.diva_core.specs.History.{Meaning}
 use Rattle.diva_core.specs.Headline.{AddsRows, AreCommitted, EndsAfter}
 use Rattle.diva_core.specs.Right.{AreRight}
@@ -22,6 +23,7 @@ use Rattle.diva_args.specs.declared.job.CoreChoice.TheVariants.{Lockstep, Scalar
 use Rattle.diva_trace.specs.declared.report.Dump.{Dump}
 use Rattle.diva_trace.specs.Text.{text_of, trace_of}
 use Rattle.diva_cli.specs.Wanted.{FileBytes, tape_name}
+use Rattle.diva_cli.specs.Cuts.{BeforeLast}
 use Rattle.diva_cli.specs.Driven.{IsDriven}
 
 -- the machine was never flushed
@@ -104,12 +106,26 @@ abbrev pub asked_trace : Bool → (start : State) → (count : ℕ) → Text
 asked_trace false start count = []
 asked_trace true start count = trace_of start count
 
--- the text of `run` over files with these bytes, and the status that goes with it where it was written whole. Where the sink
--- fails among the commit lines, which are written as the machine runs, it is of the machine as it then stood
+-- the text of a run that was not broken off: its commit lines, if they are asked for, and what the machine shows. Where the sink
+-- failed, it did so behind the commit lines
+pub record IsShown (options : RunOptions) (start : State) (last : Timed) (ended : Result ℕ Text) (text : Text) : Type 0 where
+  pub whole : IsWhole options.setup options.cycles start last
+  pub says : IfOk ended (EndsWith last options.cycles)
+  pub lines : text ≡ asked_trace options.trace start last.count ++ text_of last (shown_dump options.dump)
+  pub cut : IfErr ended (λ put. put ≡ asked_trace options.trace start last.count)
+
+-- the sink failed among the commit lines, which are written as the machine runs: in the last cycle that was run, and those of the
+-- cycles before it had been put
+pub record IsBrokenOff (options : RunOptions) (start : State) (lists : List (List Record)) (last : Timed) (ended : Result ℕ Text)
+    (text : Text) : Type 0 where
+  pub traced : options.trace ≡ true
+  pub lines : text ≡ trace_of start last.count
+  pub cut : BeforeLast lists (λ earlier. ended ≡ Err (trace_of start (run_of (new_timed options.setup.config start) earlier).count))
+
+-- the text of `run` over files with these bytes, and how the writing of it ended
 pub record HasRun {C : Type 0} (gives : Meaning C) (options : RunOptions) (bytes : FileBytes) (core after : C)
-    (status : Option ℕ) (text : Text) : Type 0 where
+    (ended : Result ℕ Text) (text : Text) : Type 0 where
   pub last : Timed
   pub over : IsRunOver gives options.setup options.cycles bytes core last after
-  pub whole : (options.trace ≡ true → IsSome status) → IsWhole options.setup options.cycles (start_in bytes) last
-  pub ended : IfSome status (EndsWith last options.cycles)
-  pub lines : text ≡ asked_trace options.trace (start_in bytes) last.count ++ text_of last (shown_dump options.dump)
+  pub written : IsShown options (start_in bytes) last ended text
+      ⊎ IsBrokenOff options (start_in bytes) over.run.driven.lists last ended text

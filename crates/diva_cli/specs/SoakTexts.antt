@@ -1,6 +1,6 @@
 -- The text that the command `soak` writes: what two runs of the image of a seed came to, the first under a new `Scalar`, the second
 -- under the core that is handed in.
-use Rattle.std.specs.Prelude.{◌≡◌, ◌≤◌, ◌+◌, ◌*◌, ℕ, [], Option, None, IfSome}
+use Rattle.std.specs.Prelude.{◌≡◌, ◌≤◌, ◌+◌, ◌*◌, ℕ, [], None, Result, IfOk}
 use Rattle.diva_outside.specs.Text.{Text}
 use Rattle.diva_isa.specs.State.{State}
 use Rattle.diva_isa.specs.End.{halt}
@@ -36,7 +36,7 @@ IsSoakRun gives options choice core last after =
 -- ---- the command
 
 -- the text of `soak`, and the status that goes with it where it was written whole. Both runs are over by then
-pub record HasSoaked {C : Type 0} (gives : Meaning C) (options : SoakOptions) (core after : C) (status : Option ℕ) (text : Text) : Type 0 where
+pub record HasSoaked {C : Type 0} (gives : Meaning C) (options : SoakOptions) (core after : C) (ended : Result ℕ Text) (text : Text) : Type 0 where
   pub first : Timed
   pub under_scalar : IsSoakRun gives options Scalar core first core
   pub second : Timed
@@ -49,4 +49,4 @@ pub record HasSoaked {C : Type 0} (gives : Meaning C) (options : SoakOptions) (c
   pub paced : first.cycles ≡ first.count + depth
   pub unflushed : first.flushes ≡ 0
   pub lines : text ≡ soak_text first second
-  pub ended : IfSome status (λ s. s ≡ 0)
+  pub whole : IfOk ended (λ s. s ≡ 0)

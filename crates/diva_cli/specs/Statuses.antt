@@ -1,16 +1,17 @@
 -- What each status of the program says.
-use Rattle.std.specs.Prelude.{◌≡◌, ◌⊎◌, ◌≤◌, ℕ, List, [], ◌∷◌, length, Option, Some, None, IsSome}
+use Rattle.std.specs.Prelude.{◌≡◌, ◌⊎◌, ◌≤◌, ℕ, List, [], ◌∷◌, length, Option, Some, None, IsSome, Ok, Err}
 use Rattle.std.specs.Io.KnownBytes.{Appends}
 use Rattle.diva_outside.specs.Causes.{Rose}
 use Rattle.diva_outside.specs.Files.{Contents, IsMissing, IsKnown}
-use Rattle.diva_outside.specs.Sink.{AppendsPart}
+use Rattle.diva_outside.specs.Sink.{AppendsPast}
 use Rattle.diva_outside.specs.Text.{Text}
 use Rattle.diva_outside.specs.declared.files.What.{What}
 use Rattle.diva_core.specs.History.{Meaning}
 use Rattle.diva_args.specs.declared.job.Job.{Job}
 use Rattle.diva_cli.specs.Wanted.{Wanted, wanted, IsFaultless, file_limit}
 use Rattle.diva_cli.specs.Texts.{CanEnd}
-use Rattle.diva_cli.specs.Answers.{HasDone, HasRefused, HasStopped, IsAnswer}
+use Rattle.diva_cli.specs.Stops.{IsRefused}
+use Rattle.diva_cli.specs.Answers.{HasDone, HasStopped, IsAnswer}
 
 -- the statuses that there are
 abbrev pub IsStatus : ℕ → Type 0
@@ -21,7 +22,7 @@ IsStatus status =
 pub record HasWorked {C : Type 0} (gives : Meaning C) (command : Option Job) (contents : Contents) (core after : C)
     (old new : Option Text) (status : ℕ) : Type 0 where
   pub text : Text
-  pub done : HasDone gives command contents core after (Some status) text
+  pub done : HasDone gives command contents core after (Ok status) text
   pub written : Appends old new text
 
 -- statuses 2, 5 and 8: nothing was run, no core was asked, and just the one line was written
@@ -31,18 +32,24 @@ pub record HasLine {C : Type 0} (cause : Text → Type 0) (core after : C) (old 
   pub unasked : after ≡ core
   pub written : Appends old new text
 
--- status 9: the sink's count of faults rose, and a prefix of the answer's text was written
+-- status 9: the sink's count of faults rose, and a prefix of the answer's text was written, with all that had been put already
 pub record IsCut {C : Type 0} (gives : Meaning C) (command : Option Job) (contents : Contents) (before now : What → ℕ)
     (core after : C) (old new : Option Text) (faults faults' : ℕ) : Type 0 where
   pub rose : Rose faults faults'
+  pub put : Text
   pub text : Text
-  pub answer : IsAnswer gives command contents before now core after None text
-  pub written : AppendsPart old new text
+  pub answer : IsAnswer gives command contents before now core after (Err put) text
+  pub written : AppendsPast old new put text
 
 -- status 10: memory ran out, no core was asked, and the sink is as it was, so nothing was put to it
 pub record HasNoMemory {C S : Type 0} (core after : C) (sink sink' : S) : Type 0 where
   pub unasked : after ≡ core
   pub unput : sink' ≡ sink
+
+-- the words ask for no job, or for one that wants no file
+abbrev pub LoadsNothing : Option Job → Type 0
+LoadsNothing None = Unit {0}
+LoadsNothing (Some job) = wanted job ≡ []
 
 -- ---- files that are known, the first of which that can't be used is refused or is not there
 
@@ -53,11 +60,11 @@ IsHindered status = (status ≡ 8) ⊎ ((status ≡ 9) ⊎ (status ≡ 10))
 -- the contents are known, and the first file that can't be used is refused by this line
 pub record MustRefuse (command : Option Job) (contents : Contents) (text : Text) : Type 0 where
   pub known : IsSome contents
-  pub refused : HasRefused command contents text
+  pub refused : HasStopped command contents (λ w behind. IsRefused contents text w)
 
 -- it is known that there is no file of the name of the first one that can't be used
 abbrev pub HasMissing : Option Job → Contents → Type 0
-HasMissing command contents = HasStopped command contents (λ w. IsMissing contents w.name)
+HasMissing command contents = HasStopped command contents (λ w behind. IsMissing contents w.name)
 
 -- ---- completeness
 

@@ -11,16 +11,22 @@ pub record CanBeUsed (contents : Contents) (w : Wanted) : Type 0 where
   pub bytes : List ℕ
   pub sound : IsSound contents w bytes
 
--- this holds of one of the files, and each file before it can be used
-abbrev pub StopsAt : Contents → (Wanted → Type 0) → List Wanted → Type 0
+-- this holds of one of the files and of those behind it, and each file before it can be used
+abbrev pub StopsAt : Contents → (Wanted → List Wanted → Type 0) → List Wanted → Type 0
 StopsAt contents this [] = ⊥
-StopsAt contents this (w ∷ ws) = this w ⊎ (CanBeUsed contents w × StopsAt contents this ws)
+StopsAt contents this (w ∷ ws) = this w ws ⊎ (CanBeUsed contents w × StopsAt contents this ws)
+
+-- no count of faults has changed of the kinds of these files: none of them was loaded and failed
+abbrev pub AreUncounted : (before now : What → ℕ) → List Wanted → Type 0
+AreUncounted before now [] = Unit {0}
+AreUncounted before now (w ∷ ws) = (now w.what ≡ before w.what) × AreUncounted before now ws
 
 -- ---- the file can't be read, and the line says so: the count of faults of its kind rose, or it is known that there is no
--- such file
-pub record IsUnread (contents : Contents) (before now : What → ℕ) (text : Text) (w : Wanted) : Type 0 where
+-- such file; for those behind it nothing was counted
+pub record IsUnread (contents : Contents) (before now : What → ℕ) (text : Text) (w : Wanted) (behind : List Wanted) : Type 0 where
   pub cause : Rose (before w.what) (now w.what) ⊎ IsMissing contents w.name
   pub line : text ≡ unreadable_line w.what
+  pub uncounted : AreUncounted before now behind
 
 -- ---- the file is refused, and the line says why: it is longer than a file may be, or has this first fault
 
@@ -40,3 +46,8 @@ pub record IsRefused (contents : Contents) (text : Text) (w : Wanted) : Type 0 w
   pub place : ℕ
   pub cause : IsTooLong contents w kind place ⊎ HasFirstFault contents w kind place
   pub line : text ≡ refused_line w.what kind place
+
+-- so the loading stops there: for the files behind it nothing was counted
+pub record StopsLoading (contents : Contents) (before now : What → ℕ) (text : Text) (w : Wanted) (behind : List Wanted) : Type 0 where
+  pub refused : IsRefused contents text w
+  pub uncounted : AreUncounted before now behind

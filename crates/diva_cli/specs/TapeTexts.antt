@@ -1,5 +1,5 @@
 -- The text that the command `tape` leaves of a run: all that was handed over, which is itself a tape.
-use Rattle.std.specs.Prelude.{◌≡◌, ◌≤◌, ◌++◌, ℕ, true, List, length, Option, None, IfSome, IsSome, Ok}
+use Rattle.std.specs.Prelude.{◌≡◌, ◌≤◌, ◌++◌, ℕ, true, List, length, None, Result, Ok, IsOk, IfOk, IfErr}
 use Rattle.diva_outside.specs.Text.{Text}
 use Rattle.diva_outside.specs.declared.files.What.TheVariants.{Image, Tape as TapeFile}
 use Rattle.diva_isa.specs.declared.record.Record.{Record}
@@ -14,6 +14,7 @@ use Rattle.diva_trace.specs.Text.{text_of}
 use Rattle.diva_args.specs.Options.{RunOptions, TapeOptions}
 use Rattle.diva_args.specs.declared.job.CoreChoice.TheVariants.{Tape as OfTape}
 use Rattle.diva_cli.specs.Wanted.{FileBytes}
+use Rattle.diva_cli.specs.Cuts.{BeforeLast}
 use Rattle.diva_cli.specs.Runs.{IsRunOver, IsWhole, EndsWith, HasRun, asked_trace, start_in, shown_dump}
 
 -- a `run` of the same image with the same numbers, by the tape of this text and without a script
@@ -45,15 +46,16 @@ pub record IsTapeOf {C : Type 0} (gives : Meaning C) (options : TapeOptions) (by
       → run_of (new_timed options.setup.config (start_in bytes)) others ≡ last
   -- so running the image with that tape leaves the text of this machine; with commit lines, where they are all written
   pub replays : (replay : RunOptions) → (its_bytes : FileBytes) → IsReplay options bytes text replay its_bytes
-      → (core after : C) → (shown_status : Option ℕ) → (shown : Text) → HasRun gives replay its_bytes core after shown_status shown
-      → (replay.trace ≡ true → IsSome shown_status)
+      → (core after : C) → (ended : Result ℕ Text) → (shown : Text) → HasRun gives replay its_bytes core after ended shown
+      → (replay.trace ≡ true → IsOk ended)
       → shown ≡ asked_trace replay.trace (start_in bytes) last.count ++ text_of last (shown_dump replay.dump)
 
--- the text of `tape` over files with these bytes, and the status that goes with it where it was written whole; where the sink
--- failed, the text is of the cycles up to that in which it did
+-- the text of `tape` over files with these bytes, and how the writing of it ended: a line for each cycle. Where the sink failed, it
+-- did so in the last of these cycles, and the lines of those before it had been put
 pub record HasTape {C : Type 0} (gives : Meaning C) (options : TapeOptions) (bytes : FileBytes) (core after : C)
-    (status : Option ℕ) (text : Text) : Type 0 where
+    (ended : Result ℕ Text) (text : Text) : Type 0 where
   pub last : Timed
   pub over : IsRunOver gives options.setup options.cycles bytes core last after
   pub lines : text ≡ tape_text over.run.driven.lists
-  pub ended : IfSome status (IsTapeOf gives options bytes over.run.driven.lists last text)
+  pub whole : IfOk ended (IsTapeOf gives options bytes over.run.driven.lists last text)
+  pub cut : IfErr ended (λ put. BeforeLast over.run.driven.lists (λ earlier. put ≡ tape_text earlier))

@@ -1,7 +1,7 @@
 -- What is done with a machine and a core, and what is written of it as it goes.
-use Rattle.std.specs.Prelude.{ℕ, ◌≡◌, ◌≤◌, ◌+◌, ◌-◌, ◌^◌, List, [], ◌∷◌, ◌++◌, length, Bool, true, false, Option, Result, Ok, OnOk, ⊤}
+use Rattle.std.specs.Prelude.{ℕ, ◌≡◌, ◌≤◌, ◌+◌, ◌-◌, ◌^◌, List, [], ◌∷◌, ◌++◌, length, Bool, true, false, Option, Result, Ok, OnOk, OnErr, ⊤}
 use Rattle.std.specs.List.{All}
-use Rattle.diva_outside.specs.Sink.{Puts}
+use Rattle.diva_outside.specs.Sink.{AppendsPast, Puts}
 use Rattle.diva_outside.specs.Text.{Text}
 use Rattle.diva_outside.specs.declared.sink.SinkFailed.{SinkFailed}
 use Rattle.diva_isa.specs.State.{goes_on}
@@ -9,7 +9,7 @@ use Rattle.diva_isa.specs.declared.record.Record.{Record}
 use Rattle.diva_core.specs.Timed.{Timed}
 use Rattle.diva_core.specs.Cycle.{cycle_of, run_of}
 use Rattle.diva_core.specs.History.{Meaning, Turns, lists_of}
-use Rattle.diva_core.specs.Headline.{dues}
+use Rattle.diva_core.specs.Headline.{committed_in}
 use Rattle.diva_faults.specs.declared.rows.Row.{Row}
 use Rattle.diva_faults.specs.Spoiled.{spoiled}
 use Rattle.diva_tape.specs.Lists.{lockstep_list, silent_list, flood_list, echo_list}
@@ -17,6 +17,7 @@ use Rattle.diva_tape.specs.Noise.{noise_call}
 use Rattle.diva_tape.specs.Scalar.{IsScalarCall}
 use Rattle.diva_tape.specs.TapeCalls.{tape_call}
 use Rattle.diva_tape.specs.TapeText.{IsList, list_text}
+use Rattle.diva_cli.specs.Cuts.{BeforeLast}
 use Rattle.diva_cli.specs.Driven.{ByTurns, ByRule, ByOther, scripted_rule}
 use Rattle.diva_cli.specs.declared.driving.CoreInUse.{CoreInUse}
 use Rattle.diva_cli.specs.declared.driving.CoreInUse.TheVariants.{Own, Lockstep, Scalar, Silent, Flood, Echo, Noise, Tape as OfTape}
@@ -36,7 +37,7 @@ CycleText = ℕ → List Record → List Record → Text
 abbrev pub cycles_text : CycleText → Timed → List (List Record) → Text
 cycles_text text m [] = []
 cycles_text text m (list ∷ lists) =
-    text m.count (dues ((cycle_of m list).count - m.count) m.arch) list ++ cycles_text text (cycle_of m list) lists
+    text m.count (committed_in m list) list ++ cycles_text text (cycle_of m list) lists
 
 -- the commit lines of what was committed
 abbrev pub trace_lines : CycleText
@@ -65,6 +66,8 @@ pub record IsWritten (text : CycleText) (says : List Record → Type 0) (cycles 
   pub whole : OnOk result (goes_on last.arch ≡ true → length lists ≡ cycles)
   pub said : OnOk result (All says lists)
   pub put : Puts (cycles_text text m lists) old new before now result
+  -- where the sink failed, it did so in the last cycle; the texts of those before it had been put
+  pub cut : OnErr result (BeforeLast lists (λ earlier. AppendsPast old new (cycles_text text m earlier) (cycles_text text m lists)))
 
 -- ---- a line for each task, which asks something of a machine, and does something with it
 abbrev pub Allows : Task → Timed → Type 0

@@ -1,6 +1,6 @@
--- The text of each command, and the statuses that go with it. `status` is `None` where the sink failed; the text is then
--- what was to be written by that time.
-use Rattle.std.specs.Prelude.{◌≡◌, ◌⊎◌, ℕ, Option}
+-- The text of each command, and how the writing of it ended: with a status where it was written whole (`Ok`). Where the sink
+-- failed, the text is what was to be written by that time, and the end has what of it had been put already (`Err`).
+use Rattle.std.specs.Prelude.{◌≡◌, ◌⊎◌, ℕ, Result}
 use Rattle.diva_outside.specs.Text.{Text}
 use Rattle.diva_core.specs.History.{Meaning}
 use Rattle.diva_args.specs.declared.job.Job.{Job}
@@ -14,13 +14,13 @@ use Rattle.diva_cli.specs.SoakTexts.{HasSoaked}
 
 -- ---- a line for each command
 
-abbrev pub HasText : {C : Type 0} → Meaning C → Job → FileBytes → (core after : C) → (status : Option ℕ) → Text → Type 0
-HasText gives (Run options) bytes core after status text = HasRun gives options bytes core after status text
-HasText gives (Tape options) bytes core after status text = HasTape gives options bytes core after status text
-HasText gives (Debug options) bytes core after status text = HasReplies gives options bytes core after status text
-HasText gives (Asm name) bytes core after status text = HasAssembled bytes core after status text
-HasText gives (Dis name) bytes core after status text = HasListing bytes core after status text
-HasText gives (Soak options) bytes core after status text = HasSoaked gives options core after status text
+abbrev pub HasText : {C : Type 0} → Meaning C → Job → FileBytes → (core after : C) → (ended : Result ℕ Text) → Text → Type 0
+HasText gives (Run options) bytes core after ended text = HasRun gives options bytes core after ended text
+HasText gives (Tape options) bytes core after ended text = HasTape gives options bytes core after ended text
+HasText gives (Debug options) bytes core after ended text = HasReplies gives options bytes core after ended text
+HasText gives (Asm name) bytes core after ended text = HasAssembled bytes core after ended text
+HasText gives (Dis name) bytes core after ended text = HasListing bytes core after ended text
+HasText gives (Soak options) bytes core after ended text = HasSoaked gives options core after ended text
 
 -- the statuses of commands whose text was written whole
 abbrev pub IsDone : ℕ → Type 0

@@ -1,5 +1,5 @@
 //! What follows of the text of a run, and of the text of `soak`. The function has no body: its clauses are about the definitions.
-ghost use Rattle.std.specs.Prelude.{◌≡◌, ℕ, true, Option, IsSome};
+ghost use Rattle.std.specs.Prelude.{◌≡◌, ℕ, true, Result, IsOk};
 ghost use Rattle.diva_outside.specs.Text.{Text};
 ghost use Rattle.diva_args.specs.Options.{RunOptions, SoakOptions};
 ghost use Rattle.diva_args.specs.declared.job.CoreChoice.TheVariants.{Own};
@@ -15,12 +15,12 @@ use diva_core::Core;
 /// determined by its words and the core.
 pub fn own_run_is_determined<C: Core>()
     requires { IsDetermined C.gives }
-    ensures run { (options : RunOptions) (bytes : FileBytes) (core after last : C) (status other : Option ℕ) (text same : Text)
+    ensures run { (options : RunOptions) (bytes : FileBytes) (core after last : C) (ended other : Result ℕ Text) (text same : Text)
         → options.setup.core ≡ Own
-        → HasRun C.gives options bytes core after status text → HasRun C.gives options bytes core last other same
-        → (options.trace ≡ true → IsSome status × IsSome other)
+        → HasRun C.gives options bytes core after ended text → HasRun C.gives options bytes core last other same
+        → (options.trace ≡ true → IsOk ended × IsOk other)
         → text ≡ same }
-    ensures soak { (options : SoakOptions) (core after last : C) (status other : Option ℕ) (text same : Text)
-        → HasSoaked C.gives options core after status text → HasSoaked C.gives options core last other same
+    ensures soak { (options : SoakOptions) (core after last : C) (ended other : Result ℕ Text) (text same : Text)
+        → HasSoaked C.gives options core after ended text → HasSoaked C.gives options core last other same
         → text ≡ same }
 {}

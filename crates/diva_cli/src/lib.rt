@@ -17,7 +17,7 @@
 //! status says, and `Answers.antt` what is answered and why; `Wanted.antt` which files a job wants,
 //! and what is wrong with their bytes, `Stops.antt` at which of them loading stops; `Texts.antt` has
 //! the text of each command, `Runs.antt` that of `run`, with what holds of the machine, `TapeTexts.antt`
-//! that of `tape`, `DebugTexts.antt` with `Replies.antt` that of `debug`, `ImageTexts.antt` those of `asm` and `dis`,
+//! that of `tape`, `Cuts.antt` in which part of a text a sink failed, `DebugTexts.antt` with `Replies.antt` that of `debug`, `ImageTexts.antt` those of `asm` and `dis`,
 //! `SoakTexts.antt` that of `soak`, and `Driven.antt` what drove the machine. `Tasks.antt` and `Parts.antt` are what the parts of the program promise one another.
 #![tactic(auto)]
 
@@ -38,5 +38,6 @@ mod sure;
 mod tasks;
 mod writing;
 
+pub use diva_soak::soak_image;
 pub use program::top;
 pub use sure::top_sure;

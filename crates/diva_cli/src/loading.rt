@@ -1,5 +1,5 @@
 // Files, loaded and read: a function for each kind of file, and one for what they come to.
-ghost use Rattle.std.specs.Prelude.{◌≡◌, ◌≤◌, ◌∷◌, [], length, IfOk, IfErr, Ok};
+ghost use Rattle.std.specs.Prelude.{◌≡◌, ◌≢◌, ◌≤◌, ◌∷◌, [], length, IfOk, IfErr, Ok};
 ghost use Rattle.std.specs.List.{All};
 ghost use Rattle.diva_outside.specs.Files.{Has};
 ghost use Rattle.diva_image.specs.Images.{image_of};
@@ -48,6 +48,8 @@ pub(crate) fn make_ready<F: Files>(
 ) -> Result<Ready, Stop>
     ensures stays { F.contents files.new ≡ F.contents files.old }
     ensures later { (w : What) → F.faults files.old w ≤ F.faults files.new w }
+    ensures others { (w : What) → w ≢ What.Image → w ≢ What.Script → w ≢ What.Tape
+        → F.faults files.new w ≡ F.faults files.old w }
     ensures ready { IfOk result (HoldsReady (F.contents files.old) setup.now) }
     ensures config { IsConfig setup.now.config }
     ensures stopped { IfErr result (λ stop. Stops (F.contents files.old) (F.faults files.old)
@@ -109,6 +111,8 @@ struct Loaded {
 fn load_machine_files<F: Files>(alloc: Global, files: &mut F, setup: &Setup) -> Result<Loaded, Stop>
     ensures stays { F.contents files.new ≡ F.contents files.old }
     ensures later { (w : What) → F.faults files.old w ≤ F.faults files.new w }
+    ensures others { (w : What) → w ≢ What.Image → w ≢ What.Script → w ≢ What.Tape
+        → F.faults files.new w ≡ F.faults files.old w }
     ensures image { IfOk result (λ loaded. Holds (F.contents files.old)
         (file What.Image setup.now.image) (λ bytes. image_of bytes ≡ layout loaded.image)) }
     ensures script { IfOk result (λ loaded. HoldsRows (F.contents files.old) setup.now.script loaded.script) }
@@ -134,6 +138,7 @@ pub(crate) fn load_image<F: Files>(
 ) -> Result<Image, Stop>
     ensures stays { F.contents files.new ≡ F.contents files.old }
     ensures later { (w : What) → F.faults files.old w ≤ F.faults files.new w }
+    ensures others { (w : What) → w ≢ What.Image → F.faults files.new w ≡ F.faults files.old w }
     ensures holds { IfOk result (λ image. Holds (F.contents files.old)
         (file What.Image name.now) (λ bytes. image_of bytes ≡ layout image)) }
     ensures stopped { IfErr result (λ stop. Stops (F.contents files.old) (F.faults files.old)
@@ -155,6 +160,7 @@ pub(crate) fn load_source<F: Files>(
 ) -> Result<Image, Stop>
     ensures stays { F.contents files.new ≡ F.contents files.old }
     ensures later { (w : What) → F.faults files.old w ≤ F.faults files.new w }
+    ensures others { (w : What) → w ≢ What.Source → F.faults files.new w ≡ F.faults files.old w }
     ensures holds { IfOk result (λ image. Holds (F.contents files.old)
         (file What.Source name.now) (λ bytes. source_of bytes ≡ Ok (layout image))) }
     ensures stopped { IfErr result (λ stop. Stops (F.contents files.old) (F.faults files.old)
@@ -176,6 +182,7 @@ fn load_script_if<F: Files>(
 ) -> Result<Script, Stop>
     ensures stays { F.contents files.new ≡ F.contents files.old }
     ensures later { (w : What) → F.faults files.old w ≤ F.faults files.new w }
+    ensures others { (w : What) → w ≢ What.Script → F.faults files.new w ≡ F.faults files.old w }
     ensures holds { IfOk result (HoldsRows (F.contents files.old) name.now) }
     ensures stopped { IfErr result (λ stop. Stops (F.contents files.old) (F.faults files.old)
         (F.faults files.new) (file_if What.Script name.now) stop) }
@@ -190,6 +197,7 @@ fn load_script_if<F: Files>(
 fn load_script<F: Files>(alloc: Global, files: &mut F, name: &FileName) -> Result<Script, Stop>
     ensures stays { F.contents files.new ≡ F.contents files.old }
     ensures later { (w : What) → F.faults files.old w ≤ F.faults files.new w }
+    ensures others { (w : What) → w ≢ What.Script → F.faults files.new w ≡ F.faults files.old w }
     ensures holds { IfOk result (λ script. Holds (F.contents files.old)
         (file What.Script name.now) (λ bytes. script_of bytes ≡ Ok script)) }
     ensures stopped { IfErr result (λ stop. Stops (F.contents files.old) (F.faults files.old)
@@ -207,6 +215,7 @@ fn load_script<F: Files>(alloc: Global, files: &mut F, name: &FileName) -> Resul
 fn load_core<F: Files>(alloc: Global, files: &mut F, choice: &CoreChoice) -> Result<CoreInUse, Stop>
     ensures stays { F.contents files.new ≡ F.contents files.old }
     ensures later { (w : What) → F.faults files.old w ≤ F.faults files.new w }
+    ensures others { (w : What) → w ≢ What.Tape → F.faults files.new w ≡ F.faults files.old w }
     ensures holds { IfOk result (HoldsCore (F.contents files.old) choice.now) }
     ensures stopped { IfErr result (λ stop. Stops (F.contents files.old) (F.faults files.old)
         (F.faults files.new) (file_if What.Tape (tape_name choice.now)) stop) }
@@ -230,6 +239,7 @@ fn load_core<F: Files>(alloc: Global, files: &mut F, choice: &CoreChoice) -> Res
 fn load_tape<F: Files>(alloc: Global, files: &mut F, name: &FileName) -> Result<Tape, Stop>
     ensures stays { F.contents files.new ≡ F.contents files.old }
     ensures later { (w : What) → F.faults files.old w ≤ F.faults files.new w }
+    ensures others { (w : What) → w ≢ What.Tape → F.faults files.new w ≡ F.faults files.old w }
     ensures holds { IfOk result (λ tape. Holds (F.contents files.old)
         (file What.Tape name.now) (λ bytes. tape_of bytes ≡ Ok tape)) }
     ensures stopped { IfErr result (λ stop. Stops (F.contents files.old) (F.faults files.old)
@@ -251,6 +261,7 @@ fn load_commands<F: Files>(
 ) -> Result<Vec<Command>, Stop>
     ensures stays { F.contents files.new ≡ F.contents files.old }
     ensures later { (w : What) → F.faults files.old w ≤ F.faults files.new w }
+    ensures others { (w : What) → w ≢ What.Commands → F.faults files.new w ≡ F.faults files.old w }
     ensures holds { IfOk result (λ commands. Holds (F.contents files.old)
         (file What.Commands name.now) (λ bytes. commands_of bytes ≡ Ok commands.items)) }
     ensures few { IfOk result (λ commands. length commands.items ≤ file_limit) }
@@ -275,6 +286,7 @@ fn load<F: Files>(
 ) -> Result<Vec<u8>, Stop>
     ensures stays { F.contents files.new ≡ F.contents files.old }
     ensures later { (w : What) → F.faults files.old w ≤ F.faults files.new w }
+    ensures others { (w : What) → w ≢ what → F.faults files.new w ≡ F.faults files.old w }
     ensures has { IfOk result (λ bytes. Has (F.contents files.old) name.now bytes.items) }
     ensures short { IfOk result (λ bytes. length bytes.items ≤ file_limit) }
     ensures stopped { IfErr result (λ stop. Stops (F.contents files.old) (F.faults files.old)

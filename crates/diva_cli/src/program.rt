@@ -1,5 +1,5 @@
 // The whole program, from the words to the status.
-ghost use Rattle.std.specs.Prelude.{◌≡◌, ◌⊎◌, map, None, Some, IsErrOf};
+ghost use Rattle.std.specs.Prelude.{◌≡◌, ◌⊎◌, [], map, None, Some, IsErrOf};
 ghost use Rattle.std.specs.Io.KnownBytes.{Appends};
 ghost use Rattle.diva_outside.specs.Causes.{Rose};
 ghost use Rattle.diva_outside.specs.Text.{Text};
@@ -8,7 +8,8 @@ ghost use Rattle.diva_args.specs.Line.{command_of};
 ghost use Rattle.diva_cli.specs.Texts.{IsDone};
 ghost use Rattle.diva_cli.specs.Answers.{IsMisused, HasUnread, HasRefused};
 ghost use Rattle.diva_cli.specs.Statuses.{HasWorked, HasLine, IsCut, HasNoMemory, MustRefuse, HasMissing, IsHindered};
-ghost use Rattle.diva_cli.specs.Statuses.{CanWork, HasEnded, IsStatus};
+ghost use Rattle.diva_cli.specs.Statuses.{CanWork, HasEnded, IsStatus, LoadsNothing};
+ghost use Rattle.diva_cli.specs.Wanted.{wanted};
 ghost use Rattle.diva_cli.specs.Parts.{Answers, status_of};
 
 use crate::asm::asm;
@@ -56,19 +57,24 @@ pub fn top<F: Files, S: Sink, C: Core>(
         → HasWorked C.gives (command_of (map (λ w. w.now) words.now)) (F.contents files.old)
         core.old core.new (S.contents sink.old) (S.contents sink.new) result }
 
-    // Nothing is run: the words, the first file's fault, or the files' count of faults says why.
+    // Nothing is run: the words, the first file's fault, or the files' count of faults says why. No fault was counted
+    // for a file behind the one at which the loading stopped.
     ensures misused { result ≡ 2
-        → HasLine (IsMisused (command_of (map (λ w. w.now) words.now))) core.old core.new
-        (S.contents sink.old) (S.contents sink.new) }
+        → HasLine (IsMisused (command_of (map (λ w. w.now) words.now)) (F.faults files.old) (F.faults files.new))
+        core.old core.new (S.contents sink.old) (S.contents sink.new) }
     ensures refused { result ≡ 5
-        → HasLine (HasRefused (command_of (map (λ w. w.now) words.now)) (F.contents files.old))
+        → HasLine (HasRefused (command_of (map (λ w. w.now) words.now)) (F.contents files.old)
+        (F.faults files.old) (F.faults files.new))
         core.old core.new (S.contents sink.old) (S.contents sink.new) }
     ensures unread { result ≡ 8
         → HasLine (HasUnread (command_of (map (λ w. w.now) words.now)) (F.contents files.old)
         (F.faults files.old) (F.faults files.new))
         core.old core.new (S.contents sink.old) (S.contents sink.new) }
 
-    // The sink's count of faults rose; memory ran out.
+    // Where the words ask for no file, the files are as they were: none was loaded.
+    ensures unloaded { LoadsNothing (command_of (map (λ w. w.now) words.now)) → files.new ≡ files.old }
+
+    // The sink's count of faults rose, and neither core nor sink was asked again; memory ran out.
     ensures cut { result ≡ 9
         → IsCut C.gives (command_of (map (λ w. w.now) words.now)) (F.contents files.old)
         (F.faults files.old) (F.faults files.new) core.old core.new
@@ -119,6 +125,7 @@ fn answer<F: Files, S: Sink, C: Core>(
         (F.faults files.old) (F.faults files.new) core.old core.new
         (S.contents sink.old) (S.contents sink.new) (S.faults sink.old) (S.faults sink.new) result }
     ensures unput { IsErrOf result Failure.Memory → sink.new ≡ sink.old }
+    ensures unloaded { LoadsNothing (command_of (map (λ w. w.now) words.now)) → files.new ≡ files.old }
 {
     match read_words(alloc, words) {
         Ok(job) => work(alloc, job, files, sink, core),
@@ -139,6 +146,7 @@ fn work<F: Files, S: Sink, C: Core>(
         (F.faults files.new) core.old core.new (S.contents sink.old) (S.contents sink.new)
         (S.faults sink.old) (S.faults sink.new) result }
     ensures unput { IsErrOf result Failure.Memory → sink.new ≡ sink.old }
+    ensures unloaded { wanted job ≡ [] → files.new ≡ files.old }
 {
     match job {
         Job::Run(options) => run(alloc, options, files, sink, core),

@@ -1,11 +1,23 @@
--- The image and the script can be used, and the loading stops at the tape.
+-- The loading stops at the image, the script or the tape, and those before it can be used.
 use Rattle.std.proofs.Common.{◌∙◌, arith, subst}
 use Rattle.std.proofs.lemmas.Result.{err_from_is_err_and}
+use Rattle.diva_outside.specs.declared.files.What.TheVariants.{Tape}
 use Rattle.diva_args.specs.Options.{Setup}
 use Rattle.diva_cli.specs.Wanted.{machine_files}
 use Rattle.diva_cli.specs.Parts.{Stops}
-use Rattle.diva_cli.proofs.Stopping.{at_tape}
+use Rattle.diva_cli.proofs.Stopping.{at_script, at_tape}
 use Rattle.diva_cli.proofs.loading.load_machine_files.Goals as goal
+
+pub returns-in_err-script-clause-stopped : goal.returns-in_err-script-clause-stopped
+returns-in_err-script-clause-stopped g c =
+    let p = err_from_is_err_and c.from_residual-in_err-script.result c.from_residual-in_err-script.ensures.1 in
+    rw (p.1, p.2) (subst (λ (s : Setup). Stops (g.F.Files.contents c.args.files.now) (g.F.Files.faults c.args.files.now) (g.F.Files.faults c.load_script_if.new.files) (machine_files s) c.in_err-script.field-0.0) c.setup.view_is
+    (at_script (g.F.Files.contents c.args.files.now) (record { image = c.setup.inside.image; core = c.setup.inside.core; script = c.setup.inside.script; config = c.setup.inside.config }) _
+    c.in_ok-image.ensures.holds
+    (g.F.Files.contents c.load_image.new.files)
+    (g.F.Files.faults c.args.files.now) (g.F.Files.faults c.load_image.new.files) (g.F.Files.faults c.load_script_if.new.files) _
+    c.load_image.ensures.stays c.load_image.ensures.later c.load_image.ensures.others c.load_script_if.ensures.others
+    c.in_err-script.ensures.stopped))
 
 pub returns-in_err-core-clause-stopped : goal.returns-in_err-core-clause-stopped
 returns-in_err-core-clause-stopped g c =
@@ -17,4 +29,5 @@ returns-in_err-core-clause-stopped g c =
     (g.F.Files.faults c.args.files.now) (g.F.Files.faults c.load_script_if.new.files) (g.F.Files.faults c.load_core.new.files) _ _
     c.load_image.ensures.stays (c.load_script_if.ensures.stays ∙ c.load_image.ensures.stays)
     (λ w. let a = c.load_image.ensures.later w in let b = c.load_script_if.ensures.later w in omega arith)
+    (c.load_script_if.ensures.others Tape (λ e. cc) ∙ c.load_image.ensures.others Tape (λ e. cc))
     c.in_ok-script.ensures.holds c.in_err-core.ensures.stopped))
