@@ -9,8 +9,8 @@
 //!   checker, `runs/tapes` tapes that are played, written and refused, `runs/staged` tapes whose claims are
 //!   checked while older ones are pending, `runs/scripts` scripts that are refused, `runs/traces` commit lines,
 //!   `runs/sessions` the commands of the debugger, `runs/sources` sources that are assembled and images that are listed,
-//!   `runs/soaks` images of seeds, `runs/refusals` what is not run, `runs/failing` loads and puts that fail in turn, and
-//!   `runs/texts` writes the text that is due;
+//!   `runs/soaks` images of seeds, `runs/refusals` what is not run, `runs/failing` the order of loads and puts, which
+//!   also fail in turn, `runs/noting` notes them, and `runs/texts` writes the text that is due;
 //! - `images`: an image that is read and written, faults of it, and images of seeds;
 //! - `calls`: calls of a machine's parts, and of a machine that is driven;
 //! - `lists`: several claims in a cycle, right and wrong ones, and what each cycle commits:

@@ -1,6 +1,7 @@
 // Command lines over files and a sink in memory, with the status and the text that are due.
 mod failing;
 mod hostile;
+mod noting;
 mod pipelined;
 mod refusals;
 mod scripts;
@@ -19,6 +20,7 @@ use diva_cli::top;
 use diva_core::Core;
 use diva_isa::Record;
 use diva_outside::{Fail as SinkFail, MemFile, MemFiles, MemSink, What};
+use noting::{Load, NotingFiles, NotingSink};
 use std::alloc::{AllocError, Global};
 use std::process::Abort;
 use std::test::Fail;
@@ -29,7 +31,7 @@ use texts::{registers_text, text_due};
 const ROOM: usize = 1 << 18;
 
 /// The files that are there, an image `a.diva`, a script `a.script`, a tape `a.tape`, a source `a.s` and commands
-/// `a.commands`, and how loads of them and the sink fail.
+/// `a.commands`; which of them is not there after all, and how loads of them and the sink fail.
 #[derive(Drop)]
 struct Outside {
     alloc: Global,
@@ -38,6 +40,7 @@ struct Outside {
     tape: Vec<u8>,
     source: Vec<u8>,
     commands: Vec<u8>,
+    absent: Option<What>,
     load_fails: Vec<u64>,
     room: usize,
     put_fails: Vec<SinkFail>,
@@ -53,6 +56,7 @@ impl Outside {
             tape: Vec::new(alloc),
             source: Vec::new(alloc),
             commands: Vec::new(alloc),
+            absent: None,
             load_fails: Vec::new(alloc),
             room: ROOM,
             put_fails: Vec::new(alloc),
@@ -77,6 +81,17 @@ impl Outside {
     }
 }
 
+/// The name of the file of this kind.
+fn file_name(what: What) -> &'static str {
+    match what {
+        What::Image => "a.diva",
+        What::Script => "a.script",
+        What::Tape => "a.tape",
+        What::Source => "a.s",
+        What::Commands => "a.commands",
+    }
+}
+
 /// The image of `FIVE`, and an empty file of each other kind, where nothing fails.
 fn five_files(alloc: Global) -> Result<Outside, AllocError> {
     Ok(Outside::sound(alloc, Vec::from_slice(alloc, &FIVE_FILE)?))
@@ -93,18 +108,21 @@ fn compare(
     compare_by(rt, &mut Flipped, line, outside, status, text)
 }
 
-/// Compares status and text where nothing is run: the program's own core is not asked.
+/// Compares status and text where nothing is run: the program's own core is not asked, and the text is one put. Gives
+/// the loads.
 fn compare_unasked(
     rt: &impl Abort,
     line: &str,
     outside: Outside,
     status: u8,
     text: &str,
-) -> Result<(), Fail> {
+) -> Result<Vec<Load>, Fail> {
     let mut core = Counting { calls: 0 };
-    compare_by(rt, &mut core, line, outside, status, text)?;
+    let answer = run_program(&mut core, line, outside)?;
+    compare_answer(rt, line, &answer, status, text)?;
     assert_eq!(rt; core.calls, 0, "{line}");
-    Ok(())
+    assert_eq!(rt; answer.puts.as_slice(), [text.len()].as_slice(), "{line}");
+    Ok(answer.loads)
 }
 
 /// Runs the program on a command line, over the files of `outside` and with this core as its own, and
@@ -118,16 +136,29 @@ fn compare_by<C: Core>(
     text: &str,
 ) -> Result<(), Fail> {
     let answer = run_program(core, line, outside)?;
+    compare_answer(rt, line, &answer, status, text)
+}
+
+/// Compares the status and the text of an answer.
+fn compare_answer(
+    rt: &impl Abort,
+    line: &str,
+    answer: &Answer,
+    status: u8,
+    text: &str,
+) -> Result<(), Fail> {
     assert_eq!(rt; answer.status, status, "{line}");
     assert_eq!(rt; str::from_utf8(&answer.text)?, text, "{line}");
     Ok(())
 }
 
-/// What the program answers.
+/// What the program answers, the files that it loaded and the lengths of what it put.
 #[derive(Drop)]
 struct Answer {
     status: u8,
     text: Vec<u8>,
+    loads: Vec<Load>,
+    puts: Vec<usize>,
 }
 
 /// Runs the program on a command line, in which an empty word is written `''`.
@@ -137,22 +168,29 @@ fn run_program<C: Core>(core: &mut C, line: &str, outside: Outside) -> Result<An
     for word in line.split_whitespace() {
         words.push(if word == "''" { "" } else { word })?;
     }
+    let absent = outside.absent;
     let mut there = Vec::new(alloc);
-    for (name, bytes) in [
-        ("a.diva", outside.file),
-        ("a.script", outside.script),
-        ("a.tape", outside.tape),
-        ("a.s", outside.source),
-        ("a.commands", outside.commands),
+    for (what, bytes) in [
+        (What::Image, outside.file),
+        (What::Script, outside.script),
+        (What::Tape, outside.tape),
+        (What::Source, outside.source),
+        (What::Commands, outside.commands),
     ] {
-        there.push(MemFile::new(String::from_str(alloc, name)?, bytes))?;
+        if absent != Some(what) {
+            there.push(MemFile::new(String::from_str(alloc, file_name(what))?, bytes))?;
+        }
     }
-    let mut files = MemFiles::new(there, outside.load_fails);
-    let mut sink = MemSink::new(alloc, outside.room, outside.put_fails)?;
+    let mut files = NotingFiles::new(alloc, MemFiles::new(there, outside.load_fails));
+    let sink = MemSink::new(alloc, outside.room, outside.put_fails)?;
+    let mut sink = NotingSink::new(alloc, sink)?;
     let status = top(alloc, &words, &mut files, &mut sink, core);
+    let puts = sink.puts().ok_or("a put was not noted")?;
     Ok(Answer {
         status,
         text: Vec::from_slice(alloc, sink.bytes())?,
+        loads: files.into_loads(),
+        puts: Vec::from_slice(alloc, puts)?,
     })
 }
 

@@ -36,24 +36,31 @@ fn files_in_memory(rt: HostRuntime) -> Result<(), TestFail> {
     Ok(())
 }
 
-/// A file of more than one read: whole at its length, too long a byte below it, and gone in the end.
+/// A file of some megabytes, whose last byte is like no other: whole at its length, too long a byte below it, and gone
+/// in the end. A folder is opened, but can't be read.
 #[test]
 fn files_of_the_disk(rt: HostRuntime) -> Result<(), TestFail> {
     let alloc = rt.alloc();
     let name = "files_of_the_disk.bytes";
-    let text = "0123456789".repeat(alloc, 1000)?;
+    let mut text = "0123456789".repeat(alloc, 300_000)?;
+    text.push('#')?;
     fs::write(&rt, name, text.as_str())?;
     let mut files = DiskFiles::new(&rt);
-    let whole = files.load(alloc, What::Image, name, 10_000);
-    let short = files.load(alloc, What::Image, name, 9_999);
+    let whole = files.load(alloc, What::Image, name, 3_000_001);
+    let short = files.load(alloc, What::Image, name, 3_000_000);
     fs::remove_file(&rt, name)?;
-    let gone = files.load(alloc, What::Image, name, 10_000);
+    let gone = files.load(alloc, What::Image, name, 3_000_001);
+    let folder = files.load(alloc, What::Image, ".", 3_000_001);
     match whole {
-        Ok(bytes) => assert_eq!(rt; bytes.as_slice(), text.as_bytes()),
+        Ok(bytes) => assert!(rt;
+            bytes.as_slice() == text.as_bytes(),
+            "each byte of the file"
+        ),
         Err(_) => assert!(rt; false, "the whole file"),
     }
     assert!(rt; matches!(short, Err(LoadFault::TooLong)));
     assert!(rt; matches!(gone, Err(LoadFault::Failed)));
+    assert!(rt; matches!(folder, Err(LoadFault::Failed)));
     Ok(())
 }
 

@@ -1,48 +1,106 @@
-// Loads and puts that fail, each in turn.
+// The order of loads and of puts, and what follows where each of them in turn fails.
+use super::noting::Load;
 use super::refusals::USAGE;
 use super::sessions::{STEPS_COMMANDS, STEPS_TEXT};
+use super::soaks::{FLIPPED_LINES, LEFT};
 use super::sources::{FIVE_LISTING, FIVE_SOURCE};
-use super::tapes::IN_LOCKSTEP;
+use super::tapes::{FLOODED, IN_LOCKSTEP};
 use super::traces::FIVE_TRACE;
-use super::{Answer, FIVE_TEXT, compare_unasked, five_files, run_program};
-use crate::cores::Flipped;
+use super::{Answer, FIVE_TEXT, Outside, compare_unasked, file_name, five_files, run_program};
+use crate::cores::{Counting, Flipped};
 use crate::programs::FIVE_FILE;
+use diva_core::Core;
 use diva_outside::{Fail as SinkFail, What};
 use std::alloc::Global;
 use std::process::Abort;
 use std::test::Fail;
 
-/// Command lines, and the files that they load, in order.
-static LOADS: [(&str, &[&str]); 5] = [
+/// Command lines, and the kinds of the files that they load, in order.
+static LOADS: [(&str, &[What]); 11] = [
+    ("run a.diva", &[What::Image]),
+    ("run a.diva --script a.script", &[What::Image, What::Script]),
     (
-        "run a.diva --script a.script --core tape --tape a.tape",
-        &["image", "script", "tape"],
+        "run a.diva --core tape --tape a.tape",
+        &[What::Image, What::Tape],
     ),
+    (
+        "run a.diva --core tape --tape a.tape --script a.script",
+        &[What::Image, What::Script, What::Tape],
+    ),
+    ("tape a.diva", &[What::Image]),
     (
         "tape a.diva --core tape --tape a.tape --script a.script",
-        &["image", "script", "tape"],
+        &[What::Image, What::Script, What::Tape],
     ),
+    ("debug a.diva a.commands", &[What::Image, What::Commands]),
     (
         "debug a.diva a.commands --core tape --tape a.tape --script a.script",
-        &["image", "script", "tape", "commands"],
+        &[What::Image, What::Script, What::Tape, What::Commands],
     ),
-    ("asm a.s", &["source"]),
-    ("dis a.diva", &["image"]),
+    ("asm a.s", &[What::Source]),
+    ("dis a.diva", &[What::Image]),
+    ("soak 1 1", &[]),
 ];
 
+/// Each file is loaded once, in order, and no other.
 #[test]
-fn loads_that_fail(rt: HostRuntime) -> Result<(), Fail> {
+fn loads_in_order(rt: HostRuntime) -> Result<(), Fail> {
     let alloc = rt.alloc();
     for &(line, files) in &LOADS {
-        for (place, file) in files.iter().enumerate() {
-            let call = place as u64 + 1;
-            let mut outside = five_files(alloc)?;
-            outside.load_fails.push(call)?;
-            let text = format!(in alloc; "unreadable {file}\n")?;
-            compare_unasked(&rt, line, outside, 8, text.as_str())?;
+        let answer = run_program(&mut Flipped, line, five_files(alloc)?)?;
+        assert_eq!(rt; answer.status, 0, "{line}");
+        compare_loads(&rt, line, &answer.loads, files);
+    }
+    Ok(())
+}
+
+/// Compares the loads with the kinds of files that are due, each by its name.
+fn compare_loads(rt: &impl Abort, line: &str, loads: &[Load], files: &[What]) {
+    assert_eq!(rt; loads.len(), files.len(), "{line}");
+    for (load, &what) in loads.iter().zip(files.iter()) {
+        assert_eq!(rt; load.what, what, "{line}");
+        assert_eq!(rt; load.name.as_str(), file_name(what), "{line}");
+    }
+}
+
+/// Each file is one whose load fails, then one that is not there, and then one that is refused: no file behind it is
+/// loaded.
+#[test]
+fn loads_that_stop(rt: HostRuntime) -> Result<(), Fail> {
+    let alloc = rt.alloc();
+    for &(line, files) in &LOADS {
+        for (place, &what) in files.iter().enumerate() {
+            let due = files.get(..=place).ok_or("no such place")?;
+            for (outside, status, text) in stops_at(alloc, place as u64 + 1, what)? {
+                let loads = compare_unasked(&rt, line, outside, status, text.as_str())?;
+                compare_loads(&rt, line, &loads, due);
+            }
         }
     }
     Ok(())
+}
+
+/// Files of which the one of this kind stops the program where this call loads it: the load fails, there is no such
+/// file, or it has one byte too many. With the status and the text that are due.
+fn stops_at(alloc: Global, call: u64, what: What) -> Result<[(Outside, u8, String); 3], Fail> {
+    let mut failing = five_files(alloc)?;
+    failing.load_fails.push(call)?;
+    let mut missing = five_files(alloc)?;
+    missing.absent = Some(what);
+    let (word, fault) = match what {
+        What::Image => ("image", "9 at 36"),
+        What::Script => ("script", "1 at 1"),
+        What::Tape => ("tape", "1 at 1"),
+        What::Source => ("source", "1 at 1"),
+        What::Commands => ("commands", "1 at 1"),
+    };
+    let unreadable = format!(in alloc; "unreadable {word}\n")?;
+    let refused = format!(in alloc; "refused {word} {fault}\n")?;
+    Ok([
+        (failing, 8, unreadable.clone()?),
+        (missing, 8, unreadable),
+        (five_files(alloc)?.with(what, b"?")?, 5, refused),
+    ])
 }
 
 /// Command lines, with the status and the text that are due where no put fails.
@@ -64,8 +122,14 @@ fn puts_that_fail(rt: HostRuntime) -> Result<(), Fail> {
     let trace = format!(in alloc; "{FIVE_TRACE}{FIVE_TEXT}")?;
     let line = "run a.diva --core lockstep --trace";
     compare_lines(&rt, alloc, line, 0, trace.as_str())?;
-    let claims = claims_of(alloc, IN_LOCKSTEP)?;
-    compare_puts(&rt, alloc, "tape a.diva --core lockstep", 0, &claims)?;
+    let soaked = format!(in alloc; "{FLIPPED_LINES}{LEFT}")?;
+    compare_lines(&rt, alloc, "soak 1 1", 0, soaked.as_str())?;
+    for (line, status, tape) in [
+        ("tape a.diva --core lockstep", 0, IN_LOCKSTEP),
+        ("tape a.diva --core flood --cycles 1", 4, FLOODED),
+    ] {
+        compare_puts(&rt, alloc, line, status, &claims_of(alloc, tape)?)?;
+    }
     let mut image = Vec::new(alloc);
     image.push(Vec::from_slice(alloc, &FIVE_FILE)?)?;
     compare_puts(&rt, alloc, "asm a.s", 0, &image)
@@ -93,12 +157,16 @@ fn lines_of(alloc: Global, text: &str) -> Result<Vec<Vec<u8>>, Fail> {
     Ok(pieces)
 }
 
-/// The claims of a tape that has one in a line at most, and the line feeds: each is a put.
+/// The claims of a tape, each but the first of its line with ` ; ` before it, and the line feeds: each is a put.
 fn claims_of(alloc: Global, tape: &str) -> Result<Vec<Vec<u8>>, Fail> {
     let mut pieces = Vec::new(alloc);
     for line in tape.lines() {
-        if !line.is_empty() {
-            pieces.push(Vec::from_slice(alloc, line.as_bytes())?)?;
+        for (place, claim) in line.split(" ; ").enumerate() {
+            let before = if place == 0 { "" } else { " ; " };
+            let piece = format!(in alloc; "{before}{claim}")?;
+            if !piece.is_empty() {
+                pieces.push(Vec::from_slice(alloc, piece.as_bytes())?)?;
+            }
         }
         pieces.push(Vec::from_slice(alloc, b"\n")?)?;
     }
@@ -106,7 +174,7 @@ fn claims_of(alloc: Global, tape: &str) -> Result<Vec<Vec<u8>>, Fail> {
 }
 
 /// Each put of these pieces fails in turn, and takes no byte, one, or all but one: what is then written are the
-/// pieces before it, and what it took. Where only the put behind the last one is to fail, all is written.
+/// pieces before it, and what it took, and no put follows. Where none fails, each piece is one put.
 fn compare_puts(
     rt: &impl Abort,
     alloc: Global,
@@ -115,33 +183,83 @@ fn compare_puts(
     pieces: &[Vec<u8>],
 ) -> Result<(), Fail> {
     let mut written = Vec::new(alloc);
-    for (place, piece) in pieces.iter().enumerate() {
-        let call = place as u64 + 1;
+    let mut puts = Vec::new(alloc);
+    for piece in pieces {
+        let call = puts.len() as u64 + 1;
+        puts.push(piece.len())?;
         for takes in [0, 1, piece.len().saturating_sub(1)] {
-            let answer = run_cut(alloc, line, SinkFail { call, takes })?;
             let mut due = written.clone()?;
             due.extend_from_slice(piece.get(..takes).ok_or("the piece is empty")?)?;
-            assert_eq!(rt; answer.status, 9, "{line}, put {call}");
-            assert_eq!(rt;
-                answer.text.as_slice(),
-                due.as_slice(),
-                "{line}, put {call}"
-            );
+            let answer = run_cut(alloc, &mut Flipped, line, SinkFail { call, takes })?;
+            compare_put(rt, line, &answer, 9, &due, &puts);
         }
         written.extend_from_slice(piece)?;
     }
-    let call = pieces.len() as u64 + 1;
-    let answer = run_cut(alloc, line, SinkFail { call, takes: 0 })?;
-    assert_eq!(rt; answer.status, status, "{line}");
-    assert_eq!(rt; answer.text.as_slice(), written.as_slice(), "{line}");
+    let call = puts.len() as u64 + 1;
+    let answer = run_cut(alloc, &mut Flipped, line, SinkFail { call, takes: 0 })?;
+    compare_put(rt, line, &answer, status, &written, &puts);
     Ok(())
 }
 
+/// Compares the status, what was written, and the lengths of the puts.
+fn compare_put(
+    rt: &impl Abort,
+    line: &str,
+    answer: &Answer,
+    status: u8,
+    written: &[u8],
+    puts: &[usize],
+) {
+    let number = puts.len();
+    assert_eq!(rt; answer.status, status, "{line}, put {number}");
+    assert_eq!(rt; answer.text.as_slice(), written, "{line}, put {number}");
+    assert_eq!(rt; answer.puts.as_slice(), puts, "{line}, put {number}");
+}
+
 /// What the program answers on sound files and a sink one of whose puts fails.
-fn run_cut(alloc: Global, line: &str, fail: SinkFail) -> Result<Answer, Fail> {
+fn run_cut<C: Core>(
+    alloc: Global,
+    core: &mut C,
+    line: &str,
+    fail: SinkFail,
+) -> Result<Answer, Fail> {
     let mut outside = five_files(alloc)?
         .with(What::Source, FIVE_SOURCE)?
         .with(What::Commands, STEPS_COMMANDS.as_bytes())?;
     outside.put_fails.push(fail)?;
-    run_program(&mut Flipped, line, outside)
+    run_program(core, line, outside)
+}
+
+/// Command lines under a core that claims in lockstep, and for each of the first puts the cycles that were run before it: each
+/// is one call of the core.
+///
+/// The instructions of `FIVE` commit in the cycles 7, 14 and 21, and the four of the seed's image in 7, 14, 21 and 28. What a
+/// machine left is put when it has ended, a commit line in its cycle, and the line of a tape in each cycle: in the cycles 1, 8 and
+/// 15 it has a claim and so two puts. `step 2` ends in cycle 14, and `step 5` in 21.
+static CALLS: [(&str, &[u64]); 5] = [
+    ("run a.diva --core own", &[21, 21]),
+    ("run a.diva --core own --trace", &[7, 14, 21, 21, 21]),
+    (
+        "tape a.diva --core own",
+        &[
+            1, 1, 2, 3, 4, 5, 6, 7, 8, 8, 9, 10, 11, 12, 13, 14, 15, 15, 16, 17, 18, 19, 20, 21,
+        ],
+    ),
+    ("debug a.diva a.commands --core own", &[14, 14, 14, 21]),
+    ("soak 1 1", &[28, 28]),
+];
+
+/// A core is not asked behind a put that failed.
+#[test]
+fn calls_before_a_put_that_fails(rt: HostRuntime) -> Result<(), Fail> {
+    let alloc = rt.alloc();
+    for &(line, calls) in &CALLS {
+        for (place, &due) in calls.iter().enumerate() {
+            let call = place as u64 + 1;
+            let mut core = Counting { calls: 0 };
+            let answer = run_cut(alloc, &mut core, line, SinkFail { call, takes: 0 })?;
+            assert_eq!(rt; (answer.status, core.calls), (9, due), "{line}, put {call}");
+        }
+    }
+    Ok(())
 }

@@ -9,23 +9,46 @@ pub(super) const USAGE: &str = "\
 usage: diva run|tape IMAGE, debug IMAGE COMMANDS, asm SRC, dis IMAGE, soak SEED LENGTH
 ";
 
-/// Words that are not a valid command line, and files that are not there, with their statuses and texts.
-/// A name may be any word: the last five name files that are not there.
-static NOT_RUN: [(&str, u8, &str); 25] = [
-    ("", 2, USAGE),
-    ("run", 2, USAGE),
-    ("run a.diva --width 5", 2, USAGE),
-    ("run a.diva --window 1", 2, USAGE),
-    ("walk a.diva", 2, USAGE),
-    ("run a.diva --core tape", 2, USAGE),
-    ("run a.diva --tape a.tape", 2, USAGE),
-    ("tape a.diva --dump 0:4", 2, USAGE),
-    ("tape a.diva --trace", 2, USAGE),
-    ("debug a.diva", 2, USAGE),
-    ("debug a.diva a.commands --width 2", 2, USAGE),
-    ("asm", 2, USAGE),
-    ("asm a.s --core own", 2, USAGE),
-    ("dis a.diva b.diva", 2, USAGE),
+/// Words that are not a valid command line.
+static MISUSED: [&str; 22] = [
+    "",
+    "run",
+    "run a.diva --width 5",
+    "run a.diva --window 1",
+    "walk a.diva",
+    "run a.diva --core tape",
+    "run a.diva --tape a.tape",
+    "tape a.diva --dump 0:4",
+    "tape a.diva --trace",
+    "debug a.diva",
+    "debug a.diva a.commands --width 2",
+    "asm",
+    "asm a.s --core own",
+    "dis a.diva b.diva",
+    "soak",
+    "soak 1",
+    "soak 1 0",
+    "soak 1 65537",
+    "soak 4294967296 1",
+    "soak 1 1 1",
+    "soak 1 1 --core own",
+    "soak 1 1 --cycles 9",
+];
+
+/// No file is loaded.
+#[test]
+fn lines_that_are_misused(rt: HostRuntime) -> Result<(), Fail> {
+    let alloc = rt.alloc();
+    for &line in &MISUSED {
+        let loads = compare_unasked(&rt, line, five_files(alloc)?, 2, USAGE)?;
+        assert!(rt; loads.is_empty(), "{line}");
+    }
+    Ok(())
+}
+
+/// Command lines that name files that are not there, with their statuses and texts. A name may be any word: the last five name
+/// such files.
+static NOT_RUN: [(&str, u8, &str); 11] = [
     ("run b.diva", 8, "unreadable image\n"),
     ("run a.diva --script b.script", 8, "unreadable script\n"),
     ("run b.diva --script b.script", 8, "unreadable image\n"),

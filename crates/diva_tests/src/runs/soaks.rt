@@ -1,11 +1,9 @@
 // Images of seeds, each run under two cores.
-use super::refusals::USAGE;
-use super::{Outside, compare, compare_by};
+use super::{Outside, compare_by};
 use crate::cores::Flipped;
 use diva_core::Core;
 use diva_ooo::Ooo;
-use diva_outside::Fail as SinkFail;
-use std::alloc::{AllocError, Global};
+use std::alloc::Global;
 use std::process::Abort;
 use std::test::Fail;
 
@@ -23,13 +21,13 @@ own count 4 cycles 11 flushes 0
 
 /// The same where the first claim of the program's own core is wrong: it is refused in cycle 7, the checker's own
 /// instruction commits in 13, and the others are claimed one by one in the cycles 14, 21 and 28.
-const FLIPPED_LINES: &str = "\
+pub(super) const FLIPPED_LINES: &str = "\
 scalar count 4 cycles 10 flushes 0
 own count 4 cycles 34 flushes 1
 ";
 
 /// What both runs leave.
-const LEFT: &str = "\
+pub(super) const LEFT: &str = "\
 end halt 0
 output 0
 x0 00000000 x1 00000000 x2 00000000 x3 00000000
@@ -73,55 +71,4 @@ fn compare_soak<C: Core>(
         0,
         text.as_str(),
     )
-}
-
-/// Each of the thirteen lines is one put. It fails, and takes nothing, one byte, or all but one.
-#[test]
-fn soaks_that_are_cut(rt: HostRuntime) -> Result<(), Fail> {
-    let alloc = rt.alloc();
-    let whole = format!(in alloc; "{LINES}{LEFT}")?;
-    assert_eq!(rt; whole.as_str().lines().count(), 13);
-    let mut before = String::new(alloc);
-    for (call, line) in (1..=13).zip(whole.as_str().split_inclusive('\n')) {
-        for takes in [0, 1, line.len().saturating_sub(1)] {
-            let text = cut_text(alloc, before.as_str(), line, takes)?;
-            compare_cut(&rt, alloc, SinkFail { call, takes }, text.as_str())?;
-        }
-        before.push_str(line)?;
-    }
-    Ok(())
-}
-
-/// A text with the first letters of a line behind it.
-fn cut_text(alloc: Global, before: &str, line: &str, takes: usize) -> Result<String, AllocError> {
-    let mut text = String::from_str(alloc, before)?;
-    for letter in line.chars().take(takes) {
-        text.push(letter)?;
-    }
-    Ok(text)
-}
-
-/// Compares what is written where a put fails.
-fn compare_cut(rt: &impl Abort, alloc: Global, fail: SinkFail, text: &str) -> Result<(), Fail> {
-    let mut outside = without_files(alloc)?;
-    outside.put_fails.push(fail)?;
-    compare_by(rt, &mut Ooo::new(alloc)?, "soak 1 1", outside, 9, text)
-}
-
-#[test]
-fn lines_that_do_not_soak(rt: HostRuntime) -> Result<(), Fail> {
-    let alloc = rt.alloc();
-    for line in [
-        "soak",
-        "soak 1",
-        "soak 1 0",
-        "soak 1 65537",
-        "soak 4294967296 1",
-        "soak 1 1 1",
-        "soak 1 1 --core own",
-        "soak 1 1 --cycles 9",
-    ] {
-        compare(&rt, line, without_files(alloc)?, 2, USAGE)?;
-    }
-    Ok(())
 }
