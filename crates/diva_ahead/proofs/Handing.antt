@@ -8,7 +8,7 @@ use Rattle.diva_isa.specs.declared.record.Record.{Record}
 use Rattle.diva_isa.specs.declared.effect.Effect.{Effect}
 use Rattle.diva_isa.specs.declared.effect.Effect.TheVariants.{Nothing, Writes, Stores, Puts}
 use Rattle.diva_ahead.specs.Effects.{done_by}
-use Rattle.diva_ahead.specs.Ahead.{Ahead, handed, seen}
+use Rattle.diva_ahead.specs.Ahead.{Ahead, with_record, seen}
 
 abbrev pub regs_after : List ℕ → Effect → List ℕ
 regs_after regs Nothing = regs
@@ -54,19 +54,19 @@ behind_out : (b : Bool) (t : State) (e : Effect) (next end n : ℕ) → n < 2 ^ 
 behind_out true t e next end n h l = effect_out t e n h l
 behind_out false t e next end n h l = out_kept t.output n h l
 
-pub handed_is : (lead : Ahead) (s : State) (r : Record) → lead.out_len < 2 ^ 32
-    → handed lead s r ≡ record lead {
-      regs = regs_after lead.regs (done_by r);
-      pc = if r.end == 0 then r.next else lead.pc;
-      out_len = out_after lead.out_len (done_by r);
-      ring = lead.ring ++ done_by r ∷ [];
+pub handed_is : (ahead : Ahead) (s : State) (r : Record) → ahead.out_len < 2 ^ 32
+    → with_record ahead s r ≡ record ahead {
+      regs = regs_after ahead.regs (done_by r);
+      pc = if r.end == 0 then r.next else ahead.pc;
+      out_len = out_after ahead.out_len (done_by r);
+      ring = ahead.ring ++ done_by r ∷ [];
       stopped = not (r.end == 0);
     }
-unfolding handed apply done_by
-handed_is lead s r small = λ i. record lead {
-  regs = behind_regs (r.end == 0) (seen lead s) (effect_of r) r.next r.end i;
-  pc = behind_pc (r.end == 0) (seen lead s) (effect_of r) r.next r.end i;
-  out_len = behind_out (r.end == 0) (seen lead s) (effect_of r) r.next r.end lead.out_len small (length-replicate lead.out_len 0) i;
-  ring = lead.ring ++ (if r.end == 0 then effect_of r else Nothing) ∷ [];
+unfolding with_record apply done_by
+handed_is ahead s r small = λ i. record ahead {
+  regs = behind_regs (r.end == 0) (seen ahead s) (effect_of r) r.next r.end i;
+  pc = behind_pc (r.end == 0) (seen ahead s) (effect_of r) r.next r.end i;
+  out_len = behind_out (r.end == 0) (seen ahead s) (effect_of r) r.next r.end ahead.out_len small (length-replicate ahead.out_len 0) i;
+  ring = ahead.ring ++ (if r.end == 0 then effect_of r else Nothing) ∷ [];
   stopped = not (r.end == 0);
 }

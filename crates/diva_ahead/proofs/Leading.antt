@@ -19,7 +19,7 @@ use Rattle.diva_isa.proofs.Steps.{apply_record_of, steps-step, steps_ended}
 use Rattle.diva_core.proofs.Calming.{AreDueFrom}
 use Rattle.diva_core.specs.Effects.{with_effects}
 use Rattle.diva_ahead.specs.Effects.{done_by}
-use Rattle.diva_ahead.specs.Ahead.{Ahead, handed, seen}
+use Rattle.diva_ahead.specs.Ahead.{Ahead, with_record, seen}
 use Rattle.diva_ahead.proofs.Handing.{behind, behind_pc, behind_regs, regs_after}
 
 -- ---- a record depends on no end, and of the output on its length alone, up to where it is full
@@ -107,33 +107,33 @@ effects_due (p ∷ claims) s due on =
     effects_same (map done_by claims) (with_effect s (done_by p)) (step s) one ∙ effects_due claims (step s) due.1 (ap goes_on shift ∙ on) ∙ ap memory_of shift
 
 -- what the core keeps of a state
-pub record Shows (lead : Ahead) (t : State) : Type 0 where
-  pub regs : lead.regs ≡ t.regs
-  pub pc : lead.pc ≡ t.pc
-  pub output : full lead.out_len ≡ full (length t.output)
+pub record Shows (ahead : Ahead) (t : State) : Type 0 where
+  pub regs : ahead.regs ≡ t.regs
+  pub pc : ahead.pc ≡ t.pc
+  pub output : full ahead.out_len ≡ full (length t.output)
 
 -- and it has stopped exactly where that ended
-pub record Follows (lead : Ahead) (t : State) : Type 0 where
-  pub shows : Shows lead t
-  pub stopped : lead.stopped ≡ not (goes_on t)
+pub record Follows (ahead : Ahead) (t : State) : Type 0 where
+  pub shows : Shows ahead t
+  pub stopped : ahead.stopped ≡ not (goes_on t)
 
-seen_is : (lead : Ahead) (s t : State) → memory_of (with_effects s lead.ring) ≡ memory_of t → Shows lead t → seen lead s ≡ other t (replicate lead.out_len 0) 0
-seen_is lead s t memory shows = λ i. record {
+seen_is : (ahead : Ahead) (s t : State) → memory_of (with_effects s ahead.ring) ≡ memory_of t → Shows ahead t → seen ahead s ≡ other t (replicate ahead.out_len 0) 0
+seen_is ahead s t memory shows = λ i. record {
   regs = shows.regs i;
   pc = shows.pc i;
   base = (memory i).base;
   bytes = (memory i).items;
-  output = replicate lead.out_len 0;
+  output = replicate ahead.out_len 0;
   end = 0;
 }
 
 -- the record of what the core sees is the record that is due behind its pending claims
-pub seen_record : (lead : Ahead) (s : State) (claims : List Record) → lead.ring ≡ map done_by claims → AreDueFrom s claims → goes_on (steps (length claims) s) ≡ true → Shows lead (steps (length claims) s)
-    → record_of (seen lead s) ≡ record_of (steps (length claims) s)
-seen_record lead s claims ring due on shows =
+pub seen_record : (ahead : Ahead) (s : State) (claims : List Record) → ahead.ring ≡ map done_by claims → AreDueFrom s claims → goes_on (steps (length claims) s) ≡ true → Shows ahead (steps (length claims) s)
+    → record_of (seen ahead s) ≡ record_of (steps (length claims) s)
+seen_record ahead s claims ring due on shows =
     let t : State = steps (length claims) s in
-    let memory : memory_of (with_effects s lead.ring) ≡ memory_of t = ap (λ (effects : List Effect). memory_of (with_effects s effects)) ring ∙ effects_due claims s due on in
-    ap record_of (seen_is lead s t memory shows) ∙ record_of_other t (replicate lead.out_len 0) 0 (ap full (length-replicate lead.out_len 0) ∙ shows.output)
+    let memory : memory_of (with_effects s ahead.ring) ≡ memory_of t = ap (λ (effects : List Effect). memory_of (with_effects s effects)) ring ∙ effects_due claims s due on in
+    ap record_of (seen_is ahead s t memory shows) ∙ record_of_other t (replicate ahead.out_len 0) 0 (ap full (length-replicate ahead.out_len 0) ∙ shows.output)
 
 -- ---- and behind that record the core keeps the next state
 
@@ -174,16 +174,16 @@ behind_out b u t e next end h =
     ∙ full_after (length u.output) (length t.output) (puts (if b then e else Nothing)) h
     ∙ ap full (sym (behind_puts b t e next end))
 
-pub handed_shows : (lead : Ahead) (s t : State) → goes_on t ≡ true → Shows lead t → Follows (handed lead s (record_of t)) (step t)
-unfolding handed step apply done_by
-handed_shows lead s t on shows =
+pub handed_shows : (ahead : Ahead) (s t : State) → goes_on t ≡ true → Shows ahead t → Follows (with_record ahead s (record_of t)) (step t)
+unfolding with_record step apply done_by
+handed_shows ahead s t on shows =
     let r : Record = record_of t in
     let b : Bool = r.end == 0 in
     rw on (record {
       shows = record {
-        regs = behind_regs b (seen lead s) (effect_of r) r.next r.end ∙ ap (λ (rs : List ℕ). regs_after rs (if b then effect_of r else Nothing)) shows.regs ∙ sym (behind_regs b t (effect_of r) r.next r.end);
-        pc = behind_pc b (seen lead s) (effect_of r) r.next r.end ∙ ap (λ (n : ℕ). if b then r.next else n) shows.pc ∙ sym (behind_pc b t (effect_of r) r.next r.end);
-        output = behind_out b (seen lead s) t (effect_of r) r.next r.end (ap full (length-replicate lead.out_len 0) ∙ shows.output);
+        regs = behind_regs b (seen ahead s) (effect_of r) r.next r.end ∙ ap (λ (rs : List ℕ). regs_after rs (if b then effect_of r else Nothing)) shows.regs ∙ sym (behind_regs b t (effect_of r) r.next r.end);
+        pc = behind_pc b (seen ahead s) (effect_of r) r.next r.end ∙ ap (λ (n : ℕ). if b then r.next else n) shows.pc ∙ sym (behind_pc b t (effect_of r) r.next r.end);
+        output = behind_out b (seen ahead s) t (effect_of r) r.next r.end (ap full (length-replicate ahead.out_len 0) ∙ shows.output);
       };
       stopped = behind_end b t (effect_of r) r.next r.end on refl;
     })

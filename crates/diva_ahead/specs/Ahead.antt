@@ -21,19 +21,19 @@ pub record Ahead : Type 0 where
   pub stopped : Bool
 
 -- nothing is kept yet
-abbrev pub new_lead : Ahead
-new_lead = record { epoch = None; regs = replicate 32 0; pc = 0; out_len = 0; ring = []; stopped = false }
+abbrev pub new_ahead : Ahead
+new_ahead = record { epoch = None; regs = replicate 32 0; pc = 0; out_len = 0; ring = []; stopped = false }
 
 -- ---- the core's own state
 
 -- its registers, pc and output, of which only the length counts, over the memory of a state
 abbrev pub standing : Ahead → State → State
-standing lead s =
-    record { regs = lead.regs; pc = lead.pc; base = s.base; bytes = s.bytes; output = replicate lead.out_len 0; end = 0 }
+standing ahead s =
+    record { regs = ahead.regs; pc = ahead.pc; base = s.base; bytes = s.bytes; output = replicate ahead.out_len 0; end = 0 }
 
 -- what it sees: a byte of memory is that of the youngest store of the ring that covers it, else that of the state s
 abbrev pub seen : Ahead → State → State
-seen lead s = standing lead (with_effects s lead.ring)
+seen ahead s = standing ahead (with_effects s ahead.ring)
 
 -- ---- what it does with what it is told
 
@@ -42,28 +42,28 @@ is_epoch None n = false
 is_epoch (Some e) n = e == n
 
 -- it takes the machine's state
-unfoldable pub begun : Told → State → Ahead
-begun told s = record { epoch = Some told.epoch; regs = s.regs; pc = s.pc; out_len = length s.output; ring = []; stopped = false }
+unfoldable pub taken_over : Told → State → Ahead
+taken_over told s = record { epoch = Some told.epoch; regs = s.regs; pc = s.pc; out_len = length s.output; ring = []; stopped = false }
 
 -- it takes that state where the epoch that it is told differs from its own
 abbrev pub synced : Ahead → Told → State → Ahead
-synced lead told s = if is_epoch lead.epoch told.epoch then lead else begun told s
+synced ahead told s = if is_epoch ahead.epoch told.epoch then ahead else taken_over told s
 
 -- while the ring is longer than what is pending, the oldest is dropped
 unfoldable pub trimmed : Ahead → Told → Ahead
-trimmed lead told = record lead { ring = drop (length lead.ring - told.pending) lead.ring }
+trimmed ahead told = record ahead { ring = drop (length ahead.ring - told.pending) ahead.ring }
 
 -- ---- what it does with a record that it hands over
 
 -- the record is applied to registers, pc and output length, and appended to the ring; one that ends stops the core. The
 -- length stands still at the last value of its type
-unfoldable pub handed : Ahead → State → Record → Ahead
-handed lead s r =
-    let after = apply (seen lead s) r in
-    record lead {
+unfoldable pub with_record : Ahead → State → Record → Ahead
+with_record ahead s r =
+    let after = apply (seen ahead s) r in
+    record ahead {
       regs = after.regs;
       pc = after.pc;
       out_len = min (length after.output) (2 ^ 32 - 1);
-      ring = lead.ring ++ done_by r ∷ [];
+      ring = ahead.ring ++ done_by r ∷ [];
       stopped = not (r.end == 0);
     }

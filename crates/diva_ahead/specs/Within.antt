@@ -5,8 +5,8 @@ use Rattle.diva_isa.specs.declared.effect.Effect.{Effect}
 use Rattle.diva_isa.specs.declared.effect.Effect.TheVariants.{Nothing, Writes, Stores, Puts}
 
 -- what an effect stores lies at addresses from low on, before high
-abbrev pub IsWithin : (low high : ℕ) → Effect → Type 0
-IsWithin low high Nothing = ⊤
-IsWithin low high (Writes rd value) = ⊤
-IsWithin low high (Stores width addr value) = (low ≤ addr) × (addr + size width ≤ high)
-IsWithin low high (Puts byte) = ⊤
+abbrev pub StoresWithin : (low high : ℕ) → Effect → Type 0
+StoresWithin low high Nothing = ⊤
+StoresWithin low high (Writes rd value) = ⊤
+StoresWithin low high (Stores width addr value) = (low ≤ addr) × (addr + size width ≤ high)
+StoresWithin low high (Puts byte) = ⊤

@@ -2,7 +2,7 @@
 ghost use Rattle.std.specs.Prelude.{◌≡◌, ◌<◌, ◌≤◌, ◌++◌, ◌∷◌, [], length, IfOk};
 ghost use Rattle.diva_isa.specs.State.{State};
 ghost use Rattle.diva_isa.specs.Step.{HasRegister, effect_of, record_of};
-ghost use Rattle.diva_ahead.specs.Ahead.{begun, handed, is_epoch, new_lead, seen, synced, trimmed};
+ghost use Rattle.diva_ahead.specs.Ahead.{taken_over, with_record, is_epoch, new_ahead, seen, synced, trimmed};
 
 use crate::ring::Ring;
 use crate::stand::Stand;
@@ -45,7 +45,7 @@ impl Ahead {
     /// A core that has not taken the machine's state yet. The one error is that memory runs out, and no later call takes
     /// any.
     pub fn new(alloc: Global) -> Result<Self, AllocError>
-        ensures { IfOk result (λ a. a ≡ new_lead) }
+        ensures { IfOk result (λ a. a ≡ new_ahead) }
     {
         Ok(Ahead {
             epoch: None,
@@ -117,10 +117,10 @@ impl Ahead {
     // can stay in registers.
     #[cold]
     #[inline(never)]
-    #[tactic(auto, unfolding(crate::specs::Ahead::begun))]
+    #[tactic(auto, unfolding(crate::specs::Ahead::taken_over))]
     fn begin(&mut self, epoch: u64, regs: &Regs, pc: u32, out_len: u32)
         ensures { (told : Told) (s : State) → told.epoch ≡ epoch → s.regs ≡ regs.now → s.pc ≡ pc → length s.output ≡ out_len
-            → self.new ≡ begun told s }
+            → self.new ≡ taken_over told s }
     {
         self.epoch = Some(epoch);
         self.regs = *regs;
@@ -147,7 +147,7 @@ impl Ahead {
         requires ring { length self.old.ring < 64 }
         requires list { length out.old < 8 }
         ensures list { out.new ≡ out.old ++ record_of (seen self.old view.now) ∷ [] }
-        ensures core { (s : State) → self.new ≡ handed self.old s (record_of (seen self.old view.now)) }
+        ensures core { (s : State) → self.new ≡ with_record self.old s (record_of (seen self.old view.now)) }
     {
         let stand = Stand { ahead: self, view };
         let fetched = fetch(&stand);
@@ -165,7 +165,7 @@ impl Ahead {
         requires room { length self.old.ring < 64 }
         requires effect { effect ≡ effect_of r.now }
         requires register { HasRegister effect }
-        ensures { (s : State) → self.new ≡ handed self.old s r.now }
+        ensures { (s : State) → self.new ≡ with_record self.old s r.now }
     {
         self.stopped = r.end != 0;
         if r.end != 0 {

@@ -30,14 +30,14 @@ impl Model for Ring {
     ghost use Rattle.std.specs.List.{All};
     ghost use Rattle.diva_isa.specs.declared.effect.Effect.{Effect};
     ghost use Rattle.diva_core.specs.Cycle.{is_store};
-    ghost use Rattle.diva_ahead.specs.Within.{IsWithin};
+    ghost use Rattle.diva_ahead.specs.Within.{StoresWithin};
 
     ghost Value = { List Effect };
 
     ghost view = { λ r. r.effects.items };
 
     ghost invariant = { λ r.
-        (r.effects.capacity ≡ 64) × (count_by is_store (drop r.reach r.effects.items) ≡ 0) × All (IsWithin r.low r.high) r.effects.items };
+        (r.effects.capacity ≡ 64) × (count_by is_store (drop r.reach r.effects.items) ≡ 0) × All (StoresWithin r.low r.high) r.effects.items };
 }
 
 impl Ring {

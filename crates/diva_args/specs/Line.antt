@@ -10,7 +10,7 @@ use Rattle.diva_core.specs.Timed.{Config, default_config}
 use Rattle.diva_core.specs.Machine.{config_in_range}
 use Rattle.diva_args.specs.Command.{diva}
 use Rattle.diva_args.specs.Options.{DebugOptions, DumpRange, RunOptions, Setup, SoakOptions, TapeOptions, default_cycles, longest_soak, most_cycles}
-use Rattle.diva_args.specs.Values.{core_of, dump_of, given_number, is_set_by, number_of, number_or}
+use Rattle.diva_args.specs.Values.{core_of, dump_of, given_number, is_set_by, ranged_or, number_or}
 use Rattle.diva_args.specs.declared.job.CoreChoice.{CoreChoice}
 use Rattle.diva_args.specs.declared.job.Job.{Job}
 use Rattle.diva_args.specs.declared.job.Job.TheVariants as job
@@ -65,7 +65,7 @@ wide_from value = setup_from (number_or default_config.width (value (codes "widt
 
 -- the cycles to run at most
 unfoldable pub cycles_from : (Text → Option Text) → Option ℕ
-cycles_from value = number_of 1 most_cycles default_cycles (value (codes "cycles"))
+cycles_from value = ranged_or 1 most_cycles default_cycles (value (codes "cycles"))
 
 abbrev pub run_with : Option Setup → Option ℕ → Bool → Option (Option DumpRange) → Option RunOptions
 run_with setup cycles trace dump = option_and_then (λ s. option_and_then (λ c. option_map (λ d.

@@ -46,13 +46,13 @@ abbrev pub given_number : ℕ → ℕ → Option Text → Option ℕ
 given_number least most word = option_and_then (number_in_range least most) word
 
 -- a number from `least` to `most`, or what stands for one that is not given
-abbrev pub number_of : ℕ → ℕ → ℕ → Option Text → Option ℕ
-number_of least most otherwise None = Some otherwise
-number_of least most otherwise (Some word) = number_in_range least most word
+abbrev pub ranged_or : ℕ → ℕ → ℕ → Option Text → Option ℕ
+ranged_or least most otherwise None = Some otherwise
+ranged_or least most otherwise (Some word) = number_in_range least most word
 
 -- a number below 2 ^ 32, or what stands for one that is not given
 abbrev pub number_or : (otherwise : ℕ) → Option Text → Option ℕ
-number_or otherwise = number_of 0 4294967295 otherwise
+number_or otherwise = ranged_or 0 4294967295 otherwise
 
 -- `:`
 abbrev pub is_colon : ℕ → Bool

@@ -1,6 +1,6 @@
 // The values of options as cores, numbers and parts of memory.
 ghost use Rattle.std.specs.Prelude.{◌≡◌, ◌≤◌, IfOk, IfSome, None, Some, option_map};
-ghost use Rattle.diva_args.specs.Values.{core_named, core_of, dump_of, dump_range_of, number_in_range, number_of};
+ghost use Rattle.diva_args.specs.Values.{core_named, core_of, dump_of, dump_range_of, number_in_range, ranged_or};
 
 use crate::fault::ArgsFault;
 use crate::file_name::FileName;
@@ -53,7 +53,7 @@ pub(crate) fn number(word: Option<&str>, least: u32, most: u32, otherwise: u32) 
     requires low { least ≤ otherwise }
     requires high { otherwise ≤ most }
     ensures value { result
-        ≡ number_of least most otherwise (option_map (λ text. text.now) word.entry) }
+        ≡ ranged_or least most otherwise (option_map (λ text. text.now) word.entry) }
     ensures in_range { IfSome result (λ n. (least ≤ n) × (n ≤ most)) }
 {
     match word {

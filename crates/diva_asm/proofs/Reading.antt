@@ -7,7 +7,7 @@ use Rattle.diva_asm.specs.Texts.{trim}
 use Rattle.std.specs.Map.{lookup}
 use Rattle.std.specs.Str.{bytes_eq}
 use Rattle.std.proofs.lemmas.Grind.{common_steps}
-use Rattle.diva_asm.specs.Operands.{is_within, registers, register_of, number_of, number_in, place_of, Place}
+use Rattle.diva_asm.specs.Operands.{is_within, registers, register_of, operand_number, number_in, place_of, Place}
 use Rattle.diva_asm.specs.Mnemonics.{operands_of}
 use Rattle.diva_outside.specs.Steps.{and_then}
 use Rattle.diva_asm.specs.Statements.{opens, closes, has_shape, have_shapes, with_operand, with_operands, no_operands}
@@ -45,7 +45,7 @@ register_small word n e = small_found (λ name. bytes_eq name word) registers n 
 
 number_within : (low high : ℤ) (text : List ℕ) (z : ℤ) → number_in low high text ≡ Some z → is_within low high z ≡ true
 unfolding number_in
-number_within low high text z e = by (number_of text) e
+number_within low high text z e = by (operand_number text) e
   where
     by_test : (y : ℤ) (t : Bool) → is_within low high y ≡ t → cond t (Some y) None ≡ Some z → is_within low high z ≡ true
     by_test y true p q = let same : y ≡ z = cc in rw (← same) p

@@ -4,7 +4,7 @@ use Rattle.std.specs.Int.{cast_signed, cast_unsigned, to_le_bytes, w32}
 use Rattle.std.specs.List.{flat_map}
 use Rattle.std.specs.Option.{ok_or, option_map}
 use Rattle.diva_decode.specs.Fields.{signed}
-use Rattle.diva_decode.specs.Table.{Format, format, word_of}
+use Rattle.diva_decode.specs.Table.{Format, format, encoding_of}
 use Rattle.diva_decode.specs.Table.Format.{U, J, B}
 use Rattle.diva_decode.specs.declared.op.Op.{Op}
 use Rattle.diva_decode.specs.declared.op.Op.TheVariants.{Lui, Addi, Jal, Jalr}
@@ -99,16 +99,16 @@ instructions m v address pc = Ok []
 -- ---- bytes
 
 abbrev pub bytes_of_words : List Instr → List ℕ
-bytes_of_words is = flat_map (λ i. to_le_bytes w32 (word_of i)) is
+bytes_of_words is = flat_map (λ i. to_le_bytes w32 (encoding_of i)) is
 
 abbrev pub in_bytes : Result (List Instr) Kind → Result (List ℕ) Kind
 in_bytes is = and_then is (λ done. Ok (bytes_of_words done))
 
-unfoldable pub bytes_of : Mnemonic → Operands → ℕ → ℕ → Result (List ℕ) Kind
-bytes_of Word v address pc = Ok (to_le_bytes w32 address)
-bytes_of Byte v address pc = Ok (word_from v.number % 2 ^ 8 ∷ [])
-bytes_of Space v address pc = Ok (replicate (word_from v.number) 0)
-bytes_of m v address pc = in_bytes (instructions m v address pc)
+unfoldable pub statement_bytes : Mnemonic → Operands → ℕ → ℕ → Result (List ℕ) Kind
+statement_bytes Word v address pc = Ok (to_le_bytes w32 address)
+statement_bytes Byte v address pc = Ok (word_from v.number % 2 ^ 8 ∷ [])
+statement_bytes Space v address pc = Ok (replicate (word_from v.number) 0)
+statement_bytes m v address pc = in_bytes (instructions m v address pc)
 
 -- ---- lines
 
@@ -122,7 +122,7 @@ is_entry m = false
 unfoldable pub built_at : ℕ → Built → Mnemonic → Operands → ℕ → Result Built Kind
 built_at base built m v address =
     if is_entry m then Ok (record built { entry = Some address })
-    else and_then (bytes_of m v address ((base + length built.bytes) % 2 ^ 32)) (λ more. Ok (record built { bytes = built.bytes ++ more }))
+    else and_then (statement_bytes m v address ((base + length built.bytes) % 2 ^ 32)) (λ more. Ok (record built { bytes = built.bytes ++ more }))
 
 -- a statement of a source with base and labels, or none
 abbrev pub built_by : ℕ → Labels → Built → Option Statement → Result Built Kind

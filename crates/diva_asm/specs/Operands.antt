@@ -44,8 +44,8 @@ unfoldable pub unsigned_of : Text → Option ℕ
 unsigned_of text = option_and_then (λ n. if nat_lt n (2 ^ 32) then Some n else None) (digits_of text)
 
 -- with or without a leading -
-unfoldable pub number_of : Text → Option ℤ
-number_of text =
+unfoldable pub operand_number : Text → Option ℤ
+operand_number text =
     if starts_with nat_eq text (codes "-") then option_map (λ n. neg_ℤ (pos n)) (unsigned_of (drop 1 text))
     else option_map (λ n. pos n) (unsigned_of text)
 
@@ -54,7 +54,7 @@ is_within low high z = int_le low z && int_le z high
 
 -- the number, where it is from low to high
 unfoldable pub number_in : ℤ → ℤ → Text → Option ℤ
-number_in low high text = option_and_then (λ z. if is_within low high z then Some z else None) (number_of text)
+number_in low high text = option_and_then (λ z. if is_within low high z then Some z else None) (operand_number text)
 
 -- modulo 2 ^ 32
 abbrev pub word_from : ℤ → ℕ

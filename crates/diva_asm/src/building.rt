@@ -3,7 +3,7 @@ ghost use Rattle.std.specs.Prelude.{◌≡◌, ◌++◌, ◌+◌, ◌%◌, ◌^�
 ghost use Rattle.diva_decode.specs.Table.{format, IsValid};
 ghost use Rattle.diva_asm.specs.Mnemonics.{format_operands};
 ghost use Rattle.diva_asm.specs.Reads.{Keeps, uses, unused, IsRead};
-ghost use Rattle.diva_asm.specs.Building.{nothing_built, value_of, two_words, in_bytes, one_instruction, instructions, bytes_of_words, bytes_of, is_entry, built_at, built_by, built_text};
+ghost use Rattle.diva_asm.specs.Building.{nothing_built, value_of, two_words, in_bytes, one_instruction, instructions, bytes_of_words, statement_bytes, is_entry, built_at, built_by, built_text};
 ghost use Rattle.diva_asm.specs.Texts.{without_comment, labels_of};
 ghost use Rattle.diva_asm.specs.Gives.{Gives, Appends};
 
@@ -117,7 +117,7 @@ fn value_of(labels: &Labels<'_>, place: &Place<'_>) -> Option<u32>
 }
 
 /// A statement's bytes at the end.
-#[tactic(auto, unfolding(crate::specs::Building::bytes_of))]
+#[tactic(auto, unfolding(crate::specs::Building::statement_bytes))]
 fn push_statement(
     bytes: &mut Bytes,
     mnemonic: Mnemonic,
@@ -126,7 +126,7 @@ fn push_statement(
     pc: u32,
 ) -> Result<(), Stop>
     requires { IsRead mnemonic operands.now }
-    ensures { Appends (bytes_of mnemonic operands.now address pc) bytes.old bytes.new result }
+    ensures { Appends (statement_bytes mnemonic operands.now address pc) bytes.old bytes.new result }
 {
     match mnemonic {
         Mnemonic::Word => bytes.push_word(address)?,

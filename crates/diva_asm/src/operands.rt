@@ -4,7 +4,7 @@ ghost use Rattle.std.specs.Map.{lookup};
 ghost use Rattle.std.specs.Str.{bytes_eq};
 ghost use Rattle.std.specs.Option.{ok_or, option_map};
 ghost use Rattle.diva_asm.specs.declared.fault.Kind.TheVariants.{NoRegister, BadNumber};
-ghost use Rattle.diva_asm.specs.Operands.{Place as Place, register_of, digits_of, unsigned_of, number_of, number_in, word_from, offset_of, place_at, place_of};
+ghost use Rattle.diva_asm.specs.Operands.{Place as Place, register_of, digits_of, unsigned_of, operand_number, number_in, word_from, offset_of, place_at, place_of};
 
 use crate::fault::Kind;
 use crate::texts::{name_len, trim};
@@ -176,9 +176,9 @@ fn digits(text: &[u8]) -> Option<u64>
     }
 }
 
-#[tactic(auto, unfolding(crate::specs::Operands::number_of))]
+#[tactic(auto, unfolding(crate::specs::Operands::operand_number))]
 fn number(text: &[u8]) -> Option<i64>
-    ensures { result ≡ number_of text.now }
+    ensures { result ≡ operand_number text.now }
 {
     if text.starts_with(b"-") {
         match unsigned(&text[1..]) {

@@ -144,40 +144,40 @@ own_run gives options core last after few s =
     soak_run gives gives options Own core after core last after few s (soak_turns gives options core last after few s)
 
 scalar_run :
-    {C : Type 0} (gives : Meaning C) (options : SoakOptions) (core : C) (last : Timed) (lead : Ahead)
-    → options.instructions ≤ longest_soak → Soaks IsScalarCall options new_scalar last lead
+    {C : Type 0} (gives : Meaning C) (options : SoakOptions) (core : C) (last : Timed) (ahead : Ahead)
+    → options.instructions ≤ longest_soak → Soaks IsScalarCall options new_scalar last ahead
     → IsSoakRun gives options Scalar core last core
-scalar_run gives options core last lead few s =
-    soak_run gives IsScalarCall options Scalar core core new_scalar last lead few s
-    (handed_for gives Scalar [] [] (soak_new options) core (lists IsScalarCall options new_scalar last lead few s) last core
+scalar_run gives options core last ahead few s =
+    soak_run gives IsScalarCall options Scalar core core new_scalar last ahead few s
+    (handed_for gives Scalar [] [] (soak_new options) core (lists IsScalarCall options new_scalar last ahead few s) last core
     (new_leads default_config (soak_start options) sizes_fit)
-    (record { final = lead; turns = soak_turns IsScalarCall options new_scalar last lead few s; same = refl }))
+    (record { final = ahead; turns = soak_turns IsScalarCall options new_scalar last ahead few s; same = refl }))
 
 -- ---- what is written of them
 
-module _ {C : Type 0} (gives : Meaning C) (options : SoakOptions) (bytes : FileBytes) (core : C) (lead : Ahead) (first second : Timed) (after : C)
-    (few : options.instructions ≤ longest_soak) (one : Soaks IsScalarCall options new_scalar first lead) (two : Soaks gives options core second after)
+module _ {C : Type 0} (gives : Meaning C) (options : SoakOptions) (bytes : FileBytes) (core : C) (ahead : Ahead) (first second : Timed) (after : C)
+    (few : options.instructions ≤ longest_soak) (one : Soaks IsScalarCall options new_scalar first ahead) (two : Soaks gives options core second after)
     (old new : Option (List ℕ)) (before now : ℕ) where
   abbrev first_end : (first.arch ≡ steps (table_halts options few).after (soak_start options)) × (first.count ≡ (table_halts options few).after)
-  first_end = at_end IsScalarCall options new_scalar first lead few one
+  first_end = at_end IsScalarCall options new_scalar first ahead few one
 
   abbrev second_end : (second.arch ≡ steps (table_halts options few).after (soak_start options)) × (second.count ≡ (table_halts options few).after)
   second_end = at_end gives options core second after few two
 
   first_halts : first.arch.end ≡ halt 0
-  first_halts = halted IsScalarCall options new_scalar first lead few one
+  first_halts = halted IsScalarCall options new_scalar first ahead few one
 
   means : (ended : Result ℕ (List ℕ)) → IfOk ended (λ s. s ≡ 0) → HasSoaked gives options core after ended (soak_text first second)
   means ended whole = record {
     first = first;
-    under_scalar = scalar_run gives options core first lead few one;
+    under_scalar = scalar_run gives options core first ahead few one;
     second = second;
     under_own = own_run gives options core second after few two;
     halts = (first_halts, halted gives options core second after few two);
     few = (let e = first_end.1 in let h = (table_halts options few).few in omega arith);
     same = (second_end.0 ∙ sym first_end.0, second_end.1 ∙ sym first_end.1);
-    paced = scalar_ends default_config (soak_start options) first lead one.turns.history sizes_fit refl one.turns.good (ap (λ end. end == 0) first_halts);
-    unflushed = scalar_unflushed default_config (soak_start options) first lead one.turns.history sizes_fit one.turns.good;
+    paced = scalar_ends default_config (soak_start options) first ahead one.turns.history sizes_fit refl one.turns.good (ap (λ end. end == 0) first_halts);
+    unflushed = scalar_unflushed default_config (soak_start options) first ahead one.turns.history sizes_fit one.turns.good;
     lines = refl;
     whole = whole;
   }

@@ -3,7 +3,7 @@ use Rattle.std.specs.Prelude.{◌≡◌, ℕ, Result, Ok, IfOk}
 use Rattle.std.specs.List.{concat}
 use Rattle.diva_outside.specs.Text.{Text}
 use Rattle.diva_outside.specs.declared.files.What.TheVariants.{Image, Source}
-use Rattle.diva_image.specs.Images.{bytes_of, image_of}
+use Rattle.diva_image.specs.Images.{image_bytes, image_of}
 use Rattle.diva_image.specs.Layout.{Layout}
 use Rattle.diva_asm.specs.Listing.{listing_of}
 use Rattle.diva_asm.specs.Sources.{source_of}
@@ -18,7 +18,7 @@ pub record IsAlone {C : Type 0} (core after : C) (ended : Result ℕ Text) : Typ
 pub record HasAssembled {C : Type 0} (bytes : FileBytes) (core after : C) (ended : Result ℕ Text) (text : Text) : Type 0 where
   pub image : Layout
   pub assembled : source_of (bytes Source) ≡ Ok image
-  pub written : text ≡ bytes_of image
+  pub written : text ≡ image_bytes image
   pub alone : IsAlone core after ended
 
 -- a line for each word of an image

@@ -2,7 +2,7 @@
 use Rattle.std.specs.Prelude.{ℕ, ◌≡◌, ◌&&◌, Bool, true, false, List, [], ◌∷◌, ◌++◌, length, Option, Some, None, if◌then◌else◌}
 use Rattle.diva_memory.specs.Bytes.{Bytes}
 use Rattle.diva_storeq.specs.declared.masked.Masked.{Masked}
-use Rattle.diva_storeq.specs.Masked.{IsWithin}
+use Rattle.diva_storeq.specs.Masked.{WritesInside}
 use Rattle.diva_isa.specs.State.{State}
 use Rattle.diva_isa.specs.End.{end_of}
 use Rattle.diva_isa.specs.declared.end.End.{End}
@@ -20,7 +20,7 @@ state_of regs pc m output end = record { regs = regs; pc = pc; base = m.base; by
 -- each of the stores lies inside memory
 abbrev pub AreInside : Bytes → List Masked → Type 0
 AreInside m [] = Unit {0}
-AreInside m (s ∷ stores) = IsWithin m s × AreInside m stores
+AreInside m (s ∷ stores) = WritesInside m s × AreInside m stores
 
 -- a record commits, and the state has ended so, if it has
 abbrev pub ending : End → Committed

@@ -21,7 +21,7 @@ use Rattle.diva_isa.specs.declared.record.Record.{Record}
 use Rattle.diva_core.specs.declared.pending.Entry.{Entry}
 use Rattle.diva_core.specs.Cycle.{is_store}
 use Rattle.diva_core.specs.Effects.{is_apart}
-use Rattle.diva_core.specs.Entries.{has_store_opcode, may_store, IsWithin}
+use Rattle.diva_core.specs.Entries.{has_store_opcode, may_store, MayStoreWithin}
 use Rattle.diva_core.specs.Older.{older, with_claims}
 use Rattle.diva_core.proofs.Forms.{stores_none}
 use Rattle.diva_core.proofs.Reach.{each_fails}
@@ -70,7 +70,7 @@ claim_lies : (decoded : Option Instr) (r : Record) → LiesAt r.addr (effect_by 
 claim_lies None r a n k = refl
 claim_lies (Some i) r a n k = effect_lies (kind i.op) i r a n k
 
-by_opcode : (b : Bool) (e : Entry) (low high a n : ℕ) → may_store e ≡ b → IsWithin low high e → (a + n ≤ low) ⊎ (high ≤ a) → is_apart (effect_of e.claim) a n ≡ true
+by_opcode : (b : Bool) (e : Entry) (low high a n : ℕ) → may_store e ≡ b → MayStoreWithin low high e → (a + n ≤ low) ⊎ (high ≤ a) → is_apart (effect_of e.claim) a n ≡ true
 by_opcode false e low high a n m h k = quiet_apart (effect_of e.claim) a n (stores_none e.claim (λ t. absurd (cc)))
 by_opcode true e low high a n m h (inl k) =
     let in_it = h m in let f = in_it.0 in claim_lies (row_of e.claim.word) e.claim a n (inl (omega arith))
@@ -81,15 +81,15 @@ and_both : (b c : Bool) → b ≡ true → c ≡ true → (b && c) ≡ true
 and_both b c h k = rw (h, k) refl
 
 -- no claim stores before the interval, or behind it
-outside_apart : (entries : List Entry) (low high a n : ℕ) → All (IsWithin low high) entries → (a + n ≤ low) ⊎ (high ≤ a) → list_all (λ e. is_apart (effect_of e.claim) a n) entries ≡ true
+outside_apart : (entries : List Entry) (low high a n : ℕ) → All (MayStoreWithin low high) entries → (a + n ≤ low) ⊎ (high ≤ a) → list_all (λ e. is_apart (effect_of e.claim) a n) entries ≡ true
 outside_apart [] low high a n h k = refl
 outside_apart (e ∷ entries) low high a n h k =
-    and_both (is_apart (effect_of e.claim) a n) (list_all (λ d. is_apart (effect_of d.claim) a n) entries) (by_opcode (may_store e) e low high a n refl (All-head (IsWithin low high) e entries h) k) (outside_apart entries low high a n (All-tail (IsWithin low high) e entries h) k)
+    and_both (is_apart (effect_of e.claim) a n) (list_all (λ d. is_apart (effect_of d.claim) a n) entries) (by_opcode (may_store e) e low high a n refl (All-head (MayStoreWithin low high) e entries h) k) (outside_apart entries low high a n (All-tail (MayStoreWithin low high) e entries h) k)
 
-pub before_apart : (entries : List Entry) (low high a n : ℕ) → All (IsWithin low high) entries → a + n ≤ low → list_all (λ e. is_apart (effect_of e.claim) a n) entries ≡ true
+pub before_apart : (entries : List Entry) (low high a n : ℕ) → All (MayStoreWithin low high) entries → a + n ≤ low → list_all (λ e. is_apart (effect_of e.claim) a n) entries ≡ true
 before_apart entries low high a n h k = outside_apart entries low high a n h (inl k)
 
-pub behind_apart : (entries : List Entry) (low high a n : ℕ) → All (IsWithin low high) entries → high ≤ a → list_all (λ e. is_apart (effect_of e.claim) a n) entries ≡ true
+pub behind_apart : (entries : List Entry) (low high a n : ℕ) → All (MayStoreWithin low high) entries → high ≤ a → list_all (λ e. is_apart (effect_of e.claim) a n) entries ≡ true
 behind_apart entries low high a n h k = outside_apart entries low high a n h (inr k)
 
 count_first : (entries : List Entry) (e : Entry) → count_by may_store (e ∷ entries) ≡ cond (may_store e) 1 0 + count_by may_store entries
@@ -151,11 +151,11 @@ noted_behind (suc n) (x ∷ entries) (suc at) e d h c none = noted_behind n entr
 in_it : {X : Type 0} (P : X → Type 0) (xs : List X) (at : ℕ) (x : X) → All P xs → slice_get xs at ≡ Some x → P x
 in_it P xs at x all h = subst P (get_or_from_slice_get xs at x x h) (all at x (slice_get_within xs at x h))
 
-pub noted_within : (entries : List Entry) (at : ℕ) (e d : Entry) (low high : ℕ) → slice_get entries at ≡ Some e → d.claim ≡ e.claim → All (IsWithin low high) entries → All (IsWithin low high) (slice_set entries at d)
+pub noted_within : (entries : List Entry) (at : ℕ) (e d : Entry) (low high : ℕ) → slice_get entries at ≡ Some e → d.claim ≡ e.claim → All (MayStoreWithin low high) entries → All (MayStoreWithin low high) (slice_set entries at d)
 noted_within entries at e d low high h c all =
-    All-set (IsWithin low high) entries at d (subst (λ (r : Record). has_store_opcode r.word ≡ true → (low ≤ r.addr) × (r.addr + 4 ≤ high)) (sym c) (in_it (IsWithin low high) entries at e all h)) all
+    All-set (MayStoreWithin low high) entries at d (subst (λ (r : Record). has_store_opcode r.word ≡ true → (low ≤ r.addr) × (r.addr + 4 ≤ high)) (sym c) (in_it (MayStoreWithin low high) entries at e all h)) all
 
 -- the interval grows, or nothing was in it
-pub widened_within : (n : ℕ) (entries : List Entry) (low high from to : ℕ) → count_by may_store (drop n entries) ≡ 0 → (0 < n → (from ≤ low) × (high ≤ to)) → All (IsWithin low high) entries → All (IsWithin from to) entries
+pub widened_within : (n : ℕ) (entries : List Entry) (low high from to : ℕ) → count_by may_store (drop n entries) ≡ 0 → (0 < n → (from ≤ low) × (high ≤ to)) → All (MayStoreWithin low high) entries → All (MayStoreWithin from to) entries
 widened_within zero entries low high from to none w all = λ k d l m. let f = each_fails may_store entries none k d l in absurd (cc)
 widened_within (suc n) entries low high from to none w all = λ k d l m. let wider = w (omega arith) in let here = all k d l m in (omega arith, omega arith)

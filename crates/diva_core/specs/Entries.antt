@@ -16,5 +16,5 @@ abbrev pub may_store : Entry → Bool
 may_store e = has_store_opcode e.claim.word
 
 -- what an entry may store lies at addresses from low on, before high
-abbrev pub IsWithin : (low high : ℕ) → Entry → Type 0
-IsWithin low high e = may_store e ≡ true → (low ≤ e.claim.addr) × (e.claim.addr + 4 ≤ high)
+abbrev pub MayStoreWithin : (low high : ℕ) → Entry → Type 0
+MayStoreWithin low high e = may_store e ≡ true → (low ≤ e.claim.addr) × (e.claim.addr + 4 ≤ high)

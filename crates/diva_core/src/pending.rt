@@ -90,9 +90,9 @@ impl Entry {
     }
 }
 
-/// A ring of pending claims, the oldest first: 64 at most. It takes no memory after its making.
+/// The pending claims, the oldest first: 64 at most. It takes no memory after its making.
 ///
-/// Most reads of memory meet no store in flight. So the ring knows how far back the youngest claim is that may be a store,
+/// Most reads of memory meet no store in flight. So it knows how far back the youngest claim is that may be a store,
 /// and an interval of addresses in which all of them lie: a read outside of that looks through no claim.
 #[derive(Drop)]
 pub struct Pending {
@@ -112,13 +112,13 @@ impl Model for Pending {
 
     ghost use Rattle.std.specs.Prelude.{◌≡◌, ◌≤◌, count_by, drop};
     ghost use Rattle.std.specs.List.{All};
-    ghost use Rattle.diva_core.specs.Entries.{IsDecoded, IsWithin, may_store};
+    ghost use Rattle.diva_core.specs.Entries.{IsDecoded, MayStoreWithin, may_store};
 
     ghost view = { λ p. p.entries };
 
     ghost invariant = { λ p.
         All IsDecoded p.entries.items × (p.entries.capacity ≤ 64)
-        × (count_by may_store (drop p.reach p.entries.items) ≡ 0) × All (IsWithin p.low p.high) p.entries.items };
+        × (count_by may_store (drop p.reach p.entries.items) ≡ 0) × All (MayStoreWithin p.low p.high) p.entries.items };
 }
 
 impl Pending {
@@ -126,10 +126,10 @@ impl Pending {
     ghost use Rattle.diva_core.specs.Entries.{IsDecoded};
     ghost use Rattle.diva_core.specs.declared.pending.Entry.{Entry};
 
-    /// The most claims that a ring holds.
+    /// The most claims that are pending.
     pub const MOST: usize = 64;
 
-    /// An empty ring for `q` claims, 64 at most. The one error is that memory runs out.
+    /// No pending claim, with room for `q`, 64 at most. The one error is that memory runs out.
     pub fn new(alloc: Global, q: usize) -> Result<Self, AllocError>
         requires { q ≤ 64 }
         ensures { IfOk result (λ p. p ≡ buffer [] q) }

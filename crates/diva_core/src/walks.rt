@@ -1,4 +1,4 @@
-// Walks over the oldest claims of a ring: what they say that they wrote, stored and put.
+// Walks over the oldest pending claims: what they say that they wrote, stored and put.
 //
 // Each begins with what the state has before them, and tells what it has after them.
 ghost use Rattle.std.specs.Prelude.{◌≡◌, ◌+◌, ◌<◌, ◌≤◌, ◌%◌, ℕ, length, None, Some, IfSome};

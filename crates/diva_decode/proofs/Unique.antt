@@ -5,7 +5,7 @@ use Rattle.std.specs.Option.{option_map, IfSome}
 use Rattle.std.proofs.lemmas.Bool.Decides.{nat_tests}
 use Rattle.std.proofs.lemmas.Int.{ints}
 use Rattle.diva_decode.specs.Fields.{opcode, funct3, funct7, rd, rs1, rs2, field, imm_i, imm_s, imm_b, imm_u, imm_j}
-use Rattle.diva_decode.specs.Table.{row_of, word_of, word_in, op_of, table, format, Format, fits, instr_of, U, J, I, Shift, B, S, R, Open, Exact, Holds, IsValid, HasRegisters}
+use Rattle.diva_decode.specs.Table.{row_of, encoding_of, word_in, op_of, table, format, Format, fits, instr_of, U, J, I, Shift, B, S, R, Open, Exact, FitsFormat, IsValid, HasRegisters}
 use Rattle.diva_decode.specs.declared.op.Op.{Op}
 use Rattle.diva_decode.specs.declared.op.Op.TheVariants.{Fence}
 use Rattle.diva_decode.specs.declared.instr.Instr.{Instr}
@@ -107,7 +107,7 @@ one_word v w i hv hw d ev ew =
     same_words i.op v w hv hw (format i.op) (closed i.op d) a.0 b.0 (a.1 ∙ sym b.1)
 
 -- what a word says is valid
-valid_by : (s : Format) (op : Op) (w : ℕ) → w < 2 ^ 32 → Holds s (instr_of s op w)
+valid_by : (s : Format) (op : Op) (w : ℕ) → w < 2 ^ 32 → FitsFormat s (instr_of s op w)
 valid_by (R f7 f3 o) op w h = (omega arith, omega arith, omega arith, refl)
 valid_by (Open f3 o) op w h = (refl, refl, refl, refl)
 valid_by (Exact x) op w h = (refl, refl, refl, refl)
@@ -116,7 +116,7 @@ valid_by s op w h = grind (arith, ints, nat_tests)
 pub row_valid : (w : ℕ) (i : Instr) → w < 2 ^ 32 → row_of w ≡ Some i → IsValid i
 row_valid w i h e =
     let a = row_parts w i e in
-    subst (λ j. Holds (format i.op) j) a.1 (valid_by (format i.op) i.op w h)
+    subst (λ j. FitsFormat (format i.op) j) a.1 (valid_by (format i.op) i.op w h)
 
 registers_below : (s : Format) (op : Op) (w : ℕ) → HasRegisters (instr_of s op w)
 registers_below (Exact x) op w = (omega arith, omega arith, omega arith)
@@ -135,17 +135,17 @@ valid_if (Some i) w h e = row_valid w i h (sym e)
 
 -- ---- the word of what a word says
 
-word_in-below : (op : Op) (i : Instr) → Holds (format op) i → word_in (format op) i < 2 ^ 32
+word_in-below : (op : Op) (i : Instr) → FitsFormat (format op) i → word_in (format op) i < 2 ^ 32
 word_in-below Fence i h = omega arith
 word_in-below op i h = omega arith
 
-word_of-below : (i : Instr) → IsValid i → word_of i < 2 ^ 32
-unfolding word_of
+word_of-below : (i : Instr) → IsValid i → encoding_of i < 2 ^ 32
+unfolding encoding_of
 word_of-below i h = word_in-below i.op i h
 
 -- but for FENCE, the word of what w says is w
-pub encodes_if : (r : Option Instr) (w : ℕ) → w < 2 ^ 32 → r ≡ row_of w → IfSome r (λ i. i.op ≢ Fence → word_of i ≡ w)
+pub encodes_if : (r : Option Instr) (w : ℕ) → w < 2 ^ 32 → r ≡ row_of w → IfSome r (λ i. i.op ≢ Fence → encoding_of i ≡ w)
 encodes_if None w h e = tt
 encodes_if (Some i) w h e = λ d.
     let valid = row_valid w i h (sym e) in
-    one_word (word_of i) w i (word_of-below i valid) h d (row_word_of i valid) (sym e)
+    one_word (encoding_of i) w i (word_of-below i valid) h d (row_word_of i valid) (sym e)

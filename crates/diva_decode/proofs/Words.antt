@@ -4,7 +4,7 @@ use Rattle.std.specs.Int.{cast_unsigned, w32}
 use Rattle.std.proofs.lemmas.Int.{ints}
 use Rattle.std.proofs.lemmas.Bool.Decides.{nat_tests}
 use Rattle.diva_decode.specs.Fields.{opcode, funct3, funct7, rd, rs1, rs2, field, signed, imm_i, imm_s, imm_b, imm_u, imm_j}
-use Rattle.diva_decode.specs.Table.{row_of, word_of, word_in, op_at, format, FitsBits, Holds, IsValid, instr_of, R, B, I, S, J, U, Shift, Exact}
+use Rattle.diva_decode.specs.Table.{row_of, encoding_of, word_in, op_at, format, FitsBits, FitsFormat, IsValid, instr_of, R, B, I, S, J, U, Shift, Exact}
 use Rattle.diva_decode.specs.declared.instr.Instr.{Instr}
 use Rattle.diva_decode.specs.declared.op.Op.{Op}
 use Rattle.diva_decode.specs.declared.op.Op.TheVariants.{Lui, Auipc, Jal, Jalr, Beq, Bne, Blt, Bge, Bltu, Bgeu, Lb, Lh, Lw, Lbu, Lhu, Sb, Sh, Sw, Addi, Slti, Sltiu, Xori, Ori, Andi, Slli, Srli, Srai, Add, Sub, Sll, Slt, Sltu, Xor, Srl, Sra, Or, And, Fence, Ecall, Ebreak, Mul, Mulh, Mulhsu, Mulhu, Div, Divu, Rem, Remu}
@@ -44,7 +44,7 @@ same_instr : (i : Instr) (d a b : ℕ) (z : ℤ) → d ≡ i.rd → a ≡ i.rs1 
 same_instr i d a b z ed ea eb ez = rw (ed, ea, eb, ez) refl
 
 module _ (w : ℕ) (i : Instr) where
-  register_says : (f3 f7 : ℕ) → w ≡ word_in (R f7 f3 0x33) i → f3 < 8 → f7 < 128 → Holds (R f7 f3 0x33) i → op_at 0x33 f3 f7 ≡ Some i.op → row_of w ≡ Some i
+  register_says : (f3 f7 : ℕ) → w ≡ word_in (R f7 f3 0x33) i → f3 < 8 → f7 < 128 → FitsFormat (R f7 f3 0x33) i → op_at 0x33 f3 f7 ≡ Some i.op → row_of w ≡ Some i
   register_says f3 f7 e h3 h7 h at =
       let o : opcode w ≡ 0x33 = omega arith in
       let n3 : funct3 w ≡ f3 = omega arith in
@@ -54,7 +54,7 @@ module _ (w : ℕ) (i : Instr) where
       let b : rs2 w ≡ i.rs2 = omega arith in
       rw (row_register w o, n3, n7, at, d, a, b, ← h.3) refl
 
-  branch_says : (f3 : ℕ) → w ≡ word_in (B f3 0x63) i → f3 < 8 → Holds (B f3 0x63) i → op_at 0x63 f3 0 ≡ Some i.op → row_of w ≡ Some i
+  branch_says : (f3 : ℕ) → w ≡ word_in (B f3 0x63) i → f3 < 8 → FitsFormat (B f3 0x63) i → op_at 0x63 f3 0 ≡ Some i.op → row_of w ≡ Some i
   branch_says f3 e h3 h at =
       let o : opcode w ≡ 0x63 = omega arith in
       let n3 : funct3 w ≡ f3 = omega arith in
@@ -64,7 +64,7 @@ module _ (w : ℕ) (i : Instr) where
       let z : imm_b w ≡ i.imm = ap (signed 13) bits ∙ signed-13 i.imm h.3 in
       rw (row_branch w o, n3, at, a, b, z, ← h.0) refl
 
-  store_says : (f3 : ℕ) → w ≡ word_in (S f3 0x23) i → f3 < 8 → Holds (S f3 0x23) i → op_at 0x23 f3 0 ≡ Some i.op → row_of w ≡ Some i
+  store_says : (f3 : ℕ) → w ≡ word_in (S f3 0x23) i → f3 < 8 → FitsFormat (S f3 0x23) i → op_at 0x23 f3 0 ≡ Some i.op → row_of w ≡ Some i
   store_says f3 e h3 h at =
       let o : opcode w ≡ 0x23 = omega arith in
       let n3 : funct3 w ≡ f3 = omega arith in
@@ -74,7 +74,7 @@ module _ (w : ℕ) (i : Instr) where
       let z : imm_s w ≡ i.imm = ap (signed 12) bits ∙ signed-12 i.imm h.3 in
       rw (row_store w o, n3, at, a, b, z, ← h.0) refl
 
-  immediate_says : (o f3 : ℕ) → w ≡ word_in (I f3 o) i → o < 128 → f3 < 8 → Holds (I f3 o) i → (opcode w ≡ o → funct3 w ≡ f3 → row_of w ≡ Some (instr_of (I f3 o) i.op w)) → row_of w ≡ Some i
+  immediate_says : (o f3 : ℕ) → w ≡ word_in (I f3 o) i → o < 128 → f3 < 8 → FitsFormat (I f3 o) i → (opcode w ≡ o → funct3 w ≡ f3 → row_of w ≡ Some (instr_of (I f3 o) i.op w)) → row_of w ≡ Some i
   immediate_says o f3 e ho h3 h at =
       let code : opcode w ≡ o = omega arith in
       let n3 : funct3 w ≡ f3 = omega arith in
@@ -84,17 +84,17 @@ module _ (w : ℕ) (i : Instr) where
       let z : imm_i w ≡ i.imm = ap (signed 12) bits ∙ signed-12 i.imm h.3 in
       rw (at code n3, d, a, z, ← h.2) refl
 
-  load_says : (f3 : ℕ) → w ≡ word_in (I f3 0x03) i → f3 < 8 → Holds (I f3 0x03) i → op_at 0x03 f3 0 ≡ Some i.op → row_of w ≡ Some i
+  load_says : (f3 : ℕ) → w ≡ word_in (I f3 0x03) i → f3 < 8 → FitsFormat (I f3 0x03) i → op_at 0x03 f3 0 ≡ Some i.op → row_of w ≡ Some i
   load_says f3 e h3 h at = immediate_says 0x03 f3 e (omega arith) h3 h (λ o n3. rw (row_load w o, n3, at) refl)
 
-  jump_register_says : (f3 : ℕ) → w ≡ word_in (I f3 0x67) i → f3 < 8 → Holds (I f3 0x67) i → op_at 0x67 f3 0 ≡ Some i.op → row_of w ≡ Some i
+  jump_register_says : (f3 : ℕ) → w ≡ word_in (I f3 0x67) i → f3 < 8 → FitsFormat (I f3 0x67) i → op_at 0x67 f3 0 ≡ Some i.op → row_of w ≡ Some i
   jump_register_says f3 e h3 h at = immediate_says 0x67 f3 e (omega arith) h3 h (λ o n3. rw (row_jalr w o, n3, at) refl)
 
-  arithmetic_says : (f3 : ℕ) → w ≡ word_in (I f3 0x13) i → f3 < 8 → f3 ≢ 1 → f3 ≢ 5 → Holds (I f3 0x13) i → op_at 0x13 f3 0 ≡ Some i.op → row_of w ≡ Some i
+  arithmetic_says : (f3 : ℕ) → w ≡ word_in (I f3 0x13) i → f3 < 8 → f3 ≢ 1 → f3 ≢ 5 → FitsFormat (I f3 0x13) i → op_at 0x13 f3 0 ≡ Some i.op → row_of w ≡ Some i
   arithmetic_says f3 e h3 d1 d5 h at =
       immediate_says 0x13 f3 e (omega arith) h3 h (λ o n3. rw (row_immediate w o (λ k. d1 (sym n3 ∙ k)) (λ k. d5 (sym n3 ∙ k)), n3, at) refl)
 
-  shift_says : (f3 f7 : ℕ) → w ≡ word_in (Shift f7 f3 0x13) i → (f3 ≡ 1) ⊎ (f3 ≡ 5) → f7 < 128 → Holds (Shift f7 f3 0x13) i → op_at 0x13 f3 f7 ≡ Some i.op → row_of w ≡ Some i
+  shift_says : (f3 f7 : ℕ) → w ≡ word_in (Shift f7 f3 0x13) i → (f3 ≡ 1) ⊎ (f3 ≡ 5) → f7 < 128 → FitsFormat (Shift f7 f3 0x13) i → op_at 0x13 f3 f7 ≡ Some i.op → row_of w ≡ Some i
   shift_says f3 f7 e is h7 h at =
       let h3 : f3 < 8 = elim is [ inl one ↦ omega arith | inr five ↦ omega arith ] in
       let o : opcode w ≡ 0x13 = omega arith in
@@ -107,7 +107,7 @@ module _ (w : ℕ) (i : Instr) where
       let which : (funct3 w ≡ 1) ⊎ (funct3 w ≡ 5) = rw n3 is in
       rw (row_shift w o which, n3, n7, at, d, a, z, ← h.2) refl
 
-  upper_says : (o : ℕ) → w ≡ word_in (U o) i → o < 128 → Holds (U o) i → (opcode w ≡ o → row_of w ≡ Some (instr_of (U o) i.op w)) → row_of w ≡ Some i
+  upper_says : (o : ℕ) → w ≡ word_in (U o) i → o < 128 → FitsFormat (U o) i → (opcode w ≡ o → row_of w ≡ Some (instr_of (U o) i.op w)) → row_of w ≡ Some i
   upper_says o e ho h at =
       let below : cast_unsigned w32 i.imm < 2 ^ 32 = grind (arith, ints) in
       let code : opcode w ≡ o = omega arith in
@@ -116,7 +116,7 @@ module _ (w : ℕ) (i : Instr) where
       let z : imm_u w ≡ i.imm = ap (signed 32) bits ∙ signed-32 i.imm h.3 in
       at code ∙ same_instr i (rd w) 0 0 (imm_u w) d (sym h.1) (sym h.2) z
 
-  jump_says : w ≡ word_in (J 0x6f) i → Holds (J 0x6f) i → i.op ≡ Jal → row_of w ≡ Some i
+  jump_says : w ≡ word_in (J 0x6f) i → FitsFormat (J 0x6f) i → i.op ≡ Jal → row_of w ≡ Some i
   jump_says e h is =
       let o : opcode w ≡ 0x6f = omega arith in
       let d : rd w ≡ i.rd = omega arith in
@@ -125,11 +125,11 @@ module _ (w : ℕ) (i : Instr) where
       rw (row_jal w o, ← is) (same_instr i (rd w) 0 0 (imm_j w) d (sym h.1) (sym h.2) z)
 
   -- a word that says nothing but its operation
-  bare_says : row_of w ≡ Some (instr_of (Exact w) i.op w) → Holds (Exact w) i → row_of w ≡ Some i
+  bare_says : row_of w ≡ Some (instr_of (Exact w) i.op w) → FitsFormat (Exact w) i → row_of w ≡ Some i
   bare_says e h = e ∙ same_instr i 0 0 0 (pos 0) (sym h.0) (sym h.1) (sym h.2) (sym h.3)
 
 -- the word of a valid instruction, by its operation, says the instruction
-says : (op : Op) (i : Instr) → i.op ≡ op → Holds (format op) i → row_of (word_in (format op) i) ≡ Some i
+says : (op : Op) (i : Instr) → i.op ≡ op → FitsFormat (format op) i → row_of (word_in (format op) i) ≡ Some i
 unfolding row_of
 says Lui i e h = upper_says (word_in (U 0x37) i) i 0x37 refl (omega arith) h (λ o. rw (row_lui (word_in (U 0x37) i) o, e) refl)
 says Auipc i e h = upper_says (word_in (U 0x17) i) i 0x17 refl (omega arith) h (λ o. rw (row_auipc (word_in (U 0x17) i) o, e) refl)
@@ -181,6 +181,6 @@ says Rem i e h = register_says (word_in (R 0x01 6 0x33) i) i 6 0x01 refl (omega 
 says Remu i e h = register_says (word_in (R 0x01 7 0x33) i) i 7 0x01 refl (omega arith) (omega arith) h (rw e refl)
 
 -- the word of a valid instruction says the instruction
-pub row_word_of : (i : Instr) → IsValid i → row_of (word_of i) ≡ Some i
-unfolding word_of
+pub row_word_of : (i : Instr) → IsValid i → row_of (encoding_of i) ≡ Some i
+unfolding encoding_of
 row_word_of i h = says i.op i refl h

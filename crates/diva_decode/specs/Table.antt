@@ -166,8 +166,8 @@ word_in (Open f3 o) i = 0xff * 2 ^ 20 + f3 * 2 ^ 12 + o
 word_in (Exact word) i = word
 
 -- the word of an instruction that has one
-unfoldable pub word_of : Instr → ℕ
-word_of i = word_in (format i.op) i
+unfoldable pub encoding_of : Instr → ℕ
+encoding_of i = word_in (format i.op) i
 
 -- ---- valid instructions
 
@@ -180,20 +180,20 @@ abbrev pub LowBitsZero : ℕ → ℤ → Type 0
 LowBitsZero n z = cast_unsigned w32 z % 2 ^ n ≡ 0
 
 -- the registers are below 32, what is not used is 0, and the format can hold the immediate
-abbrev pub Holds : Format → Instr → Type 0
-Holds (U o) i = (i.rd < 32) × (i.rs1 ≡ 0) × (i.rs2 ≡ 0) × FitsBits 32 i.imm × LowBitsZero 12 i.imm
-Holds (J o) i = (i.rd < 32) × (i.rs1 ≡ 0) × (i.rs2 ≡ 0) × FitsBits 21 i.imm × LowBitsZero 1 i.imm
-Holds (I f3 o) i = (i.rd < 32) × (i.rs1 < 32) × (i.rs2 ≡ 0) × FitsBits 12 i.imm
-Holds (B f3 o) i = (i.rd ≡ 0) × (i.rs1 < 32) × (i.rs2 < 32) × FitsBits 13 i.imm × LowBitsZero 1 i.imm
-Holds (S f3 o) i = (i.rd ≡ 0) × (i.rs1 < 32) × (i.rs2 < 32) × FitsBits 12 i.imm
-Holds (R f7 f3 o) i = (i.rd < 32) × (i.rs1 < 32) × (i.rs2 < 32) × (i.imm ≡ pos 0)
-Holds (Shift f7 f3 o) i = (i.rd < 32) × (i.rs1 < 32) × (i.rs2 ≡ 0) × (pos 0 ≤ℤ i.imm) × (i.imm <ℤ pos 32)
-Holds (Open f3 o) i = (i.rd ≡ 0) × (i.rs1 ≡ 0) × (i.rs2 ≡ 0) × (i.imm ≡ pos 0)
-Holds (Exact word) i = (i.rd ≡ 0) × (i.rs1 ≡ 0) × (i.rs2 ≡ 0) × (i.imm ≡ pos 0)
+abbrev pub FitsFormat : Format → Instr → Type 0
+FitsFormat (U o) i = (i.rd < 32) × (i.rs1 ≡ 0) × (i.rs2 ≡ 0) × FitsBits 32 i.imm × LowBitsZero 12 i.imm
+FitsFormat (J o) i = (i.rd < 32) × (i.rs1 ≡ 0) × (i.rs2 ≡ 0) × FitsBits 21 i.imm × LowBitsZero 1 i.imm
+FitsFormat (I f3 o) i = (i.rd < 32) × (i.rs1 < 32) × (i.rs2 ≡ 0) × FitsBits 12 i.imm
+FitsFormat (B f3 o) i = (i.rd ≡ 0) × (i.rs1 < 32) × (i.rs2 < 32) × FitsBits 13 i.imm × LowBitsZero 1 i.imm
+FitsFormat (S f3 o) i = (i.rd ≡ 0) × (i.rs1 < 32) × (i.rs2 < 32) × FitsBits 12 i.imm
+FitsFormat (R f7 f3 o) i = (i.rd < 32) × (i.rs1 < 32) × (i.rs2 < 32) × (i.imm ≡ pos 0)
+FitsFormat (Shift f7 f3 o) i = (i.rd < 32) × (i.rs1 < 32) × (i.rs2 ≡ 0) × (pos 0 ≤ℤ i.imm) × (i.imm <ℤ pos 32)
+FitsFormat (Open f3 o) i = (i.rd ≡ 0) × (i.rs1 ≡ 0) × (i.rs2 ≡ 0) × (i.imm ≡ pos 0)
+FitsFormat (Exact word) i = (i.rd ≡ 0) × (i.rs1 ≡ 0) × (i.rs2 ≡ 0) × (i.imm ≡ pos 0)
 
 -- the instruction has a word
 abbrev pub IsValid : Instr → Type 0
-IsValid i = Holds (format i.op) i
+IsValid i = FitsFormat (format i.op) i
 
 -- the registers are below 32
 abbrev pub HasRegisters : Instr → Type 0

@@ -4,7 +4,7 @@ mod operations;
 
 ghost use Rattle.std.specs.Prelude.{IfSome, Some, pos, ◌≡◌, ◌≢◌, ◌⊎◌};
 ghost use Rattle.diva_decode.specs.Fields.{opcode, funct3, rd, rs1, imm_i, imm_u};
-ghost use Rattle.diva_decode.specs.Table.{row_of, word_of, IsValid, HasRegisters};
+ghost use Rattle.diva_decode.specs.Table.{row_of, encoding_of, IsValid, HasRegisters};
 
 use crate::fields::{funct3, funct7, opcode, rd, rs1, rs2};
 use crate::immediates::{imm_b, imm_i, imm_j, imm_s, imm_u};
@@ -21,7 +21,7 @@ use operations::{branch_op, immediate_op, load_op, register_op, shift_op, store_
 #[tactic(auto, using(crate::proofs::Unique::valid_if, crate::proofs::Unique::registers_by, crate::proofs::Unique::encodes_if))]
 pub fn decode(word: u32) -> Option<Instr>
     ensures row_of { result ≡ row_of word }
-    ensures encodes { IfSome result (λ i. i.op ≢ Op.Fence → word_of i ≡ word) }
+    ensures encodes { IfSome result (λ i. i.op ≢ Op.Fence → encoding_of i ≡ word) }
     ensures valid { IfSome result IsValid }
     ensures registers { IfSome result HasRegisters }
 {

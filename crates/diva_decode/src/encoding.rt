@@ -2,7 +2,7 @@
 
 ghost use Rattle.std.specs.Prelude.{IsTrue, Some, ◌≡◌, ◌≢◌, ◌+◌, ◌*◌, ◌^◌, ◌<◌};
 ghost use Rattle.diva_decode.specs.Fields.{field};
-ghost use Rattle.diva_decode.specs.Table.{row_of, word_of, word_in, IsOnlyWordOf, IsValid, Holds, format, is_r, U, J, I, B, S, R, Shift};
+ghost use Rattle.diva_decode.specs.Table.{row_of, encoding_of, word_in, IsOnlyWordOf, IsValid, FitsFormat, format, is_r, U, J, I, B, S, R, Shift};
 
 use crate::instr::Instr;
 use crate::op::Op;
@@ -19,7 +19,7 @@ use crate::opcodes::{AUIPC, BRANCH, JAL, JALR, LOAD, LUI, OP, OP_IMM, STORE};
 #[tactic(auto, using(crate::proofs::Unique::one_word, crate::proofs::Words::row_word_of))]
 pub fn encode(i: &Instr) -> u32
     requires { IsValid i.now }
-    ensures word { result ≡ word_of i.now }
+    ensures word { result ≡ encoding_of i.now }
     ensures decodes { row_of result ≡ Some i.now }
     ensures only_word { i.now.op ≢ Op.Fence → IsOnlyWordOf i.now result }
     ensures fence { i.now.op ≡ Op.Fence → result ≡ 0x0ff0000f }
@@ -28,10 +28,10 @@ pub fn encode(i: &Instr) -> u32
 }
 
 /// The word by the table's rows.
-#[tactic(auto, unfolding(crate::specs::Table::word_of))]
+#[tactic(auto, unfolding(crate::specs::Table::encoding_of))]
 fn by_operation(i: &Instr) -> u32
     requires { IsValid i.now }
-    ensures word { result ≡ word_of i.now }
+    ensures word { result ≡ encoding_of i.now }
     ensures fence { i.now.op ≡ Op.Fence → result ≡ 0x0ff0000f }
 {
     match i.op {
@@ -70,11 +70,11 @@ fn by_operation(i: &Instr) -> u32
 }
 
 /// The word of an operation on two registers.
-#[tactic(auto, unfolding(crate::specs::Table::word_of))]
+#[tactic(auto, unfolding(crate::specs::Table::encoding_of))]
 fn two_register_word(i: &Instr) -> u32
     requires two_registers { IsTrue (is_r (format i.now.op)) }
     requires valid { IsValid i.now }
-    ensures { result ≡ word_of i.now }
+    ensures { result ≡ encoding_of i.now }
 {
     match i.op {
         Op::Add => register_word(i, 0, 0x00),
@@ -110,7 +110,7 @@ fn pack(funct7: u32, rs2: u32, rs1: u32, funct3: u32, rd: u32, opcode: u32) -> u
 }
 
 fn register_word(i: &Instr, funct3: u32, funct7: u32) -> u32
-    requires valid { Holds (R funct7 funct3 OP) i.now }
+    requires valid { FitsFormat (R funct7 funct3 OP) i.now }
     requires fields { (funct3 < 2 ^ 3) × (funct7 < 2 ^ 7) }
     ensures { result ≡ word_in (R funct7 funct3 OP) i.now }
 {
@@ -125,7 +125,7 @@ fn register_word(i: &Instr, funct3: u32, funct7: u32) -> u32
 }
 
 fn branch_word(i: &Instr, funct3: u32) -> u32
-    requires valid { Holds (B funct3 BRANCH) i.now }
+    requires valid { FitsFormat (B funct3 BRANCH) i.now }
     requires fields { funct3 < 2 ^ 3 }
     ensures { result ≡ word_in (B funct3 BRANCH) i.now }
 {
@@ -155,7 +155,7 @@ fn branch_low(imm: u32) -> u32
 }
 
 fn store_word(i: &Instr, funct3: u32) -> u32
-    requires valid { Holds (S funct3 STORE) i.now }
+    requires valid { FitsFormat (S funct3 STORE) i.now }
     requires fields { funct3 < 2 ^ 3 }
     ensures { result ≡ word_in (S funct3 STORE) i.now }
 {
@@ -171,7 +171,7 @@ fn store_word(i: &Instr, funct3: u32) -> u32
 }
 
 fn shift_word(i: &Instr, funct3: u32, funct7: u32) -> u32
-    requires valid { Holds (Shift funct7 funct3 OP_IMM) i.now }
+    requires valid { FitsFormat (Shift funct7 funct3 OP_IMM) i.now }
     requires fields { (funct3 < 2 ^ 3) × (funct7 < 2 ^ 7) }
     ensures { result ≡ word_in (Shift funct7 funct3 OP_IMM) i.now }
 {
@@ -187,7 +187,7 @@ fn shift_word(i: &Instr, funct3: u32, funct7: u32) -> u32
 
 /// A word of format I, of any opcode.
 fn immediate_word(i: &Instr, opcode: u32, funct3: u32) -> u32
-    requires valid { Holds (I funct3 opcode) i.now }
+    requires valid { FitsFormat (I funct3 opcode) i.now }
     requires fields { (funct3 < 2 ^ 3) × (opcode < 2 ^ 7) }
     ensures { result ≡ word_in (I funct3 opcode) i.now }
 {
@@ -211,7 +211,7 @@ fn pack_upper(upper: u32, rd: u32, opcode: u32) -> u32
 }
 
 fn upper_word(i: &Instr, opcode: u32) -> u32
-    requires valid { Holds (U opcode) i.now }
+    requires valid { FitsFormat (U opcode) i.now }
     requires fields { opcode < 2 ^ 7 }
     ensures { result ≡ word_in (U opcode) i.now }
 {
@@ -219,7 +219,7 @@ fn upper_word(i: &Instr, opcode: u32) -> u32
 }
 
 fn jump_word(i: &Instr) -> u32
-    requires { Holds (J JAL) i.now }
+    requires { FitsFormat (J JAL) i.now }
     ensures { result ≡ word_in (J JAL) i.now }
 {
     pack_upper(jump_upper(i.imm.cast_unsigned()), u32::from(i.rd), JAL)

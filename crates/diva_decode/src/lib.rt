@@ -11,7 +11,7 @@
 //! - `tests`: words that an assembler made.
 //!
 //! What [`decode`] gives is the definition `row_of` of `specs/Table.antt`: the table as 48 lines in the order of the
-//! manual's listing. What [`encode`] gives is `word_of` of the same file: the fields of each format in their places.
+//! manual's listing. What [`encode`] gives is `encoding_of` of the same file: the fields of each format in their places.
 //! Each undoes the other, but that FENCE has many words and [`encode`] gives one of them. (RISC-V Unprivileged ISA,
 //! chapter "RV32/64G Instruction Set Listings": RV32I 2.1 and M 2.0.)
 #![tactic(auto)]

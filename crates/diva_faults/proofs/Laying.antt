@@ -17,17 +17,17 @@ use denote.Ref.{Bor}
 use Rattle.diva_isa.specs.declared.record.Record.{Record}
 use Rattle.diva_faults.specs.declared.rows.Row.{Row}
 use Rattle.diva_faults.specs.declared.rows.Row.TheVariants.{Lane, Hush}
-use Rattle.diva_faults.specs.Lists.{is_hush_in, laid, laid_in, scripted}
+use Rattle.diva_faults.specs.Lists.{is_hush_in, with_row, with_row_in, scripted}
 use Rattle.diva_faults.specs.Rows.{row_cycle}
 use Rattle.diva_faults.specs.Schedules.{AreLike, end_of, hush_end, latest_end}
 
 -- ---- rows that do nothing in a cycle
 
 pub record IsIdle (now : ℕ) (row : Row) : Type 0 where
-  pub lays : (list : List Record) → laid_in now list row ≡ list
+  pub lays : (list : List Record) → with_row_in now list row ≡ list
   pub hushes : is_hush_in now row ≡ false
 
-laid_in-other : (now : ℕ) (list : List Record) (row : Row) → row_cycle row ≢ now → laid_in now list row ≡ list
+laid_in-other : (now : ℕ) (list : List Record) (row : Row) → row_cycle row ≢ now → with_row_in now list row ≡ list
 laid_in-other now list row other = rw (ne_eqb (row_cycle row) now other) refl
 
 is_idle-before : (now : ℕ) (row : Row) → now < row_cycle row → IsIdle now row
@@ -42,11 +42,11 @@ is_idle-behind : (now : ℕ) (row : Row) → end_of row ≤ now → IsIdle now r
 is_idle-behind now (Lane cycle lane change) behind = record { lays = λ list. laid_in-other now list (Lane cycle lane change) (λ e. absurd (omega arith)); hushes = refl }
 is_idle-behind now (Hush cycle cycles) behind = record { lays = λ list. same_twice (cycle == now) list; hushes = grind (arith, common_steps) }
 
-fold-idle : (now : ℕ) (rows : List Row) (list : List Record) → All (IsIdle now) rows → fold (laid_in now) list rows ≡ list
+fold-idle : (now : ℕ) (rows : List Row) (list : List Record) → All (IsIdle now) rows → fold (with_row_in now) list rows ≡ list
 fold-idle now [] list idle = refl
 fold-idle now (row ∷ rows) list idle =
     let first : IsIdle now row = All-head (IsIdle now) row rows idle in
-    ap (λ l. fold (laid_in now) l rows) (first.lays list) ∙ fold-idle now rows list (All-tail (IsIdle now) row rows idle)
+    ap (λ l. fold (with_row_in now) l rows) (first.lays list) ∙ fold-idle now rows list (All-tail (IsIdle now) row rows idle)
 
 list_any-idle : (now : ℕ) (rows : List Row) → All (IsIdle now) rows → list_any (is_hush_in now) rows ≡ false
 list_any-idle now rows idle = list_any_none (is_hush_in now) rows (λ k d h. (idle k d h).hushes)
@@ -63,20 +63,20 @@ behind_end now end rows list ends behind = scripted-idle now rows list (λ k d h
 
 -- ---- the rows of a cycle
 
-laid_in-here : (now : ℕ) (list : List Record) (row : Row) → row_cycle row ≡ now → laid_in now list row ≡ laid row list
+laid_in-here : (now : ℕ) (list : List Record) (row : Row) → row_cycle row ≡ now → with_row_in now list row ≡ with_row row list
 laid_in-here now list row here = rw (eq-eqb (row_cycle row) now here) refl
 
-fold-here : (now : ℕ) (rows : List Row) (list : List Record) → All (λ row. row_cycle row ≡ now) rows → fold (laid_in now) list rows ≡ fold (λ list row. laid row list) list rows
+fold-here : (now : ℕ) (rows : List Row) (list : List Record) → All (λ row. row_cycle row ≡ now) rows → fold (with_row_in now) list rows ≡ fold (λ list row. with_row row list) list rows
 fold-here now [] list here = refl
 fold-here now (row ∷ rows) list here =
-    ap (λ l. fold (laid_in now) l rows) (laid_in-here now list row (All-head (λ row. row_cycle row ≡ now) row rows here))
-    ∙ fold-here now rows (laid row list) (All-tail (λ row. row_cycle row ≡ now) row rows here)
+    ap (λ l. fold (with_row_in now) l rows) (laid_in-here now list row (All-head (λ row. row_cycle row ≡ now) row rows here))
+    ∙ fold-here now rows (with_row row list) (All-tail (λ row. row_cycle row ≡ now) row rows here)
 
-fold-other : (now : ℕ) (rows : List Row) (list : List Record) → All (λ row. row_cycle row < now) rows → fold (laid_in now) list rows ≡ list
+fold-other : (now : ℕ) (rows : List Row) (list : List Record) → All (λ row. row_cycle row < now) rows → fold (with_row_in now) list rows ≡ list
 fold-other now [] list other = refl
 fold-other now (row ∷ rows) list other =
     let first : row_cycle row < now = All-head (λ row. row_cycle row < now) row rows other in
-    ap (λ l. fold (laid_in now) l rows) (laid_in-other now list row (λ e. absurd (omega arith)))
+    ap (λ l. fold (with_row_in now) l rows) (laid_in-other now list row (λ e. absurd (omega arith)))
     ∙ fold-other now rows list (All-tail (λ row. row_cycle row < now) row rows other)
 
 -- ---- the hushes that have begun, of which one lasts where the latest of them does
@@ -157,14 +157,14 @@ module _ (now : ℕ) (rows : List Row) (begun earlier : ℕ)
       rw (get_or-drop earlier (take begun rows) k d) (omega (arith, least, most))
 
   -- the rows that have not begun do nothing, and neither do those of earlier cycles
-  found_lanes : (list : List Record) → fold (laid_in now) list rows ≡ fold (λ list row. laid row list) list (drop earlier (take begun rows))
+  found_lanes : (list : List Record) → fold (with_row_in now) list rows ≡ fold (λ list row. with_row row list) list (drop earlier (take begun rows))
   found_lanes list =
-      ap (fold (laid_in now) list) (sym (take-append-drop begun rows))
-      ∙ fold-append (laid_in now) list (take begun rows) (drop begun rows)
-      ∙ fold-idle now (drop begun rows) (fold (laid_in now) list (take begun rows)) later_idle
-      ∙ ap (fold (laid_in now) list) (sym (take-append-drop earlier (take begun rows)))
-      ∙ fold-append (laid_in now) list (take earlier (take begun rows)) (drop earlier (take begun rows))
-      ∙ ap (λ l. fold (laid_in now) l (drop earlier (take begun rows))) (fold-other now (take earlier (take begun rows)) list earlier_than_now)
+      ap (fold (with_row_in now) list) (sym (take-append-drop begun rows))
+      ∙ fold-append (with_row_in now) list (take begun rows) (drop begun rows)
+      ∙ fold-idle now (drop begun rows) (fold (with_row_in now) list (take begun rows)) later_idle
+      ∙ ap (fold (with_row_in now) list) (sym (take-append-drop earlier (take begun rows)))
+      ∙ fold-append (with_row_in now) list (take earlier (take begun rows)) (drop earlier (take begun rows))
+      ∙ ap (λ l. fold (with_row_in now) l (drop earlier (take begun rows))) (fold-other now (take earlier (take begun rows)) list earlier_than_now)
       ∙ fold-here now (drop earlier (take begun rows)) list rest_now
 
   found_hush : list_any (is_hush_in now) rows ≡ nat_lt now (latest_end (take begun rows))
@@ -179,7 +179,7 @@ module _ (now : ℕ) (rows : List Row) (begun earlier : ℕ)
   unfolding scripted
   scripted-hushed list hushed = rw (found_hush, hushed) refl
 
-  scripted-laid : (list : List Record) → nat_lt now (latest_end (take begun rows)) ≡ false → scripted rows now list ≡ fold (λ list row. laid row list) list (drop earlier (take begun rows))
+  scripted-laid : (list : List Record) → nat_lt now (latest_end (take begun rows)) ≡ false → scripted rows now list ≡ fold (λ list row. with_row row list) list (drop earlier (take begun rows))
   unfolding scripted
   scripted-laid list quiet = rw (found_hush, quiet) (found_lanes list)
 
@@ -197,11 +197,11 @@ module _ (now : ℕ) (rows first second : List Row) (begun earlier : ℕ) (same_
   pub found_hushed : nat_lt now (latest_end (take begun rows)) ≡ true → [] ≡ scripted rows now list
   found_hushed hushed = sym (scripted-hushed now rows begun earlier begun_at earlier_at list hushed)
 
-  pub found_laid : (after : List Record) → after ≡ fold (λ list row. laid row list) list (take (length (take begun second) - earlier) (drop earlier (take begun second)))
+  pub found_laid : (after : List Record) → after ≡ fold (λ list row. with_row row list) list (take (length (take begun second) - earlier) (drop earlier (take begun second)))
       → nat_lt now (latest_end (take begun rows)) ≡ false → after ≡ scripted rows now list
   found_laid after laid_all quiet =
       laid_all
-      ∙ ap (fold (λ list row. laid row list) list) (take_rest (take begun second) earlier ∙ ap (λ xs. drop earlier (take begun xs)) same_second)
+      ∙ ap (fold (λ list row. with_row row list) list) (take_rest (take begun second) earlier ∙ ap (λ xs. drop earlier (take begun xs)) same_second)
       ∙ sym (scripted-laid now rows begun earlier begun_at earlier_at list quiet)
 
 -- ---- rows in another order, those of one cycle in the same one
@@ -214,21 +214,21 @@ ties_now-here : (now : ℕ) (row : Row) → row_cycle row ≡ now → ties_now n
 unfolding ties_now
 ties_now-here now row here = grind (arith, common_steps)
 
-fold-filter : (now : ℕ) (rows : List Row) (list : List Record) → fold (laid_in now) list rows ≡ fold (laid_in now) list (filter (ties_now now) rows)
+fold-filter : (now : ℕ) (rows : List Row) (list : List Record) → fold (with_row_in now) list rows ≡ fold (with_row_in now) list (filter (ties_now now) rows)
 fold-filter now [] list = refl
 fold-filter now (row ∷ rows) list = by_tie (ties_now now row) refl (λ l. fold-filter now rows l)
   where
-    by_tie : (t : Bool) → ties_now now row ≡ t → ((l : List Record) → fold (laid_in now) l rows ≡ fold (laid_in now) l (filter (ties_now now) rows))
-        → fold (laid_in now) (laid_in now list row) rows ≡ fold (laid_in now) list (cond t (row ∷ filter (ties_now now) rows) (filter (ties_now now) rows))
-    by_tie true is more = more (laid_in now list row)
+    by_tie : (t : Bool) → ties_now now row ≡ t → ((l : List Record) → fold (with_row_in now) l rows ≡ fold (with_row_in now) l (filter (ties_now now) rows))
+        → fold (with_row_in now) (with_row_in now list row) rows ≡ fold (with_row_in now) list (cond t (row ∷ filter (ties_now now) rows) (filter (ties_now now) rows))
+    by_tie true is more = more (with_row_in now list row)
     by_tie false is more =
-        ap (λ l. fold (laid_in now) l rows) (laid_in-other now list row (λ here. let same = ties_now-here now row here in absurd (cc)))
+        ap (λ l. fold (with_row_in now) l rows) (laid_in-other now list row (λ here. let same = ties_now-here now row here in absurd (cc)))
         ∙ more list
 
 pub like-sorted : (rows sorted : List Row) → IsPermutation rows sorted → IsStableByKey row_cycle nat_cmp rows sorted → AreLike sorted rows
 unfolding scripted ties_now
 like-sorted rows sorted permutation stable now list =
     let hushes : list_any (is_hush_in now) sorted ≡ list_any (is_hush_in now) rows = sym (list_any-IsPermutation (is_hush_in now) rows sorted permutation) in
-    let lanes : fold (laid_in now) list sorted ≡ fold (laid_in now) list rows =
-    fold-filter now sorted list ∙ ap (fold (laid_in now) list) (stable (Hush now 0)) ∙ sym (fold-filter now rows list) in
+    let lanes : fold (with_row_in now) list sorted ≡ fold (with_row_in now) list rows =
+    fold-filter now sorted list ∙ ap (fold (with_row_in now) list) (stable (Hush now 0)) ∙ sym (fold-filter now rows list) in
     rw (hushes, lanes) refl

@@ -35,13 +35,13 @@ change_at change lane list None = list
 change_at change lane list (Some claim) = take lane list ++ changed change (length list) claim ++ drop (lane + 1) list
 
 -- the list after a row; a hush does nothing yet
-abbrev pub laid : Row → List Record → List Record
-laid (Lane cycle lane change) list = change_at change lane list (slice_get list lane)
-laid (Hush cycle cycles) list = list
+abbrev pub with_row : Row → List Record → List Record
+with_row (Lane cycle lane change) list = change_at change lane list (slice_get list lane)
+with_row (Hush cycle cycles) list = list
 
 -- the list after a row in the cycle `now`
-abbrev pub laid_in : (now : ℕ) → List Record → Row → List Record
-laid_in now list row = if row_cycle row == now then laid row list else list
+abbrev pub with_row_in : (now : ℕ) → List Record → Row → List Record
+with_row_in now list row = if row_cycle row == now then with_row row list else list
 
 -- the row is a hush that lasts in the cycle `now`
 abbrev pub is_hush_in : (now : ℕ) → Row → Bool
@@ -50,4 +50,4 @@ is_hush_in now (Hush cycle cycles) = nat_le cycle now && nat_lt now (cycle + cyc
 
 -- the list after the rows of a script in the cycle `now`: first those that change lanes, in their order, and then the hushes
 unfoldable pub scripted : List Row → (now : ℕ) → List Record → List Record
-scripted rows now list = if list_any (is_hush_in now) rows then [] else fold (laid_in now) list rows
+scripted rows now list = if list_any (is_hush_in now) rows then [] else fold (with_row_in now) list rows

@@ -1,6 +1,6 @@
 -- The rows of a script.
 use Rattle.std.specs.Prelude.{ℕ, ⊤}
-use Rattle.diva_outside.specs.NextWords.{IsWithin}
+use Rattle.diva_outside.specs.NextWords.{IsInRange}
 use Rattle.diva_faults.specs.declared.rows.Change.{Change}
 use Rattle.diva_faults.specs.declared.rows.Change.TheVariants.{Flip, Set, Lose, Double}
 use Rattle.diva_faults.specs.declared.rows.Row.{Row}
@@ -13,15 +13,15 @@ row_cycle (Hush cycle cycles) = cycle
 
 -- cycles, and numbers of cycles
 abbrev pub IsCycle : ℕ → Type 0
-IsCycle n = IsWithin 1 1000000000 n
+IsCycle n = IsInRange 1 1000000000 n
 
 abbrev pub IsChange : Change → Type 0
-IsChange (Flip field bit) = IsWithin 0 31 bit
+IsChange (Flip field bit) = IsInRange 0 31 bit
 IsChange (Set field value) = ⊤
 IsChange Lose = ⊤
 IsChange Double = ⊤
 
 -- the numbers of a row are in their ranges
 abbrev pub IsRow : Row → Type 0
-IsRow (Lane cycle lane change) = IsCycle cycle × IsWithin 0 7 lane × IsChange change
+IsRow (Lane cycle lane change) = IsCycle cycle × IsInRange 0 7 lane × IsChange change
 IsRow (Hush cycle cycles) = IsCycle cycle × IsCycle cycles

@@ -1,6 +1,6 @@
 // What a row makes of the list of a cycle.
 ghost use Rattle.std.specs.Prelude.{◌≡◌, ◌+◌, ◌≤◌, ◌<◌, ◌++◌, length, take, drop, slice_get};
-ghost use Rattle.diva_faults.specs.Lists.{change_at, changed, laid, with_field};
+ghost use Rattle.diva_faults.specs.Lists.{change_at, changed, with_row, with_field};
 ghost use Rattle.diva_faults.specs.Rows.{IsChange, IsRow};
 
 use crate::rows::{Change, Row};
@@ -10,7 +10,7 @@ impl Row {
     /// Changes the claim in the row's lane, if it names one that the list has.
     pub(crate) fn lay(&self, list: &mut Claims)
         requires { IsRow self.now }
-        ensures { list.new ≡ laid self.now list.old }
+        ensures { list.new ≡ with_row self.now list.old }
     {
         match *self {
             Row::Lane { lane, change, .. } => change_at(change, usize::from(lane), list),

@@ -2,7 +2,7 @@
 ghost use Rattle.std.specs.Prelude.{◌≡◌, ◌+◌, ◌≤◌, ◌<◌, ℕ, [], length, take, fold, slice_index, nat_lt, IfOk};
 ghost use Rattle.std.specs.List.{All};
 ghost use Rattle.std.specs.List.Sorted.{IsNonDecreasingBy, IsPartitionPoint};
-ghost use Rattle.diva_faults.specs.Lists.{laid, scripted};
+ghost use Rattle.diva_faults.specs.Lists.{with_row, scripted};
 ghost use Rattle.diva_faults.specs.Rows.{row_cycle, IsRow};
 ghost use Rattle.diva_faults.specs.Schedules.{AreLike, end_of, hush_end, latest_end};
 
@@ -134,7 +134,7 @@ fn begun_before(rows: &[Row], cycle: u64) -> usize
 /// Lays rows over a list, one after another.
 fn lay_all(rows: &[Row], list: &mut Claims)
     requires { All IsRow rows.now }
-    ensures { list.new ≡ fold (λ list row. laid row list) list.old rows.now }
+    ensures { list.new ≡ fold (λ list row. with_row row list) list.old rows.now }
 {
     for row in rows {
         row.lay(list);

@@ -93,5 +93,5 @@ header_bytes h =
     ++ to_le_bytes w32 h.len
 
 -- the bytes of an image: its header, and the payload
-abbrev pub bytes_of : Layout → List ℕ
-bytes_of i = header_bytes (record { base = i.base; size = i.size; entry = i.entry; len = length i.payload }) ++ i.payload
+abbrev pub image_bytes : Layout → List ℕ
+image_bytes i = header_bytes (record { base = i.base; size = i.size; entry = i.entry; len = length i.payload }) ++ i.payload

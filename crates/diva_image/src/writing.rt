@@ -1,6 +1,6 @@
 // An image to its bytes.
 ghost use Rattle.std.specs.Prelude.{◌≡◌, IfOk, Ok};
-ghost use Rattle.diva_image.specs.Images.{bytes_of};
+ghost use Rattle.diva_image.specs.Images.{image_bytes};
 ghost use Rattle.diva_image.specs.ImageLayout.{layout, Reads};
 
 use crate::Image;
@@ -10,7 +10,7 @@ use std::alloc::{AllocError, Global};
 /// The bytes of an image, which [`read`](crate::read) makes the same image of. There is one spelling of each image.
 #[tactic(auto, using(crate::proofs::Again::read_again))]
 pub fn write(alloc: Global, image: &Image) -> Result<Vec<u8>, AllocError>
-    ensures bytes { IfOk result (λ bytes. bytes.items ≡ bytes_of (layout image.now)) }
+    ensures bytes { IfOk result (λ bytes. bytes.items ≡ image_bytes (layout image.now)) }
     ensures read_again { IfOk result (λ bytes. Reads bytes.items (Ok image.now)) }
 {
     spelled(alloc, image)
@@ -18,7 +18,7 @@ pub fn write(alloc: Global, image: &Image) -> Result<Vec<u8>, AllocError>
 
 // The header, and the payload.
 fn spelled(alloc: Global, image: &Image) -> Result<Vec<u8>, AllocError>
-    ensures { IfOk result (λ bytes. bytes.items ≡ bytes_of (layout image.now)) }
+    ensures { IfOk result (λ bytes. bytes.items ≡ image_bytes (layout image.now)) }
 {
     let payload = image.payload.bytes();
     let header = Header {

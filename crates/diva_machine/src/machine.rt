@@ -37,14 +37,14 @@ pub struct Machine {
 impl Model for Machine {
     ghost use Rattle.std.specs.Prelude.{◌≤◌, ◌^◌};
     ghost use Rattle.diva_core.specs.Machine.{IsMachine};
-    ghost use Rattle.diva_machine.specs.Machine.{Machine, IsSound};
+    ghost use Rattle.diva_machine.specs.Machine.{Machine, IsBetweenCycles};
     ghost use Rattle.diva_machine.specs.Staged.{IsSoloFilled, IsStaged};
 
     ghost Value = { Machine };
 
     ghost view = { λ m. record { timed = m.parts.timed; last = m.parts.last; entries = m.parts.entries } };
 
-    ghost invariant = { λ m. IsSound m.parts.timed
+    ghost invariant = { λ m. IsBetweenCycles m.parts.timed
         × (IsStaged m.parts.timed.cycles m.parts × IsSoloFilled m.parts.timed.cycles m.parts) };
 }
 

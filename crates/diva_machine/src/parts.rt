@@ -411,7 +411,7 @@ impl Parts {
         ensures rest { self.new ≡ record self.old { entries = self.new.entries; passed = self.new.passed; future = self.new.future } }
         ensures staged { IsStaged self.new.timed.cycles self.new }
     {
-        // The ring asks for its length at each look-up: this test serves both.
+        // The buffer asks for its length at each look-up: this test serves both.
         let mut at = self.passed;
         while at < self.pending.len() {
             self.pass_stage(at);

@@ -7,8 +7,8 @@ use Rattle.std.proofs.lemmas.List.{append-nil}
 use Rattle.std.proofs.lemmas.Nat.Bits.{bit_at-zero}
 use Rattle.diva_core.specs.Cycle.{is_store}
 use Rattle.diva_ooo.specs.declared.entry.Entry.{Entry}
-use Rattle.diva_ooo.specs.declared.entry.Stage.{Stage}
-use Rattle.diva_ooo.specs.declared.entry.Stage.TheVariants.{Waiting, Running, Done}
+use Rattle.diva_ooo.specs.declared.entry.Progress.{Progress}
+use Rattle.diva_ooo.specs.declared.entry.Progress.TheVariants.{Waiting, Running, Done}
 use Rattle.diva_ooo.specs.declared.board.Board.{Board}
 use Rattle.diva_ooo.specs.declared.mark_set.MarkSet.{MarkSet}
 use Rattle.diva_ooo.specs.declared.profile.Class.{Class}
@@ -21,17 +21,17 @@ use Rattle.diva_ooo.proofs.Marking.{and_off, holds_here, those_kept, those_lower
 
 -- ---- what holds of each stage
 
-pub waits_only : (s : Stage) → is_waiting s ≡ true → (is_running s ≡ false) × (is_done s ≡ false)
+pub waits_only : (s : Progress) → is_waiting s ≡ true → (is_running s ≡ false) × (is_done s ≡ false)
 waits_only Waiting is = (refl, refl)
 waits_only (Running left) is = absurd (cc)
 waits_only Done is = absurd (cc)
 
-pub runs_only : (s : Stage) → is_running s ≡ true → (is_waiting s ≡ false) × (is_done s ≡ false)
+pub runs_only : (s : Progress) → is_running s ≡ true → (is_waiting s ≡ false) × (is_done s ≡ false)
 runs_only Waiting is = absurd (cc)
 runs_only (Running left) is = (refl, refl)
 runs_only Done is = absurd (cc)
 
-pub done_only : (s : Stage) → is_done s ≡ true → (is_waiting s ≡ false) × (is_running s ≡ false)
+pub done_only : (s : Progress) → is_done s ≡ true → (is_waiting s ≡ false) × (is_running s ≡ false)
 done_only Waiting is = absurd (cc)
 done_only (Running left) is = absurd (cc)
 done_only Done is = (refl, refl)
@@ -501,7 +501,7 @@ pushed_by false ready w e n b i sources is none =
     let other : n ≡ length w → ⊥ = λ at. absurd (grind (arith, nat_tests)) in
     could_pushed [] w e n other ∙ i.candidates n none
 
-open_by_stage : (s : Stage) (c : Class) → is_waiting s ≡ true → is_storing c ≡ (not (is_done s) && is_storing c)
+open_by_stage : (s : Progress) (c : Class) → is_waiting s ≡ true → is_storing c ≡ (not (is_done s) && is_storing c)
 open_by_stage Waiting c waits = refl
 open_by_stage (Running left) c waits = absurd (cc)
 open_by_stage Done c waits = absurd (cc)

@@ -6,10 +6,10 @@ use Rattle.std.proofs.lemmas.Bool.{true≢false}
 use Rattle.std.proofs.lemmas.List.{append-nil}
 use Rattle.std.proofs.lemmas.Grind.{common_steps}
 use Rattle.diva_ooo.specs.declared.entry.Entry.{Entry}
-use Rattle.diva_ooo.specs.declared.entry.Stage.{Stage}
-use Rattle.diva_ooo.specs.declared.entry.Stage.TheVariants.{Waiting, Running, Done}
-use Rattle.diva_ooo.specs.declared.finishing.Turn.{Turn}
-use Rattle.diva_ooo.specs.declared.finishing.Turn.TheVariants.{On}
+use Rattle.diva_ooo.specs.declared.entry.Progress.{Progress}
+use Rattle.diva_ooo.specs.declared.entry.Progress.TheVariants.{Waiting, Running, Done}
+use Rattle.diva_ooo.specs.declared.finishing.Redirect.{Redirect}
+use Rattle.diva_ooo.specs.declared.finishing.Redirect.TheVariants.{On}
 use Rattle.diva_ooo.specs.Finish.{finished_from, is_running, later, ran, turn_by, turn_of, turned}
 use Rattle.diva_ooo.specs.MarkSets.{holds_at}
 use Rattle.diva_ooo.proofs.Marking.{holds_drop}
@@ -21,7 +21,7 @@ finish_one : (w : List Entry) (at : ℕ) (e : Entry) → slice_get w at ≡ Some
 finish_one w at e is = rw (take_set_at w at e (ran e) is, drop_set_at w at (ran e), drop_at w at e is) refl
 
 -- an entry that runs or becomes done
-finish_step : (w new : List Entry) (at : ℕ) (e : Entry) (stage : Stage) (t : Turn) → slice_get w at ≡ Some e → new ≡ slice_set w at (record e { stage = stage }) → stage ≡ later e.stage → t ≡ turn_of e
+finish_step : (w new : List Entry) (at : ℕ) (e : Entry) (stage : Progress) (t : Redirect) → slice_get w at ≡ Some e → new ≡ slice_set w at (record e { stage = stage }) → stage ≡ later e.stage → t ≡ turn_of e
     → turned (take (at + 1) new) t (finished_from (take (at + 1) new) (drop (at + 1) new)) ≡ finished_from (take at w) (drop at w)
 finish_step w new at e stage t is n q u = rw (n, q, u) (finish_one w at e is)
 
@@ -29,9 +29,9 @@ finish_step w new at e stage t is n q u = rw (n, q, u) (finish_one w at e is)
 finish_same : (w : List Entry) (at : ℕ) (e : Entry) → slice_get w at ≡ Some e → later e.stage ≡ e.stage → turn_of e ≡ On
     → finished_from (take (at + 1) w) (drop (at + 1) w) ≡ finished_from (take at w) (drop at w)
 finish_same w at e is stays on =
-    let same : slice_set w at (ran e) ≡ w = ap (λ (stage : Stage). slice_set w at (record e { stage = stage })) stays ∙ set_same w at e is in
+    let same : slice_set w at (ran e) ≡ w = ap (λ (stage : Progress). slice_set w at (record e { stage = stage })) stays ∙ set_same w at e is in
     sym (ap (λ (x : List Entry). turned (take (at + 1) x) On (finished_from (take (at + 1) x) (drop (at + 1) x))) same)
-    ∙ ap (λ (t : Turn). turned (take (at + 1) (slice_set w at (ran e))) t (finished_from (take (at + 1) (slice_set w at (ran e))) (drop (at + 1) (slice_set w at (ran e))))) (sym on)
+    ∙ ap (λ (t : Redirect). turned (take (at + 1) (slice_set w at (ran e))) t (finished_from (take (at + 1) (slice_set w at (ran e))) (drop (at + 1) (slice_set w at (ran e))))) (sym on)
     ∙ finish_one w at e is
 
 pub finish_waiting : (w : List Entry) (at : ℕ) (e : Entry) → slice_get w at ≡ Some e → e.stage ≡ Waiting → finished_from (take (at + 1) w) (drop (at + 1) w) ≡ finished_from (take at w) (drop at w)
@@ -46,7 +46,7 @@ finish_running w new at e left is here more n =
     let test : nat_le left 1 ≡ false = grind (arith, nat_tests) in
     finish_step w new at e (Running (left - 1)) On is n (rw (here, test) refl) (rw (here, test) refl)
 
-pub finish_ends : (w new : List Entry) (at : ℕ) (e : Entry) (left : ℕ) (t : Turn) → slice_get w at ≡ Some e → e.stage ≡ Running left → left ≤ 1 → new ≡ slice_set w at (record e { stage = Done }) → t ≡ turn_by e.result e.predicted
+pub finish_ends : (w new : List Entry) (at : ℕ) (e : Entry) (left : ℕ) (t : Redirect) → slice_get w at ≡ Some e → e.stage ≡ Running left → left ≤ 1 → new ≡ slice_set w at (record e { stage = Done }) → t ≡ turn_by e.result e.predicted
     → turned (take (at + 1) new) t (finished_from (take (at + 1) new) (drop (at + 1) new)) ≡ finished_from (take at w) (drop at w)
 finish_ends w new at e left t is here last n turn =
     let test : nat_le left 1 ≡ true = grind (arith, nat_tests) in
@@ -54,7 +54,7 @@ finish_ends w new at e left t is here last n turn =
 
 -- ---- entries that do not run
 
-idle_one : (older rest : List Entry) (e : Entry) (stage : Stage) → e.stage ≡ stage → is_running stage ≡ false → finished_from older (e ∷ rest) ≡ finished_from (older ++ e ∷ []) rest
+idle_one : (older rest : List Entry) (e : Entry) (stage : Progress) → e.stage ≡ stage → is_running stage ≡ false → finished_from older (e ∷ rest) ≡ finished_from (older ++ e ∷ []) rest
 idle_one older rest e Waiting is idle = rw is refl
 idle_one older rest e (Running left) is idle = absurd (true≢false idle)
 idle_one older rest e Done is idle = rw is refl

@@ -4,21 +4,21 @@ use Rattle.diva_isa.specs.State.{State}
 use Rattle.diva_isa.specs.Step.{effect_of}
 use Rattle.diva_isa.specs.declared.record.Record.{Record}
 use Rattle.diva_ahead.specs.Effects.{done_by}
-use Rattle.diva_ahead.specs.Ahead.{Ahead, handed, is_epoch}
+use Rattle.diva_ahead.specs.Ahead.{Ahead, with_record, is_epoch}
 use Rattle.diva_core.specs.Told.{Told}
 use Rattle.diva_ooo.specs.declared.entry.Entry.{Entry}
 use Rattle.diva_ooo.specs.Issue.{is_done}
 use Rattle.diva_ooo.specs.Ooo.{IsOooCall, OooCall, Ooo, call_of, completed, dropped, handed_over, ooo_call, restarted, with_handed, worked}
 
-ring_handed : (lead : Ahead) (s : State) (r : Record) → length (handed lead s r).ring ≡ length lead.ring + 1
-unfolding handed
-ring_handed lead s r = rw length-append refl
+ring_handed : (ahead : Ahead) (s : State) (r : Record) → length (with_record ahead s r).ring ≡ length ahead.ring + 1
+unfolding with_record
+ring_handed ahead s r = rw length-append refl
 
 -- the ring is longer by one
-pub ring_more : (lead new : Ahead) (r : Record) → ((s : State) → new ≡ handed lead s r) → length new.ring ≡ length lead.ring + 1
-ring_more lead new r is =
+pub ring_more : (ahead new : Ahead) (r : Record) → ((s : State) → new ≡ with_record ahead s r) → length new.ring ≡ length ahead.ring + 1
+ring_more ahead new r is =
     let s : State = record { regs = []; pc = 0; base = 0; bytes = []; output = []; end = 0 } in
-    ap (λ (x : Ahead). length x.ring) (is s) ∙ ring_handed lead s r
+    ap (λ (x : Ahead). length x.ring) (is s) ∙ ring_handed ahead s r
 
 -- a record that goes on does all that its word says
 pub effect_going : (r : Record) → r.end ≡ 0 → done_by r ≡ effect_of r

@@ -16,7 +16,7 @@ use Rattle.diva_isa.specs.declared.effect.Effect.TheVariants.{Nothing}
 use Rattle.diva_isa.specs.declared.record.Record.{Record}
 use Rattle.diva_ahead.specs.Effects.{done_by}
 use Rattle.diva_ooo.specs.declared.entry.Entry.{Entry}
-use Rattle.diva_ooo.specs.declared.entry.Stage.{Stage}
+use Rattle.diva_ooo.specs.declared.entry.Progress.{Progress}
 use Rattle.diva_ooo.specs.Known.{IsKnown, HasSources}
 use Rattle.diva_ooo.specs.Issue.{is_waiting, running}
 use Rattle.diva_ooo.specs.Ooo.{new_entry, blank}
@@ -50,7 +50,7 @@ decoded_kept s None decoded is = is
 decoded_kept s (Some w) decoded is = is
 
 -- an entry that is further
-pub known_staged : (w : List Entry) (at : ℕ) (e : Entry) (stage : Stage) → slice_get w at ≡ Some e → is_waiting stage ≡ false → All IsKnown w → All IsKnown (slice_set w at (record e { stage = stage }))
+pub known_staged : (w : List Entry) (at : ℕ) (e : Entry) (stage : Progress) → slice_get w at ≡ Some e → is_waiting stage ≡ false → All IsKnown w → All IsKnown (slice_set w at (record e { stage = stage }))
 known_staged w at e stage is begun all =
     let k = known_at w at e is all in
     All-set IsKnown w at (record e { stage = stage }) (record { decoded = k.decoded; registers = k.registers; sources = k.sources; effect = k.effect; register = k.register; fresh = λ waits. absurd (true≢false (sym waits ∙ begun)) }) all

@@ -8,17 +8,17 @@ use Rattle.diva_isa.specs.declared.record.Record.{Record}
 use Rattle.diva_ahead.specs.Effects.{done_by}
 use Rattle.diva_ahead.specs.Ahead.{Ahead, seen}
 use Rattle.diva_ooo.specs.declared.entry.Entry.{Entry}
-use Rattle.diva_ooo.specs.declared.entry.Stage.{Stage}
-use Rattle.diva_ooo.specs.declared.entry.Stage.TheVariants.{Waiting, Running, Done}
+use Rattle.diva_ooo.specs.declared.entry.Progress.{Progress}
+use Rattle.diva_ooo.specs.declared.entry.Progress.TheVariants.{Waiting, Running, Done}
 use Rattle.diva_ooo.specs.declared.profile.Class.{Class}
 use Rattle.diva_ooo.specs.declared.profile.Class.TheVariants.{Plain, Loads, Stores, Calls}
 
-abbrev pub is_waiting : Stage → Bool
+abbrev pub is_waiting : Progress → Bool
 is_waiting Waiting = true
 is_waiting (Running left) = false
 is_waiting Done = false
 
-abbrev pub is_done : Stage → Bool
+abbrev pub is_done : Progress → Bool
 is_done Waiting = false
 is_done (Running left) = false
 is_done Done = true
@@ -71,8 +71,8 @@ written regs (e ∷ older) = written (if is_done e.stage then with_reg regs e.pr
 -- what an entry sees, as if the core had handed over the older ones: each byte of memory is that of the youngest older store
 -- of the window that covers it, else of the ring, else that of s
 abbrev pub seen_by : Ahead → State → List Entry → Entry → State
-seen_by lead s older e =
-    seen (record lead { regs = written lead.regs older; pc = e.pc; ring = lead.ring ++ map (λ x. x.effect) older }) s
+seen_by ahead s older e =
+    seen (record ahead { regs = written ahead.regs older; pc = e.pc; ring = ahead.ring ++ map (λ x. x.effect) older }) s
 
 -- an entry that begins with a record
 abbrev pub running : Entry → Record → Entry
@@ -80,16 +80,16 @@ running e r = record e { stage = Running e.profile.cycles; result = r; effect = 
 
 -- it computes its record at once, by the word that was fetched
 unfoldable pub started : Ahead → State → List Entry → Entry → Entry
-started lead s older e = running e (record_fetched (seen_by lead s older e) e.word)
+started ahead s older e = running e (record_fetched (seen_by ahead s older e) e.word)
 
 -- ---- the walk, oldest first
 
 -- the rest behind the older entries, which were looked at, and of which some have begun
 abbrev pub issued_from : Ahead → State → (begun : ℕ) → List Entry → List Entry → List Entry
-issued_from lead s begun older [] = older
-issued_from lead s begun older (e ∷ rest) =
-    if begins begun older e then issued_from lead s (begun + 1) (older ++ started lead s older e ∷ []) rest
-    else issued_from lead s begun (older ++ e ∷ []) rest
+issued_from ahead s begun older [] = older
+issued_from ahead s begun older (e ∷ rest) =
+    if begins begun older e then issued_from ahead s (begun + 1) (older ++ started ahead s older e ∷ []) rest
+    else issued_from ahead s begun (older ++ e ∷ []) rest
 
 unfoldable pub issued : Ahead → State → List Entry → List Entry
-issued lead s window = issued_from lead s 0 [] window
+issued ahead s window = issued_from ahead s 0 [] window

@@ -8,11 +8,11 @@ use Rattle.diva_isa.specs.State.{State, word_of}
 use Rattle.diva_isa.specs.declared.record.Record.{Record}
 use Rattle.diva_isa.specs.declared.effect.Effect.TheVariants.{Nothing}
 use Rattle.diva_core.specs.Told.{Told}
-use Rattle.diva_ahead.specs.Ahead.{Ahead, new_lead, synced, trimmed, handed, is_epoch}
+use Rattle.diva_ahead.specs.Ahead.{Ahead, new_ahead, synced, trimmed, with_record, is_epoch}
 use Rattle.diva_ooo.specs.declared.entry.Entry.{Entry}
-use Rattle.diva_ooo.specs.declared.entry.Stage.TheVariants.{Waiting}
-use Rattle.diva_ooo.specs.declared.finishing.Turn.{Turn}
-use Rattle.diva_ooo.specs.declared.finishing.Turn.TheVariants.{On, Dry, To}
+use Rattle.diva_ooo.specs.declared.entry.Progress.TheVariants.{Waiting}
+use Rattle.diva_ooo.specs.declared.finishing.Redirect.{Redirect}
+use Rattle.diva_ooo.specs.declared.finishing.Redirect.TheVariants.{On, Dry, To}
 use Rattle.diva_ooo.specs.Profile.{predicted, profile_of}
 use Rattle.diva_ooo.specs.Finish.{finished}
 use Rattle.diva_ooo.specs.Issue.{issued, is_done}
@@ -25,8 +25,8 @@ pub record Ooo : Type 0 where
   pub fetch_pc : ℕ
   pub dry : Bool
 
-abbrev pub new_pipeline : Ooo
-new_pipeline = record { ahead = new_lead; window = []; fetch_pc = 0; dry = false }
+abbrev pub new_ooo : Ooo
+new_ooo = record { ahead = new_ahead; window = []; fetch_pc = 0; dry = false }
 
 -- what a call hands over, and the core after it
 pub record OooCall : Type 0 where
@@ -48,7 +48,7 @@ dropped p told = record p { ahead = trimmed p.ahead told }
 
 -- ---- step 3, finish
 
-abbrev pub fetching : Ooo → Turn → Ooo
+abbrev pub fetching : Ooo → Redirect → Ooo
 fetching p On = p
 fetching p Dry = record p { dry = true }
 fetching p (To pc) = record p { fetch_pc = pc; dry = false }
@@ -61,8 +61,8 @@ completed p = fetching (record p { window = (finished p.window).window }) (finis
 -- the oldest entry is handed over; behind one that ends nothing is under way, and nothing more is fetched
 abbrev pub with_handed : Ooo → State → Record → List Entry → Ooo
 with_handed p s r rest =
-    if r.end == 0 then record p { ahead = handed p.ahead s r; window = rest }
-    else record p { ahead = handed p.ahead s r; window = []; dry = true }
+    if r.end == 0 then record p { ahead = with_record p.ahead s r; window = rest }
+    else record p { ahead = with_record p.ahead s r; window = []; dry = true }
 
 -- as long as the oldest is done, at most n are handed over
 abbrev pub handed_over : ℕ → State → List Record → Ooo → List Entry → OooCall

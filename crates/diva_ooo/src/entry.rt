@@ -8,7 +8,7 @@ use diva_isa::{Effect, Record};
 
 /// How far an instruction is.
 #[derive(Clone, Copy, Debug, PartialEq, Eq)]
-pub enum Stage {
+pub enum Progress {
     /// It has not begun.
     Waiting,
     /// It runs for so many cycles more, one at least.
@@ -17,12 +17,12 @@ pub enum Stage {
     Done,
 }
 
-impl Stage {
+impl Progress {
     /// Whether it is to be handed over.
     pub fn is_done(self) -> bool
         ensures { result ≡ is_done self }
     {
-        matches!(self, Stage::Done)
+        matches!(self, Progress::Done)
     }
 }
 
@@ -40,7 +40,7 @@ pub struct Entry {
     /// Where the next instruction was fetched.
     pub predicted: u32,
     /// How far it is.
-    pub stage: Stage,
+    pub stage: Progress,
     /// Its record, once it has begun; until then all zeros.
     pub result: Record,
     /// What that does besides moving the pc: nothing where it ends, or where it has not begun.

@@ -2,13 +2,13 @@
 ghost use Rattle.std.specs.Prelude.{◌≡◌, ◌+◌, ◌<◌, ◌≤◌, drop, length, take};
 ghost use Rattle.diva_ooo.specs.Finish.{Finish, finished, finished_from, turn_by, turned};
 
-use crate::entry::{Entry, Stage};
+use crate::entry::{Entry, Progress};
 use crate::window::Window;
 use diva_isa::Record;
 
 /// What becomes of the fetch.
 #[derive(Clone, Copy, Debug, PartialEq, Eq)]
-pub enum Turn {
+pub enum Redirect {
     /// It goes on.
     On,
     /// It stops.
@@ -19,26 +19,26 @@ pub enum Turn {
 
 /// Each entry that runs has one cycle less to run, oldest first. One that becomes done, and behind which the fetch has to
 /// turn, removes all younger ones.
-pub(crate) fn finish(window: &mut Window) -> Turn
+pub(crate) fn finish(window: &mut Window) -> Redirect
     ensures { record { window = window.new; turn = result } ≡ finished window.old }
 {
     let mut running = window.running_places();
     let mut at = running.first();
     while at < window.len() {
         let turn = finish_at(window, at);
-        if turn != Turn::On {
+        if turn != Redirect::On {
             window.keep(at + 1);
             return turn;
         }
         running.remove(at);
         at = running.first();
     }
-    Turn::On
+    Redirect::On
 }
 
 // The same of the entry at a place: says what becomes of the fetch behind it.
 #[tactic(auto, using(crate::proofs::Finished::finish_waiting, crate::proofs::Finished::finish_done))]
-fn finish_at(window: &mut Window, at: usize) -> Turn
+fn finish_at(window: &mut Window, at: usize) -> Redirect
     requires { at < length window.old }
     ensures finishes { turned (take (at + 1) window.new) result (finished_from (take (at + 1) window.new) (drop (at + 1) window.new))
         ≡ finished_from (take at window.old) (drop at window.old) }
@@ -47,13 +47,13 @@ fn finish_at(window: &mut Window, at: usize) -> Turn
 {
     let entry = window.entry(at);
     match entry.stage {
-        Stage::Waiting => Turn::On,
-        Stage::Done => Turn::On,
-        Stage::Running(left) if left > 1 => {
+        Progress::Waiting => Redirect::On,
+        Progress::Done => Redirect::On,
+        Progress::Running(left) if left > 1 => {
             window.advance(at, left - 1);
-            Turn::On
+            Redirect::On
         }
-        Stage::Running(_) => {
+        Progress::Running(_) => {
             let Entry {
                 result,
                 predicted,
@@ -66,14 +66,14 @@ fn finish_at(window: &mut Window, at: usize) -> Turn
 }
 
 // What becomes of the fetch behind a record, where `predicted` was fetched next.
-fn turn_by(r: &Record, predicted: u32) -> Turn
+fn turn_by(r: &Record, predicted: u32) -> Redirect
     ensures { result ≡ turn_by r.now predicted }
 {
     if r.end != 0 {
-        Turn::Dry
+        Redirect::Dry
     } else if r.next != predicted {
-        Turn::To(r.next)
+        Redirect::To(r.next)
     } else {
-        Turn::On
+        Redirect::On
     }
 }

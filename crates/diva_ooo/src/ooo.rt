@@ -4,10 +4,10 @@ ghost use Rattle.std.specs.Option.{option_and_then};
 ghost use Rattle.diva_decode.specs.Table.{HasRegisters, row_of};
 ghost use Rattle.diva_isa.specs.State.{State, word_of};
 ghost use Rattle.diva_ahead.specs.Ahead.{is_epoch};
-ghost use Rattle.diva_ooo.specs.Ooo.{IsOooCall, call_of, completed, dropped, fetched, fetching, handed_over, new_pipeline, ooo_call, refilled, restarted, with_issued, with_word, worked};
+ghost use Rattle.diva_ooo.specs.Ooo.{IsOooCall, call_of, completed, dropped, fetched, fetching, handed_over, new_ooo, ooo_call, refilled, restarted, with_issued, with_word, worked};
 
-use crate::entry::{Entry, Stage};
-use crate::finishing::{Turn, finish};
+use crate::entry::{Entry, Progress};
+use crate::finishing::{Redirect, finish};
 use crate::issuing::issue;
 use crate::predicting::predicted;
 use crate::profile::Profile;
@@ -54,7 +54,7 @@ impl Ooo {
     /// A core that has not taken the machine's state yet. The one error is that memory runs out, and no later call takes
     /// any.
     pub fn new(alloc: Global) -> Result<Self, AllocError>
-        ensures { IfOk result (λ c. c ≡ new_pipeline) }
+        ensures { IfOk result (λ c. c ≡ new_ooo) }
     {
         Ok(Ooo {
             ahead: Ahead::new(alloc)?,
@@ -93,14 +93,14 @@ impl Ooo {
         self.turn(turn);
     }
 
-    fn turn(&mut self, turn: Turn)
+    fn turn(&mut self, turn: Redirect)
         ensures turned { self.new ≡ fetching self.old turn }
         ensures ahead { self.new.ahead ≡ self.old.ahead }
     {
         match turn {
-            Turn::On => {}
-            Turn::Dry => self.dry = true,
-            Turn::To(pc) => {
+            Redirect::On => {}
+            Redirect::Dry => self.dry = true,
+            Redirect::To(pc) => {
                 self.fetch_pc = pc;
                 self.dry = false;
             }
@@ -215,7 +215,7 @@ impl Ooo {
             word,
             profile: Profile::of(decoded),
             predicted: self.fetch_pc,
-            stage: Stage::Waiting,
+            stage: Progress::Waiting,
             result: BLANK,
             effect: Effect::Nothing,
         });

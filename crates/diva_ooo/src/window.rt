@@ -1,7 +1,7 @@
 // The instructions under way, in program order.
 ghost use Rattle.std.specs.Prelude.{◌≡◌, ◌≤◌, ◌<◌, ◌+◌, ◌-◌, ℕ, false, [], ◌∷◌, ◌++◌, length, drop, take, IfOk, IfSome, IsNone, Some, slice_get, slice_index, slice_set, true};
 ghost use Rattle.std.specs.List.{All, position_or_len};
-ghost use Rattle.diva_ooo.specs.declared.entry.Stage.TheVariants.{Done, Running};
+ghost use Rattle.diva_ooo.specs.declared.entry.Progress.TheVariants.{Done, Running};
 ghost use Rattle.diva_core.specs.Cycle.{is_store};
 ghost use Rattle.diva_ooo.specs.Board.{IsBoard, IsNextOf, can_at, is_load};
 ghost use Rattle.diva_ooo.specs.Finish.{is_running};
@@ -10,7 +10,7 @@ ghost use Rattle.diva_ooo.specs.Known.{IsKnown};
 ghost use Rattle.diva_ooo.specs.MarkSets.{has, holds_at};
 
 use crate::board::Board;
-use crate::entry::{Entry, Stage};
+use crate::entry::{Entry, Progress};
 use crate::mark_set::MarkSet;
 use circular_buffer::HeapCircularBuffer;
 use diva_ahead::is_store;
@@ -150,7 +150,7 @@ impl Window {
         ensures length { length self.new ≡ length self.old }
     {
         let entry = self.entries.get_mut(at).unwrap();
-        entry.stage = Stage::Running(left);
+        entry.stage = Progress::Running(left);
     }
 
     /// The entry at a place, which runs, is done.
@@ -165,7 +165,7 @@ impl Window {
         let _ = self.len();
         let entry = self.entries.get_mut(at).unwrap();
         let rd = entry.profile.rd;
-        entry.stage = Stage::Done;
+        entry.stage = Progress::Done;
         self.board.complete(at, rd);
     }
 
@@ -182,7 +182,7 @@ impl Window {
     {
         let _ = self.len();
         let entry = self.entries.get_mut(at).unwrap();
-        entry.stage = Stage::Running(entry.profile.cycles);
+        entry.stage = Progress::Running(entry.profile.cycles);
         entry.result = r;
         entry.effect = effect;
         self.board.begin(at, is_store(&effect));

@@ -4,7 +4,7 @@ use Rattle.std.specs.List.{list_any}
 use Rattle.diva_outside.specs.Causes.{raised}
 use Rattle.diva_outside.specs.Faults.{faults_of, raised_at}
 use Rattle.diva_outside.specs.Files.{Contents}
-use Rattle.diva_outside.specs.Named.{bytes_of, answer_to}
+use Rattle.diva_outside.specs.Named.{named_bytes, answer_to}
 use Rattle.diva_outside.specs.declared.faults.Faults.{Faults}
 use Rattle.diva_outside.specs.declared.files.What.{What}
 use Rattle.diva_outside.specs.declared.files.LoadFault.{LoadFault}
@@ -18,7 +18,7 @@ pub record MemFiles : Type 0 where
 
 -- the contents, which are known: the bytes of each name
 abbrev pub contents_of : MemFiles → Contents
-contents_of m = Some (bytes_of m.files)
+contents_of m = Some (named_bytes m.files)
 
 -- how often loads of this kind of file have failed
 abbrev pub faults_in : MemFiles → What → ℕ
@@ -30,11 +30,11 @@ is_to_fail m = list_any (λ call. call == raised m.calls) m.fails
 
 -- what a load answers, unless memory runs out: the name is looked up before the call is
 abbrev pub load_of : MemFiles → List ℕ → ℕ → Result (List ℕ) LoadFault
-load_of m name limit = answer_to (bytes_of m.files name) (is_to_fail m) limit
+load_of m name limit = answer_to (named_bytes m.files name) (is_to_fail m) limit
 
 -- the files after a load: one more call, and one more fault where the name was found and the call failed
 abbrev pub after_load : MemFiles → What → List ℕ → MemFiles
 after_load m what name = record m {
   calls = raised m.calls;
-  faults = if is_to_fail m && is_some (bytes_of m.files name) then raised_at m.faults what else m.faults;
+  faults = if is_to_fail m && is_some (named_bytes m.files name) then raised_at m.faults what else m.faults;
 }

@@ -5,9 +5,9 @@ use Rattle.diva_outside.specs.declared.files.LoadFault.{LoadFault}
 use Rattle.diva_outside.specs.declared.files.LoadFault.TheVariants.{Failed, TooLong}
 
 -- the bytes of the first file of that name, `None` where no file has it
-abbrev pub bytes_of : List (List ℕ × List ℕ) → List ℕ → Option (List ℕ)
-bytes_of [] name = None
-bytes_of (file ∷ files) name = if pointwise nat_eq file.0 name then Some file.1 else bytes_of files name
+abbrev pub named_bytes : List (List ℕ × List ℕ) → List ℕ → Option (List ℕ)
+named_bytes [] name = None
+named_bytes (file ∷ files) name = if pointwise nat_eq file.0 name then Some file.1 else named_bytes files name
 
 -- the bytes, or the empty list where there are none
 abbrev pub or_empty : Option (List ℕ) → List ℕ

@@ -10,7 +10,7 @@ use Rattle.diva_outside.specs.declared.next_words.WordFault.TheVariants.{Count, 
 -- ---- one word
 
 -- a number in a range
-pub record IsWithin (low high n : ℕ) : Type 0 where
+pub record IsInRange (low high n : ℕ) : Type 0 where
   pub least : low ≤ n
   pub most : n ≤ high
 

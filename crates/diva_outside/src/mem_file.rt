@@ -1,7 +1,7 @@
 // A file in memory, and how it is found and loaded.
 ghost use Rattle.std.specs.Prelude.{◌≡◌, IfOk, IfErr, OnErr, Ok, Err, ◌≢◌};
 ghost use Rattle.std.specs.Option.{option_copied};
-ghost use Rattle.diva_outside.specs.Named.{bytes_of, answer_of};
+ghost use Rattle.diva_outside.specs.Named.{named_bytes, answer_of};
 
 use crate::LoadFault;
 use std::alloc::Global;
@@ -49,7 +49,7 @@ impl MemFile {
 
 /// The bytes of the first file of that name, `None` where no file has it.
 pub(crate) fn find<'a>(files: &'a [MemFile], name: &str) -> Option<&'a [u8]>
-    ensures { option_copied result ≡ bytes_of files.now name.now }
+    ensures { option_copied result ≡ named_bytes files.now name.now }
 {
     for file in files {
         if file.name() == name {

@@ -4,7 +4,7 @@ ghost use Rattle.diva_outside.specs.Causes.{Rose};
 ghost use Rattle.diva_outside.specs.Files.{Has, IsMissing, IsLonger};
 ghost use Rattle.std.specs.List.{list_any};
 ghost use Rattle.std.specs.Option.{option_copied};
-ghost use Rattle.diva_outside.specs.Named.{bytes_of, answer_to};
+ghost use Rattle.diva_outside.specs.Named.{named_bytes, answer_to};
 
 use crate::faults::Faults;
 use crate::mem_file::{copy, find};

@@ -14,14 +14,14 @@ pub enum WordFault {
 }
 
 impl LineWords<'_> {
-    ghost use Rattle.diva_outside.specs.NextWords.{first_hex, first_number, IsWithin, no_more, others_of};
+    ghost use Rattle.diva_outside.specs.NextWords.{first_hex, first_number, IsInRange, no_more, others_of};
 
     /// The next word as a decimal number from `low` to `high`.
     #[tactic(auto, unfolding(crate::specs::NextWords::first_number))]
     pub fn number(&mut self, low: u32, high: u32) -> Result<u32, WordFault>
         ensures number { result ≡ first_number low high self.old }
         ensures others { self.new ≡ others_of self.old }
-        ensures range { IfOk result (IsWithin low high) }
+        ensures range { IfOk result (IsInRange low high) }
     {
         let Some(word) = self.next() else {
             return Err(WordFault::Count);

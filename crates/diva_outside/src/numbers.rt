@@ -1,6 +1,6 @@
 // The numbers that words spell.
 ghost use Rattle.std.specs.Prelude.{◌≡◌, ◌≤◌, ◌<◌, ◌^◌, length, IfSome};
-ghost use Rattle.diva_outside.specs.Numbers.{number_of, hex_of, decimal_of};
+ghost use Rattle.diva_outside.specs.Numbers.{spelled_number, hex_of, decimal_of};
 
 /// The number that one to eight hex digits of either case spell, `None` exactly where the word is something else.
 #[tactic(auto, unfolding(crate::specs::Numbers::hex_of))]
@@ -26,7 +26,7 @@ fn number(word: &[u8], radix: u32, most: usize) -> Option<u64>
     requires low { 2 ≤ radix }
     requires high { radix ≤ 16 }
     requires short { most ≤ 10 }
-    ensures value { result ≡ number_of radix most word.now }
+    ensures value { result ≡ spelled_number radix most word.now }
     ensures small { IfSome result (λ n. n < 16 ^ most) }
 {
     if word.is_empty() || most < word.len() {

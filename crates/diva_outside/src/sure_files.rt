@@ -1,6 +1,6 @@
 // Files in memory that never fail.
 ghost use Rattle.std.specs.Prelude.{◌≡◌, List, ℕ, Some};
-ghost use Rattle.diva_outside.specs.Named.{bytes_of, or_empty};
+ghost use Rattle.diva_outside.specs.Named.{named_bytes, or_empty};
 
 use crate::mem_file::{copy, find};
 use crate::{Files, LoadFault, MemFile, What};
@@ -29,7 +29,7 @@ impl SureFiles {
 }
 
 impl Files for SureFiles {
-    ghost contents = { λ files. Some (λ name. Some (or_empty (bytes_of files name))) };
+    ghost contents = { λ files. Some (λ name. Some (or_empty (named_bytes files name))) };
 
     ghost faults = { λ _ _. 0 };
 

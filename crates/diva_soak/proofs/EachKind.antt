@@ -3,7 +3,7 @@ use Rattle.std.proofs.Common.{◌≡◌, ◌≤◌, ◌<◌, ℕ, zero, suc, ◌
 use Rattle.std.specs.Prelude.{pos}
 use Rattle.std.proofs.lemmas.Int.{ints}
 use Rattle.diva_decode.specs.Fields.{field}
-use Rattle.diva_decode.specs.Table.{IsValid, row_of, word_of}
+use Rattle.diva_decode.specs.Table.{IsValid, row_of, encoding_of}
 use Rattle.diva_decode.specs.declared.op.Op.TheVariants.{Addi, Blt, Lw, Mul, Rem, Sub, Sw, Xor}
 use Rattle.diva_decode.specs.declared.instr.Instr.{Instr}
 use Rattle.diva_decode.proofs.Words.{row_word_of}
@@ -57,8 +57,8 @@ by_kind P each x =
 -- ---- it has a word
 
 pub record HasWord (i : Instr) : Type 0 where
-  pub says : row_of (word_of i) ≡ Some i
-  pub below : word_of i < 2 ^ 32
+  pub says : row_of (encoding_of i) ≡ Some i
+  pub below : encoding_of i < 2 ^ 32
 
 valid_addi : (rd rs1 m : ℕ) → IsOwn rd → IsOwn rs1 → m < 2048 → IsValid (of_immediate Addi rd rs1 (pos m))
 valid_addi rd rs1 m d a h = grind (arith, ints)
@@ -76,37 +76,37 @@ module _ (rd rs1 rs2 : ℕ) (d : IsOwn rd) (a : IsOwn rs1) (b : IsOwn rs2) where
   own_registers : (rd < 32) × (rs1 < 32) × (rs2 < 32) × (pos 0 ≡ pos 0)
   own_registers = (omega arith, omega arith, omega arith, refl)
 
-below_addi : (rd rs1 m : ℕ) → IsOwn rd → IsOwn rs1 → word_of (of_immediate Addi rd rs1 (pos m)) < 2 ^ 32
-unfolding word_of
+below_addi : (rd rs1 m : ℕ) → IsOwn rd → IsOwn rs1 → encoding_of (of_immediate Addi rd rs1 (pos m)) < 2 ^ 32
+unfolding encoding_of
 below_addi rd rs1 m d a = omega arith
 
-below_lw : (rd q : ℕ) → IsOwn rd → word_of (of_immediate Lw rd 0 (pos q)) < 2 ^ 32
-unfolding word_of
+below_lw : (rd q : ℕ) → IsOwn rd → encoding_of (of_immediate Lw rd 0 (pos q)) < 2 ^ 32
+unfolding encoding_of
 below_lw rd q d = omega arith
 
-below_sw : (rs2 q : ℕ) → IsOwn rs2 → word_of (of_sources Sw 0 rs2 (pos q)) < 2 ^ 32
-unfolding word_of
+below_sw : (rs2 q : ℕ) → IsOwn rs2 → encoding_of (of_sources Sw 0 rs2 (pos q)) < 2 ^ 32
+unfolding encoding_of
 below_sw rs2 q b = omega arith
 
-below_blt : (rs1 rs2 : ℕ) → IsOwn rs1 → IsOwn rs2 → word_of (of_sources Blt rs1 rs2 (pos 8)) < 2 ^ 32
-unfolding word_of
+below_blt : (rs1 rs2 : ℕ) → IsOwn rs1 → IsOwn rs2 → encoding_of (of_sources Blt rs1 rs2 (pos 8)) < 2 ^ 32
+unfolding encoding_of
 below_blt rs1 rs2 a b = omega arith
 
 module _ (rd rs1 rs2 : ℕ) (d : IsOwn rd) (a : IsOwn rs1) (b : IsOwn rs2) where
-  below_sub : word_of (of_registers Sub rd rs1 rs2) < 2 ^ 32
-  unfolding word_of
+  below_sub : encoding_of (of_registers Sub rd rs1 rs2) < 2 ^ 32
+  unfolding encoding_of
   below_sub = omega arith
 
-  below_xor : word_of (of_registers Xor rd rs1 rs2) < 2 ^ 32
-  unfolding word_of
+  below_xor : encoding_of (of_registers Xor rd rs1 rs2) < 2 ^ 32
+  unfolding encoding_of
   below_xor = omega arith
 
-  below_mul : word_of (of_registers Mul rd rs1 rs2) < 2 ^ 32
-  unfolding word_of
+  below_mul : encoding_of (of_registers Mul rd rs1 rs2) < 2 ^ 32
+  unfolding encoding_of
   below_mul = omega arith
 
-  below_rem : word_of (of_registers Rem rd rs1 rs2) < 2 ^ 32
-  unfolding word_of
+  below_rem : encoding_of (of_registers Rem rd rs1 rs2) < 2 ^ 32
+  unfolding encoding_of
   below_rem = omega arith
 
 pub has_word : (x : ℕ) → HasWord (drawn x)

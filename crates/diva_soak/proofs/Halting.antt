@@ -7,8 +7,8 @@ use Rattle.std.proofs.lemmas.Bool.Decides.{nat_tests}
 use Rattle.std.proofs.lemmas.List.{append-nil}
 use Rattle.diva_decode.specs.declared.op.Op.TheVariants.{Addi, Ecall}
 use Rattle.diva_decode.specs.declared.instr.Instr.{Instr}
-use Rattle.diva_decode.specs.Table.{row_of, word_of as encoded}
-use Rattle.diva_isa.specs.State.{State, goes_on, reg_of, word_of}
+use Rattle.diva_decode.specs.Table.{row_of, encoding_of as encoded}
+use Rattle.diva_isa.specs.State.{State, goes_on, reg_of, encoding_of}
 use Rattle.diva_isa.specs.Step.{apply, call, record_by, step, steps}
 use Rattle.diva_isa.specs.declared.effect.Effect.TheVariants.{Writes}
 use Rattle.diva_isa.specs.declared.record.Record.{Record}
@@ -17,7 +17,7 @@ use Rattle.diva_core.proofs.Steps.{step-on, steps-shift}
 use Rattle.diva_image.specs.Layout.{most_size}
 use Rattle.diva_machine.specs.Start.{start_of}
 use Rattle.diva_soak.specs.Halts.{HaltsWithin}
-use Rattle.diva_soak.specs.Soak.{bytes_of, drawn, last_words, of_immediate, of_sources, payload_of, soak_of, soak_size, words_after}
+use Rattle.diva_soak.specs.Soak.{words_as_bytes, drawn, last_words, of_immediate, of_sources, payload_of, soak_of, soak_size, words_after}
 use Rattle.diva_soak.proofs.EachKind.{has_word}
 use Rattle.diva_soak.proofs.Passing.{IsNext, passes, passes_addi}
 use Rattle.diva_soak.proofs.Placed.{AreWords, code_below, code_of, drawn_at, last_at, length_words, word_placed}
@@ -109,7 +109,7 @@ module _ (seed n : ℕ) (small : soak_size n ≤ most_size) where
 
   next_last : (s : State) (k w : ℕ) (i : Instr) → Stands code s (n + k) → k ≤ 2 → slice_get last_words k ≡ Some w → row_of w ≡ Some i → IsNext code s (n + k) w i
   next_last s k w i st low at row =
-      record { stands = st; there = ap (word_of s) st.pc ∙ st.coded (n + k) w (last_at n seed k ∙ at); says = row; small = omega arith }
+      record { stands = st; there = ap (encoding_of s) st.pc ∙ st.coded (n + k) w (last_at n seed k ∙ at); says = row; small = omega arith }
 
   last_two : (s : State) → Stands code s (n + 1) → HaltsWithin 2 s
   last_two s st =
@@ -123,7 +123,7 @@ module _ (seed n : ℕ) (small : soak_size n ≤ most_size) where
   last_three s st =
       let here : n ≡ n + 0 = omega arith in
       passes_addi 0 0 0 (not_status 0 (inl (omega arith))) code s n 0x00000013
-      (record { stands = st; there = ap (word_of s) st.pc ∙ st.coded n 0x00000013 (ap (slice_get code) here ∙ last_at n seed 0); says = row_nothing; small = omega arith })
+      (record { stands = st; there = ap (encoding_of s) st.pc ∙ st.coded n 0x00000013 (ap (slice_get code) here ∙ last_at n seed 0); says = row_nothing; small = omega arith })
 
   -- from a word of the code on, `left` words before the last two
   halts_from : (left : ℕ) (s : State) (at : ℕ) → Stands code s at → at ≤ n + 1 → n + 1 ≤ at + left → HaltsWithin (left + 2) s
@@ -134,7 +134,7 @@ module _ (seed n : ℕ) (small : soak_size n ≤ most_size) where
         | inl lt ↦
             let d = drawn_at n seed at lt in
             let word = has_word d.x in
-            let next : IsNext code s at (encoded (drawn d.x)) (drawn d.x) = record { stands = st; there = ap (word_of s) st.pc ∙ st.coded at _ d.is; says = word.says; small = omega arith } in
+            let next : IsNext code s at (encoded (drawn d.x)) (drawn d.x) = record { stands = st; there = ap (encoding_of s) st.pc ∙ st.coded at _ d.is; says = word.says; small = omega arith } in
             let more : HaltsWithin (left + 2) (step s) = elim (passes d.x code s at _ next) [
               | inl one ↦ halts_from left (step s) (at + 1) one (omega arith) (omega arith)
               | inr two ↦ halts_from left (step s) (at + 2) two (omega arith) (omega arith)
@@ -153,7 +153,7 @@ module _ (seed n : ℕ) (small : soak_size n ≤ most_size) where
 length_zeros : (k : ℕ) → length (replicate {A = ℕ} k 0) ≡ k
 length_zeros k = grind (arith, common_steps)
 
-length_bytes : (words : List ℕ) → length (bytes_of words) ≡ 4 * length words
+length_bytes : (words : List ℕ) → length (words_as_bytes words) ≡ 4 * length words
 length_bytes [] = refl
 length_bytes (w ∷ words) = let rest = length_bytes words in omega arith
 
@@ -164,32 +164,32 @@ length_code seed n = length-append (words_after n seed) last_words ∙ ap (λ (k
 abbrev begins : List ℕ → State
 begins bytes = record { regs = replicate 32 0; pc = 2048; base = 0; bytes = bytes; output = []; end = 0 }
 
-stands_first : (code zeros bytes : List ℕ) → AreWords code → length zeros ≡ 2048 → bytes ≡ zeros ++ bytes_of code → Stands code (begins bytes) 0
+stands_first : (code zeros bytes : List ℕ) → AreWords code → length zeros ≡ 2048 → bytes ≡ zeros ++ words_as_bytes code → Stands code (begins bytes) 0
 stands_first code zeros bytes are long is =
     record {
       on = refl;
       pc = refl;
       base = refl;
-      long = (let l = ap length is in let m = length-append zeros (bytes_of code) in omega arith);
+      long = (let l = ap length is in let m = length-append zeros (words_as_bytes code) in omega arith);
       coded = λ k w at.
           let place : 2048 + 4 * k ≡ length zeros + 4 * k = omega arith in
           let aligned : length zeros % 4 ≡ 0 = omega arith in
-          ap (λ (items : List ℕ). word_of (begins items) (2048 + 4 * k)) is
-          ∙ ap (word_of (begins (zeros ++ bytes_of code))) place
+          ap (λ (items : List ℕ). encoding_of (begins items) (2048 + 4 * k)) is
+          ∙ ap (encoding_of (begins (zeros ++ words_as_bytes code))) place
           ∙ word_placed code zeros k w are at aligned;
       regs = refl;
       none = refl;
       status = refl;
     }
 
-payload_is : (seed n : ℕ) → payload_of seed n ≡ replicate 2048 0 ++ bytes_of (code_of seed n)
+payload_is : (seed n : ℕ) → payload_of seed n ≡ replicate 2048 0 ++ words_as_bytes (code_of seed n)
 unfolding payload_of
 payload_is seed n = refl
 
 length_payload : (seed n : ℕ) → length (payload_of seed n) ≡ soak_size n
 length_payload seed n =
     ap length (payload_is seed n)
-    ∙ length-append (replicate 2048 0) (bytes_of (code_of seed n))
+    ∙ length-append (replicate 2048 0) (words_as_bytes (code_of seed n))
     ∙ (let z = length_zeros 2048 in let b = length_bytes (code_of seed n) in let c = length_code seed n in omega arith)
 
 -- the payload fills memory

@@ -7,9 +7,9 @@ use Rattle.std.proofs.lemmas.Bool.{le-leb}
 use Rattle.std.proofs.lemmas.Option.{none-some, same_Some}
 use Rattle.diva_memory.specs.Bytes.{Bytes, IsInside, byte_at, number_at, word_at}
 use Rattle.diva_memory.proofs.Writing.{byte_inside}
-use Rattle.diva_decode.specs.Table.{word_of}
+use Rattle.diva_decode.specs.Table.{encoding_of}
 use Rattle.diva_seed.specs.Generator.{next_number}
-use Rattle.diva_soak.specs.Soak.{bytes_of, drawn, last_words, words_after}
+use Rattle.diva_soak.specs.Soak.{words_as_bytes, drawn, last_words, words_after}
 use Rattle.diva_soak.proofs.EachKind.{has_word}
 
 -- ---- in the code
@@ -29,7 +29,7 @@ code_of seed n = words_after n seed ++ last_words
 -- the word at a place of the code is that of an instruction that some number draws
 pub record IsDrawnAt (code : List ℕ) (i : ℕ) : Type 0 where
   pub x : ℕ
-  pub is : slice_get code i ≡ Some (word_of (drawn x))
+  pub is : slice_get code i ≡ Some (encoding_of (drawn x))
 
 pub drawn_at : (n seed i : ℕ) → i < n → IsDrawnAt (code_of seed n) i
 drawn_at zero seed i h = absurd (omega arith)
@@ -107,17 +107,17 @@ length_word : (w : ℕ) → length (to_le_bytes w32 w) ≡ 4
 length_word w = refl
 
 -- each word of a list stands in memory at its place
-number_placed : (words pre : List ℕ) (i w a : ℕ) → AreWords words → slice_get words i ≡ Some w → a ≡ length pre + 4 * i → number_at (from_zero (pre ++ bytes_of words)) 4 a ≡ Some w
+number_placed : (words pre : List ℕ) (i w a : ℕ) → AreWords words → slice_get words i ≡ Some w → a ≡ length pre + 4 * i → number_at (from_zero (pre ++ words_as_bytes words)) 4 a ≡ Some w
 number_placed [] pre i w a are e at = absurd (none-some _ e)
 number_placed (v ∷ words) pre zero w a are e at =
     let same : v ≡ w = same_Some _ _ e in
-    rw same (word_here pre (bytes_of words) w a (are zero w e) (omega arith))
+    rw same (word_here pre (words_as_bytes words) w a (are zero w e) (omega arith))
 number_placed (v ∷ words) pre (suc i) w a are e at =
     let longer : length (pre ++ to_le_bytes w32 v) ≡ length pre + 4 = grind (arith, common_steps) in
-    ap (λ (items : List ℕ). number_at (from_zero items) 4 a) (sym (append_assoc pre (to_le_bytes w32 v) (bytes_of words)))
+    ap (λ (items : List ℕ). number_at (from_zero items) 4 a) (sym (append_assoc pre (to_le_bytes w32 v) (words_as_bytes words)))
     ∙ number_placed words (pre ++ to_le_bytes w32 v) i w a (λ j u f. are (suc j) u f) e (omega arith)
 
-pub word_placed : (words pre : List ℕ) (i w : ℕ) → AreWords words → slice_get words i ≡ Some w → length pre % 4 ≡ 0 → word_at (from_zero (pre ++ bytes_of words)) (length pre + 4 * i) ≡ Some w
+pub word_placed : (words pre : List ℕ) (i w : ℕ) → AreWords words → slice_get words i ≡ Some w → length pre % 4 ≡ 0 → word_at (from_zero (pre ++ words_as_bytes words)) (length pre + 4 * i) ≡ Some w
 word_placed words pre i w are e aligned =
     let test : (length pre + 4 * i) % 4 ≡ 0 = omega arith in
     rw test (number_placed words pre i w (length pre + 4 * i) are e refl)

@@ -2,7 +2,7 @@
 use Rattle.std.specs.Prelude.{ℕ, zero, suc, ◌+◌, ◌-◌, ◌*◌, ◌%◌, List, [], ◌∷◌, ◌++◌, flat_map, get_or, replicate, ℤ, pos}
 use Rattle.std.specs.Int.{to_le_bytes, w32}
 use Rattle.diva_decode.specs.Fields.{field}
-use Rattle.diva_decode.specs.Table.{word_of}
+use Rattle.diva_decode.specs.Table.{encoding_of}
 use Rattle.diva_decode.specs.declared.op.Op.{Op}
 use Rattle.diva_decode.specs.declared.op.Op.TheVariants.{Blt, Lw, Sw, Addi, Sub, Xor, Mul, Rem}
 use Rattle.diva_decode.specs.declared.instr.Instr.{Instr}
@@ -58,19 +58,19 @@ drawn x =
 -- the words of the instructions that n numbers draw, the numbers after x
 abbrev pub words_after : (n x : ℕ) → List ℕ
 words_after zero x = []
-words_after (suc n) x = word_of (drawn (next_number x)) ∷ words_after n (next_number x)
+words_after (suc n) x = encoding_of (drawn (next_number x)) ∷ words_after n (next_number x)
 
 -- addi x0, x0, 0; addi x17, x0, 93; ecall: a halt with the status that x10 holds
 abbrev pub last_words : List ℕ
 last_words = 0x00000013 ∷ 0x05d00893 ∷ 0x00000073 ∷ []
 
 -- words as bytes, the lowest of each first
-abbrev pub bytes_of : List ℕ → List ℕ
-bytes_of words = flat_map (to_le_bytes w32) words
+abbrev pub words_as_bytes : List ℕ → List ℕ
+words_as_bytes words = flat_map (to_le_bytes w32) words
 
 -- 2,048 bytes for data, all 0, then the code
 unfoldable pub payload_of : (seed n : ℕ) → List ℕ
-payload_of seed n = replicate 2048 0 ++ bytes_of (words_after n seed ++ last_words)
+payload_of seed n = replicate 2048 0 ++ words_as_bytes (words_after n seed ++ last_words)
 
 -- how many bytes memory has with n drawn instructions: 2,048 for data, and the code, which fills it
 abbrev pub soak_size : (n : ℕ) → ℕ

@@ -7,7 +7,7 @@ use Rattle.diva_memory.proofs.Writing.{over, put_all_covered, put_all_others}
 use Rattle.diva_storeq.specs.declared.masked.Masked.{Masked}
 use Rattle.diva_storeq.specs.declared.store.Store.{Store}
 use Rattle.diva_storeq.specs.Masked.{byte_in, merge}
-use Rattle.diva_storeq.specs.Stores.{store_bytes, bytes_of, lay, laid, masked}
+use Rattle.diva_storeq.specs.Stores.{store_bytes, placed_bytes, lay, laid, masked}
 use Rattle.diva_storeq.proofs.Merging.{merge_base, merge_length, merge_byte}
 use Rattle.diva_storeq.proofs.Placing.{merge_masked}
 
@@ -40,12 +40,12 @@ inside_laid m entries a n h =
 -- ---- each byte
 
 -- a byte that the store covers is the store's
-pub lay_covered : (m : Bytes) (s : Store) (a : ℕ) → IsInside m a 1 → IsInside (bytes_of s) a 1 → byte_at (lay m s) a ≡ byte_at (bytes_of s) a
+pub lay_covered : (m : Bytes) (s : Store) (a : ℕ) → IsInside m a 1 → IsInside (placed_bytes s) a 1 → byte_at (lay m s) a ≡ byte_at (placed_bytes s) a
 unfolding lay
 lay_covered m s a h k = put_all_covered m s.addr a (store_bytes s) h k
 
 -- any other stays
-pub lay_others : (m : Bytes) (s : Store) (a : ℕ) → (IsInside (bytes_of s) a 1 → ⊥) → byte_at (lay m s) a ≡ byte_at m a
+pub lay_others : (m : Bytes) (s : Store) (a : ℕ) → (IsInside (placed_bytes s) a 1 → ⊥) → byte_at (lay m s) a ≡ byte_at m a
 unfolding lay
 lay_others m s a h = put_all_others m s.addr a (store_bytes s) h
 
@@ -54,10 +54,10 @@ lay_others m s a h = put_all_others m s.addr a (store_bytes s) h
 pub laid_push : (m : Bytes) (entries : List Masked) (s : Store) → s.addr % s.width ≡ 0 → laid m (entries ++ masked s ∷ []) ≡ lay (laid m entries) s
 laid_push m entries s h = laid_append m entries (masked s ∷ []) ∙ merge_masked (laid m entries) s h
 
-pub laid_push_covered : (m : Bytes) (entries : List Masked) (s : Store) (a : ℕ) → s.addr % s.width ≡ 0 → IsInside m a 1 → IsInside (bytes_of s) a 1 → byte_at (laid m (entries ++ masked s ∷ [])) a ≡ byte_at (bytes_of s) a
+pub laid_push_covered : (m : Bytes) (entries : List Masked) (s : Store) (a : ℕ) → s.addr % s.width ≡ 0 → IsInside m a 1 → IsInside (placed_bytes s) a 1 → byte_at (laid m (entries ++ masked s ∷ [])) a ≡ byte_at (placed_bytes s) a
 laid_push_covered m entries s a z h k = rw (laid_push m entries s z) (lay_covered (laid m entries) s a (laid_inside m entries a 1 h) k)
 
-pub laid_push_others : (m : Bytes) (entries : List Masked) (s : Store) (a : ℕ) → s.addr % s.width ≡ 0 → (IsInside (bytes_of s) a 1 → ⊥) → byte_at (laid m (entries ++ masked s ∷ [])) a ≡ byte_at (laid m entries) a
+pub laid_push_others : (m : Bytes) (entries : List Masked) (s : Store) (a : ℕ) → s.addr % s.width ≡ 0 → (IsInside (placed_bytes s) a 1 → ⊥) → byte_at (laid m (entries ++ masked s ∷ [])) a ≡ byte_at (laid m entries) a
 laid_push_others m entries s a z h = rw (laid_push m entries s z) (lay_others (laid m entries) s a h)
 
 -- ---- one more entry

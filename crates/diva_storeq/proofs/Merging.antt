@@ -6,7 +6,7 @@ use Rattle.std.specs.Int.{bit_at}
 use Rattle.diva_memory.specs.Bytes.{Bytes, byte_at, put, word_byte}
 use Rattle.diva_memory.proofs.Writing.{over, put_all_base, put_all_length, put_all_byte}
 use Rattle.diva_storeq.specs.declared.masked.Masked.{Masked}
-use Rattle.diva_storeq.specs.Masked.{lane, byte_in, put_lane, merge, IsWithin}
+use Rattle.diva_storeq.specs.Masked.{lane, byte_in, put_lane, merge, WritesInside}
 
 -- ---- the range
 
@@ -33,7 +33,7 @@ unfolding merge
 merge_length m e = lane_length e 3 _ ∙ lane_length e 2 _ ∙ lane_length e 1 _ ∙ lane_length e 0 m
 
 -- what is inside stays inside
-pub lane_within : (e f : Masked) (i : ℕ) (m : Bytes) → IsWithin m f → IsWithin (put_lane e i m) f
+pub lane_within : (e f : Masked) (i : ℕ) (m : Bytes) → WritesInside m f → WritesInside (put_lane e i m) f
 lane_within e f i m h = λ k lt set. let j = h k lt set in let from = j.from in let to = j.to in
     record { from = omega (arith, lane_base e i m); to = omega (arith, lane_base e i m, lane_length e i m) }
 

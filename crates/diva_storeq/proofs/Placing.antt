@@ -8,7 +8,7 @@ use Rattle.diva_memory.specs.Bytes.{Bytes, IsInside, low_bytes, put, put_all, wo
 use Rattle.diva_storeq.specs.declared.masked.Masked.{Masked}
 use Rattle.diva_storeq.specs.declared.store.Store.{Store}
 use Rattle.diva_storeq.specs.Width.{is_width}
-use Rattle.diva_storeq.specs.Masked.{merge, IsMasked, IsWithin}
+use Rattle.diva_storeq.specs.Masked.{merge, IsMasked, WritesInside}
 use Rattle.diva_storeq.specs.Stores.{lay, masked}
 
 -- the entry of the low w bytes of v at place k of the word at q
@@ -97,7 +97,7 @@ set_inside w k i set = (
   elim (cases_lt i (k + w)) [ inl to ↦ to | inr above ↦ absurd (omega (arith, bit_at_mask_above k (k + w) i above)) ],
 )
 
-pub within_masked : (m : Bytes) (s : Store) → IsInside m s.addr s.width → IsWithin m (masked s)
+pub within_masked : (m : Bytes) (s : Store) → IsInside m s.addr s.width → WritesInside m (masked s)
 unfolding masked
 within_masked m s h = λ i lt set.
     let from = h.from in let to = h.to in

@@ -19,8 +19,8 @@ pub record IsMasked (e : Masked) : Type 0 where
   pub clear : (i : ℕ) → i < 4 → bit_at e.mask i ≡ 0 → word_byte e.bytes i ≡ 0
 
 -- each byte that it writes is inside memory
-abbrev pub IsWithin : Bytes → Masked → Type 0
-IsWithin m e = (i : ℕ) → i < 4 → bit_at e.mask i ≡ 1 → IsInside m (e.addr + i) 1
+abbrev pub WritesInside : Bytes → Masked → Type 0
+WritesInside m e = (i : ℕ) → i < 4 → bit_at e.mask i ≡ 1 → IsInside m (e.addr + i) 1
 
 -- memory after the byte at place i, if it is written
 abbrev pub put_lane : Masked → ℕ → Bytes → Bytes

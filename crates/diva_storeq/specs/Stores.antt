@@ -10,8 +10,8 @@ abbrev pub store_bytes : Store → List ℕ
 store_bytes s = low_bytes s.width s.value
 
 -- the same, from its address on
-abbrev pub bytes_of : Store → Bytes
-bytes_of s = record { base = s.addr; items = store_bytes s }
+abbrev pub placed_bytes : Store → Bytes
+placed_bytes s = record { base = s.addr; items = store_bytes s }
 
 -- memory after a store
 unfoldable pub lay : Bytes → Store → Bytes

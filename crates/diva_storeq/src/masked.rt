@@ -18,7 +18,7 @@ pub struct Masked {
 }
 
 impl Masked {
-    ghost use Rattle.diva_storeq.specs.Masked.{byte_in, put_lane, merge, IsMasked, IsWithin};
+    ghost use Rattle.diva_storeq.specs.Masked.{byte_in, put_lane, merge, IsMasked, WritesInside};
 
     /// The byte that it writes at an address, `None` where it writes none there.
     pub(crate) fn byte(&self, addr: u32) -> Option<u8>
@@ -51,7 +51,7 @@ impl Masked {
     #[tactic(auto, using(crate::proofs::Merging::lane_within), unfolding(crate::specs::Masked::merge))]
     pub(crate) fn put_to(&self, memory: &mut Memory)
         requires sound { IsMasked self.now }
-        requires within { IsWithin memory.old self.now }
+        requires within { WritesInside memory.old self.now }
         ensures { memory.new ≡ merge memory.old self.now }
     {
         self.put_lane(memory, 0);
@@ -64,7 +64,7 @@ impl Masked {
     fn put_lane(&self, memory: &mut Memory, place: u32)
         requires place { place < 4 }
         requires sound { IsMasked self.now }
-        requires within { IsWithin memory.old self.now }
+        requires within { WritesInside memory.old self.now }
         ensures { memory.new ≡ put_lane self.now place memory.old }
     {
         if self.writes(place) {

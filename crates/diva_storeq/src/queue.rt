@@ -40,8 +40,8 @@ impl Model for StoreQueue {
 }
 
 impl StoreQueue {
-    ghost use Rattle.diva_storeq.specs.Masked.{IsMasked, IsWithin};
-    ghost use Rattle.diva_storeq.specs.Stores.{bytes_of, lay, laid, masked};
+    ghost use Rattle.diva_storeq.specs.Masked.{IsMasked, WritesInside};
+    ghost use Rattle.diva_storeq.specs.Stores.{placed_bytes, lay, laid, masked};
 
     /// An empty queue for at most `cap` stores. The error: out of memory. No later call takes memory.
     pub fn new(alloc: Global, cap: usize) -> Result<Self, AllocError>
@@ -89,9 +89,9 @@ impl StoreQueue {
         ensures laid { (m : Bytes) → laid m self.new.items ≡ lay (laid m self.old.items) s }
 
         // Exactly the bytes that it covers are changed.
-        ensures covered { (m : Bytes) (a : ℕ) → IsInside m a 1 → IsInside (bytes_of s) a 1
-            → byte_at (laid m self.new.items) a ≡ byte_at (bytes_of s) a }
-        ensures others { (m : Bytes) (a : ℕ) → ¬ IsInside (bytes_of s) a 1
+        ensures covered { (m : Bytes) (a : ℕ) → IsInside m a 1 → IsInside (placed_bytes s) a 1
+            → byte_at (laid m self.new.items) a ≡ byte_at (placed_bytes s) a }
+        ensures others { (m : Bytes) (a : ℕ) → ¬ IsInside (placed_bytes s) a 1
             → byte_at (laid m self.new.items) a ≡ byte_at (laid m self.old.items) a }
     {
         let entry = s.masked();
@@ -109,7 +109,7 @@ impl StoreQueue {
     /// nothing changes.
     #[tactic(auto, using(crate::proofs::Merging::merge_base, crate::proofs::Merging::merge_length))]
     pub fn drain(&mut self, memory: &mut Memory)
-        requires { ForSome (slice_get self.old.items 0) (λ e. IsWithin memory.old e) }
+        requires { ForSome (slice_get self.old.items 0) (λ e. WritesInside memory.old e) }
         ensures oldest { memory.new ≡ laid memory.old (take 1 self.old.items) }
         ensures rest { self.new ≡ buffer (drop 1 self.old.items) self.old.capacity }
         ensures owed { length self.new.items ≡ length self.old.items - 1 }

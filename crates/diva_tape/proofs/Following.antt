@@ -55,40 +55,40 @@ take_one zero b r some = absurd (omega arith)
 take_one (suc n) true r some = ap (λ (xs : List Record). r ∷ xs) (take_none n)
 take_one (suc n) false r some = refl
 
-at_some : (lead : Ahead) (m : Timed) → 0 < room_of m → goes_on m.arch ≡ true → IsCalmRunning m → Ready lead m.flushes m.arch (waiting m) → At m (scalar_call lead (told_of m) m.arch)
-at_some lead m some on calm ready =
-    let h : Hands m.flushes m.arch (waiting m) (scalar_call lead (told_of m) m.arch) =
-    hands lead (told_of m) m.arch (waiting m) (let s = some in omega arith) (sym (length-map m.pending claim_of)) on (due_from m.arch (waiting m) calm.claims) ready in
+at_some : (ahead : Ahead) (m : Timed) → 0 < room_of m → goes_on m.arch ≡ true → IsCalmRunning m → Ready ahead m.flushes m.arch (waiting m) → At m (scalar_call ahead (told_of m) m.arch)
+at_some ahead m some on calm ready =
+    let h : Hands m.flushes m.arch (waiting m) (scalar_call ahead (told_of m) m.arch) =
+    hands ahead (told_of m) m.arch (waiting m) (let s = some in omega arith) (sym (length-map m.pending claim_of)) on (due_from m.arch (waiting m) calm.claims) ready in
     let far : steps (length (waiting m)) m.arch ≡ steps (length m.pending) m.arch = ap (λ (k : ℕ). steps k m.arch) (length-map m.pending claim_of) in
-    let all : take (room_of m) (scalar_call lead (told_of m) m.arch).list ≡ (scalar_call lead (told_of m) m.arch).list =
+    let all : take (room_of m) (scalar_call ahead (told_of m) m.arch).list ≡ (scalar_call ahead (told_of m) m.arch).list =
     ap (take (room_of m)) h.list ∙ take_one (room_of m) (goes_on (steps (length (waiting m)) m.arch)) (record_of (steps (length (waiting m)) m.arch)) some ∙ sym h.list in
     record {
       list = h.list ∙ ap next_of far ∙ rule_some (room_of m) (goes_on (steps (length m.pending) m.arch)) (record_of (steps (length m.pending) m.arch) ∷ []) some;
-      keeps = subst (λ (xs : List Record). Keeps (scalar_call lead (told_of m) m.arch).core m.flushes m.arch (waiting m ++ xs)) (sym all) h.keeps;
+      keeps = subst (λ (xs : List Record). Keeps (scalar_call ahead (told_of m) m.arch).core m.flushes m.arch (waiting m ++ xs)) (sym all) h.keeps;
     }
 
-at_none : (lead : Ahead) (m : Timed) → room_of m ≡ 0 → Keeps lead m.flushes m.arch (waiting m) → At m (record { list = []; core = lead })
-at_none lead m none k =
+at_none : (ahead : Ahead) (m : Timed) → room_of m ≡ 0 → Keeps ahead m.flushes m.arch (waiting m) → At m (record { list = []; core = ahead })
+at_none ahead m none k =
     record {
       list = rule_none (room_of m) (goes_on (steps (length m.pending) m.arch)) (record_of (steps (length m.pending) m.arch) ∷ []) none;
-      keeps = subst (Keeps lead m.flushes m.arch) (sym (ap (λ (xs : List Record). waiting m ++ xs) (take_none (room_of m)) ∙ append-nil (waiting m))) k;
+      keeps = subst (Keeps ahead m.flushes m.arch) (sym (ap (λ (xs : List Record). waiting m ++ xs) (take_none (room_of m)) ∙ append-nil (waiting m))) k;
     }
 
 no_claims : (xs : List PendingClaim) → map claim_of xs ≡ [] → xs ≡ []
 no_claims [] e = refl
 no_claims (p ∷ xs) e = absurd (cc)
 
-kept : (lead : Ahead) (m : Timed) → IsMachine m → goes_on m.arch ≡ true → IsCalmRunning m → room_of m ≡ 0 → Ready lead m.flushes m.arch (waiting m) → Keeps lead m.flushes m.arch (waiting m)
-kept lead m inv on calm none (inl k) = k
-kept lead m inv on calm none (inr f) = absurd (let some : 1 ≤ room_of m = room-some m inv calm.running on (no_claims m.pending f.1) in omega arith)
+kept : (ahead : Ahead) (m : Timed) → IsMachine m → goes_on m.arch ≡ true → IsCalmRunning m → room_of m ≡ 0 → Ready ahead m.flushes m.arch (waiting m) → Keeps ahead m.flushes m.arch (waiting m)
+kept ahead m inv on calm none (inl k) = k
+kept ahead m inv on calm none (inr f) = absurd (let some : 1 ≤ room_of m = room-some m inv calm.running on (no_claims m.pending f.1) in omega arith)
 
-at : (lead : Ahead) (m : Timed) → IsMachine m → goes_on m.arch ≡ true → IsCalmRunning m → Ready lead m.flushes m.arch (waiting m) → At m (scalar_call lead (told_of m) m.arch)
-at lead m inv on calm ready =
+at : (ahead : Ahead) (m : Timed) → IsMachine m → goes_on m.arch ≡ true → IsCalmRunning m → Ready ahead m.flushes m.arch (waiting m) → At m (scalar_call ahead (told_of m) m.arch)
+at ahead m inv on calm ready =
     elim (cases_lt 0 (room_of m)) [
-      | inl some ↦ at_some lead m some on calm ready
+      | inl some ↦ at_some ahead m some on calm ready
       | inr few ↦
           let none : room_of m ≡ 0 = omega arith in
-          subst (At m) (sym (waits lead (told_of m) m.arch none)) (at_none lead m none (kept lead m inv on calm none ready))
+          subst (At m) (sym (waits ahead (told_of m) m.arch none)) (at_none ahead m none (kept ahead m inv on calm none ready))
     ]
 
 -- ---- and after the cycle
@@ -106,14 +106,14 @@ split_commits (suc k) s c (p ∷ xs) rest h =
     record { done = p ∷ r.done; parts = ap (λ (z : List PendingClaim). p ∷ z) r.parts; long = ap suc r.long }
 
 keeps_after :
-    (lead : Ahead) (b n : Timed) (list : List Record) (k : ℕ) (rest : List PendingClaim)
+    (ahead : Ahead) (b n : Timed) (list : List Record) (k : ℕ) (rest : List PendingClaim)
     → Base b n k
     → n.flushes ≡ b.flushes
     → Split k b.pending rest
     → n.pending ≡ rest ++ taken b list
-    → Keeps lead b.flushes b.arch (waiting b ++ take (room_of b) list)
-    → Keeps lead n.flushes n.arch (waiting n)
-keeps_after lead b n list k rest v flushes split pending h =
+    → Keeps ahead b.flushes b.arch (waiting b ++ take (room_of b) list)
+    → Keeps ahead n.flushes n.arch (waiting n)
+keeps_after ahead b n list k rest v flushes split pending h =
     let more : List Record = take (room_of b) list in
     let mine : waiting n ≡ map claim_of rest ++ more = ap (map claim_of) pending ∙ map-append claim_of rest (taken b list) ∙ ap (λ (xs : List Record). map claim_of rest ++ xs) (claims-taken (b.cycles + 1) more) in
     let all : waiting b ++ more ≡ map claim_of split.done ++ waiting n =
@@ -122,43 +122,43 @@ keeps_after lead b n list k rest v flushes split pending h =
     let far : steps (length (waiting b ++ more)) b.arch ≡ steps (length (waiting n)) n.arch =
     ap (λ (j : ℕ). steps j b.arch) long ∙ steps-add k (length (waiting n)) b.arch ∙ ap (steps (length (waiting n))) (sym v.stepped) in
     record {
-      of = ap (is_epoch lead.epoch) flushes ∙ h.of;
+      of = ap (is_epoch ahead.epoch) flushes ∙ h.of;
       before = h.before ++ map done_by (map claim_of split.done);
       ring = h.ring ∙ ap (λ (xs : List Record). h.before ++ map done_by xs) all ∙ ap (λ (es : List Effect). h.before ++ es) (map-append done_by (map claim_of split.done) (waiting n)) ∙ sym (append_assoc h.before (map done_by (map claim_of split.done)) (map done_by (waiting n)));
-      follows = subst (Follows lead) far h.follows;
+      follows = subst (Follows ahead) far h.follows;
     }
 
-ready_cases : (lead : Ahead) (b n : Timed) (list : List Record) → IsCalmRunning b → Keeps lead b.flushes b.arch (waiting b ++ take (room_of b) list) → Cycled b list n → goes_on n.arch ≡ true → Ready lead n.flushes n.arch (waiting n)
-ready_cases lead b n list calm h (idled r) on = inl (keeps_after lead b n list 0 b.pending r.base r.log.flushes (record { done = []; parts = refl; long = refl }) r.pending h)
-ready_cases lead b n list calm h (ran r) on = inl (keeps_after lead b n list (suc r.k) r.rest r.base r.log.flushes (split_commits (suc r.k) b.arch (b.cycles + 1) b.pending r.rest r.claims) r.pending h)
-ready_cases lead b n list calm h (barks r) on =
+ready_cases : (ahead : Ahead) (b n : Timed) (list : List Record) → IsCalmRunning b → Keeps ahead b.flushes b.arch (waiting b ++ take (room_of b) list) → Cycled b list n → goes_on n.arch ≡ true → Ready ahead n.flushes n.arch (waiting n)
+ready_cases ahead b n list calm h (idled r) on = inl (keeps_after ahead b n list 0 b.pending r.base r.log.flushes (record { done = []; parts = refl; long = refl }) r.pending h)
+ready_cases ahead b n list calm h (ran r) on = inl (keeps_after ahead b n list (suc r.k) r.rest r.base r.log.flushes (split_commits (suc r.k) b.arch (b.cycles + 1) b.pending r.rest r.claims) r.pending h)
+ready_cases ahead b n list calm h (barks r) on =
     absurd (let w = calm.waits in let two = wait-least b b.pending r.young in let i = r.idle in let late = r.late in omega arith)
-ready_cases lead b n list calm h (differed r) on = absurd (no-difference b n r (due_from _ _ calm.claims))
-ready_cases lead b n list calm h (ended r) on = absurd (true≢false (sym on ∙ r.off))
-ready_cases lead b n list calm h (finished r) on = absurd (none-some _ (sym calm.running ∙ r.since))
-ready_cases lead b n list calm h (waited r) on = absurd (none-some _ (sym calm.running ∙ r.since))
+ready_cases ahead b n list calm h (differed r) on = absurd (no-difference b n r (due_from _ _ calm.claims))
+ready_cases ahead b n list calm h (ended r) on = absurd (true≢false (sym on ∙ r.off))
+ready_cases ahead b n list calm h (finished r) on = absurd (none-some _ (sym calm.running ∙ r.since))
+ready_cases ahead b n list calm h (waited r) on = absurd (none-some _ (sym calm.running ∙ r.since))
 
 -- ---- while an instruction runs solo
 
-record RunsSolo (m : Timed) (lead : Ahead) : Type 0 where
+record RunsSolo (m : Timed) (ahead : Ahead) : Type 0 where
   start : ℕ
   since : m.solo ≡ Some start
-  other : is_epoch lead.epoch m.flushes ≡ false
+  other : is_epoch ahead.epoch m.flushes ≡ false
 
 -- the machine is calm, and the core keeps what is pending; or an instruction runs solo
 abbrev Stands : Timed → Ahead → Type 0
-Stands m lead = (IsCalm m × (goes_on m.arch ≡ true → Ready lead m.flushes m.arch (waiting m))) ⊎ RunsSolo m lead
+Stands m ahead = (IsCalm m × (goes_on m.arch ≡ true → Ready ahead m.flushes m.arch (waiting m))) ⊎ RunsSolo m ahead
 
 solo_room : (m : Timed) (start : ℕ) → m.solo ≡ Some start → room_of m ≡ 0
 solo_room m start some = rw some refl
 
 -- the core does nothing
-solo_call : (lead : Ahead) (m : Timed) (start : ℕ) → m.solo ≡ Some start → scalar_call lead (told_of m) m.arch ≡ record { list = []; core = lead }
-solo_call lead m start some = waits lead (told_of m) m.arch (solo_room m start some)
+solo_call : (ahead : Ahead) (m : Timed) (start : ℕ) → m.solo ≡ Some start → scalar_call ahead (told_of m) m.arch ≡ record { list = []; core = ahead }
+solo_call ahead m start some = waits ahead (told_of m) m.arch (solo_room m start some)
 
-solo_list : (lead : Ahead) (m : Timed) (start : ℕ) → m.solo ≡ Some start → (scalar_call lead (told_of m) m.arch).list ≡ scalar_list m
-solo_list lead m start some =
-    ap (λ (c : ScalarCall). c.list) (solo_call lead m start some)
+solo_list : (ahead : Ahead) (m : Timed) (start : ℕ) → m.solo ≡ Some start → (scalar_call ahead (told_of m) m.arch).list ≡ scalar_list m
+solo_list ahead m start some =
+    ap (λ (c : ScalarCall). c.list) (solo_call ahead m start some)
     ∙ rule_none (room_of m) (goes_on (steps (length m.pending) m.arch)) (record_of (steps (length m.pending) m.arch) ∷ []) (solo_room m start some)
 
 solo_flushes : (b n : Timed) (list : List Record) (start : ℕ) → b.solo ≡ Some start → Cycled b list n → n.flushes ≡ b.flushes
@@ -180,9 +180,9 @@ solo_after m list start inv on some (ended r) = absurd (none-some _ (sym r.was �
 solo_after m list start inv on some (finished r) = inl (solo_fresh m list r.start inv on r.since r.sixth)
 solo_after m list start inv on some (waited r) = inr (r.solo ∙ sym r.since ∙ some)
 
-stands_solo : (lead : Ahead) (m : Timed) (list : List Record) → IsMachine m → goes_on m.arch ≡ true → RunsSolo m lead → Stands (cycle_of m list) lead
-stands_solo lead m list inv on r =
-    let other : is_epoch lead.epoch (cycle_of m list).flushes ≡ false = ap (is_epoch lead.epoch) (solo_flushes m (cycle_of m list) list r.start r.since (cycled m list inv on)) ∙ r.other in
+stands_solo : (ahead : Ahead) (m : Timed) (list : List Record) → IsMachine m → goes_on m.arch ≡ true → RunsSolo m ahead → Stands (cycle_of m list) ahead
+stands_solo ahead m list inv on r =
+    let other : is_epoch ahead.epoch (cycle_of m list).flushes ≡ false = ap (is_epoch ahead.epoch) (solo_flushes m (cycle_of m list) list r.start r.since (cycled m list inv on)) ∙ r.other in
     elim (solo_after m list r.start inv on r.since (cycled m list inv on)) [
       | inl fresh ↦ inl (fresh.calm, λ still. inr (other, ap (map claim_of) fresh.pending))
       | inr some ↦ inr (record { start = r.start; since = some; other = other })
@@ -195,38 +195,38 @@ record Turn (m : Timed) (list : List Record) (after : Ahead) : Type 0 where
   rule : list ≡ scalar_list m
   stands : Stands (cycle_of m list) after
 
-turn : (m : Timed) (lead : Ahead) (list : List Record) (after : Ahead) → IsMachine m → goes_on m.arch ≡ true → Stands m lead → IsScalarCall lead (told_of m) m.arch list after → Turn m list after
-turn m lead list after inv on (inl c) given =
-    let a : At m (scalar_call lead (told_of m) m.arch) = at lead m inv on (c.0 on) (c.1 on) in
+turn : (m : Timed) (ahead : Ahead) (list : List Record) (after : Ahead) → IsMachine m → goes_on m.arch ≡ true → Stands m ahead → IsScalarCall ahead (told_of m) m.arch list after → Turn m list after
+turn m ahead list after inv on (inl c) given =
+    let a : At m (scalar_call ahead (told_of m) m.arch) = at ahead m inv on (c.0 on) (c.1 on) in
     let rule : list ≡ scalar_list m = given.lists ∙ a.list in
     let right : IsRight m list = subst (IsRight m) (sym rule) (scalar_right m) in
     let keeps : Keeps after m.flushes m.arch (waiting m ++ take (room_of m) list) =
     subst (λ (x : Ahead). Keeps x m.flushes m.arch (waiting m ++ take (room_of m) list)) (sym given.keeps)
-    (subst (λ (l : List Record). Keeps (scalar_call lead (told_of m) m.arch).core m.flushes m.arch (waiting m ++ take (room_of m) l)) (sym given.lists) a.keeps) in
+    (subst (λ (l : List Record). Keeps (scalar_call ahead (told_of m) m.arch).core m.flushes m.arch (waiting m ++ take (room_of m) l)) (sym given.lists) a.keeps) in
     record {
       rule = rule;
       stands = inl ((stays_calm m list inv c.0 right).calm, λ still. ready_cases after m (cycle_of m list) list (c.0 on) keeps (cycled m list inv on) still);
     }
-turn m lead list after inv on (inr r) given =
+turn m ahead list after inv on (inr r) given =
     record {
-      rule = given.lists ∙ solo_list lead m r.start r.since;
-      stands = subst (Stands (cycle_of m list)) (sym (given.keeps ∙ ap (λ (c : ScalarCall). c.core) (solo_call lead m r.start r.since))) (stands_solo lead m list inv on r);
+      rule = given.lists ∙ solo_list ahead m r.start r.since;
+      stands = subst (Stands (cycle_of m list)) (sym (given.keeps ∙ ap (λ (c : ScalarCall). c.core) (solo_call ahead m r.start r.since))) (stands_solo ahead m list inv on r);
     }
 
 follows_rule :
-    (history : List (List Record × Ahead)) (m : Timed) (lead : Ahead) (last : Timed) (final : Ahead)
+    (history : List (List Record × Ahead)) (m : Timed) (ahead : Ahead) (last : Timed) (final : Ahead)
     → IsMachine m
-    → Stands m lead
-    → IsHistory IsScalarCall m lead history last final
+    → Stands m ahead
+    → IsHistory IsScalarCall m ahead history last final
     → FollowRule scalar_list m (lists_of history)
-follows_rule [] m lead last final inv stands h = tt
-follows_rule (one ∷ rest) m lead last final inv stands h =
-    let t : Turn m one.0 one.1 = turn m lead one.0 one.1 inv h.0 stands h.1.0 in
+follows_rule [] m ahead last final inv stands h = tt
+follows_rule (one ∷ rest) m ahead last final inv stands h =
+    let t : Turn m one.0 one.1 = turn m ahead one.0 one.1 inv h.0 stands h.1.0 in
     (t.rule, follows_rule rest (cycle_of m one.0) one.1 last final (stays m one.0 inv) t.stands h.1.1)
 
-stands_by : (solo : Option ℕ) (m : Timed) (lead : Ahead) → m.solo ≡ solo → MayLead m lead → Stands m lead
-stands_by None m lead e may = let rest = may.rests e in inl (rest.0, λ on. inr (may.epoch, ap (map claim_of) rest.1))
-stands_by (Some start) m lead e may = inr (record { start = start; since = e; other = may.epoch })
+stands_by : (solo : Option ℕ) (m : Timed) (ahead : Ahead) → m.solo ≡ solo → MayLead m ahead → Stands m ahead
+stands_by None m ahead e may = let rest = may.rests e in inl (rest.0, λ on. inr (may.epoch, ap (map claim_of) rest.1))
+stands_by (Some start) m ahead e may = inr (record { start = start; since = e; other = may.epoch })
 
 pub scalar_history : (m last : Timed) (before after : Ahead) (history : List (List Record × Ahead)) → MayLead m before → IsHistory IsScalarCall m before history last after → FollowRule scalar_list m (lists_of history)
 scalar_history m last before after history may h = follows_rule history m before last after may.machine (stands_by m.solo m before refl may) h

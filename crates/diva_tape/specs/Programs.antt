@@ -108,8 +108,8 @@ commitments rule (suc n) m = let after = cycle_of m (rule m) in replicate (after
 -- ---- what is handed over
 
 -- these lists, one in each cycle, and nothing after them
-abbrev pub handed : List (List Record) → Timed → List Record
-handed lists m = get_or lists m.cycles []
+abbrev pub these_lists : List (List Record) → Timed → List Record
+these_lists lists m = get_or lists m.cycles []
 
 -- a rule that falls silent in the cycles from first to last
 abbrev pub hushed : (first last : ℕ) → (Timed → List Record) → Timed → List Record

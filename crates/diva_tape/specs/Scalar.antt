@@ -7,11 +7,11 @@ use Rattle.diva_core.specs.Timed.{Timed, room_of}
 use Rattle.diva_core.specs.Machine.{IsMachine}
 use Rattle.diva_core.specs.Right.{IsCalm}
 use Rattle.diva_core.specs.Told.{Told}
-use Rattle.diva_ahead.specs.Ahead.{Ahead, is_epoch, new_lead, handed, seen, synced, trimmed}
+use Rattle.diva_ahead.specs.Ahead.{Ahead, is_epoch, new_ahead, with_record, seen, synced, trimmed}
 
 -- a new core, which has not taken a machine's state yet
 abbrev pub new_scalar : Ahead
-new_scalar = new_lead
+new_scalar = new_ahead
 
 -- what a call hands over, and the core after it
 pub record ScalarCall : Type 0 where
@@ -20,15 +20,15 @@ pub record ScalarCall : Type 0 where
 
 -- the record of its own state, unless it has handed over one that ends
 abbrev pub next_call : Ahead → State → ScalarCall
-next_call lead s =
-    if lead.stopped then record { list = []; core = lead }
-    else record { list = record_of (seen lead s) ∷ []; core = handed lead s (record_of (seen lead s)) }
+next_call ahead s =
+    if ahead.stopped then record { list = []; core = ahead }
+    else record { list = record_of (seen ahead s) ∷ []; core = with_record ahead s (record_of (seen ahead s)) }
 
 -- one call: where there is no room nothing happens; else the core takes a new epoch, drops what is no longer pending, and
 -- hands over
 unfoldable pub scalar_call : Ahead → Told → State → ScalarCall
-scalar_call lead told s =
-    if told.room == 0 then record { list = []; core = lead } else next_call (trimmed (synced lead told s) told) s
+scalar_call ahead told s =
+    if told.room == 0 then record { list = []; core = ahead } else next_call (trimmed (synced ahead told s) told) s
 
 -- the meaning of Scalar: the list and the core after are those of its call
 pub record IsScalarCall (before : Ahead) (told : Told) (s : State) (list : List Record) (after : Ahead) : Type 0 where

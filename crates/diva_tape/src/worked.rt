@@ -15,7 +15,7 @@ ghost use Rattle.diva_isa.specs.Step.{record_of, step, steps};
 ghost use Rattle.diva_tape.specs.Lists.{lockstep_list, silent_list};
 ghost use Rattle.diva_tape.specs.Scalar.{scalar_list};
 ghost use Rattle.diva_tape.specs.Programs.{led_by, summary_of, acceptances, commitments, registers};
-ghost use Rattle.diva_tape.specs.Programs.{handed, hushed, flipped_first, second_twice, eight_at_once, two_at_once, late_and_wrong, stale_word};
+ghost use Rattle.diva_tape.specs.Programs.{these_lists, hushed, flipped_first, second_twice, eight_at_once, two_at_once, late_and_wrong, stale_word};
 ghost use Rattle.diva_tape.specs.Programs.{three_instructions, jump_to_itself, one_word, misaligned_load_outside, jump_to_six, write_to_x0, division_by_zero, least_by_minus_one, store_then_load, store_over_next_word, two_stores};
 
 // ---- single instructions
@@ -88,7 +88,7 @@ pub fn a_store_over_the_next_word()
 
 /// A core that fetched before that store claims the old word, which flushes.
 pub fn a_stale_word_flushes()
-    ensures summary { summary_of (led_by (handed stale_word) 20 (new_timed default_config store_over_next_word))
+    ensures summary { summary_of (led_by (these_lists stale_word) 20 (new_timed default_config store_over_next_word))
         ≡ record {
           end = halt 0;
           count = 4;
@@ -102,11 +102,11 @@ pub fn a_stale_word_flushes()
 
 /// Two stores commit in one cycle where four may be owed. Where one may, the second waits a cycle.
 pub fn a_store_waits_for_room()
-    ensures with_one { commitments (handed two_at_once) 20 (new_timed (record default_config { stores = 1 }) two_stores)
+    ensures with_one { commitments (these_lists two_at_once) 20 (new_timed (record default_config { stores = 1 }) two_stores)
         ≡ 7 ∷ 8 ∷ 8 ∷ 9 ∷ [] }
-    ensures with_four { commitments (handed two_at_once) 20 (new_timed default_config two_stores)
+    ensures with_four { commitments (these_lists two_at_once) 20 (new_timed default_config two_stores)
         ≡ 7 ∷ 7 ∷ 8 ∷ 8 ∷ [] }
-    ensures summary { summary_of (led_by (handed two_at_once) 20 (new_timed (record default_config { stores = 1 }) two_stores))
+    ensures summary { summary_of (led_by (these_lists two_at_once) 20 (new_timed (record default_config { stores = 1 }) two_stores))
         ≡ record { end = halt 0; count = 4; cycles = 9; flushes = 0; silent = 0; rows = [] } }
 {}
 
@@ -137,9 +137,9 @@ pub fn three_instructions_one_by_one()
 
 /// Claims past the room are dropped.
 pub fn claims_past_the_room_are_dropped()
-    ensures accepted { acceptances (handed eight_at_once) 20 (new_timed default_config three_instructions)
+    ensures accepted { acceptances (these_lists eight_at_once) 20 (new_timed default_config three_instructions)
         ≡ 1 ∷ 1 ∷ 2 ∷ 2 ∷ [] }
-    ensures summary { summary_of (led_by (handed eight_at_once) 20 (new_timed default_config three_instructions))
+    ensures summary { summary_of (led_by (these_lists eight_at_once) 20 (new_timed default_config three_instructions))
         ≡ record { end = halt 0; count = 3; cycles = 8; flushes = 0; silent = 0; rows = [] } }
 {}
 
@@ -168,7 +168,7 @@ pub fn a_flipped_value_flushes()
 
 /// A right claim that comes twice commits once, and flushes the second time.
 pub fn a_claim_made_twice_flushes()
-    ensures summary { summary_of (led_by (handed second_twice) 20 (new_timed default_config three_instructions))
+    ensures summary { summary_of (led_by (these_lists second_twice) 20 (new_timed default_config three_instructions))
         ≡ record {
           end = halt 0;
           count = 3;
@@ -183,9 +183,9 @@ pub fn a_claim_made_twice_flushes()
 /// A wrong claim that is judged in the very cycle in which the watchdog would flush: the claim is the
 /// cause. After it the watchdog flushes for each instruction. Its limit is 16 cycles.
 pub fn a_wrong_claim_comes_before_the_watchdog()
-    ensures committed { commitments (handed late_and_wrong) 70 (new_timed (record default_config { limit = 16 }) three_instructions)
+    ensures committed { commitments (these_lists late_and_wrong) 70 (new_timed (record default_config { limit = 16 }) three_instructions)
         ≡ 22 ∷ 44 ∷ 66 ∷ [] }
-    ensures summary { summary_of (led_by (handed late_and_wrong) 70 (new_timed (record default_config { limit = 16 }) three_instructions))
+    ensures summary { summary_of (led_by (these_lists late_and_wrong) 70 (new_timed (record default_config { limit = 16 }) three_instructions))
         ≡ record {
           end = halt 0;
           count = 3;

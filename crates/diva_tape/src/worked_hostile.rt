@@ -9,7 +9,7 @@ ghost use Rattle.diva_core.specs.Timed.{default_config, new_timed};
 ghost use Rattle.diva_isa.specs.End.{halt};
 ghost use Rattle.diva_tape.specs.Lists.{echo_list, flood_list};
 ghost use Rattle.diva_tape.specs.Noise.{noise_lists};
-ghost use Rattle.diva_tape.specs.Programs.{acceptances, handed, led_by, summary_of, three_instructions};
+ghost use Rattle.diva_tape.specs.Programs.{acceptances, these_lists, led_by, summary_of, three_instructions};
 
 /// Zeros have the first instruction's pc, and the word of none.
 pub fn three_instructions_in_a_flood()
@@ -55,7 +55,7 @@ pub fn three_instructions_in_noise()
       next = 0x57fe6c2d;
       end = 0xa3d95fa8;
     }) ∷ []) ∷ [] }
-    ensures summary { summary_of (led_by (handed (noise_lists 50 0)) 50 (new_timed default_config three_instructions))
+    ensures summary { summary_of (led_by (these_lists (noise_lists 50 0)) 50 (new_timed default_config three_instructions))
         ≡ record {
           end = halt 0;
           count = 3;

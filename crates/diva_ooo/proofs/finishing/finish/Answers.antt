@@ -1,7 +1,7 @@
 use Rattle.std.proofs.Common.{◌≡◌, ◌≤◌, ◌+◌, sym, ap, ◌∙◌, arith, take, drop}
 use Rattle.diva_ooo.specs.Finish.{finished_from, turned}
-use Rattle.diva_ooo.specs.declared.finishing.Turn.{Turn}
-use Rattle.diva_ooo.specs.declared.finishing.Turn.TheVariants.{On}
+use Rattle.diva_ooo.specs.declared.finishing.Redirect.{Redirect}
+use Rattle.diva_ooo.specs.declared.finishing.Redirect.TheVariants.{On}
 use Rattle.diva_ooo.proofs.Finished.{finished_end, passed, runs_behind}
 use Rattle.diva_ooo.proofs.Marking.{past_first, without_first}
 use Rattle.diva_ooo.proofs.finishing.finish.Goals as goal
@@ -27,7 +27,7 @@ loop-at-preserved c =
     record {
       left = sym (passed now (at + 1) next far
           (λ i from lt. runs_behind was now (at + 1) i c.finish_at-turn.ensures.behind from ∙ sym (kept.behind i (omega arith)) ∙ sym (without_first c.loop-at.running c.remove.new.self at i c.remove.ensures from) ∙ c.first-at-in-loop-at.ensures.lower i lt))
-          ∙ ap (λ (t : Turn). turned (take (at + 1) now) t (finished_from (take (at + 1) now) (drop (at + 1) now))) (sym on)
+          ∙ ap (λ (t : Redirect). turned (take (at + 1) now) t (finished_from (take (at + 1) now) (drop (at + 1) now))) (sym on)
           ∙ c.finish_at-turn.ensures.finishes
           ∙ kept.left;
       passed = c.first-at-in-loop-at.ensures.lower;

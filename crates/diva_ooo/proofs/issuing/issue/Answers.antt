@@ -28,7 +28,7 @@ begin_at-requires-clause-waits c = λ e is.
 
 pub loop-at-preserved : goal.loop-at-preserved
 loop-at-preserved c =
-    let lead = c.args.ahead.now in
+    let ahead = c.args.ahead.now in
     let s = c.args.view.now in
     let w = c.loop-at.window in
     let at = c.loop-at.at in
@@ -38,13 +38,13 @@ loop-at-preserved c =
     let next = c.first-at-in-loop-at.result in
     let most = c.len.ensures.most in
     let inside : at < length w = let long = c.len.ensures.value in omega arith in
-    let here : issued_from lead s c.if-is_ready.begun (take (at + 1) now) (drop (at + 1) now) ≡ issued_from lead s c.loop-at.begun (take at w) (drop at w) =
+    let here : issued_from ahead s c.if-is_ready.begun (take (at + 1) now) (drop (at + 1) now) ≡ issued_from ahead s c.loop-at.begun (take at w) (drop at w) =
     elim c.if-is_ready.branch [
       | then-is_ready+else-begun-eq2 v ↦
-          rw (v.window-is, v.begun-is) (begun_next lead s c.loop-at.begun w c.is_ready.new.self v.begin_at.new.window at c.loop-at.invariant.few inside
+          rw (v.window-is, v.begun-is) (begun_next ahead s c.loop-at.begun w c.is_ready.new.self v.begin_at.new.window at c.loop-at.invariant.few inside
           (sym c.is_ready.ensures.value ∙ v.if-is_ready.true) c.is_ready.ensures.same v.begin_at.ensures.started)
       | else-is_ready v ↦
-          rw (v.window-is, v.begun-is, c.is_ready.ensures.same) (sym (passed_one lead s c.loop-at.begun w at inside (sym c.is_ready.ensures.value ∙ v.if-is_ready.false)))
+          rw (v.window-is, v.begun-is, c.is_ready.ensures.same) (sym (passed_one ahead s c.loop-at.begun w at inside (sym c.is_ready.ensures.value ∙ v.if-is_ready.false)))
     ] in
     let few : c.if-is_ready.begun < 2 = elim c.if-is_ready.branch [
       | then-is_ready+else-begun-eq2 v ↦ let begun = v.begun-is in omega arith
@@ -52,14 +52,14 @@ loop-at-preserved c =
     ] in
     let as_before : AreAsBefore w now at = elim c.if-is_ready.branch [
       | then-is_ready+else-begun-eq2 v ↦
-          rw v.window-is (before_next lead s w c.is_ready.new.self v.begin_at.new.window at inside (kept.waits at (kept.here (omega arith))) c.is_ready.ensures.same v.begin_at.ensures.started)
+          rw v.window-is (before_next ahead s w c.is_ready.new.self v.begin_at.new.window at inside (kept.waits at (kept.here (omega arith))) c.is_ready.ensures.same v.begin_at.ensures.started)
       | else-is_ready v ↦ before_same w now at (v.window-is ∙ c.is_ready.ensures.same)
     ] in
     let far : at + 1 ≤ next = past_first c.loop-at.candidates c.remove.new.self at next c.remove.ensures kept.passed first.there (omega arith) in
     let others : (i : ℕ) → at + 1 ≤ i → has c.remove.new.self i ≡ false → can_at [] now i ≡ false =
     λ i from off. as_before.can i (omega arith) ∙ kept.others i (omega arith) (sym (without_first c.loop-at.candidates c.remove.new.self at i c.remove.ensures from) ∙ off) in
     record {
-      left = sym (passed_stay lead s c.if-is_ready.begun now (at + 1) next far (λ i from lt. others i from (first.lower i lt))) ∙ here ∙ kept.left;
+      left = sym (passed_stay ahead s c.if-is_ready.begun now (at + 1) next far (λ i from lt. others i from (first.lower i lt))) ∙ here ∙ kept.left;
       few = few;
       passed = first.lower;
       here = first.there;
@@ -75,13 +75,13 @@ loop-at-preserved c =
 pub returns-then-begun-eq2 : goal.returns-then-begun-eq2
 unfolding issued
 returns-then-begun-eq2 c =
-    let lead = c.args.ahead.now in
+    let ahead = c.args.ahead.now in
     let s = c.args.view.now in
     let w = c.loop-at.window in
     let at = c.loop-at.at in
     let inside : at < length w = let long = c.len.ensures.value in omega arith in
-    sym (issued_two lead s (c.loop-at.begun + 1) (at + 1) c.begin_at.new.window (omega arith))
-    ∙ begun_next lead s c.loop-at.begun w c.is_ready.new.self c.begin_at.new.window at c.loop-at.invariant.few inside (sym c.is_ready.ensures.value ∙ c.if-is_ready.true) c.is_ready.ensures.same c.begin_at.ensures.started
+    sym (issued_two ahead s (c.loop-at.begun + 1) (at + 1) c.begin_at.new.window (omega arith))
+    ∙ begun_next ahead s c.loop-at.begun w c.is_ready.new.self c.begin_at.new.window at c.loop-at.invariant.few inside (sym c.is_ready.ensures.value ∙ c.if-is_ready.true) c.is_ready.ensures.same c.begin_at.ensures.started
     ∙ c.loop-at.invariant.left
 
 pub returns : goal.returns

@@ -1,7 +1,7 @@
 -- The files so far have another name.
 use Rattle.std.proofs.Common.{◌≡◌, drop}
-use Rattle.diva_outside.specs.Named.{bytes_of}
+use Rattle.diva_outside.specs.Named.{named_bytes}
 use Rattle.diva_outside.proofs.mem_file.find.Given as goal
 
 abbrev pub invariant-loop-file : goal.invariant-loop-file
-invariant-loop-file l = bytes_of l.files l.name ≡ bytes_of (drop l.file-index l.files) l.name
+invariant-loop-file l = named_bytes l.files l.name ≡ named_bytes (drop l.file-index l.files) l.name

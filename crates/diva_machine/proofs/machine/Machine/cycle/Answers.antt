@@ -4,7 +4,7 @@ use Rattle.diva_core.specs.Timed.{Timed}
 use Rattle.diva_core.specs.Cycle.{cycle_of}
 use Rattle.diva_core.proofs.Outcomes.{cycle-off}
 use Rattle.diva_core.proofs.Cycling.{owed-drained}
-use Rattle.diva_machine.specs.Machine.{IsSound, Machine}
+use Rattle.diva_machine.specs.Machine.{IsBetweenCycles, Machine}
 use Rattle.diva_machine.specs.Staged.{Parts}
 use Rattle.diva_machine.proofs.Laws.{sound_again, none_held, none_committed, front_is_judged, sixth_commits}
 use Rattle.diva_machine.proofs.machine.Machine.cycle.Goals as goal
@@ -23,8 +23,8 @@ invariant_of-self-else-goes_on c =
 same : (c : goal.After-cycle) → c.self.inside.parts.timed ≡ c.args.self.now.timed
 same c = ap (λ (z : Machine). z.timed) c.self.view_is
 
-sound : (c : goal.After-cycle) → IsSound c.args.self.now.timed
-sound c = subst IsSound (same c) c.self.invariant.0
+sound : (c : goal.After-cycle) → IsBetweenCycles c.args.self.now.timed
+sound c = subst IsBetweenCycles (same c) c.self.invariant.0
 
 is : (c : goal.After-cycle) → c.cycle.new.self.timed ≡ cycle_of c.args.self.now.timed c.as_slice.result.now
 is c = c.cycle.ensures.timed ∙ ap (λ (m : Timed). cycle_of m c.as_slice.result.now) (same c)
@@ -53,4 +53,4 @@ returns-else-goes_on-clause-checked c = rw c.forget_last.ensures c.self.invarian
 pub returns-else-goes_on-clause-drained : goal.returns-else-goes_on-clause-drained
 returns-else-goes_on-clause-drained c =
     let same : c.self.inside.parts.timed ≡ c.args.self.now.timed = ap (λ (z : Machine). z.timed) c.self.view_is in
-    owed-drained c.args.self.now.timed (subst IsSound same c.self.invariant.0).machine
+    owed-drained c.args.self.now.timed (subst IsBetweenCycles same c.self.invariant.0).machine

@@ -1,5 +1,5 @@
 use Rattle.std.proofs.Common.{◌≡◌, Some, refl, rules, slice_get}
-use Rattle.diva_ooo.specs.declared.entry.Stage.TheVariants.{Running}
+use Rattle.diva_ooo.specs.declared.entry.Progress.TheVariants.{Running}
 use Rattle.diva_ooo.proofs.Boarding.{board_runs}
 use Rattle.diva_ooo.proofs.Knowing.{known_staged}
 use Rattle.diva_ooo.proofs.window.Window.advance.Goals as goal

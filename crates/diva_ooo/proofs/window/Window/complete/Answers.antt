@@ -1,5 +1,5 @@
 use Rattle.std.proofs.Common.{◌≡◌, Some, refl, rules, slice_get}
-use Rattle.diva_ooo.specs.declared.entry.Stage.TheVariants.{Done}
+use Rattle.diva_ooo.specs.declared.entry.Progress.TheVariants.{Done}
 use Rattle.diva_ooo.proofs.Knowing.{known_at, known_staged}
 use Rattle.diva_ooo.proofs.window.Window.complete.Goals as goal
 
