@@ -41,7 +41,7 @@ pub(crate) fn move_by<C: Core>(m: &mut Machine, core: &mut C, command: &Command)
 
 /// So many instructions more, or as many as there are.
 fn advance<C: Core>(m: &mut Machine, core: &mut C, count: u32)
-    requires sound { IsMachine m.old.timed }
+    requires machine { IsMachine m.old.timed }
     requires width { m.old.timed.config.width ≡ 1 }
     requires few { count ≤ 1000000 }
     requires cycles { m.old.timed.cycles + count * (m.old.timed.config.limit + depth) ≤ 2 ^ 60 }
@@ -81,7 +81,7 @@ fn seek<C: Core>(m: &mut Machine, core: &mut C, pc: u32, most: u32)
 /// Whether the machine goes on, with this pc. The end is looked at first.
 fn stands_at(m: &Machine, pc: u32) -> bool
     ensures value { result ≡ stands_at pc m.now.timed.arch }
-    ensures sound { IsMachine m.now.timed }
+    ensures machine { IsMachine m.now.timed }
 {
     m.goes_on() && m.view().pc() == pc
 }

@@ -41,7 +41,7 @@ pub fn reply_to<C: Core>(m: &mut Machine, core: &mut C, command: &Command) -> Li
     // Machine and core are reached by turns, one for each cycle, of which the same holds as in a drive.
     ensures drives { Drives C.gives m.old core.old m.new core.new }
     ensures config { m.new.timed.config ≡ m.old.timed.config }
-    ensures sound { IsMachine m.new.timed }
+    ensures machine { IsMachine m.new.timed }
 {
     move_by(m, core, command);
     reply_at(command, m)
@@ -88,7 +88,7 @@ impl<'a, C: Core> Session<'a, C> {
         ensures drives { Drives C.gives (machine_of self.old) (core_of self.old)
             (machine_of self.new) (core_of self.new) }
         ensures config { (machine_of self.new).timed.config ≡ (machine_of self.old).timed.config }
-        ensures sound { IsMachine (machine_of self.new).timed }
+        ensures machine { IsMachine (machine_of self.new).timed }
         ensures same_core { lent_name self.new ≡ lent_name self.old }
     {
         reply_to(&mut self.machine, self.core, command)

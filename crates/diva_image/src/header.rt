@@ -39,7 +39,7 @@ impl Header {
     /// The header of a file, or the first fault of its bytes.
     pub fn read(bytes: &[u8]) -> Result<Self, Fault>
         ensures header { IfOk result (λ header. header ≡ header_of bytes.now) }
-        ensures sound { IfOk result (λ _. head_fault bytes.now ≡ None) }
+        ensures faultless { IfOk result (λ _. head_fault bytes.now ≡ None) }
         ensures long { IfOk result (λ _. header_size ≤ length bytes.now) }
         ensures rules { IfOk result (λ header. IsLayout header.base header.size header.entry header.len) }
         ensures fault { IfErr result (λ fault. head_fault bytes.now ≡ Some fault) }

@@ -36,7 +36,7 @@ fn payload_of(bytes: &[u8]) -> &[u8]
 #[tactic(auto, unfolding(crate::specs::Images::fault_of))]
 fn whole_header(bytes: &[u8]) -> Result<Header, Fault>
     ensures header { IfOk result (λ header. header ≡ header_of bytes.now) }
-    ensures sound { IfOk result (λ _. fault_of bytes.now ≡ None) }
+    ensures faultless { IfOk result (λ _. fault_of bytes.now ≡ None) }
     ensures rules { IfOk result (λ header. IsWhole bytes.now header) }
     ensures fault { IfErr result (λ fault. fault_of bytes.now ≡ Some fault) }
 {

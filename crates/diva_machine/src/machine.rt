@@ -27,7 +27,7 @@ use std::marker::Model;
 /// the checker has recomputed commits (after Austin, MICRO-32, 1999, and Weaver and Austin,
 /// DSN 2001; sizes and timing are this model's own).
 ///
-/// It takes all its memory when it is made. Between two cycles it is sound: its numbers are within
+/// It takes all its memory when it is made. Between two cycles its numbers are within
 /// their bounds, and nothing is stalled for longer than the watchdog allows.
 #[derive(Drop)]
 pub struct Machine {
@@ -184,7 +184,7 @@ impl Machine {
     /// Whether the machine has not ended.
     pub fn goes_on(&self) -> bool
         ensures value { result ≡ goes_on self.now.timed.arch }
-        ensures sound { IsMachine self.now.timed }
+        ensures machine { IsMachine self.now.timed }
     {
         self.parts.goes_on()
     }
@@ -207,8 +207,8 @@ impl Machine {
             ⊎ BySolo self.old.timed self.new.last }
         ensures logs { SameLog self.old.timed self.new.timed ⊎ AddsRow self.old.timed self.new.timed }
 
-        // It is sound again, and goes on counting.
-        ensures sound { IsMachine self.new.timed }
+        // Its numbers are within their bounds again, and it goes on counting.
+        ensures machine { IsMachine self.new.timed }
         ensures counts { WillCount self.new.timed }
         ensures paced { HasPace self.new.timed }
 

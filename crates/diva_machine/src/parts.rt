@@ -508,7 +508,7 @@ impl Parts {
     pub fn cycle(&mut self, list: &[Claim], room: usize)
         requires goes_on { GoesOn self.old.timed.arch }
         requires room { room ≡ room_of self.old.timed }
-        requires sound { IsMachine self.old.timed }
+        requires machine { IsMachine self.old.timed }
         requires cycles { self.old.timed.cycles < 2 ^ 60 }
         requires staged { IsStaged self.old.timed.cycles self.old }
         requires solo { IsSoloFilled self.old.timed.cycles self.old }

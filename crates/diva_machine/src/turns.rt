@@ -31,7 +31,7 @@ pub fn turn<C: Core>(m: &mut Machine, core: &mut C, list: &mut Claims)
     ensures last { m.new.last ≡ dues (m.new.timed.count - m.old.timed.count) m.old.timed.arch }
     ensures commits { ByClaims m.old.timed m.new.last ⊎ BySolo m.old.timed m.new.last }
     ensures logs { SameLog m.old.timed m.new.timed ⊎ AddsRow m.old.timed m.new.timed }
-    ensures sound { IsMachine m.new.timed }
+    ensures machine { IsMachine m.new.timed }
     ensures counts { WillCount m.new.timed }
     ensures paced { HasPace m.new.timed }
 
@@ -78,7 +78,7 @@ pub fn drive<C: Core>(m: &mut Machine, core: &mut C, budget: u64) -> Drive
 
     // The committed state is the table's after the counted instructions.
     ensures rises { Rises m.old.timed m.new.timed }
-    ensures sound { IsMachine m.new.timed }
+    ensures machine { IsMachine m.new.timed }
 
     // Until the end every W + 6 cycles count at least one instruction more, W being the watchdog's
     // limit: in this drive, since the machine was new, and from now on.

@@ -35,7 +35,7 @@ impl Masked {
     /// The word at an address that is a multiple of 4, with the bytes that are written there laid over it.
     #[inline]
     pub(crate) fn over(&self, addr: u32, word: u32) -> u32
-        requires sound { IsMasked self.now }
+        requires masked { IsMasked self.now }
         requires aligned { addr % 4 ≡ 0 }
         ensures { (i : ℕ) → i < 4
             → word_byte result i ≡ unwrap_or (byte_in self.now (addr + i)) (word_byte word i) }
@@ -50,7 +50,7 @@ impl Masked {
     /// Writes its bytes to memory, where all of them are inside.
     #[tactic(auto, using(crate::proofs::Merging::lane_within), unfolding(crate::specs::Masked::merge))]
     pub(crate) fn put_to(&self, memory: &mut Memory)
-        requires sound { IsMasked self.now }
+        requires masked { IsMasked self.now }
         requires within { WritesInside memory.old self.now }
         ensures { memory.new ≡ merge memory.old self.now }
     {
@@ -63,7 +63,7 @@ impl Masked {
     // Writes the byte at one place of the word, if it is to be written.
     fn put_lane(&self, memory: &mut Memory, place: u32)
         requires place { place < 4 }
-        requires sound { IsMasked self.now }
+        requires masked { IsMasked self.now }
         requires within { WritesInside memory.old self.now }
         ensures { memory.new ≡ put_lane self.now place memory.old }
     {

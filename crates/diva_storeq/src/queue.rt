@@ -74,7 +74,7 @@ impl StoreQueue {
     pub fn entry(&self, at: usize) -> Masked
         requires { at < length self.now.items }
         ensures value { slice_get self.now.items at ≡ Some result }
-        ensures sound { IsMasked result }
+        ensures masked { IsMasked result }
     {
         *self.entries.get(at).unwrap()
     }

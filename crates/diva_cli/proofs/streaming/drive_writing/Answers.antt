@@ -14,7 +14,7 @@ loop-init g c =
     record {
       writes = writes_none g.D.Core.gives g.W.CycleWriter.text g.W.CycleWriter.says _ _ _ _;
       on = sym c.goes_on.ensures.value ∙ c.if-not-goes_on.false;
-      sound = c.goes_on.ensures.sound;
+      sound = c.goes_on.ensures.machine;
     }
 
 pub returns-in_err-write : goal.returns-in_err-write
@@ -39,7 +39,7 @@ loop-preserved g c =
     record {
       writes = writes_turn g.D.Core.gives g.W.CycleWriter.text g.W.CycleWriter.says _ _ _ _ c.loop.counter _ _ _ _ inv.writes _ _ _ _ _ _ _ _ c.count-first.ensures (c.last.ensures ∙ c.turn.ensures.last) c.turn.ensures.cycled inv.sound inv.on (c.turn.ensures.asked inv.on) c.in_ok-write.ensures.put c.in_ok-write.ensures.says;
       on = sym c.goes_on-in-loop.ensures.value ∙ c.if-not-goes_on-2.false;
-      sound = c.turn.ensures.sound;
+      sound = c.turn.ensures.machine;
     }
 
 pub returns : goal.returns

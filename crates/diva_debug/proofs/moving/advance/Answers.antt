@@ -22,7 +22,7 @@ returns-clause-at_once g c =
 
 pub overflow_add-target : goal.overflow_add-target
 overflow_add-target g c =
-    let few : c.args.m.now.timed.count ≤ 1 * c.args.m.now.timed.cycles = rw c.requires.width at c.requires.sound.count in
+    let few : c.args.m.now.timed.count ≤ 1 * c.args.m.now.timed.cycles = rw c.requires.width at c.requires.machine.count in
     let first = c.count.ensures in
     let k = c.from.ensures in
     let fits = c.requires.cycles in

@@ -10,5 +10,5 @@ returns-clause-far g c pc = tells_far pc c.args.m.now.timed c.move_by.new.m.time
 pub returns-clause-drives : goal.returns-clause-drives
 returns-clause-drives g c = drives g.C.Core.gives _ _ _ _ c.move_by.ensures.turns c.move_by.ensures.began
 
-pub returns-clause-sound : goal.returns-clause-sound
-returns-clause-sound g c = turns-stay g.C.Core.gives _ _ _ _ c.move_by.ensures.began c.move_by.ensures.turns.turns
+pub returns-clause-machine : goal.returns-clause-machine
+returns-clause-machine g c = turns-stay g.C.Core.gives _ _ _ _ c.move_by.ensures.began c.move_by.ensures.turns.turns

@@ -9,7 +9,7 @@ use Rattle.diva_machine.proofs.turns.drive.Goals as goal
 -- ---- a machine that had ended
 
 pub returns-then-not-goes_on-clause-drives : goal.returns-then-not-goes_on-clause-drives
-returns-then-not-goes_on-clause-drives g c = drives g.C.Core.gives _ _ _ _ (no_turns g.C.Core.gives _ _) c.goes_on.ensures.sound
+returns-then-not-goes_on-clause-drives g c = drives g.C.Core.gives _ _ _ _ (no_turns g.C.Core.gives _ _) c.goes_on.ensures.machine
 
 pub loop-init : goal.loop-init
 loop-init g c =
@@ -18,7 +18,7 @@ loop-init g c =
       on = sym c.goes_on.ensures.value ∙ c.if-not-goes_on.false;
       began = sym c.goes_on.ensures.value ∙ c.if-not-goes_on.false;
       cycles = omega arith;
-      sound = c.goes_on.ensures.sound;
+      sound = c.goes_on.ensures.machine;
     }
 
 -- ---- a turn that ended it
@@ -65,8 +65,8 @@ returns-clause-drives g c = drives g.C.Core.gives _ _ _ _ c.loop.invariant.turns
 pub returns-clause-rises : goal.returns-clause-rises
 returns-clause-rises g c = turns-rise g.C.Core.gives _ _ _ _ c.loop.invariant.sound c.loop.invariant.turns.turns
 
-pub returns-clause-sound : goal.returns-clause-sound
-returns-clause-sound g c = turns-stay g.C.Core.gives _ _ _ _ c.loop.invariant.sound c.loop.invariant.turns.turns
+pub returns-clause-machine : goal.returns-clause-machine
+returns-clause-machine g c = turns-stay g.C.Core.gives _ _ _ _ c.loop.invariant.sound c.loop.invariant.turns.turns
 
 pub returns-clause-pace : goal.returns-clause-pace
 returns-clause-pace g c = turns-pace g.C.Core.gives _ _ _ _ c.loop.invariant.sound c.loop.invariant.turns.turns

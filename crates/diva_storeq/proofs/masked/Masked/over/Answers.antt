@@ -5,4 +5,4 @@ use Rattle.diva_storeq.proofs.masked.Masked.over.Goals as goal
 pub returns-then-self-addr : goal.returns-then-self-addr
 returns-then-self-addr c = λ i lt.
     let e = c.args.self.now in
-    rw (← c.if-self-addr.true, byte_here e i lt) (merged_byte e c.args.word c.lanes.result i c.requires.sound c.lanes.type_inv lt (c.lanes.ensures i lt))
+    rw (← c.if-self-addr.true, byte_here e i lt) (merged_byte e c.args.word c.lanes.result i c.requires.masked c.lanes.type_inv lt (c.lanes.ensures i lt))
