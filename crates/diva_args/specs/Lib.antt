@@ -4,5 +4,6 @@ pub mod Fault
 pub mod Line
 pub mod Options
 pub mod Plain
-pub mod Table
 pub mod Values
+-- what only private contracts cite
+pub mod Table

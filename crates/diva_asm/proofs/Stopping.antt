@@ -3,7 +3,7 @@ use Rattle.std.proofs.Common.{◌≡◌, refl, sym, subst, ◌∙◌, ap, List, 
 use Rattle.std.specs.Prelude.{Result, Ok, Err}
 use Rattle.diva_outside.specs.Steps.{and_then}
 use Rattle.diva_outside.specs.Text.{Text}
-use Rattle.diva_asm.specs.Gives.{Gives, Appends}
+use Rattle.diva_asm.specs.Inner.{Gives, Appends}
 use Rattle.diva_asm.specs.declared.fault.Stop.{Stop}
 use Rattle.diva_asm.specs.declared.fault.Stop.TheVariants.{Fault, Memory}
 use Rattle.diva_asm.specs.Texts.{labels_of, onto_names}

@@ -22,4 +22,6 @@ pub mod Labels
 -- what the calls give where memory does not run out
 pub mod Gives
 -- what the operands of a statement that was read can be
+-- what only private contracts cite
 pub mod Reads
+pub mod Inner

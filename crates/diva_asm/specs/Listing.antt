@@ -1,6 +1,6 @@
 -- The listing: the line of a word, and the lines of an image.
-use Rattle.std.specs.Prelude.{ℕ, ◌+◌, ◌*◌, ◌/◌, ◌%◌, ◌^◌, ◌==◌, if◌then◌else◌, List, [], ◌∷◌, ◌++◌, length, map, codes, Option, Some, None, false}
-use Rattle.std.specs.Fmt.{decimal, signed_decimal, digits, digit_glyph}
+use Rattle.std.specs.Prelude.{ℕ, ◌+◌, ◌*◌, ◌/◌, ◌%◌, ◌^◌, List, [], ◌∷◌, ◌++◌, length, map, codes, Option, Some, None, false}
+use Rattle.std.specs.Fmt.{decimal, signed_decimal, digits}
 use Rattle.std.specs.Int.{cast_unsigned, div_ceil, w32}
 use Rattle.std.specs.List.{flat_map, range_with_len}
 use Rattle.diva_decode.specs.Table.{format, row_of}
@@ -54,14 +54,3 @@ word_at payload place = number_at place payload
 -- a line for each word in which the payload has a byte
 unfoldable pub listing_of : Layout → List Text
 listing_of i = map (λ n. list_line (i.base + 4 * n) (word_at i.payload (4 * n))) (range_with_len 0 (div_ceil (length i.payload) 4))
-
--- ---- words for parts of the code
-
--- the most bytes of an operand with what stands before it
-abbrev pub width : Operand → ℕ
-width Memory = 46
-width operand = 23
-
--- the last hex digit of a number, or nothing where it is 0
-abbrev pub lead : ℕ → Text
-lead n = if n == 0 then [] else digit_glyph false (n % 16) ∷ []

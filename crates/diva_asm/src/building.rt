@@ -5,7 +5,7 @@ ghost use Rattle.diva_asm.specs.Mnemonics.{format_operands};
 ghost use Rattle.diva_asm.specs.Reads.{Keeps, uses, unused, IsRead};
 ghost use Rattle.diva_asm.specs.Building.{nothing_built, value_of, two_words, in_bytes, one_instruction, instructions, bytes_of_words, statement_bytes, is_entry, built_at, built_by, built_text};
 ghost use Rattle.diva_asm.specs.Texts.{without_comment, labels_of};
-ghost use Rattle.diva_asm.specs.Gives.{Gives, Appends};
+ghost use Rattle.diva_asm.specs.Inner.{Gives, Appends};
 
 use crate::bytes::Bytes;
 use crate::fault::{Kind, Stop};

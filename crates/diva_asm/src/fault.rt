@@ -1,6 +1,6 @@
 // Why a text is no source of an image.
 ghost use Rattle.std.specs.Prelude.{◌≡◌};
-ghost use Rattle.diva_asm.specs.Gives.{stopped_at};
+ghost use Rattle.diva_asm.specs.Inner.{stopped_at};
 ghost use Rattle.diva_asm.specs.Kinds.{number_of_kind};
 ghost use Rattle.diva_asm.specs.declared.fault.Stop.TheVariants.{Fault, Memory};
 

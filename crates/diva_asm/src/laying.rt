@@ -3,7 +3,7 @@ ghost use Rattle.std.specs.Prelude.{◌≡◌, ◌≤◌, IfOk};
 ghost use Rattle.diva_image.specs.Layout.{most_size};
 ghost use Rattle.diva_asm.specs.Laying.{nothing_laid, here, with_label, is_short, len_of, is_free, with_bytes, with_statement, with_statement_of, with_text};
 ghost use Rattle.diva_asm.specs.Texts.{without_comment};
-ghost use Rattle.diva_asm.specs.Gives.{Gives};
+ghost use Rattle.diva_asm.specs.Inner.{Gives};
 
 use crate::fault::{Kind, Stop};
 use crate::labels::Labels;

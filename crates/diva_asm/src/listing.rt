@@ -3,7 +3,8 @@ ghost use Rattle.std.specs.Prelude.{◌≡◌, ◌≤◌, ◌+◌, ◌++◌, ◌
 ghost use Rattle.std.specs.Fmt.{signed_decimal, digits};
 ghost use Rattle.std.specs.List.{sum_by, flat_map};
 ghost use Rattle.diva_decode.specs.Table.{row_of};
-ghost use Rattle.diva_asm.specs.Listing.{register, width, lead, address_text, operand_text, operands_text, text_of, list_line};
+ghost use Rattle.diva_asm.specs.Listing.{register, address_text, operand_text, operands_text, text_of, list_line};
+ghost use Rattle.diva_asm.specs.Inner.{width, lead};
 
 use crate::mnemonic::{op_name, op_operands};
 use crate::operand::Operand;

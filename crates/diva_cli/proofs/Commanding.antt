@@ -18,7 +18,8 @@ use Rattle.diva_debug.specs.Moves.{Moves, steps_by}
 use Rattle.diva_debug.specs.Replies.{reply_of}
 use Rattle.diva_debug.specs.declared.command.Command.{Command}
 use Rattle.diva_cli.specs.Cuts.{BeforeLast}
-use Rattle.diva_cli.specs.Replies.{AreLed, IsReplied, cycles_of, joined, newest_after, replies_of}
+use Rattle.diva_cli.specs.Replies.{AreLed, cycles_of, joined, newest_after, replies_of}
+use Rattle.diva_cli.specs.Tasks.{IsReplied}
 use Rattle.diva_core.specs.Timed.{Timed, depth, new_timed}
 use Rattle.diva_core.specs.Machine.{IsConfig, most_config}
 use Rattle.diva_args.specs.Options.{DebugOptions}

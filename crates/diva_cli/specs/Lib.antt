@@ -13,6 +13,7 @@ pub mod SoakTexts
 pub mod Texts
 pub mod Answers
 pub mod Statuses
-pub mod Tasks
-pub mod Parts
 pub mod Determined
+-- what only private contracts cite
+pub mod Parts
+pub mod Tasks

@@ -1,4 +1,5 @@
 -- What the parts of the program promise one another.
+-- Only private contracts of this crate cite this: a reader of its promises can pass over it.
 use Rattle.std.specs.Prelude.{◌≡◌, ◌≤◌, ℕ, true, List, Option, Result, Ok, Err}
 use Rattle.std.specs.Io.KnownBytes.{Appends}
 use Rattle.diva_outside.specs.Causes.{Rose}

@@ -1,4 +1,5 @@
 -- What is done with a machine and a core, and what is written of it as it goes.
+-- Only private contracts of this crate cite this: a reader of its promises can pass over it.
 use Rattle.std.specs.Prelude.{ℕ, ◌≡◌, ◌≤◌, ◌+◌, ◌-◌, ◌^◌, List, [], ◌∷◌, ◌++◌, length, Bool, true, false, Option, Result, Ok, OnOk, OnErr, ⊤}
 use Rattle.std.specs.List.{All}
 use Rattle.diva_outside.specs.Sink.{AppendsPast, Puts}
@@ -24,7 +25,9 @@ use Rattle.diva_cli.specs.declared.driving.CoreInUse.TheVariants.{Own, Lockstep,
 use Rattle.diva_cli.specs.declared.tasks.Task.{Task}
 use Rattle.diva_cli.specs.declared.tasks.Task.TheVariants.{Quiet, Trace, Tape, Debug}
 use Rattle.diva_trace.specs.Text.{commits_text}
-use Rattle.diva_cli.specs.Replies.{CanReply, IsReplied}
+use Rattle.diva_cli.specs.Replies.{AreLed, cycles_of, joined, newest_after, replies_of}
+use Rattle.diva_debug.specs.Moves.{IsShort}
+use Rattle.diva_debug.specs.declared.command.Command.{Command}
 
 -- ---- texts that are written cycle by cycle
 
@@ -68,6 +71,28 @@ pub record IsWritten (text : CycleText) (says : List Record → Type 0) (cycles 
   pub put : Puts (cycles_text text m lists) old new before now result
   -- where the sink failed, it did so in the last cycle; the texts of those before it had been put
   pub cut : OnErr result (BeforeLast lists (λ earlier. AppendsPast old new (cycles_text text m earlier) (cycles_text text m lists)))
+
+-- the machine stops at any count, and has cycles for all commands
+pub record CanReply (commands : List Command) (m : Timed) : Type 0 where
+  pub narrow : m.config.width ≡ 1
+  pub short : All IsShort commands
+  pub cycles : m.cycles + cycles_of (length commands) m.config.limit ≤ 2 ^ 60
+
+-- the first of the commands were replied to: all of them, or those up to one whose reply could not be put
+pub record IsReplied (commands : List Command) (m : Timed) (lists : List (List Record)) (old new : Option Text) (before now : ℕ)
+    (result : Result (Unit {0}) SinkFailed) : Type 0 where
+  pub done : List Command
+  pub left : List Command
+  pub in_order : commands ≡ done ++ left
+  pub whole : OnOk result (left ≡ [])
+  pub parts : List (List (List Record))
+  pub together : lists ≡ joined parts
+  pub led : AreLed done m parts
+  pub most : length lists ≤ cycles_of (length done) m.config.limit
+  pub put : Puts (replies_of done m.count m.arch (newest_after m parts)) old new before now result
+  -- where the sink failed, it did so at the last of these replies; those before it had been put
+  pub cut : OnErr result (BeforeLast done (λ earlier. AppendsPast old new
+      (replies_of earlier m.count m.arch (newest_after m parts)) (replies_of done m.count m.arch (newest_after m parts))))
 
 -- ---- a line for each task, which asks something of a machine, and does something with it
 abbrev pub Allows : Task → Timed → Type 0

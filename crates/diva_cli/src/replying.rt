@@ -1,5 +1,5 @@
 // Commands that move a machine, and the replies to them.
-ghost use Rattle.diva_cli.specs.Replies.{CanReply, IsReplied};
+ghost use Rattle.diva_cli.specs.Tasks.{CanReply, IsReplied};
 ghost use Rattle.diva_cli.specs.Tasks.{Performs};
 
 use diva_core::Core;

@@ -11,3 +11,5 @@ pub mod Right
 pub mod Stages
 pub mod Timed
 pub mod Told
+-- what only private contracts cite
+pub mod Inner

@@ -1,7 +1,6 @@
 -- The state in which a pending claim stands: the committed one after the claims before it, right ones and wrong ones.
-use Rattle.std.specs.Prelude.{ℕ, ◌≡◌, ◌+◌, List, [], ◌∷◌, map, take, Some}
-use Rattle.std.specs.List.{slice_index}
-use Rattle.diva_isa.specs.State.{State, byte_of}
+use Rattle.std.specs.Prelude.{ℕ, List, [], ◌∷◌, map, take}
+use Rattle.diva_isa.specs.State.{State}
 use Rattle.diva_isa.specs.Step.{apply, effect_of}
 use Rattle.diva_isa.specs.declared.record.Record.{Record}
 use Rattle.diva_core.specs.declared.pending.Entry.{Entry}
@@ -33,10 +32,3 @@ led pc (r ∷ rest) = led r.next rest
 
 abbrev pub bypassed : State → List Record → State
 bypassed s claims = record (with_claims s claims) { pc = led s.pc claims }
-
--- a state has these four bytes from an address on
-pub record HasBytes (s : State) (addr : ℕ) (bytes : List ℕ) : Type 0 where
-  pub byte0 : byte_of s addr ≡ Some (slice_index bytes 0)
-  pub byte1 : byte_of s (addr + 1) ≡ Some (slice_index bytes 1)
-  pub byte2 : byte_of s (addr + 2) ≡ Some (slice_index bytes 2)
-  pub byte3 : byte_of s (addr + 3) ≡ Some (slice_index bytes 3)

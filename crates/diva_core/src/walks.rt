@@ -5,7 +5,8 @@ ghost use Rattle.std.specs.Prelude.{◌≡◌, ◌+◌, ◌<◌, ◌≤◌, ◌%
 ghost use Rattle.diva_isa.specs.State.{State, byte_of, reg_of, word_of, output_limit};
 ghost use Rattle.diva_isa.specs.Step.{effect_of, with_effect};
 ghost use Rattle.diva_core.specs.Entries.{IsDecoded};
-ghost use Rattle.diva_core.specs.Older.{older, with_claims, HasBytes};
+ghost use Rattle.diva_core.specs.Older.{older, with_claims};
+ghost use Rattle.diva_core.specs.Inner.{HasBytes};
 
 use crate::effects::{byte_in, is_apart};
 use crate::pending::{Entry, Pending};

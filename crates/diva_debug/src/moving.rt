@@ -3,7 +3,7 @@ ghost use Rattle.std.specs.Prelude.{◌≡◌, ◌+◌, ◌*◌, ◌≤◌, ◌^
 ghost use Rattle.diva_core.specs.Machine.{IsMachine};
 ghost use Rattle.diva_core.specs.Timed.{depth};
 ghost use Rattle.diva_machine.specs.Counts.{StopsAtOnce};
-ghost use Rattle.diva_machine.specs.Drives.{TakesTurns};
+ghost use Rattle.diva_machine.specs.Inner.{TakesTurns};
 ghost use Rattle.diva_debug.specs.Moves.{Moves, most_cycles, stands_at, steps_by, steps_in, steps_until};
 
 use crate::command::Command;

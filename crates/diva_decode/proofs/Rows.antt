@@ -3,7 +3,8 @@ use Rattle.std.proofs.Common.{◌≡◌, ◌≢◌, ◌⊎◌, inl, inr, ℕ, Bo
 use Rattle.std.specs.Option.{option_map}
 use Rattle.std.proofs.lemmas.Bool.Decides.{nat_tests}
 use Rattle.diva_decode.specs.Fields.{opcode, funct3, funct7}
-use Rattle.diva_decode.specs.Table.{row_of, op_at, format, instr_of, U, J, I, Shift, B, S, R, Open, Exact}
+use Rattle.diva_decode.specs.Table.{row_of, format, instr_of, U, J, I, Shift, B, S, R, Open, Exact}
+use Rattle.diva_decode.specs.Inner.{op_at}
 use Rattle.diva_decode.specs.declared.op.Op.TheVariants.{Lui, Auipc, Jal, Ecall, Ebreak}
 
 -- two words with different opcodes are different

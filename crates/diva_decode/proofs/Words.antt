@@ -4,7 +4,8 @@ use Rattle.std.specs.Int.{cast_unsigned, w32}
 use Rattle.std.proofs.lemmas.Int.{ints}
 use Rattle.std.proofs.lemmas.Bool.Decides.{nat_tests}
 use Rattle.diva_decode.specs.Fields.{opcode, funct3, funct7, rd, rs1, rs2, field, signed, imm_i, imm_s, imm_b, imm_u, imm_j}
-use Rattle.diva_decode.specs.Table.{row_of, encoding_of, word_in, op_at, format, FitsBits, FitsFormat, IsValid, instr_of, R, B, I, S, J, U, Shift, Exact}
+use Rattle.diva_decode.specs.Table.{row_of, encoding_of, word_in, format, FitsBits, FitsFormat, IsValid, instr_of, R, B, I, S, J, U, Shift, Exact}
+use Rattle.diva_decode.specs.Inner.{op_at}
 use Rattle.diva_decode.specs.declared.instr.Instr.{Instr}
 use Rattle.diva_decode.specs.declared.op.Op.{Op}
 use Rattle.diva_decode.specs.declared.op.Op.TheVariants.{Lui, Auipc, Jal, Jalr, Beq, Bne, Blt, Bge, Bltu, Bgeu, Lb, Lh, Lw, Lbu, Lhu, Sb, Sh, Sw, Addi, Slti, Sltiu, Xori, Ori, Andi, Slli, Srli, Srai, Add, Sub, Sll, Slt, Sltu, Xor, Srl, Sra, Or, And, Fence, Ecall, Ebreak, Mul, Mulh, Mulhsu, Mulhu, Div, Divu, Rem, Remu}

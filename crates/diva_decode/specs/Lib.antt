@@ -3,3 +3,5 @@
 pub mod Fields
 -- the instruction table both ways, and which instructions are valid
 pub mod Table
+-- what only private contracts cite
+pub mod Inner

@@ -1,6 +1,6 @@
 -- The 48 instructions of RV32IM as rows, what a word of a row says, the word of an instruction, and which instructions
 -- have one. (RISC-V Unprivileged ISA, chapter "RV32/64G Instruction Set Listings": RV32I 2.1 and M 2.0.)
-use Rattle.std.specs.Prelude.{◌≡◌, ℕ, ◌+◌, ◌-◌, ◌*◌, ◌%◌, ◌^◌, ◌<◌, ◌==◌, ◌&&◌, Bool, true, false, List, [], ◌∷◌, Option, Some, ℤ, pos, neg_ℤ, ◌≤ℤ◌, ◌<ℤ◌, find, option_map}
+use Rattle.std.specs.Prelude.{◌≡◌, ℕ, ◌+◌, ◌-◌, ◌*◌, ◌%◌, ◌^◌, ◌<◌, ◌==◌, ◌&&◌, Bool, false, List, [], ◌∷◌, Option, Some, ℤ, pos, neg_ℤ, ◌≤ℤ◌, ◌<ℤ◌, find, option_map}
 use Rattle.std.specs.Int.{cast_unsigned, w32}
 use Rattle.diva_decode.specs.Fields.{opcode, rd, funct3, rs1, rs2, funct7, imm_i, imm_s, imm_b, imm_u, imm_j, imm_bits}
 use Rattle.diva_decode.specs.declared.op.Op.{Op}
@@ -198,19 +198,3 @@ IsValid i = FitsFormat (format i.op) i
 -- the registers are below 32
 abbrev pub HasRegisters : Instr → Type 0
 HasRegisters i = (i.rd < 32) × (i.rs1 < 32) × (i.rs2 < 32)
-
--- ---- words for parts of the code
-
--- the operation with these codes
-abbrev pub op_at : ℕ → ℕ → ℕ → Option Op
-op_at opcode funct3 funct7 = find (λ op. has_codes (format op) opcode funct3 funct7) table
-
--- it is of format R
-abbrev pub is_r : Format → Bool
-is_r (R f7 f3 o) = true
-is_r s = false
-
--- a register that is used is below 32, and another one is 0
-abbrev pub FitsUse : Bool → ℕ → Type 0
-FitsUse true r = r < 32
-FitsUse false r = r ≡ 0

@@ -2,7 +2,8 @@
 
 ghost use Rattle.std.specs.Prelude.{IsTrue, Some, ◌≡◌, ◌≢◌, ◌+◌, ◌*◌, ◌^◌, ◌<◌};
 ghost use Rattle.diva_decode.specs.Fields.{field};
-ghost use Rattle.diva_decode.specs.Table.{row_of, encoding_of, word_in, IsOnlyWordOf, IsValid, FitsFormat, format, is_r, U, J, I, B, S, R, Shift};
+ghost use Rattle.diva_decode.specs.Table.{row_of, encoding_of, word_in, IsOnlyWordOf, IsValid, FitsFormat, format, U, J, I, B, S, R, Shift};
+ghost use Rattle.diva_decode.specs.Inner.{is_r};
 
 use crate::instr::Instr;
 use crate::op::Op;

@@ -1,7 +1,8 @@
 // Which instructions have a word.
 
 ghost use Rattle.std.specs.Prelude.{IsTrue, ◌↔◌, ◌<◌, pos, neg_ℤ, ◌≤ℤ◌, ◌<ℤ◌};
-ghost use Rattle.diva_decode.specs.Table.{IsValid, LowBitsZero, FitsUse};
+ghost use Rattle.diva_decode.specs.Table.{IsValid, LowBitsZero};
+ghost use Rattle.diva_decode.specs.Inner.{FitsUse};
 
 use crate::instr::Instr;
 use crate::op::Op;

@@ -19,7 +19,8 @@ use Rattle.diva_faults.specs.declared.rows.Row.{Row}
 use Rattle.diva_faults.specs.declared.rows.Row.TheVariants.{Lane, Hush}
 use Rattle.diva_faults.specs.Lists.{is_hush_in, with_row, with_row_in, scripted}
 use Rattle.diva_faults.specs.Rows.{row_cycle}
-use Rattle.diva_faults.specs.Schedules.{AreLike, end_of, hush_end, latest_end}
+use Rattle.diva_faults.specs.Schedules.{AreLike}
+use Rattle.diva_faults.specs.Inner.{end_of, hush_end, latest_end}
 
 -- ---- rows that do nothing in a cycle
 

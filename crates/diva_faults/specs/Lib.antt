@@ -5,3 +5,5 @@ pub mod Reading
 pub mod Rows
 pub mod Schedules
 pub mod Spoiled
+-- what only private contracts cite
+pub mod Inner

@@ -1,37 +1,9 @@
 -- The rows of a script in the order of their cycles, and what makes looking them up cheap.
-use Rattle.std.specs.Prelude.{◌≡◌, ℕ, ◌+◌, ◌<◌, ◌≤◌, max, List, length, take, fold, slice_index}
-use Rattle.std.specs.List.{All}
-use Rattle.std.specs.List.Sorted.{IsNonDecreasingBy}
+use Rattle.std.specs.Prelude.{◌≡◌, ℕ, List}
 use Rattle.diva_isa.specs.declared.record.Record.{Record}
 use Rattle.diva_faults.specs.declared.rows.Row.{Row}
-use Rattle.diva_faults.specs.declared.rows.Row.TheVariants.{Lane, Hush}
 use Rattle.diva_faults.specs.Lists.{scripted}
-use Rattle.diva_faults.specs.Rows.{IsRow, row_cycle}
 
 -- in each cycle, some rows make of a list what others make of it
 abbrev pub AreLike : List Row → List Row → Type 0
 AreLike rows others = (now : ℕ) (list : List Record) → scripted rows now list ≡ scripted others now list
-
--- the cycle behind the last one that a row touches
-abbrev pub end_of : Row → ℕ
-end_of (Lane cycle lane change) = cycle + 1
-end_of (Hush cycle cycles) = cycle + cycles
-
--- the cycle behind the last one of a hush, and 0 for another row
-abbrev pub hush_end : Row → ℕ
-hush_end (Lane cycle lane change) = 0
-hush_end (Hush cycle cycles) = cycle + cycles
-
--- the latest end of the hushes among some rows
-abbrev pub latest_end : List Row → ℕ
-latest_end rows = fold (λ latest row. max latest (hush_end row)) 0 rows
-
--- the rows stand in the order of their cycles; beside each is the latest end of the hushes up to it; none touches a cycle
--- before `first`, or one from `end` on
-pub record IsSchedule (rows : List Row) (hush_ends : List ℕ) (first end : ℕ) : Type 0 where
-  pub ranges : All IsRow rows
-  pub sorted : IsNonDecreasingBy row_cycle rows
-  pub beside : length hush_ends ≡ length rows
-  pub latest : (k : ℕ) → k < length rows → slice_index hush_ends k ≡ latest_end (take (k + 1) rows)
-  pub begins : All (λ row. first ≤ row_cycle row) rows
-  pub ends : All (λ row. end_of row ≤ end) rows

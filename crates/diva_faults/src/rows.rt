@@ -1,7 +1,7 @@
 // What the rows of a script do.
 ghost use Rattle.std.specs.Prelude.{◌≡◌};
 ghost use Rattle.diva_faults.specs.Rows.{row_cycle, IsRow};
-ghost use Rattle.diva_faults.specs.Schedules.{end_of, hush_end};
+ghost use Rattle.diva_faults.specs.Inner.{end_of, hush_end};
 
 use diva_core::Field;
 

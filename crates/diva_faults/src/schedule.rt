@@ -4,7 +4,8 @@ ghost use Rattle.std.specs.List.{All};
 ghost use Rattle.std.specs.List.Sorted.{IsNonDecreasingBy, IsPartitionPoint};
 ghost use Rattle.diva_faults.specs.Lists.{with_row, scripted};
 ghost use Rattle.diva_faults.specs.Rows.{row_cycle, IsRow};
-ghost use Rattle.diva_faults.specs.Schedules.{AreLike, end_of, hush_end, latest_end};
+ghost use Rattle.diva_faults.specs.Schedules.{AreLike};
+ghost use Rattle.diva_faults.specs.Inner.{end_of, hush_end, latest_end};
 
 use crate::rows::Row;
 use diva_core::Claims;
@@ -29,7 +30,7 @@ pub(crate) struct Schedule {
 impl Model for Schedule {
     ghost use Rattle.std.specs.Prelude.{List};
     ghost use Rattle.diva_faults.specs.declared.rows.Row.{Row};
-    ghost use Rattle.diva_faults.specs.Schedules.{IsSchedule};
+    ghost use Rattle.diva_faults.specs.Inner.{IsSchedule};
 
     ghost Value = { List Row };
 

@@ -7,7 +7,8 @@ use Rattle.byteorder.specs.Endian.{little_bytes}
 use Rattle.byteorder.specs.Numbers.{little_number-reads_back}
 use Rattle.diva_image.specs.declared.header.Header.{Header}
 use Rattle.diva_image.specs.declared.image.Image.{Image}
-use Rattle.diva_image.specs.Layout.{Layout, IsLayout}
+use Rattle.diva_image.specs.Layout.{Layout}
+use Rattle.diva_image.specs.Inner.{IsLayout}
 use Rattle.diva_image.specs.ImageLayout.{layout, Reads}
 use Rattle.diva_image.specs.Images.{header_size, word_at, header_of, start_fault, header_fault, length_fault, fault_of, image_of, image_bytes}
 

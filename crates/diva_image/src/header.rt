@@ -34,7 +34,7 @@ pub(crate) struct Header {
 
 impl Header {
     ghost use Rattle.diva_image.specs.Images.{head_fault, header_bytes, header_fault, header_of, is_entry, is_size};
-    ghost use Rattle.diva_image.specs.Layout.{IsLayout};
+    ghost use Rattle.diva_image.specs.Inner.{IsLayout};
 
     /// The header of a file, or the first fault of its bytes.
     pub fn read(bytes: &[u8]) -> Result<Self, Fault>

@@ -1,6 +1,6 @@
 // An image, whose type keeps its rules.
 ghost use Rattle.std.specs.Prelude.{◌≡◌, length, option_map};
-ghost use Rattle.diva_image.specs.Layout.{IsLayout};
+ghost use Rattle.diva_image.specs.Inner.{IsLayout};
 
 use crate::Payload;
 use crate::header::Header;

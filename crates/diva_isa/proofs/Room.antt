@@ -17,7 +17,8 @@ use Rattle.diva_isa.specs.declared.kind.Width.TheVariants.{Byte, Half, Word}
 use Rattle.diva_isa.specs.declared.effect.Effect.{Effect}
 use Rattle.diva_isa.specs.declared.effect.Effect.TheVariants.{Nothing, Writes, Stores, Puts}
 use Rattle.diva_isa.specs.End.{trap}
-use Rattle.diva_isa.specs.Step.{record_of, record_fetched, record_by, record_with, outcome, source1, source2, address, call, stored, ended, effect, effect_by, effect_of, HasRoom}
+use Rattle.diva_isa.specs.Step.{record_of, record_fetched, record_by, record_with, outcome, source1, source2, address, call, stored, ended, effect, effect_by, effect_of}
+use Rattle.diva_isa.specs.Inner.{HasRoom}
 
 -- a number is there only where its lowest byte is, and the others
 first_there : (o p : Option ℕ) (v : ℕ) → option_and_then (λ low. option_map (λ high. low + 2 ^ 8 * high) p) o ≡ Some v → (P : Type 0) → ((b c : ℕ) → o ≡ Some b → p ≡ Some c → P) → P

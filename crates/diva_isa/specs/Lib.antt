@@ -7,3 +7,5 @@ pub mod Regs
 pub mod Step
 pub mod Trap
 pub mod Plain
+-- what only private contracts cite
+pub mod Inner

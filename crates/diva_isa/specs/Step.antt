@@ -46,7 +46,7 @@ use Rattle.std.specs.Int.{cast_unsigned, w32}
 use Rattle.diva_decode.specs.declared.op.Op.{Op}
 use Rattle.diva_decode.specs.declared.instr.Instr.{Instr}
 use Rattle.diva_decode.specs.Table.{row_of}
-use Rattle.diva_memory.specs.Bytes.{IsInside, put_all, low_bytes}
+use Rattle.diva_memory.specs.Bytes.{put_all, low_bytes}
 use Rattle.diva_isa.specs.State.{State, reg_of, memory_of, number_of, word_of, goes_on, output_limit}
 use Rattle.diva_isa.specs.Alu.{alu, is_taken, extended}
 use Rattle.diva_isa.specs.Kind.{kind, size}
@@ -264,10 +264,3 @@ HasRegister Nothing = ⊤
 HasRegister (Writes rd value) = rd < 32
 HasRegister (Stores width addr value) = ⊤
 HasRegister (Puts byte) = ⊤
-
--- the state has room for it: what is stored is inside memory, and the output is not full
-abbrev pub HasRoom : State → Effect → Type 0
-HasRoom s Nothing = ⊤
-HasRoom s (Writes rd value) = ⊤
-HasRoom s (Stores width addr value) = IsInside (memory_of s) addr (size width)
-HasRoom s (Puts byte) = length s.output < output_limit

@@ -5,7 +5,8 @@ ghost use Rattle.diva_memory.specs.Bytes.{IsInside};
 ghost use Rattle.diva_isa.specs.Kind.{size};
 ghost use Rattle.diva_isa.specs.Plain.{done};
 ghost use Rattle.diva_isa.specs.State.{GoesOn, byte_of, goes_on, memory_of, reg_of, output_limit};
-ghost use Rattle.diva_isa.specs.Step.{HasRoom, apply, effect_of, record_of, step, steps, with_bytes, with_effect};
+ghost use Rattle.diva_isa.specs.Step.{apply, effect_of, record_of, step, steps, with_bytes, with_effect};
+ghost use Rattle.diva_isa.specs.Inner.{HasRoom};
 
 use crate::due::record_of;
 use crate::effect::{Effect, effect_of};

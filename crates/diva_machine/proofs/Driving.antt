@@ -11,7 +11,8 @@ use Rattle.diva_core.specs.Headline.{committed_in, dues, last_committed}
 use Rattle.diva_core.proofs.Outcomes.{cycle-cycles}
 use Rattle.diva_core.proofs.Pacing.{turns-calm, turns-commit, turns-rows, turns-stay}
 use Rattle.diva_core.proofs.Turning.{IsHistory-more}
-use Rattle.diva_machine.specs.Drives.{Drives, TakesTurns}
+use Rattle.diva_machine.specs.Drives.{Drives}
+use Rattle.diva_machine.specs.Inner.{TakesTurns}
 use Rattle.diva_machine.specs.Machine.{Machine}
 use Rattle.diva_machine.proofs.Counting.{IsHistory-then}
 

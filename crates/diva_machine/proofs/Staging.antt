@@ -24,7 +24,8 @@ use Rattle.diva_core.proofs.Bypassing.{after_goes, before_is}
 use Rattle.diva_core.proofs.Leaving.{claims_alike, future_begun}
 use Rattle.diva_machine.specs.Machine.{pending_claim_of}
 use Rattle.diva_machine.specs.declared.stages.Stage.{Stage}
-use Rattle.diva_machine.specs.Staged.{age_of, earlier_of, own_of, AreChecked, AreInOrder, IsAdvanced, IsChecked, IsFilled, IsSoloFilled, IsStaged, Parts, last_stage, passed_by}
+use Rattle.diva_machine.specs.Staged.{AreChecked, AreInOrder, IsChecked, IsFilled, IsSoloFilled, IsStaged, Parts, last_stage, passed_by}
+use Rattle.diva_machine.specs.Inner.{age_of, earlier_of, own_of, IsAdvanced}
 use Rattle.diva_machine.proofs.Verdicts.{age_from, before_of, decodes_none, form_kept, form_whole, found_by, stays_found, verdict_past, whole_verdict}
 
 -- ---- entries by place

@@ -14,7 +14,8 @@ use Rattle.diva_core.specs.Difference.{difference_in, field_of, first_difference
 use Rattle.diva_core.specs.Stages.{Answers, HasVerdict, fields_at, fetch_fields, operand_fields, address_fields, outcome_fields, execute_fields, memory_fields, is_memory}
 use Rattle.diva_machine.specs.declared.stages.Stage.{Stage}
 use Rattle.diva_machine.specs.declared.stages.Stage.TheVariants.{Fetch, Operands, Execute, Access}
-use Rattle.diva_machine.specs.Staged.{age_of, decoded_at, earlier_of, last_stage, own_of}
+use Rattle.diva_machine.specs.Staged.{decoded_at, last_stage}
+use Rattle.diva_machine.specs.Inner.{age_of, earlier_of, own_of}
 
 -- the verdict of a claim p of an age, where r is due
 abbrev pub verdict_at : ℕ → Record → Record → Option Diff

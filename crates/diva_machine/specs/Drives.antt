@@ -5,12 +5,6 @@ use Rattle.diva_core.specs.Headline.{AddsRows, AreCommitted, last_committed}
 use Rattle.diva_core.specs.Right.{AreRight, IsCalm, StaysCalm}
 use Rattle.diva_machine.specs.Machine.{Machine}
 
--- turns lead from a machine and a core to others, and the machine shows what the last of them committed; where none was taken, it
--- shows what it showed before
-pub record TakesTurns {C : Type 0} (gives : Meaning C) (m : Machine) (core : C) (last : Machine) (final : C) : Type 0 where
-  pub turns : Turns gives m.timed core last.timed final
-  pub shows : last.last ≡ last_committed m.last m.timed (lists_of turns.history)
-
 -- Turns lead from a machine and a core to others. Of the lists of their history it holds what each cycle committed, which of that
 -- the machine shows, and which rows they added; where each is right for its machine, a calm machine is not flushed
 pub record Drives {C : Type 0} (gives : Meaning C) (m : Machine) (core : C) (last : Machine) (final : C) : Type 0 where

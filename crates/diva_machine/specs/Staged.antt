@@ -1,19 +1,16 @@
 -- What the checker's stages have noted so far of each pending claim, and of the solo instruction.
-use Rattle.std.specs.Prelude.{ℕ, zero, suc, ◌≡◌, ◌+◌, ◌-◌, ◌≤◌, ◌<◌, nat_le, Bool, false, List, [], ◌∷◌, map, drop, Option, Some, None, slice_get, ⊤, if◌then◌else◌}
+use Rattle.std.specs.Prelude.{ℕ, zero, suc, ◌≡◌, ◌+◌, ◌-◌, ◌≤◌, nat_le, false, List, [], ◌∷◌, map, Option, Some, None, slice_get, ⊤, if◌then◌else◌}
 use Rattle.diva_decode.specs.declared.instr.Instr.{Instr}
 use Rattle.diva_decode.specs.Table.{row_of}
 use Rattle.diva_isa.specs.State.{State}
 use Rattle.diva_isa.specs.Step.{record_of}
 use Rattle.diva_isa.specs.declared.record.Record.{Record}
 use Rattle.diva_core.specs.declared.pending.Entry.{Entry}
-use Rattle.diva_core.specs.Future.{FutureFile, IsFuture, committed_file, without_oldest}
+use Rattle.diva_core.specs.Future.{FutureFile, IsFuture}
 use Rattle.diva_core.specs.Older.{before_entry}
 use Rattle.diva_core.specs.Difference.{difference_in}
-use Rattle.diva_core.specs.declared.differences.Field.{Field}
-use Rattle.diva_core.specs.Stages.{fields_at, HasVerdict, fetch_fields, operand_fields, execute_fields, memory_fields, read_fields, address_fields}
+use Rattle.diva_core.specs.Stages.{fields_at, HasVerdict}
 use Rattle.diva_core.specs.Timed.{Timed, PendingClaim}
-use Rattle.diva_machine.specs.declared.stages.Stage.{Stage}
-use Rattle.diva_machine.specs.declared.stages.Stage.TheVariants.{Fetch, Operands, Execute, Access}
 use Rattle.diva_machine.specs.Machine.{pending_claim_of}
 
 -- the decoded form of a claim with this word: it is noted at age 2
@@ -37,27 +34,6 @@ AreChecked arch now entries =
 -- the age at which a claim passes through the last stage
 abbrev pub last_stage : ℕ
 last_stage = 5
-
--- the age at which a claim passes through a stage that compares
-abbrev pub age_of : Stage → ℕ
-age_of Fetch = 1
-age_of Operands = 3
-age_of Execute = 4
-age_of Access = last_stage
-
--- the fields that such a stage compares; `memory` says whether the due record is a load or a store
-abbrev pub own_of : Stage → (memory : Bool) → List Field
-own_of Fetch memory = fetch_fields
-own_of Operands memory = operand_fields
-own_of Execute memory = execute_fields memory
-own_of Access memory = memory_fields memory
-
--- those that have to agree before: where they do not, nothing is said of its answer
-abbrev pub earlier_of : Stage → List Field
-earlier_of Fetch = []
-earlier_of Operands = fetch_fields
-earlier_of Execute = read_fields
-earlier_of Access = address_fields
 
 -- how many of the claims, from the oldest on, are past the last stage
 abbrev pub passed_by : (now : ℕ) → List PendingClaim → ℕ
@@ -100,23 +76,3 @@ pub record IsStaged (now : ℕ) (w : Parts) : Type 0 where
 -- and of the solo instruction
 abbrev pub IsSoloFilled : (now : ℕ) → Parts → Type 0
 IsSoloFilled now w = IsFilledSince w.timed.arch now w.timed.solo w.filled
-
--- the entries before a place have gone through the stages of the cycle now + 1, the others through those of `now`
-pub record IsAdvanced (arch : State) (now at : ℕ) (entries : List Entry) : Type 0 where
-  pub below : (k : ℕ) (e : Entry) → k < at → slice_get entries k ≡ Some e → IsChecked (before_entry arch entries k) (now + 1 - e.cycle) e
-  pub from : (k : ℕ) (e : Entry) → at ≤ k → slice_get entries k ≡ Some e → IsChecked (before_entry arch entries k) (now - e.cycle) e
-
--- the entry at a place has come to an age, and through the stage of that age
-abbrev pub HasPassed : State → (age at : ℕ) (before after : List Entry) → Type 0
-HasPassed arch age at before after =
-    (now : ℕ) (e : Entry) → slice_get before at ≡ Some e → now + 1 ≡ age + e.cycle → IsAdvanced arch now at before → IsAdvanced arch now (at + 1) after
-
--- the front entry is gone, and all others too where the machine does not go on
-abbrev pub left : Bool → Parts → Parts
-left goes w =
-    record w {
-      timed = record w.timed { pending = if goes then map pending_claim_of (drop 1 w.entries) else [] };
-      entries = if goes then drop 1 w.entries else [];
-      passed = if goes then w.passed - 1 else 0;
-      future = if goes then without_oldest w.timed.arch.regs w.future else committed_file w.timed.arch.regs;
-    }

@@ -18,8 +18,10 @@ ghost use Rattle.diva_core.specs.Cycle.{Commit, accepted_in, accepts, judgement_
 ghost use Rattle.diva_core.specs.declared.flushes.Cause.TheVariants.{Silent};
 ghost use Rattle.diva_commit.specs.Committing.{answer, is_committed};
 ghost use Rattle.diva_machine.specs.Start.{start_of};
-ghost use Rattle.diva_machine.specs.Machine.{pending_claim_of, judged_by, KeepsBounds, Tells};
-ghost use Rattle.diva_machine.specs.Staged.{last_stage, left, AreChecked, IsAdvanced, IsFilled, IsSoloFilled, IsStaged};
+ghost use Rattle.diva_machine.specs.Machine.{pending_claim_of};
+ghost use Rattle.diva_machine.specs.Inner.{judged_by, KeepsBounds, Tells};
+ghost use Rattle.diva_machine.specs.Staged.{last_stage, AreChecked, IsFilled, IsSoloFilled, IsStaged};
+ghost use Rattle.diva_machine.specs.Inner.{left, IsAdvanced};
 
 use crate::DEPTH;
 use crate::arch::Arch;
@@ -56,7 +58,8 @@ pub(crate) struct Parts {
 
 impl Model for Parts {
     ghost use Rattle.std.specs.Prelude.{map};
-    ghost use Rattle.diva_machine.specs.Machine.{pending_claim_of, solo_of};
+    ghost use Rattle.diva_machine.specs.Machine.{pending_claim_of};
+    ghost use Rattle.diva_machine.specs.Inner.{solo_of};
     ghost use Rattle.diva_machine.specs.Staged.{Parts};
 
     ghost Value = { Parts };

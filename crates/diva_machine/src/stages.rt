@@ -7,7 +7,8 @@ ghost use Rattle.diva_core.specs.Future.{IsFuture};
 ghost use Rattle.diva_core.specs.Older.{before_entry};
 ghost use Rattle.diva_core.specs.Stages.{Answers};
 ghost use Rattle.diva_machine.specs.Machine.{pending_claim_of};
-ghost use Rattle.diva_machine.specs.Staged.{HasPassed, IsFilled, age_of, earlier_of, last_stage, own_of};
+ghost use Rattle.diva_machine.specs.Staged.{IsFilled, last_stage};
+ghost use Rattle.diva_machine.specs.Inner.{HasPassed, age_of, earlier_of, own_of};
 
 use crate::arch::Arch;
 use diva_core::{Diff, Field, FutureFile, Pending, View};

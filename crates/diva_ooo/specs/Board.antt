@@ -1,4 +1,5 @@
 -- What the core keeps of the entries of its window.
+-- Only private contracts of this crate cite this: a reader of its promises can pass over it.
 use Rattle.std.specs.Prelude.{◌≡◌, ℕ, zero, suc, ◌<◌, ◌≤◌, ◌+◌, ◌==◌, ◌&&◌, ◌||◌, not, length, get_or, List, [], ◌∷◌, ◌++◌, Bool, true, false}
 use Rattle.diva_core.specs.Cycle.{is_store}
 use Rattle.diva_ooo.specs.declared.entry.Entry.{Entry}

@@ -1,4 +1,5 @@
 -- What holds of each entry of a window.
+-- Only private contracts of this crate cite this: a reader of its promises can pass over it.
 use Rattle.std.specs.Prelude.{◌≡◌, ◌<◌, IfSome, true, false}
 use Rattle.std.specs.Option.{option_and_then}
 use Rattle.diva_decode.specs.Table.{HasRegisters, row_of}

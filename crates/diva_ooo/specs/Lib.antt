@@ -1,7 +1,8 @@
-pub mod MarkSets
 pub mod Profile
 pub mod Finish
 pub mod Issue
 pub mod Ooo
-pub mod Known
+-- what only private contracts cite
 pub mod Board
+pub mod Known
+pub mod MarkSets

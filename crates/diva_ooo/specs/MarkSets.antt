@@ -1,4 +1,5 @@
 -- Sets of marks, and the entries whose marks they are.
+-- Only private contracts of this crate cite this: a reader of its promises can pass over it.
 use Rattle.std.specs.Prelude.{◌≡◌, ℕ, zero, suc, ◌+◌, ◌==◌, ◌<◌, ◌≤◌, List, [], ◌∷◌, Bool, true, false}
 use Rattle.std.specs.Int.{bit_at}
 use Rattle.diva_ooo.specs.declared.entry.Entry.{Entry}

@@ -7,8 +7,8 @@ use Rattle.std.proofs.lemmas.Bool.Decides.{nat_tests}
 use Rattle.std.proofs.lemmas.List.{append-nil}
 use Rattle.diva_decode.specs.declared.op.Op.TheVariants.{Addi, Ecall}
 use Rattle.diva_decode.specs.declared.instr.Instr.{Instr}
-use Rattle.diva_decode.specs.Table.{row_of, encoding_of as encoded}
-use Rattle.diva_isa.specs.State.{State, goes_on, reg_of, encoding_of}
+use Rattle.diva_decode.specs.Table.{row_of, encoding_of}
+use Rattle.diva_isa.specs.State.{State, goes_on, reg_of, word_of}
 use Rattle.diva_isa.specs.Step.{apply, call, record_by, step, steps}
 use Rattle.diva_isa.specs.declared.effect.Effect.TheVariants.{Writes}
 use Rattle.diva_isa.specs.declared.record.Record.{Record}
@@ -109,7 +109,7 @@ module _ (seed n : ℕ) (small : soak_size n ≤ most_size) where
 
   next_last : (s : State) (k w : ℕ) (i : Instr) → Stands code s (n + k) → k ≤ 2 → slice_get last_words k ≡ Some w → row_of w ≡ Some i → IsNext code s (n + k) w i
   next_last s k w i st low at row =
-      record { stands = st; there = ap (encoding_of s) st.pc ∙ st.coded (n + k) w (last_at n seed k ∙ at); says = row; small = omega arith }
+      record { stands = st; there = ap (word_of s) st.pc ∙ st.coded (n + k) w (last_at n seed k ∙ at); says = row; small = omega arith }
 
   last_two : (s : State) → Stands code s (n + 1) → HaltsWithin 2 s
   last_two s st =
@@ -123,7 +123,7 @@ module _ (seed n : ℕ) (small : soak_size n ≤ most_size) where
   last_three s st =
       let here : n ≡ n + 0 = omega arith in
       passes_addi 0 0 0 (not_status 0 (inl (omega arith))) code s n 0x00000013
-      (record { stands = st; there = ap (encoding_of s) st.pc ∙ st.coded n 0x00000013 (ap (slice_get code) here ∙ last_at n seed 0); says = row_nothing; small = omega arith })
+      (record { stands = st; there = ap (word_of s) st.pc ∙ st.coded n 0x00000013 (ap (slice_get code) here ∙ last_at n seed 0); says = row_nothing; small = omega arith })
 
   -- from a word of the code on, `left` words before the last two
   halts_from : (left : ℕ) (s : State) (at : ℕ) → Stands code s at → at ≤ n + 1 → n + 1 ≤ at + left → HaltsWithin (left + 2) s
@@ -134,7 +134,7 @@ module _ (seed n : ℕ) (small : soak_size n ≤ most_size) where
         | inl lt ↦
             let d = drawn_at n seed at lt in
             let word = has_word d.x in
-            let next : IsNext code s at (encoded (drawn d.x)) (drawn d.x) = record { stands = st; there = ap (encoding_of s) st.pc ∙ st.coded at _ d.is; says = word.says; small = omega arith } in
+            let next : IsNext code s at (encoding_of (drawn d.x)) (drawn d.x) = record { stands = st; there = ap (word_of s) st.pc ∙ st.coded at _ d.is; says = word.says; small = omega arith } in
             let more : HaltsWithin (left + 2) (step s) = elim (passes d.x code s at _ next) [
               | inl one ↦ halts_from left (step s) (at + 1) one (omega arith) (omega arith)
               | inr two ↦ halts_from left (step s) (at + 2) two (omega arith) (omega arith)
@@ -174,8 +174,8 @@ stands_first code zeros bytes are long is =
       coded = λ k w at.
           let place : 2048 + 4 * k ≡ length zeros + 4 * k = omega arith in
           let aligned : length zeros % 4 ≡ 0 = omega arith in
-          ap (λ (items : List ℕ). encoding_of (begins items) (2048 + 4 * k)) is
-          ∙ ap (encoding_of (begins (zeros ++ words_as_bytes code))) place
+          ap (λ (items : List ℕ). word_of (begins items) (2048 + 4 * k)) is
+          ∙ ap (word_of (begins (zeros ++ words_as_bytes code))) place
           ∙ word_placed code zeros k w are at aligned;
       regs = refl;
       none = refl;

@@ -1,4 +1,5 @@
 -- How many bytes a store has.
+-- Only private contracts of this crate cite this: a reader of its promises can pass over it.
 use Rattle.std.specs.Prelude.{ℕ, ◌==◌, ◌||◌, Bool}
 
 -- one byte, a half word or a word

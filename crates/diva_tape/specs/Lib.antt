@@ -1,11 +1,13 @@
 -- What the contracts of this crate and of those above it cite.
-pub mod LineParts
 pub mod Lists
 pub mod Noise
-pub mod Programs
 pub mod Scalar
 pub mod TapeCalls
 pub mod TapeFaults
 pub mod TapeParts
 pub mod TapeText
 pub mod Tapes
+-- worked examples, for the functions of `worked` alone
+pub mod Programs
+-- what only private contracts cite
+pub mod LineParts

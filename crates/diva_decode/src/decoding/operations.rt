@@ -1,7 +1,7 @@
 // The operation of a word by its funct3 and funct7, for each opcode that has several.
 
 ghost use Rattle.std.specs.Prelude.{◌≡◌, ◌≢◌, ◌⊎◌};
-ghost use Rattle.diva_decode.specs.Table.{op_at};
+ghost use Rattle.diva_decode.specs.Inner.{op_at};
 
 use crate::op::Op;
 use crate::opcodes::{BRANCH, LOAD, OP, OP_IMM, STORE};

@@ -1,7 +1,8 @@
 use Rattle.std.proofs.Common.{◌≡◌, ◌≤◌, ◌+◌, ◌++◌, length, take, drop}
 use Rattle.std.specs.Prelude.{codes}
 use Rattle.std.specs.List.{sum_by, flat_map}
-use Rattle.diva_asm.specs.Listing.{operand_text, width}
+use Rattle.diva_asm.specs.Listing.{operand_text}
+use Rattle.diva_asm.specs.Inner.{width}
 use Rattle.diva_asm.proofs.listing.push_others.Given as goal
 
 abbrev pub invariant-loop-operand : goal.invariant-loop-operand

@@ -1,5 +1,6 @@
 use Rattle.std.proofs.Common.{◌≡◌, sym, subst, ◌∙◌, refl, arith}
-use Rattle.diva_isa.specs.Step.{HasRoom, with_effect}
+use Rattle.diva_isa.specs.Step.{with_effect}
+use Rattle.diva_isa.specs.Inner.{HasRoom}
 use Rattle.diva_isa.proofs.Room.{IsAligned}
 use Rattle.diva_storeq.specs.Stores.{laid}
 use Rattle.diva_commit.specs.Committing.{state_of}

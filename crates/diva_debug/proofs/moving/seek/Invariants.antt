@@ -2,7 +2,7 @@
 use Rattle.std.proofs.Common.{◌≡◌, ◌+◌, ◌-◌, ◌*◌, ◌≤◌}
 use Rattle.diva_core.specs.Timed.{depth}
 use Rattle.diva_machine.specs.Counts.{StopsAtOnce}
-use Rattle.diva_machine.specs.Drives.{TakesTurns}
+use Rattle.diva_machine.specs.Inner.{TakesTurns}
 use Rattle.diva_debug.specs.Moves.{Moves, steps_until}
 use Rattle.diva_debug.proofs.moving.seek.Given as goal
 

@@ -1,5 +1,5 @@
 use Rattle.std.proofs.Common.{◌≡◌, ◌+◌, ◌<◌, ℕ, length, take, get_or}
-use Rattle.diva_faults.specs.Schedules.{latest_end}
+use Rattle.diva_faults.specs.Inner.{latest_end}
 use Rattle.diva_faults.proofs.schedule.hush_ends_of.Given as goal
 
 abbrev pub invariant-loop-row : goal.invariant-loop-row

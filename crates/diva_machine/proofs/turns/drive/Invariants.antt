@@ -1,7 +1,7 @@
 use Rattle.std.proofs.Common.{◌≡◌, ◌+◌, true}
 use Rattle.diva_isa.specs.State.{goes_on}
 use Rattle.diva_core.specs.Machine.{IsMachine}
-use Rattle.diva_machine.specs.Drives.{TakesTurns}
+use Rattle.diva_machine.specs.Inner.{TakesTurns}
 use Rattle.diva_machine.proofs.turns.drive.Given as goal
 
 abbrev pub invariant-loop : goal.invariant-loop

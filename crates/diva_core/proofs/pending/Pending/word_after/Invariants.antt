@@ -1,6 +1,7 @@
 use Rattle.std.proofs.Common.{◌≡◌, ◌+◌, Some}
 use Rattle.diva_isa.specs.State.{State, byte_of}
-use Rattle.diva_core.specs.Older.{older, with_claims, HasBytes}
+use Rattle.diva_core.specs.Older.{older, with_claims}
+use Rattle.diva_core.specs.Inner.{HasBytes}
 use Rattle.diva_core.proofs.pending.Pending.word_after.Given as goal
 
 abbrev pub invariant-loop-place : goal.invariant-loop-place

@@ -5,7 +5,7 @@ use Rattle.diva_isa.specs.declared.record.Record.{Record}
 use Rattle.diva_core.specs.Timed.{Timed}
 use Rattle.diva_core.specs.Cycle.{accepted_in, accepts, begun, commits, cycle_of, drained, watched}
 use Rattle.diva_core.specs.Headline.{dues}
-use Rattle.diva_machine.specs.Machine.{is_open}
+use Rattle.diva_machine.specs.Inner.{is_open}
 use Rattle.diva_machine.specs.Staged.{Parts}
 use Rattle.diva_machine.proofs.Staging.{staged_begun}
 use Rattle.diva_machine.proofs.Fronts.{watched-count, accepts-count, none-due}

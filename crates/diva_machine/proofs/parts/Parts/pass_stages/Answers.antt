@@ -1,7 +1,8 @@
 use Rattle.std.proofs.Common.{◌≡◌, ◌-◌, ◌+◌, length, sym, ap, ◌∙◌, refl, subst, arith}
 use Rattle.diva_core.specs.Future.{IsFuture}
 use Rattle.diva_core.specs.Timed.{Timed}
-use Rattle.diva_machine.specs.Staged.{IsAdvanced, Parts}
+use Rattle.diva_machine.specs.Staged.{Parts}
+use Rattle.diva_machine.specs.Inner.{IsAdvanced}
 use Rattle.diva_machine.proofs.Staging.{same_length, stage_next, stages_begin, stages_end, still_young}
 use Rattle.diva_machine.proofs.parts.Parts.pass_stages.Goals as goal
 

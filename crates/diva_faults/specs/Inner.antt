@@ -1,0 +1,31 @@
+-- What only private contracts of this crate cite. A reader of its promises can pass over it.
+use Rattle.std.specs.Prelude.{◌≡◌, ℕ, ◌+◌, ◌<◌, ◌≤◌, max, List, length, take, fold, slice_index}
+use Rattle.std.specs.List.{All}
+use Rattle.std.specs.List.Sorted.{IsNonDecreasingBy}
+use Rattle.diva_faults.specs.declared.rows.Row.{Row}
+use Rattle.diva_faults.specs.declared.rows.Row.TheVariants.{Lane, Hush}
+use Rattle.diva_faults.specs.Rows.{IsRow, row_cycle}
+
+-- the cycle behind the last one that a row touches
+abbrev pub end_of : Row → ℕ
+end_of (Lane cycle lane change) = cycle + 1
+end_of (Hush cycle cycles) = cycle + cycles
+
+-- the cycle behind the last one of a hush, and 0 for another row
+abbrev pub hush_end : Row → ℕ
+hush_end (Lane cycle lane change) = 0
+hush_end (Hush cycle cycles) = cycle + cycles
+
+-- the latest end of the hushes among some rows
+abbrev pub latest_end : List Row → ℕ
+latest_end rows = fold (λ latest row. max latest (hush_end row)) 0 rows
+
+-- the rows stand in the order of their cycles; beside each is the latest end of the hushes up to it; none touches a cycle
+-- before `first`, or one from `end` on
+pub record IsSchedule (rows : List Row) (hush_ends : List ℕ) (first end : ℕ) : Type 0 where
+  pub ranges : All IsRow rows
+  pub sorted : IsNonDecreasingBy row_cycle rows
+  pub beside : length hush_ends ≡ length rows
+  pub latest : (k : ℕ) → k < length rows → slice_index hush_ends k ≡ latest_end (take (k + 1) rows)
+  pub begins : All (λ row. first ≤ row_cycle row) rows
+  pub ends : All (λ row. end_of row ≤ end) rows

@@ -1,0 +1,131 @@
+-- What only private contracts of this crate cite. A reader of its promises can pass over it.
+use Rattle.std.specs.Prelude.{ℕ, ◌==◌, if◌then◌else◌, ◌≡◌, ◌≤◌, ◌+◌, ◌^◌, ◌&&◌, Bool, true, false, List, length, Option, Some, None, ◌-◌, ◌<◌, [], map, drop, slice_get}
+use Rattle.diva_isa.specs.State.{goes_on, State}
+use Rattle.diva_core.specs.Timed.{Timed}
+use Rattle.diva_machine.specs.declared.ends.Reach.{Reach}
+use Rattle.diva_machine.specs.declared.ends.Reach.TheVariants.{Reached, Ended, Budget}
+use Rattle.diva_core.specs.History.{Meaning, Turns, lists_of}
+use Rattle.diva_core.specs.Headline.{last_committed}
+use Rattle.diva_machine.specs.Machine.{Machine, pending_claim_of}
+use Rattle.diva_isa.specs.End.{IsEnd}
+use Rattle.diva_memory.specs.Bytes.{Bytes}
+use Rattle.diva_storeq.specs.declared.masked.Masked.{Masked}
+use Rattle.diva_commit.specs.Committing.{AreInside}
+use Rattle.diva_core.specs.Cycle.{Judgement, Commit, Flush, Wait}
+use Rattle.diva_core.specs.declared.flushes.FlushRow.{FlushRow}
+use Rattle.diva_watchdog.specs.declared.recover.Recover.{Recover}
+use Rattle.diva_watchdog.specs.declared.recover.Recover.TheVariants.{Running, Solo}
+use Rattle.diva_machine.specs.declared.phases.CommitPhase.{CommitPhase}
+use Rattle.diva_machine.specs.declared.phases.CommitPhase.TheVariants.{Open, Closed}
+use Rattle.diva_machine.specs.declared.phases.Judged.{Judged}
+use Rattle.diva_machine.specs.declared.phases.Judged.TheVariants.{Committed, Ended, Flushed, Waits}
+use Rattle.diva_core.specs.declared.pending.Entry.{Entry}
+use Rattle.diva_core.specs.Future.{committed_file, without_oldest}
+use Rattle.diva_core.specs.Older.{before_entry}
+use Rattle.diva_core.specs.declared.differences.Field.{Field}
+use Rattle.diva_core.specs.Stages.{fetch_fields, operand_fields, execute_fields, memory_fields, read_fields, address_fields}
+use Rattle.diva_machine.specs.declared.stages.Stage.{Stage}
+use Rattle.diva_machine.specs.declared.stages.Stage.TheVariants.{Fetch, Operands, Execute, Access}
+use Rattle.diva_machine.specs.Staged.{IsChecked, last_stage, Parts}
+
+-- how a machine stands to a count; the count is looked at first
+abbrev pub reach_of : (target : ℕ) → Timed → Reach
+reach_of target m = if m.count == target then Reached else (if goes_on m.arch then Budget else Ended)
+
+-- turns lead from a machine and a core to others, and the machine shows what the last of them committed; where none was taken, it
+-- shows what it showed before
+pub record TakesTurns {C : Type 0} (gives : Meaning C) (m : Machine) (core : C) (last : Machine) (final : C) : Type 0 where
+  pub turns : Turns gives m.timed core last.timed final
+  pub shows : last.last ≡ last_committed m.last m.timed (lists_of turns.history)
+
+-- the committed state, the stores owed to memory, and how many may be owed
+pub record Arch : Type 0 where
+  pub state : State
+  pub owed : ℕ
+  pub stores : ℕ
+
+-- what holds of the committed state: memory ends at 2^32 at the latest, the undrained stores lie inside it, and the end is
+-- one that a record can have
+pub record IsKept (m : Bytes) (stores : List Masked) (end : ℕ) : Type 0 where
+  pub range : m.base + length m.items ≤ 2 ^ 32
+  pub inside : AreInside m stores
+  pub ends : IsEnd end
+
+-- the flushes that came: the rows that are kept, the newest, and how many there were
+pub record Log : Type 0 where
+  pub rows : List FlushRow
+  pub newest : Option FlushRow
+  pub flushes : ℕ
+  pub silent : ℕ
+
+-- what a part of a cycle keeps of a machine, and how far its numbers go
+pub record KeepsBounds (m last : Timed) : Type 0 where
+  pub config : last.config ≡ m.config
+  pub cycles : last.cycles ≡ m.cycles
+  pub idle : last.idle ≡ m.idle
+  pub owed : last.owed ≤ m.config.stores
+  pub pending : length last.pending ≤ length m.pending
+  pub flushes : last.flushes ≤ m.flushes + 1
+  pub silent : last.silent ≤ m.silent + 1
+
+-- what became of a front claim, by its judgement and by whether the machine goes on then
+abbrev pub judged_by : Judgement → (goes : Bool) → Judged
+judged_by Commit goes = if goes then Committed else Ended
+judged_by (Flush d) goes = Flushed
+judged_by Wait goes = Waits
+
+-- claims may be accepted behind a commit phase
+abbrev pub is_open : CommitPhase → Bool
+is_open Open = true
+is_open Closed = false
+
+-- it is open exactly where the machine goes on and has not flushed, m being the one before it and n the one behind it
+abbrev pub Tells : CommitPhase → (m n : Timed) → Type 0
+Tells phase m n = is_open phase ≡ (goes_on n.arch && (n.flushes == m.flushes))
+
+-- the cycle in which an instruction was started solo
+abbrev pub solo_of : Recover → Option ℕ
+solo_of Running = None
+solo_of (Solo start) = Some start
+
+-- the age at which a claim passes through a stage that compares
+abbrev pub age_of : Stage → ℕ
+age_of Fetch = 1
+age_of Operands = 3
+age_of Execute = 4
+age_of Access = last_stage
+
+-- the fields that such a stage compares; `memory` says whether the due record is a load or a store
+abbrev pub own_of : Stage → (memory : Bool) → List Field
+own_of Fetch memory = fetch_fields
+own_of Operands memory = operand_fields
+own_of Execute memory = execute_fields memory
+own_of Access memory = memory_fields memory
+
+-- those that have to agree before: where they do not, nothing is said of its answer
+abbrev pub earlier_of : Stage → List Field
+earlier_of Fetch = []
+earlier_of Operands = fetch_fields
+earlier_of Execute = read_fields
+earlier_of Access = address_fields
+
+-- the entries before a place have gone through the stages of the cycle now + 1, the others through those of `now`
+pub record IsAdvanced (arch : State) (now at : ℕ) (entries : List Entry) : Type 0 where
+  pub below : (k : ℕ) (e : Entry) → k < at → slice_get entries k ≡ Some e → IsChecked (before_entry arch entries k) (now + 1 - e.cycle) e
+  pub from : (k : ℕ) (e : Entry) → at ≤ k → slice_get entries k ≡ Some e → IsChecked (before_entry arch entries k) (now - e.cycle) e
+
+-- what a stage owes: where the entry at a place comes to this age in the cycle, and those before the place have gone through their
+-- stages of it, then so has this one
+abbrev pub HasPassed : State → (age at : ℕ) (before after : List Entry) → Type 0
+HasPassed arch age at before after =
+    (now : ℕ) (e : Entry) → slice_get before at ≡ Some e → now + 1 ≡ age + e.cycle → IsAdvanced arch now at before → IsAdvanced arch now (at + 1) after
+
+-- the front entry is gone, and all others too where the machine does not go on
+abbrev pub left : Bool → Parts → Parts
+left goes w =
+    record w {
+      timed = record w.timed { pending = if goes then map pending_claim_of (drop 1 w.entries) else [] };
+      entries = if goes then drop 1 w.entries else [];
+      passed = if goes then w.passed - 1 else 0;
+      future = if goes then without_oldest w.timed.arch.regs w.future else committed_file w.timed.arch.regs;
+    }
