@@ -141,7 +141,7 @@ fn store(memory: &Memory, queue: &mut StoreQueue, width: Width, addr: u32, value
     ensures capacity { queue.new.capacity ≡ queue.old.capacity }
     ensures inside { AreInside memory.now queue.old.items → AreInside memory.now queue.new.items }
 {
-    let _ = memory.base();
+    memory.recall();
     let width = width.size() as u8;
     queue.push(Store { addr, width, value });
 }

@@ -102,7 +102,7 @@ impl View<'_> {
         ensures value { result.now ≡ self.now.regs }
         ensures count { length result.now ≡ 32 }
     {
-        let _ = self.regs.get(0);
+        self.regs.recall();
         self.regs
     }
 

@@ -135,7 +135,7 @@ impl Pending {
         ensures { (s : State) → length s.output ≡ len
             → length (with_claims s (older self.now.items count)).output ≡ result }
     {
-        let _ = self.len();
+        self.recall();
         let mut latest = len;
         for place in 0..count {
             latest += put(&self.next_effect(place));

@@ -30,6 +30,14 @@ impl Regs {
         Regs { words: [0; 32] }
     }
 
+    /// Recalls for a proof how many registers there are. It does nothing.
+    #[inline(always)]
+    pub fn recall(&self)
+        ensures { length self.now ≡ 32 }
+    {
+        let _ = &self.words;
+    }
+
     /// The word in register `n`, which is below 32.
     pub fn get(&self, n: u8) -> u32
         requires { n < 32 }

@@ -98,6 +98,12 @@ set_same [] i e h = refl
 set_same (x ∷ xs) zero e h = ap (λ (y : Entry). y ∷ xs) (sym (same_Some _ _ h))
 set_same (x ∷ xs) (suc i) e h = ap (λ (ys : List Entry). x ∷ ys) (set_same xs i e h)
 
+-- the entry that stands at a place
+pub entry_at : (xs : List Entry) (i : ℕ) → i < length xs → (e : Entry) × (slice_get xs i ≡ Some e)
+entry_at [] i h = elim h [ ]
+entry_at (x ∷ xs) zero h = (x, refl)
+entry_at (x ∷ xs) (suc i) h = entry_at xs i (omega arith)
+
 pub waiting_set : (xs : List Entry) (i : ℕ) (old new : Entry) → slice_get xs i ≡ Some old → pending_claim_of new ≡ pending_claim_of old → map pending_claim_of (slice_set xs i new) ≡ map pending_claim_of xs
 waiting_set [] i old new h e = refl
 waiting_set (x ∷ xs) zero old new h e = let is : x ≡ old = same_Some _ _ h in ap (λ w. w ∷ map pending_claim_of xs) (e ∙ ap (λ (y : Entry). pending_claim_of y) (sym is))

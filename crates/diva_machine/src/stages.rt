@@ -81,7 +81,7 @@ fn pass_operands(pending: &mut Pending, future: &mut FutureFile, at: usize, arch
     ensures capacity { pending.new.capacity ≡ pending.old.capacity }
     ensures advanced { HasPassed arch.now.state (age_of Stage.Operands) at pending.old.items pending.new.items }
 {
-    let _ = pending.len();
+    pending.recall();
     let entry = pending.at(at);
     if future.claims() == at
         && entry.decoded.is_some()
@@ -107,7 +107,7 @@ fn note_operands(pending: &mut Pending, future: &mut FutureFile, at: usize, arch
     ensures advanced { HasPassed arch.now.state (age_of Stage.Operands) at pending.old.items pending.new.items }
 {
     if future.claims() == at {
-        let _ = pending.len();
+        pending.recall();
         future.keep(pending.at(at));
     }
     note_check(Stage::Operands, pending, at, arch);
@@ -193,7 +193,6 @@ fn note_decoded(pending: &mut Pending, at: usize)
     ensures waits { map pending_claim_of pending.new.items ≡ map pending_claim_of pending.old.items }
     ensures capacity { pending.new.capacity ≡ pending.old.capacity }
 {
-    let _ = pending.at(at);
     pending.note_decoded(at);
 }
 

@@ -45,6 +45,14 @@ impl Memory {
         Ok(Memory { base, bytes })
     }
 
+    /// Recalls for a proof where the bytes end at the latest. It does nothing.
+    #[inline(always)]
+    pub fn recall(&self)
+        ensures { self.now.base + length self.now.items ≤ 2 ^ 32 }
+    {
+        let _ = &self.base;
+    }
+
     /// The first address.
     pub fn base(&self) -> u32
         ensures base { result ≡ self.now.base }

@@ -58,6 +58,14 @@ impl Window {
         })
     }
 
+    /// Recalls for a proof how many entries there are at most. It does nothing.
+    #[inline(always)]
+    fn recall(&self)
+        ensures { length self.now ≤ 32 }
+    {
+        let _ = self.entries.len();
+    }
+
     /// How many instructions are under way: at most 32.
     pub(crate) fn len(&self) -> usize
         ensures value { result ≡ length self.now }
@@ -85,7 +93,7 @@ impl Window {
         ensures below { IfSome result (λ n. n < 32) }
         ensures none { IsNone result → (i : ℕ) → from ≤ i → i < end → holds_at (λ e. is_store e.effect) self.now i ≡ false }
     {
-        let _ = self.len();
+        self.recall();
         match self.board.next_store(from) {
             Some(place) if place < end => Some(place),
             _ => None,
@@ -120,7 +128,7 @@ impl Window {
         ensures value { result ≡ can_at [] self.old at }
         ensures same { self.new ≡ self.old }
     {
-        let _ = self.len();
+        self.recall();
         is_ready_at(&self.entries, &mut self.board, at)
     }
 
@@ -132,7 +140,7 @@ impl Window {
         requires register { n < 32 }
         ensures { result ≡ slice_index (written regs.now (take at self.now)) n }
     {
-        let _ = self.len();
+        self.recall();
         let before = regs.get(n);
         match self.board.last_result(at, n) {
             Some(place) => self.entries.get(place).unwrap().result.value,
@@ -162,7 +170,7 @@ impl Window {
             → self.new ≡ slice_set self.old at (record e { stage = Done }) }
         ensures length { length self.new ≡ length self.old }
     {
-        let _ = self.len();
+        self.recall();
         let entry = self.entries.get_mut(at).unwrap();
         let rd = entry.profile.rd;
         entry.stage = Progress::Done;
@@ -180,7 +188,7 @@ impl Window {
             → self.new ≡ slice_set self.old at (running e r) }
         ensures length { length self.new ≡ length self.old }
     {
-        let _ = self.len();
+        self.recall();
         let entry = self.entries.get_mut(at).unwrap();
         entry.stage = Progress::Running(entry.profile.cycles);
         entry.result = r;
@@ -206,7 +214,7 @@ impl Window {
         requires { (e : Entry) → slice_get self.old 0 ≡ Some e → is_done e.stage ≡ true }
         ensures { self.new ≡ drop 1 self.old }
     {
-        let _ = self.len();
+        self.recall();
         if self.entries.pop_front().is_none() {
             return;
         }

@@ -7,7 +7,7 @@ use Rattle.diva_commit.proofs.commits.store.Goals as goal
 
 pub push-requires-clause-range : goal.push-requires-clause-range
 push-requires-clause-range c =
-    range_fits c.args.memory.now c.args.queue.now.items c.args.addr c.size-width.result (size c.args.width) c.base-width.ensures.range c.size-width.ensures c.requires.inside
+    range_fits c.args.memory.now c.args.queue.now.items c.args.addr c.size-width.result (size c.args.width) c.recall.ensures c.size-width.ensures c.requires.inside
 
 pub returns-clause-laid : goal.returns-clause-laid
 returns-clause-laid c = λ regs pc output end.
