@@ -15,6 +15,18 @@ use diva_core::{Diff, Field, FutureFile, Pending, View};
 use diva_execchk::is_memory;
 use diva_isa::Record;
 
+/// The age at which a claim, or the solo instruction, passes through the stage of the fetch.
+const FETCH_STAGE: u64 = 1;
+
+/// The age at which a claim is decoded.
+const DECODE_STAGE: u64 = 2;
+
+/// The age at which a claim, or the solo instruction, passes through the stage of operands.
+const OPERANDS_STAGE: u64 = 3;
+
+/// The age at which a claim, or the solo instruction, passes through the stage that executes.
+const EXECUTE_STAGE: u64 = 4;
+
 /// The age at which a claim, or the solo instruction, passes through the last stage.
 pub(crate) const LAST_STAGE: u64 = 5;
 
@@ -35,10 +47,10 @@ pub(crate) fn pass(pending: &mut Pending, future: &mut FutureFile, at: usize, ar
     ensures advanced { HasPassed arch.now.state age at pending.old.items pending.new.items }
 {
     match age {
-        1 => pass_fetch(pending, at, arch),
-        2 => note_decoded(pending, at),
-        3 => pass_operands(pending, future, at, arch),
-        4 => pass_execute(pending, at, arch),
+        FETCH_STAGE => pass_fetch(pending, at, arch),
+        DECODE_STAGE => note_decoded(pending, at),
+        OPERANDS_STAGE => pass_operands(pending, future, at, arch),
+        EXECUTE_STAGE => pass_execute(pending, at, arch),
         LAST_STAGE => pass_last(pending, at, arch),
         _ => unreachable!(),
     }
@@ -234,9 +246,9 @@ pub(crate) fn fill(r: &mut Record, view: &View<'_>, age: u64)
     ensures { IsFilled view.now (age - 1) r.old → IsFilled view.now age r.new }
 {
     match age {
-        1 => diva_fetchchk::solo(r, view),
-        3 => diva_opchk::solo(r, view),
-        4 => diva_execchk::solo(r, view),
+        FETCH_STAGE => diva_fetchchk::solo(r, view),
+        OPERANDS_STAGE => diva_opchk::solo(r, view),
+        EXECUTE_STAGE => diva_execchk::solo(r, view),
         _ => {}
     }
 }

@@ -11,6 +11,9 @@ ghost use Rattle.diva_ooo.specs.MarkSets.{has, holds_at};
 use crate::mark_set::MarkSet;
 use crate::profile::Profile;
 
+/// How many registers there are.
+const REGISTERS: usize = 32;
+
 /// Which entries of a window are how far, and which registers they read and write. So no entry has to look for the ones
 /// that it waits for.
 ///
@@ -30,12 +33,15 @@ pub(crate) struct Board {
     /// Those among which are all that wait and have their sources.
     pub candidates: MarkSet,
     /// By register: those that write it. None writes x0.
-    pub writers: [MarkSet; 32],
+    pub writers: [MarkSet; REGISTERS],
     /// By register: those that read it. None reads x0.
-    pub readers: [MarkSet; 32],
+    pub readers: [MarkSet; REGISTERS],
 }
 
 impl Board {
+    /// The mark of the oldest entry at which the marks are lowered, and by how much: as many as the entries of a full window.
+    pub(crate) const STEP: usize = 32;
+
     /// The board of no entry.
     pub(crate) fn new() -> Self
         ensures board { IsBoard [] result }
@@ -50,8 +56,8 @@ impl Board {
             stored: MarkSet::NONE,
             loads: MarkSet::NONE,
             candidates: MarkSet::NONE,
-            writers: [MarkSet::NONE; 32],
-            readers: [MarkSet::NONE; 32],
+            writers: [MarkSet::NONE; REGISTERS],
+            readers: [MarkSet::NONE; REGISTERS],
         }
     }
 
@@ -133,20 +139,20 @@ impl Board {
         self.base += 1;
     }
 
-    /// Gives the oldest entry the mark 0 again.
+    /// Gives the oldest entry the mark 0 again: each mark is lower by a step.
     pub(crate) fn renumber(&mut self)
         requires { self.old.base ≡ 32 }
         ensures board { (w : List Entry) → IsBoard w self.old → IsBoard w self.new }
         ensures base { self.new.base ≡ 0 }
     {
         self.base = 0;
-        self.waiting = self.waiting.lowered(32);
-        self.running = self.running.lowered(32);
-        self.done = self.done.lowered(32);
-        self.storing = self.storing.lowered(32);
-        self.stored = self.stored.lowered(32);
-        self.loads = self.loads.lowered(32);
-        self.candidates = self.candidates.lowered(32);
+        self.waiting = self.waiting.lowered(Self::STEP);
+        self.running = self.running.lowered(Self::STEP);
+        self.done = self.done.lowered(Self::STEP);
+        self.storing = self.storing.lowered(Self::STEP);
+        self.stored = self.stored.lowered(Self::STEP);
+        self.loads = self.loads.lowered(Self::STEP);
+        self.candidates = self.candidates.lowered(Self::STEP);
         lower(&mut self.writers);
         lower(&mut self.readers);
     }
@@ -302,24 +308,24 @@ impl Board {
 }
 
 // Keeps the marks of each set that are below one.
-fn keep_below(sets: &mut [MarkSet; 32], end: usize)
+fn keep_below(sets: &mut [MarkSet; REGISTERS], end: usize)
     requires { end < 64 }
     ensures kept { (n : ℕ) → n < 32 → (i : ℕ) → has (get_or sets.new n no_mark) i
         ≡ (if nat_lt i end then has (get_or sets.old n no_mark) i else false) }
     ensures sets { length sets.new ≡ 32 }
 {
-    for n in 0..32 {
+    for n in 0..REGISTERS {
         sets[n] = sets[n].below(end);
     }
 }
 
-// Each mark of each set is lower by 32.
-fn lower(sets: &mut [MarkSet; 32])
+// Each mark of each set is lower by a step.
+fn lower(sets: &mut [MarkSet; REGISTERS])
     ensures lowered { (n : ℕ) → n < 32 → (i : ℕ) → has (get_or sets.new n no_mark) i
         ≡ has (get_or sets.old n no_mark) (32 + i) }
     ensures sets { length sets.new ≡ 32 }
 {
-    for n in 0..32 {
-        sets[n] = sets[n].lowered(32);
+    for n in 0..REGISTERS {
+        sets[n] = sets[n].lowered(Board::STEP);
     }
 }

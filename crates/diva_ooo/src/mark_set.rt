@@ -10,6 +10,9 @@ pub(crate) struct MarkSet {
 }
 
 impl MarkSet {
+    /// How many marks there are: one for each bit.
+    const MARKS: usize = 64;
+
     /// No mark.
     pub(crate) const NONE: MarkSet = MarkSet { bits: 0 };
 
@@ -113,7 +116,7 @@ impl MarkSet {
     {
         match self.next(0) {
             Some(mark) => mark,
-            None => 64,
+            None => Self::MARKS,
         }
     }
 

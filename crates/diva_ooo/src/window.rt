@@ -219,7 +219,7 @@ impl Window {
             return;
         }
         self.board.pop();
-        if self.board.base == 32 {
+        if self.board.base == Board::STEP {
             self.board.renumber();
         }
     }
