@@ -81,7 +81,8 @@ pub fn commit(
     commit_by(regs, pc, memory, queue, output, decode(r.word), r, verdict)
 }
 
-/// The same of a record whose word was decoded already: `decoded` is what it says.
+/// Commits a record by its verdict, as [`commit`] does, but decodes nothing: `decoded` is what the record's word says, `None`
+/// where it says nothing.
 #[inline(always)]
 #[tactic(auto, unfolding(diva_core::specs::Cycle::puts_store, diva_isa::specs::Step::apply))]
 pub fn commit_by(

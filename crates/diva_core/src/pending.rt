@@ -182,7 +182,7 @@ impl Pending {
         *self.at(at)
     }
 
-    /// The same, lent.
+    /// A reference to the claim at a place, the oldest being at 0, where [`entry`](Self::entry) gives a copy.
     #[inline(always)]
     pub fn at(&self, at: usize) -> &Entry
         requires { at < length self.now.items }
@@ -230,7 +230,8 @@ impl Pending {
         self.accept(&claim, cycle);
     }
 
-    /// The same of a claim that is copied from where it stands: it is moved whole, and not field by field.
+    /// Puts a claim behind the others, neither decoded nor checked yet, as [`push`](Self::push) does, but copies it from where
+    /// it stands: it is moved whole, and not field by field.
     #[inline(always)]
     pub fn accept(&mut self, claim: &Claim, cycle: u64)
         requires { length self.old.items < self.old.capacity }

@@ -53,7 +53,8 @@ pub fn decoded_of(fetched: Option<u32>) -> Option<Instr>
     }
 }
 
-/// The same record, where the word of the next instruction was fetched already: `decoded` is what it says.
+/// The record of the next instruction of a state, as [`record_of`] has it, but neither fetches nor decodes: `fetched` is what
+/// [`fetch`] gives of the state, and `decoded` is what that word says.
 #[inline(always)]
 pub fn record_by<L: Look>(state: &L, fetched: Option<u32>, decoded: Option<Instr>) -> Record
     requires word { let s = L.shows state.now in fetched ≡ word_of s s.pc }
@@ -64,7 +65,8 @@ pub fn record_by<L: Look>(state: &L, fetched: Option<u32>, decoded: Option<Instr
     due_by(state, fetched, decoded).record
 }
 
-/// The same record with its effect.
+/// The record of the next instruction of a state with its effect, where [`record_by`] gives the record alone. `fetched` is what
+/// [`fetch`] gives of the state, and `decoded` is what that word says.
 #[inline(always)]
 #[tactic(auto, unfolding(crate::specs::Step::record_of))]
 pub fn due_by<L: Look>(state: &L, fetched: Option<u32>, decoded: Option<Instr>) -> Due
@@ -209,7 +211,8 @@ pub fn sources<L: Look>(state: &L, decoded: Option<Instr>) -> Operands
     }
 }
 
-/// The same, read from the registers of a state, which are all that an instruction reads its words from.
+/// The words that an instruction reads, as [`sources`] has them, but from the registers alone, which are all of a state that it
+/// reads its words from: `decoded` is what its word says, and both are 0 where that is `None`.
 #[inline(always)]
 #[tactic(auto, using(crate::proofs::Registers::reads_named))]
 pub fn sources_in(regs: &Regs, decoded: Option<Instr>) -> Operands

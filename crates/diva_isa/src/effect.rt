@@ -46,7 +46,8 @@ pub fn effect_of(r: &Record) -> Effect
     effect_by(decode(r.word), r)
 }
 
-/// The same of a record whose word was decoded already: `decoded` is what it says.
+/// What a record does besides moving the pc, as [`effect_of`] has it, but decodes nothing: `decoded` is what the record's word
+/// says, and where that is `None` the effect is `Nothing`.
 #[inline]
 pub fn effect_by(decoded: Option<Instr>, r: &Record) -> Effect
     ensures effect { result ≡ effect_by decoded r.now }

@@ -36,8 +36,9 @@ pub fn check(pending: &Pending, at: usize, view: &View<'_>) -> Option<Diff>
     }
 }
 
-/// The same of an entry, where the registers after the older claims are known: `regs` are those of the state in which it
-/// stands.
+/// The first difference in src1 and src2 between an entry's claim and the record that is due after the older claims, `None`
+/// where there is none. Where [`check`] looks through the older claims, this call is handed the registers after them, `regs`.
+/// Where the older claims have ended the machine, or pc and word differ, nothing is said of the answer.
 #[inline(always)]
 pub fn check_in(entry: &Entry, regs: &Regs) -> Option<Diff>
     requires { IsDecoded entry.now }

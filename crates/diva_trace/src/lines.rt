@@ -85,7 +85,7 @@ pub fn end_line(end: u32) -> Line
     end_line_of(End::of(end))
 }
 
-/// The same, of the end in words.
+/// How the machine ended, as [`end_line`] writes it, but of the end in words.
 #[tactic(auto, unfolding(crate::specs::Lines::end_line_of))]
 pub fn end_line_of(end: End) -> Line
     ensures { result ≡ end_line_of end }
