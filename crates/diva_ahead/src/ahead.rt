@@ -113,8 +113,8 @@ impl Ahead {
         }
     }
 
-    // Takes the machine's state: where the machine has flushed, and at first. It gets the parts that it takes, so that the view
-    // can stay in registers.
+    /// Takes the machine's state: where the machine has flushed, and at first. It gets the parts that it takes, so that the view
+    /// can stay in registers.
     #[cold]
     #[inline(never)]
     #[tactic(auto, unfolding(crate::specs::Ahead::taken_over))]

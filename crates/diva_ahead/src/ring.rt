@@ -107,7 +107,7 @@ impl Ring {
         Some(self.youngest(addr, byte))
     }
 
-    // The byte that the youngest store has for an address, or else the one that memory has.
+    /// The byte that the youngest store has for an address, or else the one that memory has.
     fn youngest(&self, addr: u32, byte: u8) -> u8
         ensures { (s : State) → byte_of s addr ≡ Some byte → byte_of (with_effects s self.now) addr ≡ Some result }
     {
@@ -135,8 +135,8 @@ impl Ring {
         }
     }
 
-    // The same, where `word` is the one in the view: most stores near a word are apart from it, or cover it whole. `None` where
-    // one of them does neither.
+    /// The same, where `word` is the one in the view: most stores near a word are apart from it, or cover it whole. `None` where
+    /// one of them does neither.
     #[inline(never)]
     fn latest(&self, addr: u32, word: u32) -> Option<u32>
         ensures { IfSome result (λ latest. (s : State) → word_of s addr ≡ Some word
@@ -157,7 +157,7 @@ impl Ring {
         Some(latest)
     }
 
-    // The same, byte by byte: few reads meet a store in flight.
+    /// The same, byte by byte: few reads meet a store in flight.
     #[cold]
     fn overlaid(&self, view: &View<'_>, addr: u32) -> Option<u32>
         requires { IsSome (word_of view.now addr) }
@@ -176,7 +176,7 @@ impl Ring {
         Some(u32::from_le_bytes([byte0, byte1, byte2, byte3]))
     }
 
-    // Whether the `n` bytes from an address on are outside the interval of the stores.
+    /// Whether the `n` bytes from an address on are outside the interval of the stores.
     fn is_clear(&self, addr: u32, n: u32) -> bool
         ensures { IsTrue result → list_all (λ e. is_apart e addr n) self.now ≡ true }
     {

@@ -18,7 +18,7 @@ pub(crate) struct Leaf {
     flags: &'static [&'static str],
 }
 
-// The commands of the program.
+/// The commands of the program.
 static LEAVES: [Leaf; 6] = [
     Leaf {
         name: "run",
@@ -69,7 +69,7 @@ pub(crate) fn command<'a>(alloc: Global) -> Result<Command<'a>, AllocError>
     with_leaves(alloc, bare(alloc), &LEAVES)
 }
 
-// The command with no subcommand yet. Help words have no meaning in it.
+/// The command with no subcommand yet. Help words have no meaning in it.
 fn bare<'a>(alloc: Global) -> Command<'a>
     ensures { app_of result ≡ top_app (codes "diva") }
 {
@@ -80,7 +80,7 @@ fn bare<'a>(alloc: Global) -> Command<'a>
         .subcommand_required(true)
 }
 
-// The command with each of the leaves as a subcommand.
+/// The command with each of the leaves as a subcommand.
 fn with_leaves<'a>(
     alloc: Global,
     mut command: Command<'a>,
@@ -95,7 +95,7 @@ fn with_leaves<'a>(
     Ok(command)
 }
 
-// The subcommand of a leaf.
+/// The subcommand of a leaf.
 fn subcommand<'a>(alloc: Global, leaf: &Leaf) -> Result<Command<'a>, AllocError>
     ensures shape { IfOk result (λ c. shape_of c ≡ leaf_shape (leaf_of leaf.now)) }
     ensures local { IfOk result (λ c. (fields_of c).has_globals ≡ false) }
@@ -113,7 +113,7 @@ fn subcommand<'a>(alloc: Global, leaf: &Leaf) -> Result<Command<'a>, AllocError>
     Ok(command)
 }
 
-// A word that has to be given.
+/// A word that has to be given.
 fn positional<'a>(alloc: Global, id: &'a str) -> Arg<'a>
     ensures rule { rule_of result ≡ positional_rule id.entry.now }
     ensures local { result.global ≡ false }
@@ -121,7 +121,7 @@ fn positional<'a>(alloc: Global, id: &'a str) -> Arg<'a>
     Arg::new(alloc, id).required(true)
 }
 
-// `--name VALUE`
+/// `--name VALUE`
 fn option<'a>(alloc: Global, name: &'a str) -> Arg<'a>
     ensures rule { rule_of result ≡ option_rule name.entry.now }
     ensures local { result.global ≡ false }
@@ -129,7 +129,7 @@ fn option<'a>(alloc: Global, name: &'a str) -> Arg<'a>
     Arg::new(alloc, name).long(name)
 }
 
-// `--name`
+/// `--name`
 fn flag<'a>(alloc: Global, name: &'a str) -> Arg<'a>
     ensures rule { rule_of result ≡ flag_rule name.entry.now }
     ensures local { result.global ≡ false }

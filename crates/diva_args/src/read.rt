@@ -40,7 +40,7 @@ pub fn read_words(alloc: Global, words: &[&str]) -> Result<Job, ArgsFault>
     job(alloc, &matches)
 }
 
-// The matches of the words, where `clap` takes them.
+/// The matches of the words, where `clap` takes them.
 fn matches<'a>(alloc: Global, words: &'a [&'a str]) -> Result<ArgMatches<'a>, ArgsFault>
     ensures matches { IfOk result (λ m. taken (map (λ w. w.now) words.entry.now)
         ≡ subcommand_rows_of m) }
@@ -51,7 +51,7 @@ fn matches<'a>(alloc: Global, words: &'a [&'a str]) -> Result<ArgMatches<'a>, Ar
     Ok(command.try_get_matches_from(words)?)
 }
 
-// The job of the subcommand that the matches entered.
+/// The job of the subcommand that the matches entered.
 fn job(alloc: Global, matches: &ArgMatches<'_>) -> Result<Job, ArgsFault>
     ensures job { IfOk result (λ job.
         option_and_then job_of (subcommand_rows_of matches.now) ≡ Some job) }
@@ -72,7 +72,7 @@ fn job(alloc: Global, matches: &ArgMatches<'_>) -> Result<Job, ArgsFault>
     }
 }
 
-// `run IMAGE` with its options.
+/// `run IMAGE` with its options.
 #[tactic(auto, unfolding(crate::specs::Line::run_from))]
 fn run(alloc: Global, found: &ArgMatches<'_>) -> Result<RunOptions, ArgsFault>
     ensures run { IfOk result (λ run.
@@ -95,7 +95,7 @@ fn run(alloc: Global, found: &ArgMatches<'_>) -> Result<RunOptions, ArgsFault>
     })
 }
 
-// `tape IMAGE` with its options.
+/// `tape IMAGE` with its options.
 #[tactic(auto, unfolding(crate::specs::Line::tape_from))]
 fn tape(alloc: Global, found: &ArgMatches<'_>) -> Result<TapeOptions, ArgsFault>
     ensures tape { IfOk result (λ tape.
@@ -110,7 +110,7 @@ fn tape(alloc: Global, found: &ArgMatches<'_>) -> Result<TapeOptions, ArgsFault>
     Ok(TapeOptions { setup, cycles })
 }
 
-// The name of the file that a positional names.
+/// The name of the file that a positional names.
 fn file_of(alloc: Global, found: &ArgMatches<'_>, id: &str) -> Result<FileName, ArgsFault>
     ensures name { IfOk result (λ name. values_of (rows_of (found_of found.now)) id.now ≡ Some name) }
     ensures usage { result ≡ Err ArgsFault.Usage
@@ -122,7 +122,7 @@ fn file_of(alloc: Global, found: &ArgMatches<'_>, id: &str) -> Result<FileName, 
     Ok(FileName::new(alloc, name)?)
 }
 
-// `debug IMAGE COMMANDS` with its options.
+/// `debug IMAGE COMMANDS` with its options.
 #[tactic(auto, unfolding(crate::specs::Line::debug_from))]
 fn debug(alloc: Global, found: &ArgMatches<'_>) -> Result<DebugOptions, ArgsFault>
     ensures debug { IfOk result (λ debug.
@@ -140,7 +140,7 @@ fn debug(alloc: Global, found: &ArgMatches<'_>) -> Result<DebugOptions, ArgsFaul
     })
 }
 
-// `soak SEED LENGTH`.
+/// `soak SEED LENGTH`.
 #[tactic(auto, unfolding(crate::specs::Line::soak_from))]
 fn soak(found: &ArgMatches<'_>) -> Result<SoakOptions, ArgsFault>
     ensures soak { IfOk result (λ soak.
@@ -157,7 +157,7 @@ fn soak(found: &ArgMatches<'_>) -> Result<SoakOptions, ArgsFault>
     Ok(SoakOptions { seed, instructions })
 }
 
-// The number from `least` to `most` that a positional spells.
+/// The number from `least` to `most` that a positional spells.
 fn number_of(found: &ArgMatches<'_>, id: &str, least: u32, most: u32) -> Option<u32>
     ensures value { result ≡ given_number least most (values_of (rows_of (found_of found.now)) id.now) }
     ensures in_range { IfSome result (λ n. (least ≤ n) × (n ≤ most)) }
@@ -165,7 +165,7 @@ fn number_of(found: &ArgMatches<'_>, id: &str, least: u32, most: u32) -> Option<
     number_within(text_of(found, id)?, least, most)
 }
 
-// What commands have in common that run an image, on a machine of this width.
+/// What commands have in common that run an image, on a machine of this width.
 #[tactic(auto, unfolding(crate::specs::Line::setup_from))]
 fn setup(alloc: Global, found: &ArgMatches<'_>, width: Option<u32>) -> Result<Setup, ArgsFault>
     ensures setup { IfOk result (λ setup.
@@ -188,7 +188,7 @@ fn setup(alloc: Global, found: &ArgMatches<'_>, width: Option<u32>) -> Result<Se
     })
 }
 
-// The numbers of a machine of this width, where they are in their ranges.
+/// The numbers of a machine of this width, where they are in their ranges.
 #[tactic(auto, unfolding(crate::specs::Line::config_from))]
 fn config(found: &ArgMatches<'_>, width: Option<u32>) -> Option<Config>
     ensures value { result ≡ config_from width (values_of (rows_of (found_of found.now))) }
@@ -204,21 +204,21 @@ fn config(found: &ArgMatches<'_>, width: Option<u32>) -> Option<Config>
     )
 }
 
-// The width that the words ask for.
+/// The width that the words ask for.
 fn width(found: &ArgMatches<'_>) -> Option<u32>
     ensures { result ≡ number_or default_config.width (values_of (rows_of (found_of found.now)) (codes "width")) }
 {
     number_or(found, "width", Config::default().width())
 }
 
-// The number of an option of the machine, or what stands for one that is not given.
+/// The number of an option of the machine, or what stands for one that is not given.
 fn number_or(found: &ArgMatches<'_>, name: &str, otherwise: u32) -> Option<u32>
     ensures { result ≡ number_or otherwise (values_of (rows_of (found_of found.now)) name.now) }
 {
     number(text_of(found, name), 0, u32::MAX, otherwise)
 }
 
-// The cycles to run at most.
+/// The cycles to run at most.
 #[tactic(auto, unfolding(crate::specs::Line::cycles_from))]
 fn cycles(found: &ArgMatches<'_>) -> Option<u64>
     ensures value { result ≡ cycles_from (values_of (rows_of (found_of found.now))) }
@@ -228,7 +228,7 @@ fn cycles(found: &ArgMatches<'_>) -> Option<u64>
     Some(u64::from(cycles))
 }
 
-// The name that the words give for an option.
+/// The name that the words give for an option.
 fn name_of(alloc: Global, text: Option<&str>) -> Result<Option<FileName>, AllocError>
     ensures { IfOk result (λ name. name ≡ option_map (λ text. text.now) text.entry) }
 {
@@ -238,7 +238,7 @@ fn name_of(alloc: Global, text: Option<&str>) -> Result<Option<FileName>, AllocE
     }
 }
 
-// Whether the words have a flag.
+/// Whether the words have a flag.
 fn is_set(found: &ArgMatches<'_>, name: &str) -> bool
     ensures { result ≡ is_set_by (values_of (rows_of (found_of found.now)) name.now) }
 {
@@ -248,7 +248,7 @@ fn is_set(found: &ArgMatches<'_>, name: &str) -> bool
     }
 }
 
-// The text that the words give for a positional, an option or a flag.
+/// The text that the words give for a positional, an option or a flag.
 fn text_of<'a>(found: &ArgMatches<'a>, id: &str) -> Option<&'a str>
     ensures { option_map (λ text. text.now) result
         ≡ values_of (rows_of (found_of found.now)) id.now }

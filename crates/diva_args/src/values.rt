@@ -30,7 +30,7 @@ pub(crate) fn core(
     }
 }
 
-// The core of that name, for one that takes no tape.
+/// The core of that name, for one that takes no tape.
 #[tactic(auto, unfolding(crate::specs::Values::core_named))]
 fn named_core(name: &str) -> Option<CoreChoice>
     ensures { result ≡ core_named name.now }
@@ -85,7 +85,7 @@ pub(crate) fn dump(word: Option<&str>) -> Option<Option<DumpRange>>
     }
 }
 
-// The memory of the word `ADDR:LEN`.
+/// The memory of the word `ADDR:LEN`.
 #[tactic(auto, using(crate::proofs::ValueLemmas::no_colon), unfolding(crate::specs::Values::dump_range_of))]
 fn dump_range(word: &str) -> Option<DumpRange>
     ensures { result ≡ dump_range_of word.now }

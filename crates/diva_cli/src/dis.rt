@@ -35,7 +35,7 @@ pub(crate) fn dis<F: Files, S: Sink, C: Core>(
     Ok(0)
 }
 
-// The lines of an image: one for each word in which its payload has a byte.
+/// The lines of an image: one for each word in which its payload has a byte.
 #[derive(Drop)]
 struct ListingLines<'a> {
     image: &'a Image,
@@ -58,7 +58,7 @@ impl LineList for ListingLines<'_> {
     }
 }
 
-// The line of the word of an image at a place in its payload.
+/// The line of the word of an image at a place in its payload.
 fn line_at(image: &Image, place: usize) -> Line
     requires { place < length image.now.payload }
     ensures { result ≡ list_line (image.now.base + place) (word_at image.now.payload place) }
@@ -67,7 +67,7 @@ fn line_at(image: &Image, place: usize) -> Line
     list_line(image.base + place as u32, word)
 }
 
-// The word of a payload at a place, the lowest byte first; behind the payload are zeros.
+/// The word of a payload at a place, the lowest byte first; behind the payload are zeros.
 #[tactic(auto, using(std::proofs::lemmas::List::take_rest))]
 fn word_at(payload: &[u8], place: usize) -> u32
     requires { place ≤ length payload.now }
@@ -82,7 +82,7 @@ fn word_at(payload: &[u8], place: usize) -> u32
     ])
 }
 
-// The byte at a place, and 0 behind the end.
+/// The byte at a place, and 0 behind the end.
 fn byte_at(bytes: &[u8], place: usize) -> u8
     ensures { result ≡ slice_index bytes.now place }
 {

@@ -130,7 +130,7 @@ pub fn commit_by(
     Committed::GoesOn
 }
 
-// Puts a store behind the others of the queue.
+/// Puts a store behind the others of the queue.
 fn store(memory: &Memory, queue: &mut StoreQueue, width: Width, addr: u32, value: u32)
     requires inside { IsInside (laid memory.now queue.old.items) addr (size width) }
     requires aligned { addr % size width ≡ 0 }

@@ -290,8 +290,8 @@ fn has_store_opcode(word: u32) -> bool
     word & 0x7f == 0b0100011
 }
 
-// The interval from `low` on, before `high`, and with it the word at an address: that word alone where no claim reaches into
-// the interval.
+/// The interval from `low` on, before `high`, and with it the word at an address: that word alone where no claim reaches into
+/// the interval.
 #[inline(never)]
 fn widened(reach: usize, low: u32, high: u64, addr: u32) -> (u32, u64)
     ensures from { result.0 ≤ addr }

@@ -123,8 +123,8 @@ impl View<'_> {
         self.queue.word(self.memory, addr)
     }
 
-    // The number that the bytes of a width from an address on are. Loads alone ask for it, so it is read by a call, which is made
-    // on a copy of the view: the view itself can then stay in registers.
+    /// The number that the bytes of a width from an address on are. Loads alone ask for it, so it is read by a call, which is made
+    /// on a copy of the view: the view itself can then stay in registers.
     #[inline(never)]
     #[tactic(auto, using(crate::proofs::Bypassing::half_none, crate::proofs::Bypassing::half_high_none))]
     fn read_number(&self, addr: u32, width: Width) -> Option<u32>

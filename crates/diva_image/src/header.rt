@@ -103,7 +103,7 @@ impl Header {
         }
     }
 
-    // Whether size is allowed, and memory ends at 2^32 at the latest.
+    /// Whether size is allowed, and memory ends at 2^32 at the latest.
     fn has_size(&self) -> bool
         ensures { result ≡ is_size self.now.base self.now.size }
     {
@@ -113,7 +113,7 @@ impl Header {
             && u64::from(self.base) + u64::from(self.size) <= 1 << 32
     }
 
-    // Whether entry is a place for an instruction in memory.
+    /// Whether entry is a place for an instruction in memory.
     fn has_entry(&self) -> bool
         ensures { result ≡ is_entry self.now.base self.now.size self.now.entry }
     {
@@ -123,7 +123,7 @@ impl Header {
     }
 }
 
-// The first fault of the length, the letters and the version.
+/// The first fault of the length, the letters and the version.
 #[tactic(auto, unfolding(crate::specs::Images::start_fault))]
 fn start_fault(bytes: &[u8]) -> Option<Fault>
     ensures first { result ≡ start_fault bytes.now }
@@ -150,7 +150,7 @@ fn start_fault(bytes: &[u8]) -> Option<Fault>
     }
 }
 
-// Appends the number's four bytes, the lowest first.
+/// Appends the number's four bytes, the lowest first.
 fn push_number(bytes: &mut Vec<u8>, n: u32) -> Result<(), AllocError>
     ensures { OnOk result (bytes.new.items ≡ bytes.old.items ++ to_le_bytes w32 n) }
 {

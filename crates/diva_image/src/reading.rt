@@ -24,7 +24,7 @@ pub fn read(alloc: Global, bytes: &[u8]) -> Result<Image, ImageFault>
     }
 }
 
-// What follows the header.
+/// What follows the header.
 fn payload_of(bytes: &[u8]) -> &[u8]
     requires { header_size ≤ length bytes.now }
     ensures { result.now ≡ drop header_size bytes.now }
@@ -32,7 +32,7 @@ fn payload_of(bytes: &[u8]) -> &[u8]
     &bytes[HEADER_SIZE..]
 }
 
-// The header of bytes that are an image, or their first fault.
+/// The header of bytes that are an image, or their first fault.
 #[tactic(auto, unfolding(crate::specs::Images::fault_of))]
 fn whole_header(bytes: &[u8]) -> Result<Header, Fault>
     ensures header { IfOk result (λ header. header ≡ header_of bytes.now) }
@@ -49,7 +49,7 @@ fn whole_header(bytes: &[u8]) -> Result<Header, Fault>
     }
 }
 
-// The fault of a file of `len` bytes whose payload is to end at `end`.
+/// The fault of a file of `len` bytes whose payload is to end at `end`.
 #[tactic(auto, unfolding(crate::specs::Images::length_fault))]
 fn length_fault(len: usize, end: u32) -> Option<Fault>
     ensures first { result ≡ length_fault len end }

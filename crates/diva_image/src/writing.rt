@@ -16,7 +16,7 @@ pub fn write(alloc: Global, image: &Image) -> Result<Vec<u8>, AllocError>
     spelled(alloc, image)
 }
 
-// The header, and the payload.
+/// The header, and the payload.
 fn spelled(alloc: Global, image: &Image) -> Result<Vec<u8>, AllocError>
     ensures { IfOk result (λ bytes. bytes.items ≡ image_bytes (layout image.now)) }
 {

@@ -234,7 +234,7 @@ pub fn sources_in(regs: &Regs, decoded: Option<Instr>) -> Operands
     }
 }
 
-// The words that a call reads: few instructions are one.
+/// The words that a call reads: few instructions are one.
 #[cold]
 #[inline(never)]
 fn sources_of_call(regs: &Regs) -> Operands
@@ -431,7 +431,7 @@ pub fn execute<L: Look>(state: &L, i: &Instr, r: &Record) -> Outcome
     }
 }
 
-// The same of an instruction that does not call the environment either: no state is looked at.
+/// The same of an instruction that does not call the environment either: no state is looked at.
 #[inline(always)]
 fn compute(kind: Kind, i: &Instr, r: &Record) -> Outcome
     ensures { (s : State) → moves_memory kind ≡ false → kind ≢ Kind.Ecall

@@ -101,8 +101,8 @@ impl Memory {
         Some(word_of(bytes))
     }
 
-    // Where an address stands among the bytes. One before the first address wraps round to behind the last byte, since
-    // memory ends at 2^32 at the latest: so one comparison tells what is outside.
+    /// Where an address stands among the bytes. One before the first address wraps round to behind the last byte, since
+    /// memory ends at 2^32 at the latest: so one comparison tells what is outside.
     #[inline(always)]
     fn place(&self, addr: u32) -> usize
         ensures inside { self.now.base ≤ addr → result ≡ addr - self.now.base }
@@ -137,7 +137,7 @@ impl Memory {
     }
 }
 
-// The word that four bytes are, the lowest first.
+/// The word that four bytes are, the lowest first.
 #[inline]
 fn word_of(bytes: &[u8]) -> u32
     requires { length bytes.now ≡ 4 }

@@ -90,7 +90,7 @@ impl Board {
         self.readers[0] = MarkSet::NONE;
     }
 
-    // Whether an entry behind all these has its sources.
+    /// Whether an entry behind all these has its sources.
     fn has_sources_behind(&self, profile: &Profile) -> bool
         requires base { self.now.base ≤ 32 }
         requires sources { HasSources profile.now }
@@ -100,7 +100,7 @@ impl Board {
         self.is_available_behind(profile.rs1) && self.is_available_behind(profile.rs2)
     }
 
-    // Whether a register is available to an entry behind all these. None of these writes x0.
+    /// Whether a register is available to an entry behind all these. None of these writes x0.
     fn is_available_behind(&self, n: u8) -> bool
         requires base { self.now.base ≤ 32 }
         requires register { n < 32 }
@@ -190,7 +190,7 @@ impl Board {
         self.candidates.put_all(waiting);
     }
 
-    // The readers of the register that the entry at a place writes, up to the next entry that writes it.
+    /// The readers of the register that the entry at a place writes, up to the next entry that writes it.
     fn readers_of(&self, at: usize, rd: u8) -> MarkSet
         requires base { self.now.base < 32 }
         requires place { at < 32 }
@@ -249,7 +249,7 @@ impl Board {
         self.eligible().lowered(self.base)
     }
 
-    // The candidates that wait, but for loads behind a store that is not done.
+    /// The candidates that wait, but for loads behind a store that is not done.
     fn eligible(&self) -> MarkSet
         requires { self.now.base ≤ 32 }
         ensures waiting { (w : List Entry) (i : ℕ) → IsBoard w self.now → has result (self.now.base + i) ≡ true
@@ -277,7 +277,7 @@ impl Board {
         self.is_available(at, profile.rs1) && self.is_available(at, profile.rs2)
     }
 
-    // Whether a register is available to an entry at a place.
+    /// Whether a register is available to an entry at a place.
     fn is_available(&self, at: usize, n: u8) -> bool
         requires base { self.now.base ≤ 32 }
         requires place { at < 32 }
@@ -307,7 +307,7 @@ impl Board {
     }
 }
 
-// Keeps the marks of each set that are below one.
+/// Keeps the marks of each set that are below one.
 fn keep_below(sets: &mut [MarkSet; REGISTERS], end: usize)
     requires { end < 64 }
     ensures kept { (n : ℕ) → n < 32 → (i : ℕ) → has (get_or sets.new n no_mark) i
@@ -319,7 +319,7 @@ fn keep_below(sets: &mut [MarkSet; REGISTERS], end: usize)
     }
 }
 
-// Each mark of each set is lower by a step.
+/// Each mark of each set is lower by a step.
 fn lower(sets: &mut [MarkSet; REGISTERS])
     ensures lowered { (n : ℕ) → n < 32 → (i : ℕ) → has (get_or sets.new n no_mark) i
         ≡ has (get_or sets.old n no_mark) (32 + i) }

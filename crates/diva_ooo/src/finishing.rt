@@ -36,7 +36,7 @@ pub(crate) fn finish(window: &mut Window) -> Redirect
     Redirect::On
 }
 
-// The same of the entry at a place: says what becomes of the fetch behind it.
+/// The same of the entry at a place: says what becomes of the fetch behind it.
 #[tactic(auto, using(crate::proofs::Finished::finish_waiting, crate::proofs::Finished::finish_done))]
 fn finish_at(window: &mut Window, at: usize) -> Redirect
     requires { at < length window.old }
@@ -65,7 +65,7 @@ fn finish_at(window: &mut Window, at: usize) -> Redirect
     }
 }
 
-// What becomes of the fetch behind a record, where `predicted` was fetched next.
+/// What becomes of the fetch behind a record, where `predicted` was fetched next.
 fn turn_by(r: &Record, predicted: u32) -> Redirect
     ensures { result ≡ turn_by r.now predicted }
 {

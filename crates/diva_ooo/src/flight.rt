@@ -66,7 +66,7 @@ impl Flight<'_> {
         Some(latest)
     }
 
-    // The same, byte by byte: few reads meet a part of a store in flight.
+    /// The same, byte by byte: few reads meet a part of a store in flight.
     #[cold]
     fn overlaid(&self, addr: u32) -> Option<u32>
         requires { IsSome (word_of (with_effects self.now.view.now self.now.ahead.now.ring) addr) }

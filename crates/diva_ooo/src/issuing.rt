@@ -40,10 +40,10 @@ pub(crate) fn issue(window: &mut Window, ahead: &Ahead, view: &View<'_>)
     }
 }
 
-// Begins to run the entry at a place, which waits.
-//
-// The kinds that programs have most of are told apart first: what is done for such a kind is then one piece. It has a
-// `Flight` of its own, which need not lie in memory as one does that is handed to calls.
+/// Begins to run the entry at a place, which waits.
+///
+/// The kinds that programs have most of are told apart first: what is done for such a kind is then one piece. It has a
+/// `Flight` of its own, which need not lie in memory as one does that is handed to calls.
 #[tactic(auto, unfolding(crate::specs::Issue::started))]
 fn begin_at(window: &mut Window, at: usize, ahead: &Ahead, view: &View<'_>)
     requires place { at < length window.old }
@@ -79,7 +79,7 @@ fn begin_at(window: &mut Window, at: usize, ahead: &Ahead, view: &View<'_>)
     begin_any(window, at, ahead, view);
 }
 
-// The same, whatever the word of the entry says.
+/// The same, whatever the word of the entry says.
 #[inline(never)]
 #[tactic(auto, unfolding(crate::specs::Issue::started))]
 fn begin_any(window: &mut Window, at: usize, ahead: &Ahead, view: &View<'_>)
@@ -96,7 +96,7 @@ fn begin_any(window: &mut Window, at: usize, ahead: &Ahead, view: &View<'_>)
     window.begin(at, result, effect);
 }
 
-// What a jump, a branch, a load or a store comes to; `None` where it traps, and for other kinds.
+/// What a jump, a branch, a load or a store comes to; `None` where it traps, and for other kinds.
 #[inline(always)]
 fn going<L: Look>(state: &L, word: u32, i: &Instr) -> Option<Begun>
     requires says { row_of word ≡ Some i.now }
@@ -114,7 +114,7 @@ fn going<L: Look>(state: &L, word: u32, i: &Instr) -> Option<Begun>
     }
 }
 
-// What a jump comes to, `None` where it traps.
+/// What a jump comes to, `None` where it traps.
 #[inline(always)]
 fn jump<L: Look>(state: &L, word: u32, i: &Instr) -> Option<Begun>
     requires says { row_of word ≡ Some i.now }
@@ -144,7 +144,7 @@ fn jump<L: Look>(state: &L, word: u32, i: &Instr) -> Option<Begun>
     Some(Begun { result, effect })
 }
 
-// What a branch comes to, `None` where it traps.
+/// What a branch comes to, `None` where it traps.
 #[inline(always)]
 fn branch<L: Look>(state: &L, word: u32, i: &Instr) -> Option<Begun>
     requires says { row_of word ≡ Some i.now }
@@ -179,7 +179,7 @@ fn branch<L: Look>(state: &L, word: u32, i: &Instr) -> Option<Begun>
     Some(Begun { result, effect })
 }
 
-// What a load comes to, `None` where it traps.
+/// What a load comes to, `None` where it traps.
 #[inline(always)]
 fn load<L: Look>(state: &L, word: u32, i: &Instr, width: Width) -> Option<Begun>
     requires says { row_of word ≡ Some i.now }
@@ -211,7 +211,7 @@ fn load<L: Look>(state: &L, word: u32, i: &Instr, width: Width) -> Option<Begun>
     Some(Begun { result, effect })
 }
 
-// What a store comes to, `None` where it traps.
+/// What a store comes to, `None` where it traps.
 #[inline(always)]
 fn store<L: Look>(state: &L, word: u32, i: &Instr, width: Width) -> Option<Begun>
     requires says { row_of word ≡ Some i.now }
@@ -247,13 +247,13 @@ fn store<L: Look>(state: &L, word: u32, i: &Instr, width: Width) -> Option<Begun
     Some(Begun { result, effect })
 }
 
-// What an instruction comes to: its record, and what that does besides moving the pc.
+/// What an instruction comes to: its record, and what that does besides moving the pc.
 struct Begun {
     result: Record,
     effect: Effect,
 }
 
-// What a word comes to that was fetched already, if there is one; `decoded` is what it says.
+/// What a word comes to that was fetched already, if there is one; `decoded` is what it says.
 #[inline(always)]
 #[tactic(auto, using(crate::proofs::Knowing::decoded_kept))]
 fn run<L: Look>(state: &L, word: Option<u32>, decoded: Option<Instr>) -> Begun
@@ -268,7 +268,7 @@ fn run<L: Look>(state: &L, word: Option<u32>, decoded: Option<Instr>) -> Begun
     Begun { result, effect }
 }
 
-// The same of a word that says an operation on a register and an immediate.
+/// The same of a word that says an operation on a register and an immediate.
 #[inline(always)]
 fn immediate<L: Look>(state: &L, word: u32, i: &Instr) -> Begun
     requires says { row_of word ≡ Some i.now }
@@ -284,7 +284,7 @@ fn immediate<L: Look>(state: &L, word: u32, i: &Instr) -> Begun
     computed(state.pc(), word, read, i.rd, value)
 }
 
-// The same of a word that says an operation on two registers.
+/// The same of a word that says an operation on two registers.
 #[inline(always)]
 fn register<L: Look>(state: &L, word: u32, i: &Instr) -> Begun
     requires says { row_of word ≡ Some i.now }
@@ -301,7 +301,7 @@ fn register<L: Look>(state: &L, word: u32, i: &Instr) -> Begun
     computed(state.pc(), word, read, i.rd, value)
 }
 
-// What an operation comes to that puts a value into a register.
+/// What an operation comes to that puts a value into a register.
 #[inline(always)]
 fn computed(pc: u32, word: u32, read: Operands, rd: u8, value: u32) -> Begun
     ensures { result ≡ record {
@@ -323,7 +323,7 @@ fn computed(pc: u32, word: u32, read: Operands, rd: u8, value: u32) -> Begun
     Begun { result, effect }
 }
 
-// What a record does besides moving the pc; `decoded` is what its word says.
+/// What a record does besides moving the pc; `decoded` is what its word says.
 #[tactic(auto, unfolding(diva_ahead::specs::Effects::done_by))]
 fn effect_at(decoded: Option<Instr>, r: &Record) -> Effect
     requires decoded { decoded ≡ row_of r.now.word }
@@ -338,7 +338,7 @@ fn effect_at(decoded: Option<Instr>, r: &Record) -> Effect
     }
 }
 
-// The record of a word that was fetched already, if there is one; `decoded` is what it says.
+/// The record of a word that was fetched already, if there is one; `decoded` is what it says.
 fn record_by<L: Look>(state: &L, word: Option<u32>, decoded: Option<Instr>) -> Record
     requires decoded { decoded ≡ option_and_then row_of word }
     requires registers { IfSome decoded HasRegisters }

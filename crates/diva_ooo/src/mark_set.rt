@@ -155,7 +155,7 @@ impl MarkSet {
     }
 }
 
-// A number without one of its bits.
+/// A number without one of its bits.
 fn without(bits: u64, at: usize) -> u64
     requires { at < 64 }
     ensures { (i : ℕ) → (bit_at result i == 1) ≡ (if i == at then false else (bit_at bits i == 1)) }
@@ -163,14 +163,14 @@ fn without(bits: u64, at: usize) -> u64
     bits & !(1 << at)
 }
 
-// A number without the bits of another.
+/// A number without the bits of another.
 fn without_all(bits: u64, others: u64) -> u64
     ensures { (i : ℕ) → (bit_at result i == 1) ≡ ((bit_at bits i == 1) && not (bit_at others i == 1)) }
 {
     bits & !others
 }
 
-// The bits of a number from a place on.
+/// The bits of a number from a place on.
 fn high_bits(bits: u64, from: usize) -> u64
     requires { from < 64 }
     ensures { (i : ℕ) → (bit_at result i == 1) ≡ ((bit_at bits i == 1) && nat_le from i) }
@@ -178,7 +178,7 @@ fn high_bits(bits: u64, from: usize) -> u64
     bits & (u64::MAX << from)
 }
 
-// The place of the lowest bit from one on, if there is any.
+/// The place of the lowest bit from one on, if there is any.
 fn next_bit(bits: u64, from: usize) -> Option<usize>
     requires { from < 64 }
     ensures some { IfSome result (IsNext (record { bits = bits }) from) }

@@ -64,7 +64,7 @@ impl Ooo {
         })
     }
 
-    // Takes the machine's state.
+    /// Takes the machine's state.
     #[tactic(auto, unfolding(crate::specs::Ooo::restarted))]
     fn restart(&mut self, told: &Told, view: &View<'_>)
         ensures { self.new ≡ restarted self.old told.now view.now }
@@ -75,7 +75,7 @@ impl Ooo {
         self.dry = false;
     }
 
-    // Drops what is no longer pending.
+    /// Drops what is no longer pending.
     fn trim(&mut self, told: &Told)
         ensures dropped { self.new ≡ dropped self.old told.now }
         ensures few { length self.new.ahead.ring ≤ told.now.pending }
@@ -83,7 +83,7 @@ impl Ooo {
         self.ahead.trim(told);
     }
 
-    // What runs has one cycle less to run.
+    /// What runs has one cycle less to run.
     #[tactic(auto, unfolding(crate::specs::Ooo::completed))]
     fn finish(&mut self)
         ensures completed { self.new ≡ completed self.old }
@@ -107,7 +107,7 @@ impl Ooo {
         }
     }
 
-    // Hands over at most `room` entries that are done, oldest first.
+    /// Hands over at most `room` entries that are done, oldest first.
     fn hand_over(&mut self, room: u32, out: &mut Claims)
         requires list { out.old ≡ [] }
         requires room { room ≤ 4 }
@@ -121,7 +121,7 @@ impl Ooo {
         }
     }
 
-    // Hands over the oldest entry, if it is done; says whether a further one may follow.
+    /// Hands over the oldest entry, if it is done; says whether a further one may follow.
     #[tactic(auto, using(crate::proofs::Handing::ring_more, crate::proofs::Handing::effect_going))]
     fn hand_over_oldest(&mut self, out: &mut Claims) -> bool
         requires list { length out.old < 8 }
@@ -155,14 +155,14 @@ impl Ooo {
         true
     }
 
-    // Waiting entries begin to run.
+    /// Waiting entries begin to run.
     fn issue(&mut self, view: &View<'_>)
         ensures { self.new ≡ with_issued self.old view.now }
     {
         issue(&mut self.window, &self.ahead, view);
     }
 
-    // Adds an entry, where there is room for it and the fetch goes on.
+    /// Adds an entry, where there is room for it and the fetch goes on.
     #[inline(always)]
     #[tactic(auto, unfolding(crate::specs::Ooo::fetched))]
     fn fetch(&mut self, view: &View<'_>)
@@ -173,7 +173,7 @@ impl Ooo {
         }
     }
 
-    // Adds an entry of the word that is fetched next.
+    /// Adds an entry of the word that is fetched next.
     #[inline(always)]
     fn fetch_next(&mut self, view: &View<'_>)
         requires { length self.old.window < 32 }
@@ -187,7 +187,7 @@ impl Ooo {
         }
     }
 
-    // Adds an entry of a word that says nothing, or of none.
+    /// Adds an entry of a word that says nothing, or of none.
     #[cold]
     #[inline(never)]
     fn add_unread(&mut self, word: Option<u32>)
@@ -198,7 +198,7 @@ impl Ooo {
         self.add(word, None);
     }
 
-    // Adds an entry of a word; `decoded` is what it says.
+    /// Adds an entry of a word; `decoded` is what it says.
     #[inline(always)]
     fn add(&mut self, word: Option<u32>, decoded: Option<Instr>)
         requires room { length self.old.window < 32 }
@@ -221,7 +221,7 @@ impl Ooo {
         });
     }
 
-    // All that follows once the core is of the machine's epoch, and what is no longer pending was dropped.
+    /// All that follows once the core is of the machine's epoch, and what is no longer pending was dropped.
     #[inline(never)]
     fn work(&mut self, room: u32, view: &View<'_>, out: &mut Claims)
         requires list { out.old ≡ [] }

@@ -16,7 +16,7 @@ pub(crate) fn predicted(decoded: Option<Instr>, pc: u32) -> u32
     }
 }
 
-// The target, or the next word where that is no multiple of 4.
+/// The target, or the next word where that is no multiple of 4.
 fn target_or_next(pc: u32, target: u32) -> u32
     ensures { result ≡ target_or_next pc target }
 {
@@ -27,7 +27,7 @@ fn target_or_next(pc: u32, target: u32) -> u32
     }
 }
 
-// Whether an instruction is predicted to go to its target.
+/// Whether an instruction is predicted to go to its target.
 fn is_taken(i: &Instr) -> bool
     ensures { result ≡ is_taken_by (kind i.now.op) i.now }
 {

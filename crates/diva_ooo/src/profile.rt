@@ -81,7 +81,7 @@ impl Profile {
         }
     }
 
-    // An instruction has x0 where its format has no register: that is what the words of the table say.
+    /// An instruction has x0 where its format has no register: that is what the words of the table say.
     #[inline(always)]
     fn by(i: &Instr) -> Profile
         requires registers { HasRegisters i.now }
@@ -106,7 +106,7 @@ impl Profile {
     }
 }
 
-// What else than its sources an operation waits for, and the cycles that it runs.
+/// What else than its sources an operation waits for, and the cycles that it runs.
 fn needs_of(op: Op) -> (Class, u8)
     ensures class { result.0 ≡ class_of (kind op) }
     ensures cycles { result.1 ≡ cycles_of op }

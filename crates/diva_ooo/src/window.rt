@@ -244,7 +244,7 @@ impl Window {
     }
 }
 
-// The same of a window in its parts; where the entry has not its sources, it is no candidate any more.
+/// The same of a window in its parts; where the entry has not its sources, it is no candidate any more.
 fn is_ready_at(entries: &HeapCircularBuffer<Entry>, board: &mut Board, at: usize) -> bool
     requires known { All IsKnown entries.now.items }
     requires few { length entries.now.items ≤ 32 }

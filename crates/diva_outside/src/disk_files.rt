@@ -77,7 +77,7 @@ impl<R: rt::Files> Files for DiskFiles<'_, R> {
     }
 }
 
-// Opens the file and reads it.
+/// Opens the file and reads it.
 fn read_file<R: rt::Files>(
     rt: &R,
     alloc: Global,
@@ -90,7 +90,7 @@ fn read_file<R: rt::Files>(
     read_whole(&mut file, alloc, limit)
 }
 
-// Reads to the end, or until there are more bytes than `limit`.
+/// Reads to the end, or until there are more bytes than `limit`.
 fn read_whole<R: Read>(file: &mut R, alloc: Global, limit: usize) -> Result<Vec<u8>, LoadFault>
     ensures within { IfOk result (λ v. length v.items ≤ limit) }
     ensures whole { IfOk result (λ v. IfSome (R.remaining file.old) (λ bytes. v.items ≡ bytes)) }

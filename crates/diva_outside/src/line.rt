@@ -114,7 +114,7 @@ impl Line {
     }
 }
 
-// The two hex digits of each byte, in lower case.
+/// The two hex digits of each byte, in lower case.
 static HEX_PAIRS: [[u8; 2]; 256] = [
     *b"00", *b"01", *b"02", *b"03", *b"04", *b"05", *b"06", *b"07", *b"08", *b"09", *b"0a", *b"0b",
     *b"0c", *b"0d", *b"0e", *b"0f", *b"10", *b"11", *b"12", *b"13", *b"14", *b"15", *b"16", *b"17",
@@ -140,7 +140,7 @@ static HEX_PAIRS: [[u8; 2]; 256] = [
     *b"fc", *b"fd", *b"fe", *b"ff",
 ];
 
-// The two hex digits of a byte.
+/// The two hex digits of a byte.
 #[inline(always)]
 fn hex_pair(byte: u8) -> [u8; 2]
     ensures { result ≡ hex_byte byte }

@@ -92,14 +92,14 @@ impl Files for MemFiles {
     }
 }
 
-// Whether the call is one of these.
+/// Whether the call is one of these.
 fn is_listed(calls: &[u64], call: u64) -> bool
     ensures { result ≡ list_any (λ c. c == call) calls.now }
 {
     calls.iter().any(|c| *c == call)
 }
 
-// What a call answers that found these bytes.
+/// What a call answers that found these bytes.
 fn answer(
     alloc: Global,
     found: Option<&[u8]>,

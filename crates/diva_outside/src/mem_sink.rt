@@ -87,7 +87,7 @@ impl Sink for MemSink {
     }
 }
 
-// How many bytes the call takes at most, `None` where it is not to fail.
+/// How many bytes the call takes at most, `None` where it is not to fail.
 fn takes_of(fails: &[Fail], call: u64) -> Option<usize>
     ensures { result ≡ takes_of fails.now call }
 {

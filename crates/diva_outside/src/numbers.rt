@@ -21,7 +21,7 @@ pub fn decimal(word: &[u8]) -> Option<u64>
     number(word, 10, 10)
 }
 
-// The number that one to `most` digits of a radix spell.
+/// The number that one to `most` digits of a radix spell.
 fn number(word: &[u8], radix: u32, most: usize) -> Option<u64>
     requires low { 2 ≤ radix }
     requires high { radix ≤ 16 }

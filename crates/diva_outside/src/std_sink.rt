@@ -55,7 +55,7 @@ impl<W: Write> Sink for StdSink<W> {
     }
 }
 
-// Writes until the whole piece is taken.
+/// Writes until the whole piece is taken.
 fn write_whole<W: Write>(out: &mut W, piece: &[u8]) -> Result<(), SinkFailed>
     ensures ok { OnOk result (Appends (W.contents out.old) (W.contents out.new) piece.now) }
     ensures err { OnErr result (AppendsPart (W.contents out.old) (W.contents out.new) piece.now) }

@@ -60,7 +60,7 @@ impl Masked {
         self.put_lane(memory, 3);
     }
 
-    // Writes the byte at one place of the word, if it is to be written.
+    /// Writes the byte at one place of the word, if it is to be written.
     fn put_lane(&self, memory: &mut Memory, place: u32)
         requires place { place < 4 }
         requires masked { IsMasked self.now }
@@ -72,7 +72,7 @@ impl Masked {
         }
     }
 
-    // Whether the byte at a place of the word is written.
+    /// Whether the byte at a place of the word is written.
     fn writes(&self, place: u32) -> bool
         requires { place < 4 }
         ensures { result ≡ (bit_at self.now.mask place == 1) }
@@ -80,7 +80,7 @@ impl Masked {
         (self.mask >> place) & 1 == 1
     }
 
-    // The byte at a place of the word.
+    /// The byte at a place of the word.
     fn lane(&self, place: u32) -> u8
         requires { place < 4 }
         ensures { result ≡ word_byte self.now.bytes place }
@@ -88,7 +88,7 @@ impl Masked {
         ((self.bytes >> (8 * place)) & 0xff) as u8
     }
 
-    // The word in which all bits of the bytes that are written are set.
+    /// The word in which all bits of the bytes that are written are set.
     #[inline]
     fn lanes(&self) -> u32
         requires { self.now.mask < 16 }

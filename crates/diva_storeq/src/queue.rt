@@ -151,7 +151,7 @@ impl StoreQueue {
         self.merged(memory, addr)
     }
 
-    // Whether there is no store, or the word at an address is outside the interval of those that the stores go to.
+    /// Whether there is no store, or the word at an address is outside the interval of those that the stores go to.
     #[inline(always)]
     fn is_clear(&self, addr: u32) -> bool
         ensures { IsTrue result → (m : Bytes) → word_at (laid m self.now.items) addr ≡ word_at m addr }
@@ -159,7 +159,7 @@ impl StoreQueue {
         self.owed() == 0 || addr < self.low || self.high < addr
     }
 
-    // The same of the word in which a byte lies, and so of the byte.
+    /// The same of the word in which a byte lies, and so of the byte.
     #[inline(always)]
     fn is_byte_clear(&self, addr: u32) -> bool
         ensures { IsTrue result → (m : Bytes) → byte_at (laid m self.now.items) addr ≡ byte_at m addr }
@@ -167,7 +167,7 @@ impl StoreQueue {
         self.owed() == 0 || addr < self.low || self.high < addr - addr % 4
     }
 
-    // The word, with the entries laid over it one after the other.
+    /// The word, with the entries laid over it one after the other.
     #[tactic(auto, using(crate::proofs::Laying::laid_word_none))]
     fn merged(&self, memory: &Memory, addr: u32) -> Option<u32>
         ensures value { result ≡ word_at (laid memory.now self.now.items) addr }

@@ -77,7 +77,7 @@ fn byte_over_a_word(rt: HostRuntime) -> Result<(), Fail> {
     Ok(())
 }
 
-// The four bytes from 32 on, with the stores laid over memory.
+/// The four bytes from 32 on, with the stores laid over memory.
 fn shown(queue: &StoreQueue, memory: &Memory) -> [Option<u8>; 4] {
     [
         queue.byte(memory, 32),

@@ -7,7 +7,7 @@ use diva_core::{Claim, Claims, Core, Told, View};
 #[derive(Clone, Copy, Debug)]
 pub struct Flood;
 
-// A claim whose fields are all 0.
+/// A claim whose fields are all 0.
 const ZEROS: Claim = Claim {
     pc: 0,
     word: 0,

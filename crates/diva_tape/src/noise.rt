@@ -34,7 +34,7 @@ impl Noise {
         Noise { last: seed }
     }
 
-    // The next number.
+    /// The next number.
     fn number(&mut self) -> u32
         ensures number { result ≡ next_number self.old }
         ensures last { self.new ≡ next_number self.old }
@@ -43,7 +43,7 @@ impl Noise {
         self.last
     }
 
-    // The claim of the next eight numbers.
+    /// The claim of the next eight numbers.
     #[tactic(auto, unfolding(crate::specs::Noise::noise_claim))]
     fn claim(&mut self) -> Claim
         ensures claim { result ≡ noise_claim self.old }

@@ -33,7 +33,7 @@ impl Scalar {
         })
     }
 
-    // Hands over the record of its own state, unless it has handed over one that ends.
+    /// Hands over the record of its own state, unless it has handed over one that ends.
     #[inline(always)]
     fn hand_over(&mut self, view: &View<'_>, out: &mut Claims)
         requires list { out.old ≡ [] }

@@ -29,7 +29,7 @@ pub(crate) fn fill_commit(line: &mut Line, index: u64, r: &Record)
     line.text(b"\n");
 }
 
-// Some fields of a record, a blank before each.
+/// Some fields of a record, a blank before each.
 fn push_fields(line: &mut Line, fields: &[Field], r: &Record)
     requires { length line.old + 9 * length fields.now ≤ 128 }
     ensures bytes { line.new ≡ line.old ++ fields_text fields.now r.now }
@@ -57,7 +57,7 @@ pub fn flush_line(row: &FlushRow) -> Line
     line
 }
 
-// The field in which a claim differed, with what was claimed and what was due; or the watchdog's limit.
+/// The field in which a claim differed, with what was claimed and what was due; or the watchdog's limit.
 fn push_cause(line: &mut Line, cause: &Cause)
     requires { length line.old + 60 ≤ 128 }
     ensures bytes { line.new ≡ line.old ++ cause_text cause.now }
@@ -163,7 +163,7 @@ pub fn soak_line(core: SoakCore, count: u64, cycles: u64, flushes: u64) -> Line
     line
 }
 
-// The name of a core of `soak`.
+/// The name of a core of `soak`.
 fn soak_core_name(core: SoakCore) -> &'static str
     ensures name { result.now ≡ soak_core_name core }
     ensures short { length result.now ≤ 6 }
@@ -189,7 +189,7 @@ pub(crate) fn output_len_line(n: u64) -> Line
     number_line(b"output ", n)
 }
 
-// A name of at most 80 bytes, and a number.
+/// A name of at most 80 bytes, and a number.
 fn number_line(name: &[u8], n: u64) -> Line
     requires { length name.now ≤ 80 }
     ensures { result ≡ name.now ++ decimal n ++ codes "\n" }
@@ -246,7 +246,7 @@ pub fn registers_line(view: &View<'_>, first: u8) -> Line
     line
 }
 
-// A register's name, and the word in it.
+/// A register's name, and the word in it.
 fn push_register(line: &mut Line, view: &View<'_>, n: u8)
     requires in_range { n < 32 }
     requires room { length line.old + 30 ≤ 128 }
@@ -279,7 +279,7 @@ pub fn mem_line(view: &View<'_>, addr: u32, n: u32) -> Line
     line
 }
 
-// A byte of memory, or two dots.
+/// A byte of memory, or two dots.
 fn push_byte(line: &mut Line, byte: Option<u8>)
     requires { length line.old + 2 ≤ 128 }
     ensures bytes { line.new ≡ line.old ++ byte_text byte }

@@ -15,7 +15,7 @@ use diva_core::{FlushRow, View};
 use diva_isa::Record;
 use diva_outside::{Line, LineList, Sink, SinkFailed, put_line, put_lines};
 
-// The lines of some flushes.
+/// The lines of some flushes.
 #[derive(Drop)]
 struct FlushLines<'a> {
     rows: &'a [FlushRow],
@@ -35,7 +35,7 @@ impl LineList for FlushLines<'_> {
     }
 }
 
-// The lines of the bytes that the program put out, 32 bytes a line, the last one shorter.
+/// The lines of the bytes that the program put out, 32 bytes a line, the last one shorter.
 #[derive(Drop)]
 struct OutLines<'a> {
     bytes: &'a [u8],
@@ -58,7 +58,7 @@ impl LineList for OutLines<'_> {
     }
 }
 
-// The lines of a part of memory, 16 bytes a line, the last one shorter.
+/// The lines of a part of memory, 16 bytes a line, the last one shorter.
 #[derive(Drop)]
 struct DumpLines<'a> {
     view: &'a View<'a>,
@@ -188,7 +188,7 @@ pub fn write_run<S: Sink>(report: &Report<'_>, sink: &mut S) -> Result<(), SinkF
     write_parts(report, sink)
 }
 
-// The whole text, of what the report says.
+/// The whole text, of what the report says.
 fn write_parts<S: Sink>(report: &Report<'_>, sink: &mut S) -> Result<(), SinkFailed>
     requires { ForSome report.now.dump (λ d. d.addr + d.len ≤ 2 ^ 32) }
     ensures { Puts (text_in report.now)
