@@ -74,7 +74,7 @@ pub fn top<F: Files, S: Sink, C: Core>(
     // Where the words ask for no file, the files are as they were: none was loaded.
     ensures unloaded { LoadsNothing (command_of (map (λ w. w.now) words.now)) → files.new ≡ files.old }
 
-    // The sink's count of faults rose, and neither core nor sink was asked again; memory ran out.
+    // The sink's count of faults rose, and the core was not asked again; memory ran out.
     ensures cut { result ≡ 9
         → IsCut C.gives (command_of (map (λ w. w.now) words.now)) (F.contents files.old)
         (F.faults files.old) (F.faults files.new) core.old core.new
