@@ -1,12 +1,12 @@
--- The record where the word of the next instruction says nothing, or is not there.
+-- The record where a word says nothing, or is not there.
 use Rattle.std.proofs.Common.{◌≡◌, ℕ, Option, Some, None, true, refl, ap, sym, ◌∙◌}
 use Rattle.std.specs.Option.{option_and_then}
 use Rattle.diva_decode.specs.Table.{row_of}
 use Rattle.diva_decode.specs.declared.instr.Instr.{Instr}
 use Rattle.diva_isa.specs.declared.trap.Trap.TheVariants.{InstructionAccessFault, IllegalInstruction}
-use Rattle.diva_isa.specs.State.{State, word_of}
+use Rattle.diva_isa.specs.State.{State}
 use Rattle.diva_isa.specs.End.{trap}
-use Rattle.diva_isa.specs.Step.{ended, record_fetched, record_of, record_by, record_with}
+use Rattle.diva_isa.specs.Step.{ended, record_fetched, record_by, record_with}
 use Rattle.diva_isa.specs.declared.record.Record.{Record}
 
 -- its word, and the trap
@@ -18,7 +18,5 @@ by_word : (s : State) (o : Option ℕ) → option_and_then row_of o ≡ None →
 by_word s None none = refl
 by_word s (Some w) none = ap (λ (f : Option Instr). record_by s true w f) none
 
-pub unread : (s : State) (pc : ℕ) (o : Option ℕ) → option_and_then row_of o ≡ None → s.pc ≡ pc → word_of s pc ≡ o → unread_by pc o ≡ record_of s
-unfolding record_of
-unread s pc o none at is =
-    ap (λ (n : ℕ). unread_by n o) (sym at) ∙ sym (by_word s o none) ∙ sym (ap (record_fetched s) (ap (word_of s) at ∙ is))
+pub unread : (s : State) (pc : ℕ) (o : Option ℕ) → option_and_then row_of o ≡ None → s.pc ≡ pc → unread_by pc o ≡ record_fetched s o
+unread s pc o none at = ap (λ (n : ℕ). unread_by n o) (sym at) ∙ sym (by_word s o none)

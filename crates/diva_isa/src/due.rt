@@ -6,7 +6,7 @@ ghost use Rattle.diva_decode.specs.Table.{HasRegisters, IsValid, row_of};
 ghost use Rattle.diva_isa.specs.State.{State, word_of};
 ghost use Rattle.diva_isa.specs.Kind.{kind, moves_memory, size};
 ghost use Rattle.diva_isa.specs.End.{halt, trap};
-ghost use Rattle.diva_isa.specs.Step.{HasRegister, address, call, continues, effect, effect_by, ended, load, outcome, outcome_of, record_of, source1, source2, source1_of, source2_of, address_of, store, jumps_to, record_with};
+ghost use Rattle.diva_isa.specs.Step.{HasRegister, address, call, continues, effect, effect_by, effect_of, ended, load, outcome, outcome_of, record_fetched, record_of, source1, source2, source1_of, source2_of, address_of, store, jumps_to, record_with};
 ghost use Rattle.diva_isa.specs.Trap.{trap_number};
 
 use crate::arithmetic::{alu, branch_taken, load_value};
@@ -77,6 +77,19 @@ pub fn due_by<L: Look>(state: &L, fetched: Option<u32>, decoded: Option<Instr>) 
     ensures effect { result.effect ≡ effect_by decoded result.record }
     ensures register { HasRegister result.effect }
 {
+    due_fetched(state, fetched, decoded)
+}
+
+/// What a word comes to at the pc of a state, whether or not it is the one that stands there: its record with the effect.
+/// `fetched` is the word, `None` where there is none, and `decoded` is what it says.
+#[inline(always)]
+pub fn due_fetched<L: Look>(state: &L, fetched: Option<u32>, decoded: Option<Instr>) -> Due
+    requires decoded { decoded ≡ option_and_then row_of fetched }
+    requires registers { IfSome decoded HasRegisters }
+    ensures record { result.record ≡ record_fetched (L.shows state.now) fetched }
+    ensures effect { result.effect ≡ effect_by decoded result.record }
+    ensures register { HasRegister result.effect }
+{
     let word = fetched.unwrap_or(0);
     match &decoded {
         // The kinds that programs have most of are told apart first: what is done for such a kind is then one piece, and a
@@ -85,7 +98,7 @@ pub fn due_by<L: Look>(state: &L, fetched: Option<u32>, decoded: Option<Instr>) 
             Kind::OpImm => due_computed(state, word, i, Kind::OpImm),
             Kind::OpReg => due_computed(state, word, i, Kind::OpReg),
             Kind::Branch => due_computed(state, word, i, Kind::Branch),
-            kind => due_as(state, word, i, kind),
+            kind => due_looked_at(state, word, i, kind),
         },
         None => Due {
             record: unread(state.pc(), fetched),
@@ -94,9 +107,23 @@ pub fn due_by<L: Look>(state: &L, fetched: Option<u32>, decoded: Option<Instr>) 
     }
 }
 
+/// What a word comes to, as [`due_fetched`] has it, where it says an instruction, and the kind of that is known: where `which` is
+/// a constant, what is done is one piece.
+#[inline(always)]
+pub fn due_as<L: Look>(state: &L, word: u32, i: &Instr, which: Kind) -> Due
+    requires says { row_of word ≡ Some i.now }
+    requires kind { kind i.now.op ≡ which }
+    requires registers { HasRegisters i.now }
+    ensures record { result.record ≡ record_fetched (L.shows state.now) (Some word) }
+    ensures effect { result.effect ≡ effect_of result.record }
+    ensures register { HasRegister result.effect }
+{
+    due_looked_at(state, word, i, which)
+}
+
 /// The record of an instruction of a kind, with its effect.
 #[inline(always)]
-fn due_as<L: Look>(state: &L, word: u32, i: &Instr, kind: Kind) -> Due
+fn due_looked_at<L: Look>(state: &L, word: u32, i: &Instr, kind: Kind) -> Due
     requires { HasRegisters i.now }
     ensures record { let s = L.shows state.now in let a = source1 kind s i.now in let b = source2 kind s i.now in
         let addr = address kind i.now a in
@@ -157,12 +184,12 @@ fn completed(r: Record, i: &Instr, outcome: Outcome, kind: Kind) -> Due
     Due { record, effect }
 }
 
-/// The record where the word of the next instruction says nothing, or is not there.
+/// The record where a word says nothing, or is not there.
 #[cold]
 #[inline(never)]
 fn unread(pc: u32, fetched: Option<u32>) -> Record
     requires { option_and_then row_of fetched ≡ None }
-    ensures { (s : State) → s.pc ≡ pc → word_of s pc ≡ fetched → result ≡ record_of s }
+    ensures { (s : State) → s.pc ≡ pc → result ≡ record_fetched s fetched }
 {
     match fetched {
         Some(word) => trap_before(pc, word, Trap::IllegalInstruction),

@@ -8,9 +8,7 @@ use Rattle.std.proofs.lemmas.List.Elements.{All-set, All-head, All-tail}
 use Rattle.diva_decode.specs.declared.instr.Instr.{Instr}
 use Rattle.diva_decode.specs.Table.{HasRegisters, row_of}
 use Rattle.diva_isa.specs.State.{State}
-use Rattle.diva_isa.specs.Kind.{kind}
-use Rattle.diva_isa.specs.declared.kind.Kind.{Kind}
-use Rattle.diva_isa.specs.Step.{HasRegister, effect, record_fetched}
+use Rattle.diva_isa.specs.Step.{HasRegister, record_fetched}
 use Rattle.diva_isa.specs.declared.effect.Effect.{Effect}
 use Rattle.diva_isa.specs.declared.effect.Effect.TheVariants.{Nothing}
 use Rattle.diva_isa.specs.declared.record.Record.{Record}
@@ -54,8 +52,3 @@ pub known_staged : (w : List Entry) (at : ℕ) (e : Entry) (stage : Progress) �
 known_staged w at e stage is begun all =
     let k = known_at w at e is all in
     All-set IsKnown w at (record e { stage = stage }) (record { decoded = k.decoded; registers = k.registers; sources = k.sources; effect = k.effect; register = k.register; fresh = λ waits. absurd (true≢false (sym waits ∙ begun)) }) all
-
--- what a record does that goes on
-pub going_does : (k : Kind) (r : Record) (i : Instr) → row_of r.word ≡ Some i → kind i.op ≡ k → r.end ≡ 0 → effect k i r ≡ done_by r
-unfolding done_by
-going_does k r i says is on = rw (on, says, is) refl
