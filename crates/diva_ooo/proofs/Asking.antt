@@ -4,7 +4,7 @@ use Rattle.std.specs.Prelude.{nat_lt, nat_le}
 use Rattle.std.proofs.lemmas.Bool.Decides.{nat_tests}
 use Rattle.std.proofs.lemmas.Grind.{common_steps}
 use Rattle.std.proofs.lemmas.List.{append-nil}
-use Rattle.diva_ooo.specs.declared.entry.Entry.{Entry}
+use Rattle.diva_ooo.specs.Entry.{Entry, profile_of}
 use Rattle.diva_ooo.specs.declared.board.Board.{Board}
 use Rattle.diva_ooo.specs.declared.mark_set.MarkSet.{MarkSet}
 use Rattle.diva_ooo.specs.declared.profile.Class.{Class}
@@ -101,24 +101,24 @@ not_zero true true h = absurd (cc)
 not_zero true false h = (refl, refl)
 not_zero false b h = absurd (cc)
 
-unwritten_by : (c : Bool) (n : ℕ) (e : Entry) → (e.profile.rd == n) ≡ c → (n == 0) ≡ false → writes n e ≡ false → (e.profile.rd == n) ≡ false
+unwritten_by : (c : Bool) (n : ℕ) (e : Entry) → ((profile_of e).rd == n) ≡ c → (n == 0) ≡ false → writes n e ≡ false → ((profile_of e).rd == n) ≡ false
 unwritten_by true n e is some none =
-    let both : (true && not false) ≡ false = ap (λ (k : Bool). k && not false) (sym is) ∙ ap (λ (k : Bool). (e.profile.rd == n) && not k) (sym some) ∙ none in
+    let both : (true && not false) ≡ false = ap (λ (k : Bool). k && not false) (sym is) ∙ ap (λ (k : Bool). ((profile_of e).rd == n) && not k) (sym some) ∙ none in
     absurd (cc)
 unwritten_by false n e is some none = is
 
 awaited_none : (so : Bool) (w : List Entry) (n : ℕ) → (n == 0) ≡ false → ((i : ℕ) → holds_at (writes n) w i ≡ false) → is_awaited so w n ≡ so
 awaited_none so [] n some none = refl
 awaited_none so (e ∷ w) n some none =
-    let other = unwritten_by (e.profile.rd == n) n e refl some (none 0) in
+    let other = unwritten_by ((profile_of e).rd == n) n e refl some (none 0) in
     rw other (awaited_none so w n some (λ i. none (suc i)))
 
 awaited_last : (so : Bool) (w : List Entry) (n j : ℕ) → (n == 0) ≡ false → holds_at (writes n) w j ≡ true → ((i : ℕ) → j < i → holds_at (writes n) w i ≡ false) → is_awaited so w n ≡ not (holds_at (λ e. is_done e.stage) w j)
 awaited_last so [] n j some there last = absurd (cc)
 awaited_last so (e ∷ w) n zero some there last =
-    let here = not_zero (e.profile.rd == n) (n == 0) there in
+    let here = not_zero ((profile_of e).rd == n) (n == 0) there in
     ap (λ (c : Bool). is_awaited (if c then not (is_done e.stage) else so) w n) here.0 ∙ awaited_none (not (is_done e.stage)) w n some (λ i. last (suc i) (omega arith))
-awaited_last so (e ∷ w) n (suc j) some there last = awaited_last (if e.profile.rd == n then not (is_done e.stage) else so) w n j some there (λ i h. last (suc i) (omega arith))
+awaited_last so (e ∷ w) n (suc j) some there last = awaited_last (if (profile_of e).rd == n then not (is_done e.stage) else so) w n j some there (λ i h. last (suc i) (omega arith))
 
 available_by : (c : Bool) (w : List Entry) (n : ℕ) → (n == 0) ≡ c → ((i : ℕ) → holds_at (writes n) w i ≡ false) → (c || not (is_awaited false w n)) ≡ true
 available_by true w n is none = refl
@@ -129,7 +129,7 @@ available_none w n none = available_by (n == 0) w n refl none
 
 writes_some : (w : List Entry) (n j : ℕ) → holds_at (writes n) w j ≡ true → (n == 0) ≡ false
 writes_some [] n j there = absurd (cc)
-writes_some (e ∷ w) n zero there = (not_zero (e.profile.rd == n) (n == 0) there).1
+writes_some (e ∷ w) n zero there = (not_zero ((profile_of e).rd == n) (n == 0) there).1
 writes_some (e ∷ w) n (suc j) there = writes_some w n j there
 
 twice : (b : Bool) → not (not b) ≡ b
@@ -205,8 +205,8 @@ open_not true s h = absurd (cc)
 open_not false true h = refl
 open_not false false h = absurd (cc)
 
-open_store : (e : Entry) → is_open_store e ≡ false → (is_done e.stage || not (is_storing e.profile.class)) ≡ true
-open_store e none = open_by (is_done e.stage) (is_storing e.profile.class) none
+open_store : (e : Entry) → is_open_store e ≡ false → (is_done e.stage || not (is_storing (profile_of e).class)) ≡ true
+open_store e none = open_by (is_done e.stage) (is_storing (profile_of e).class) none
 
 stored_none : (w : List Entry) → ((i : ℕ) → holds_at is_open_store w i ≡ false) → are_stored w ≡ true
 stored_none [] none = refl
@@ -214,8 +214,8 @@ stored_none (e ∷ w) none = rw (open_store e (none 0)) (stored_none w (λ i. no
 
 stored_some : (w : List Entry) (j : ℕ) → holds_at is_open_store w j ≡ true → are_stored w ≡ false
 stored_some [] j there = absurd (cc)
-stored_some (e ∷ w) zero there = rw (open_not (is_done e.stage) (is_storing e.profile.class) there) refl
-stored_some (e ∷ w) (suc j) there = rw (stored_some w j there) (and_off (is_done e.stage || not (is_storing e.profile.class)))
+stored_some (e ∷ w) zero there = rw (open_not (is_done e.stage) (is_storing (profile_of e).class) there) refl
+stored_some (e ∷ w) (suc j) there = rw (stored_some w j there) (and_off (is_done e.stage || not (is_storing (profile_of e).class)))
 
 pub stored_free : (w : List Entry) (b : Board) (at : ℕ) → IsBoard w b → ((i : ℕ) → b.base ≤ i → has b.storing i ≡ false) → true ≡ are_stored (take at w)
 stored_free w b at board none = sym (stored_none (take at w) (λ i. before_none is_open_store w at i (λ lt. sym (board.storing i) ∙ none (b.base + i) (omega arith))))
@@ -320,15 +320,15 @@ stalled_by true true = refl
 stalled_by true false = refl
 stalled_by false b = refl
 
-stalled : (e : Entry) (older : List Entry) (c : Class) → e.profile.class ≡ c → is_loading c ≡ true → are_stored older ≡ false → can_begin older e ≡ false
+stalled : (e : Entry) (older : List Entry) (c : Class) → (profile_of e).class ≡ c → is_loading c ≡ true → are_stored older ≡ false → can_begin older e ≡ false
 unfolding is_ready
 stalled e older Plain is load open' = absurd (cc)
-stalled e older Loads is load open' = rw (is, open') (stalled_by (is_waiting e.stage) (is_available older e.profile.rs1 && is_available older e.profile.rs2))
+stalled e older Loads is load open' = rw (is, open') (stalled_by (is_waiting e.stage) (is_available older (profile_of e).rs1 && is_available older (profile_of e).rs2))
 stalled e older Stores is load open' = absurd (cc)
 stalled e older Calls is load open' = absurd (cc)
 
 abbrev could : List Entry → Entry → Bool
-could older e = is_waiting e.stage && (is_available older e.profile.rs1 && is_available older e.profile.rs2)
+could older e = is_waiting e.stage && (is_available older (profile_of e).rs1 && is_available older (profile_of e).rs2)
 
 never_waits : (a b d : Bool) → (a && b) ≡ false → (a && (b && d)) ≡ false
 never_waits true true d h = absurd (cc)
@@ -337,7 +337,7 @@ never_waits false b d h = refl
 
 could_can : (older : List Entry) (e : Entry) → could older e ≡ false → can_begin older e ≡ false
 unfolding is_ready
-could_can older e none = never_waits (is_waiting e.stage) (is_available older e.profile.rs1 && is_available older e.profile.rs2) (is_free e.profile.class older) none
+could_can older e none = never_waits (is_waiting e.stage) (is_available older (profile_of e).rs1 && is_available older (profile_of e).rs2) (is_free (profile_of e).class older) none
 
 could_can_at : (older w : List Entry) (i : ℕ) → could_at older w i ≡ false → can_at older w i ≡ false
 could_can_at older [] i none = refl
@@ -350,7 +350,7 @@ not_candidate false w b i board is none = board.candidates i is
 
 load_stalls : (older w : List Entry) (i : ℕ) → holds_at is_load w i ≡ true → are_stored (older ++ take i w) ≡ false → can_at older w i ≡ false
 load_stalls older [] i load open' = refl
-load_stalls older (e ∷ w) zero load open' = stalled e older e.profile.class refl load (ap are_stored (sym (append-nil older)) ∙ open')
+load_stalls older (e ∷ w) zero load open' = stalled e older (profile_of e).class refl load (ap are_stored (sym (append-nil older)) ∙ open')
 load_stalls older (e ∷ w) (suc i) load open' = load_stalls (older ++ e ∷ []) w i load (ap are_stored (append_assoc older (e ∷ []) (take i w)) ∙ open')
 
 -- a load and a store are not the same
@@ -362,7 +362,7 @@ apart_by Calls h = refl
 
 load_open : (w : List Entry) (i : ℕ) → holds_at is_load w i ≡ true → holds_at is_open_store w i ≡ true → ⊥
 load_open [] i load open' = absurd (cc)
-load_open (e ∷ w) zero load open' = let none = apart_by e.profile.class load in let some = and_right (not (is_done e.stage)) (is_storing e.profile.class) open' in absurd (cc)
+load_open (e ∷ w) zero load open' = let none = apart_by (profile_of e).class load in let some = and_right (not (is_done e.stage)) (is_storing (profile_of e).class) open' in absurd (cc)
 load_open (e ∷ w) (suc i) load open' = load_open w i load open'
 
 waits_behind : (w : List Entry) (b : Board) (m i : ℕ) → IsBoard w b → IsNext b.storing b.base m → has b.loads (b.base + i) ≡ true → m ≤ b.base + i → can_at [] w i ≡ false

@@ -6,7 +6,7 @@ use Rattle.std.proofs.Math.ListN.{length-set}
 use Rattle.std.proofs.lemmas.List.{append-nil}
 use Rattle.std.proofs.lemmas.Nat.Bits.{bit_at-zero}
 use Rattle.diva_core.specs.Cycle.{is_store}
-use Rattle.diva_ooo.specs.declared.entry.Entry.{Entry}
+use Rattle.diva_ooo.specs.Entry.{Entry, profile_of}
 use Rattle.diva_ooo.specs.declared.entry.Progress.{Progress}
 use Rattle.diva_ooo.specs.declared.entry.Progress.TheVariants.{Waiting, Running, Done}
 use Rattle.diva_ooo.specs.declared.board.Board.{Board}
@@ -17,6 +17,7 @@ use Rattle.diva_ooo.specs.Board.{IsBoard, IsWrittenBetween, could_at, is_load, i
 use Rattle.diva_ooo.specs.Finish.{is_running}
 use Rattle.diva_ooo.specs.Issue.{is_available, is_awaited, is_done, is_storing, is_waiting}
 use Rattle.diva_ooo.specs.MarkSets.{AreThose, has, holds_at}
+use Rattle.diva_ahead.specs.Effects.{done_by}
 use Rattle.diva_ooo.proofs.Marking.{and_off, holds_here, those_kept, those_lowered, those_none, those_pop, those_push, those_same, those_set}
 
 -- ---- what holds of each stage
@@ -38,11 +39,11 @@ done_only Done is = (refl, refl)
 
 -- ---- what is available
 
-awaited_more : (older : List Entry) (e : Entry) (so : Bool) (n : ℕ) → is_awaited so (older ++ e ∷ []) n ≡ (if e.profile.rd == n then not (is_done e.stage) else is_awaited so older n)
+awaited_more : (older : List Entry) (e : Entry) (so : Bool) (n : ℕ) → is_awaited so (older ++ e ∷ []) n ≡ (if (profile_of e).rd == n then not (is_done e.stage) else is_awaited so older n)
 awaited_more [] e so n = refl
-awaited_more (x ∷ older) e so n = awaited_more older e (if x.profile.rd == n then not (is_done x.stage) else so) n
+awaited_more (x ∷ older) e so n = awaited_more older e (if (profile_of x).rd == n then not (is_done x.stage) else so) n
 
-available_more : (o : List Entry) (e : Entry) (n : ℕ) → is_available (o ++ e ∷ []) n ≡ ((n == 0) || not (if e.profile.rd == n then not (is_done e.stage) else is_awaited false o n))
+available_more : (o : List Entry) (e : Entry) (n : ℕ) → is_available (o ++ e ∷ []) n ≡ ((n == 0) || not (if (profile_of e).rd == n then not (is_done e.stage) else is_awaited false o n))
 available_more o e n = ap (λ (b : Bool). (n == 0) || not b) (awaited_more o e false n)
 
 more_by : (c z d a b : Bool) → (z || not a) ≡ (z || not b) → (z || not (if c then not d else a)) ≡ (z || not (if c then not d else b))
@@ -56,7 +57,7 @@ AreAlike r o1 o2 = (n : ℕ) → ((n == r) && not (r == 0)) ≡ false → is_ava
 pub alike_more : (r : ℕ) (o1 o2 : List Entry) (x : Entry) → AreAlike r o1 o2 → AreAlike r (o1 ++ x ∷ []) (o2 ++ x ∷ [])
 alike_more r o1 o2 x alike = λ n other.
     available_more o1 x n
-    ∙ more_by (x.profile.rd == n) (n == 0) (is_done x.stage) (is_awaited false o1 n) (is_awaited false o2 n) (alike n other)
+    ∙ more_by ((profile_of x).rd == n) (n == 0) (is_done x.stage) (is_awaited false o1 n) (is_awaited false o2 n) (alike n other)
     ∙ sym (available_more o2 x n)
 
 unread : (a b z : Bool) → ((a || b) && z) ≡ false → ((a && z) ≡ false) × ((b && z) ≡ false)
@@ -72,14 +73,14 @@ unread false false false h = (refl, refl)
 could_alike : (r : ℕ) (o1 o2 w : List Entry) (i : ℕ) → AreAlike r o1 o2 → holds_at (reads r) w i ≡ false → could_at o1 w i ≡ could_at o2 w i
 could_alike r o1 o2 [] i alike not_read = refl
 could_alike r o1 o2 (e ∷ w) zero alike not_read =
-    let both = unread (e.profile.rs1 == r) (e.profile.rs2 == r) (not (r == 0)) not_read in
-    ap (λ (b : Bool). is_waiting e.stage && (b && is_available o1 e.profile.rs2)) (alike e.profile.rs1 both.0)
-    ∙ ap (λ (b : Bool). is_waiting e.stage && (is_available o2 e.profile.rs1 && b)) (alike e.profile.rs2 both.1)
+    let both = unread ((profile_of e).rs1 == r) ((profile_of e).rs2 == r) (not (r == 0)) not_read in
+    ap (λ (b : Bool). is_waiting e.stage && (b && is_available o1 (profile_of e).rs2)) (alike (profile_of e).rs1 both.0)
+    ∙ ap (λ (b : Bool). is_waiting e.stage && (is_available o2 (profile_of e).rs1 && b)) (alike (profile_of e).rs2 both.1)
 could_alike r o1 o2 (e ∷ w) (suc i) alike not_read = could_alike r (o1 ++ e ∷ []) (o2 ++ e ∷ []) w i (alike_more r o1 o2 e alike) not_read
 
 none_reads : (w : List Entry) (i : ℕ) → holds_at (reads 0) w i ≡ false
 none_reads [] i = refl
-none_reads (e ∷ w) zero = and_off ((e.profile.rs1 == 0) || (e.profile.rs2 == 0))
+none_reads (e ∷ w) zero = and_off (((profile_of e).rs1 == 0) || ((profile_of e).rs2 == 0))
 none_reads (e ∷ w) (suc i) = none_reads w i
 
 could_same : (o1 o2 w : List Entry) (i : ℕ) → ((n : ℕ) → is_available o1 n ≡ is_available o2 n) → could_at o1 w i ≡ could_at o2 w i
@@ -87,17 +88,17 @@ could_same o1 o2 w i same = could_alike 0 o1 o2 w i (λ n other. same n) (none_r
 
 -- ---- an entry that is further
 
-pub staged_same : (o : List Entry) (x y : Entry) → y.profile ≡ x.profile → is_done y.stage ≡ is_done x.stage → (n : ℕ) → is_available (o ++ y ∷ []) n ≡ is_available (o ++ x ∷ []) n
+pub staged_same : (o : List Entry) (x y : Entry) → profile_of y ≡ profile_of x → is_done y.stage ≡ is_done x.stage → (n : ℕ) → is_available (o ++ y ∷ []) n ≡ is_available (o ++ x ∷ []) n
 staged_same o x y profile stage n =
     available_more o y n
     ∙ ap (λ (p : Profile). (n == 0) || not (if p.rd == n then not (is_done y.stage) else is_awaited false o n)) profile
-    ∙ ap (λ (b : Bool). (n == 0) || not (if x.profile.rd == n then not b else is_awaited false o n)) stage
+    ∙ ap (λ (b : Bool). (n == 0) || not (if (profile_of x).rd == n then not b else is_awaited false o n)) stage
     ∙ sym (available_more o x n)
 
 waits_not : (older w : List Entry) (y : Entry) → is_waiting y.stage ≡ false → could_at older (y ∷ w) 0 ≡ false
 waits_not older w y idle = rw idle refl
 
-could_begun : (older w : List Entry) (at i : ℕ) (x y : Entry) → slice_get w at ≡ Some x → y.profile ≡ x.profile → is_done y.stage ≡ is_done x.stage → is_waiting y.stage ≡ false
+could_begun : (older w : List Entry) (at i : ℕ) (x y : Entry) → slice_get w at ≡ Some x → profile_of y ≡ profile_of x → is_done y.stage ≡ is_done x.stage → is_waiting y.stage ≡ false
     → could_at older w i ≡ false → could_at older (slice_set w at y) i ≡ false
 could_begun older [] at i x y is profile stage idle h = h
 could_begun older (e ∷ w) zero zero x y is profile stage idle h = waits_not older w y idle
@@ -115,11 +116,11 @@ zero_by false n r is same other =
     let off : (true && not false) ≡ false = ap (λ (c : Bool). c && not false) (sym equal) ∙ ap (λ (c : Bool). (n == r) && not c) (sym some) ∙ other in
     absurd (cc)
 
-finished_by : (c : Bool) (o : List Entry) (x y : Entry) (n : ℕ) → y.profile ≡ x.profile → (x.profile.rd == n) ≡ c → ((n == x.profile.rd) && not (x.profile.rd == 0)) ≡ false
+finished_by : (c : Bool) (o : List Entry) (x y : Entry) (n : ℕ) → profile_of y ≡ profile_of x → ((profile_of x).rd == n) ≡ c → ((n == (profile_of x).rd) && not ((profile_of x).rd == 0)) ≡ false
     → is_available (o ++ y ∷ []) n ≡ is_available (o ++ x ∷ []) n
 finished_by true o x y n profile is other =
-    let same : x.profile.rd ≡ n = grind (arith, nat_tests) in
-    let none : (n == 0) ≡ true = zero_by (n == 0) n (x.profile.rd) refl same other in
+    let same : (profile_of x).rd ≡ n = grind (arith, nat_tests) in
+    let none : (n == 0) ≡ true = zero_by (n == 0) n ((profile_of x).rd) refl same other in
     rw none refl
 finished_by false o x y n profile is other =
     available_more o y n
@@ -128,20 +129,20 @@ finished_by false o x y n profile is other =
     ∙ ap (λ (c : Bool). (n == 0) || not (if c then not (is_done x.stage) else is_awaited false o n)) (sym is)
     ∙ sym (available_more o x n)
 
-could_finished : (older w : List Entry) (at i : ℕ) (x y : Entry) → slice_get w at ≡ Some x → y.profile ≡ x.profile → is_waiting y.stage ≡ false → holds_at (reads x.profile.rd) w i ≡ false
+could_finished : (older w : List Entry) (at i : ℕ) (x y : Entry) → slice_get w at ≡ Some x → profile_of y ≡ profile_of x → is_waiting y.stage ≡ false → holds_at (reads (profile_of x).rd) w i ≡ false
     → could_at older w i ≡ false → could_at older (slice_set w at y) i ≡ false
 could_finished older [] at i x y is profile idle unread' h = h
 could_finished older (e ∷ w) zero zero x y is profile idle unread' h = waits_not older w y idle
 could_finished older (e ∷ w) zero (suc i) x y is profile idle unread' h =
     let here : e ≡ x = cc in
-    could_alike x.profile.rd (older ++ y ∷ []) (older ++ x ∷ []) w i (λ n other. finished_by (x.profile.rd == n) older x y n profile refl other) unread'
+    could_alike (profile_of x).rd (older ++ y ∷ []) (older ++ x ∷ []) w i (λ n other. finished_by ((profile_of x).rd == n) older x y n profile refl other) unread'
     ∙ ap (λ (z : Entry). could_at (older ++ z ∷ []) w i) (sym here)
     ∙ h
 could_finished older (e ∷ w) (suc at) zero x y is profile idle unread' h = h
 could_finished older (e ∷ w) (suc at) (suc i) x y is profile idle unread' h = could_finished (older ++ e ∷ []) w at i x y is profile idle unread' h
 
 -- behind an entry that writes the register the same is available
-covered_by : (c : Bool) (o1 o2 : List Entry) (r n : ℕ) (e : Entry) → AreAlike r o1 o2 → e.profile.rd ≡ r → (e.profile.rd == n) ≡ c → is_available (o1 ++ e ∷ []) n ≡ is_available (o2 ++ e ∷ []) n
+covered_by : (c : Bool) (o1 o2 : List Entry) (r n : ℕ) (e : Entry) → AreAlike r o1 o2 → (profile_of e).rd ≡ r → ((profile_of e).rd == n) ≡ c → is_available (o1 ++ e ∷ []) n ≡ is_available (o2 ++ e ∷ []) n
 covered_by true o1 o2 r n e alike writes' is =
     available_more o1 e n
     ∙ ap (λ (c : Bool). (n == 0) || not (if c then not (is_done e.stage) else is_awaited false o1 n)) is
@@ -151,7 +152,7 @@ covered_by false o1 o2 r n e alike writes' is =
     let other : (n == r) ≡ false = grind (arith, nat_tests) in
     alike_more r o1 o2 e alike n (rw other refl)
 
-writes_it : (e : Entry) (r : ℕ) (c : Bool) → (e.profile.rd == r) ≡ c → (c && not (r == 0)) ≡ true → e.profile.rd ≡ r
+writes_it : (e : Entry) (r : ℕ) (c : Bool) → ((profile_of e).rd == r) ≡ c → (c && not (r == 0)) ≡ true → (profile_of e).rd ≡ r
 writes_it e r true is there = grind (arith, nat_tests)
 writes_it e r false is there = absurd (cc)
 
@@ -159,23 +160,23 @@ could_between : (r : ℕ) (o1 o2 w : List Entry) (j i : ℕ) → AreAlike r o1 o
 could_between r o1 o2 [] j i alike there h = refl
 could_between r o1 o2 (e ∷ w) j zero alike there h = absurd (omega arith)
 could_between r o1 o2 (e ∷ w) zero (suc i) alike there h =
-    could_same (o1 ++ e ∷ []) (o2 ++ e ∷ []) w i (λ n. covered_by (e.profile.rd == n) o1 o2 r n e alike (writes_it e r (e.profile.rd == r) refl there) refl)
+    could_same (o1 ++ e ∷ []) (o2 ++ e ∷ []) w i (λ n. covered_by ((profile_of e).rd == n) o1 o2 r n e alike (writes_it e r ((profile_of e).rd == r) refl there) refl)
 could_between r o1 o2 (e ∷ w) (suc j) (suc i) alike there h = could_between r (o1 ++ e ∷ []) (o2 ++ e ∷ []) w j i (alike_more r o1 o2 e alike) there (omega arith)
 
-could_covered : (older w : List Entry) (at j i : ℕ) (x y : Entry) → slice_get w at ≡ Some x → y.profile ≡ x.profile → holds_at (writes x.profile.rd) w j ≡ true → at < j → j < i
+could_covered : (older w : List Entry) (at j i : ℕ) (x y : Entry) → slice_get w at ≡ Some x → profile_of y ≡ profile_of x → holds_at (writes (profile_of x).rd) w j ≡ true → at < j → j < i
     → could_at older w i ≡ false → could_at older (slice_set w at y) i ≡ false
 could_covered older [] at j i x y is profile there h k none = refl
 could_covered older (e ∷ w) at j zero x y is profile there h k none = absurd (omega arith)
 could_covered older (e ∷ w) at zero (suc i) x y is profile there h k none = absurd (omega arith)
 could_covered older (e ∷ w) zero (suc j) (suc i) x y is profile there h k none =
     let here : e ≡ x = cc in
-    could_between x.profile.rd (older ++ y ∷ []) (older ++ x ∷ []) w j i (λ n other. finished_by (x.profile.rd == n) older x y n profile refl other) there (omega arith)
+    could_between (profile_of x).rd (older ++ y ∷ []) (older ++ x ∷ []) w j i (λ n other. finished_by ((profile_of x).rd == n) older x y n profile refl other) there (omega arith)
     ∙ ap (λ (z : Entry). could_at (older ++ z ∷ []) w i) (sym here)
     ∙ none
 could_covered older (e ∷ w) (suc at) (suc j) (suc i) x y is profile there h k none = could_covered (older ++ e ∷ []) w at j i x y is profile there (omega arith) (omega arith) none
 
-could_done : (w : List Entry) (at i : ℕ) (x y : Entry) → slice_get w at ≡ Some x → y.profile ≡ x.profile → is_waiting y.stage ≡ false
-    → (holds_at (reads x.profile.rd) w i ≡ false) ⊎ IsWrittenBetween w x.profile.rd at i → could_at [] w i ≡ false → could_at [] (slice_set w at y) i ≡ false
+could_done : (w : List Entry) (at i : ℕ) (x y : Entry) → slice_get w at ≡ Some x → profile_of y ≡ profile_of x → is_waiting y.stage ≡ false
+    → (holds_at (reads (profile_of x).rd) w i ≡ false) ⊎ IsWrittenBetween w (profile_of x).rd at i → could_at [] w i ≡ false → could_at [] (slice_set w at y) i ≡ false
 could_done w at i x y is profile idle (inl unread') h = could_finished [] w at i x y is profile idle unread' h
 could_done w at i x y is profile idle (inr between) h = could_covered [] w at between.place i x y is profile between.there between.behind between.before h
 
@@ -186,7 +187,7 @@ gone_by true z = refl
 gone_by false z = refl
 
 gone_same : (e : Entry) → is_done e.stage ≡ true → (n : ℕ) → is_available (e ∷ []) n ≡ is_available [] n
-gone_same e done n = rw done (gone_by (e.profile.rd == n) (n == 0))
+gone_same e done n = rw done (gone_by ((profile_of e).rd == n) (n == 0))
 
 could_pushed : (older w : List Entry) (e : Entry) (i : ℕ) → (i ≡ length w → ⊥) → could_at older (w ++ e ∷ []) i ≡ could_at older w i
 could_pushed older [] e zero other = absurd (other refl)
@@ -234,7 +235,7 @@ board_pop w e b few i is =
       done = those_pop (λ x. is_done x.stage) w e b.base b.done i.done;
       gone = λ n h. gone_one (nat_lt n b.base) w e b n i is refl h;
       storing = those_pop is_open_store w e b.base b.storing i.storing;
-      stored = those_pop (λ x. is_store x.effect) w e b.base b.stored i.stored;
+      stored = those_pop (λ x. is_store (done_by x.result)) w e b.base b.stored i.stored;
       loads = those_pop is_load w e b.base b.loads i.loads;
       candidates = λ n none.
           let at : b.base + 1 + n ≡ b.base + suc n = omega arith in
@@ -245,20 +246,20 @@ board_pop w e b few i is =
       readers = λ n h. those_pop (reads n) w e b.base (get_or b.readers n no_mark) (i.readers n h);
     }
 
-not_open : (x y : Entry) → y.profile ≡ x.profile → is_done y.stage ≡ is_done x.stage → is_open_store y ≡ is_open_store x
-not_open x y profile stage = ap (λ (p : Profile). not (is_done y.stage) && is_storing p.class) profile ∙ ap (λ (c : Bool). not c && is_storing x.profile.class) stage
+not_open : (x y : Entry) → profile_of y ≡ profile_of x → is_done y.stage ≡ is_done x.stage → is_open_store y ≡ is_open_store x
+not_open x y profile stage = ap (λ (p : Profile). not (is_done y.stage) && is_storing p.class) profile ∙ ap (λ (c : Bool). not c && is_storing (profile_of x).class) stage
 
-load_same : (x y : Entry) → y.profile ≡ x.profile → is_load y ≡ is_load x
+load_same : (x y : Entry) → profile_of y ≡ profile_of x → is_load y ≡ is_load x
 load_same x y profile = ap (λ (p : Profile). is_loading p.class) profile
 
-written_same : (n : ℕ) (x y : Entry) → y.profile ≡ x.profile → writes n y ≡ writes n x
+written_same : (n : ℕ) (x y : Entry) → profile_of y ≡ profile_of x → writes n y ≡ writes n x
 written_same n x y profile = ap (λ (p : Profile). (p.rd == n) && not (n == 0)) profile
 
-read_same : (n : ℕ) (x y : Entry) → y.profile ≡ x.profile → reads n y ≡ reads n x
+read_same : (n : ℕ) (x y : Entry) → profile_of y ≡ profile_of x → reads n y ≡ reads n x
 read_same n x y profile = ap (λ (p : Profile). ((p.rs1 == n) || (p.rs2 == n)) && not (n == 0)) profile
 
 -- an entry that runs goes on
-pub board_runs : (w : List Entry) (at : ℕ) (x y : Entry) (b : Board) → IsBoard w b → slice_get w at ≡ Some x → is_running x.stage ≡ true → is_running y.stage ≡ true → y.profile ≡ x.profile → y.effect ≡ x.effect → IsBoard (slice_set w at y) b
+pub board_runs : (w : List Entry) (at : ℕ) (x y : Entry) (b : Board) → IsBoard w b → slice_get w at ≡ Some x → is_running x.stage ≡ true → is_running y.stage ≡ true → profile_of y ≡ profile_of x → done_by y.result ≡ done_by x.result → IsBoard (slice_set w at y) b
 board_runs w at x y b i is was now profile effect =
     let before = runs_only x.stage was in
     let after = runs_only y.stage now in
@@ -269,7 +270,7 @@ board_runs w at x y b i is was now profile effect =
       done = those_same (λ e. is_done e.stage) w at x y b.base b.done i.done is (after.1 ∙ sym before.1);
       gone = i.gone;
       storing = those_same is_open_store w at x y b.base b.storing i.storing is (not_open x y profile (after.1 ∙ sym before.1));
-      stored = those_same (λ e. is_store e.effect) w at x y b.base b.stored i.stored is (ap is_store effect);
+      stored = those_same (λ e. is_store (done_by e.result)) w at x y b.base b.stored i.stored is (ap is_store effect);
       loads = those_same is_load w at x y b.base b.loads i.loads is (load_same x y profile);
       candidates = λ n none. could_begun [] w at n x y is profile (after.1 ∙ sym before.1) after.0 (i.candidates n none);
       write_sets = i.write_sets;
@@ -283,7 +284,7 @@ or_off_right : (b : Bool) → (b || false) ≡ b
 or_off_right true = refl
 or_off_right false = refl
 
-pub board_begun : (w : List Entry) (at : ℕ) (x y : Entry) (b : Board) (waiting running stored : MarkSet) (stores : Bool) → IsBoard w b → slice_get w at ≡ Some x → is_waiting x.stage ≡ true → is_running y.stage ≡ true → y.profile ≡ x.profile → is_store x.effect ≡ false → is_store y.effect ≡ stores
+pub board_begun : (w : List Entry) (at : ℕ) (x y : Entry) (b : Board) (waiting running stored : MarkSet) (stores : Bool) → IsBoard w b → slice_get w at ≡ Some x → is_waiting x.stage ≡ true → is_running y.stage ≡ true → profile_of y ≡ profile_of x → is_store (done_by x.result) ≡ false → is_store (done_by y.result) ≡ stores
     → ((i : ℕ) → has waiting i ≡ (if i == b.base + at then false else has b.waiting i))
     → ((i : ℕ) → has running i ≡ (if i == b.base + at then true else has b.running i))
     → ((i : ℕ) → has stored i ≡ (if i == b.base + at then stores || has b.stored (b.base + at) else has b.stored i))
@@ -299,8 +300,8 @@ board_begun w at x y b waiting running stored stores i is was now profile none d
       gone = i.gone;
       storing = those_same is_open_store w at x y b.base b.storing i.storing is (not_open x y profile (after.1 ∙ sym before.1));
       stored =
-          those_set (λ e. is_store e.effect) w at x y b.base stores b.stored stored i.stored is does
-          (λ k. adds k ∙ ap (λ (c : Bool). if k == b.base + at then c else has b.stored k) (ap (λ (c : Bool). stores || c) (i.stored at ∙ holds_here (λ e. is_store e.effect) w at x is ∙ none) ∙ or_off_right stores));
+          those_set (λ e. is_store (done_by e.result)) w at x y b.base stores b.stored stored i.stored is does
+          (λ k. adds k ∙ ap (λ (c : Bool). if k == b.base + at then c else has b.stored k) (ap (λ (c : Bool). stores || c) (i.stored at ∙ holds_here (λ e. is_store (done_by e.result)) w at x is ∙ none) ∙ or_off_right stores));
       loads = those_same is_load w at x y b.base b.loads i.loads is (load_same x y profile);
       candidates = λ n none. could_begun [] w at n x y is profile (after.1 ∙ sym before.1) after.0 (i.candidates n none);
       write_sets = i.write_sets;
@@ -318,12 +319,12 @@ or_off false true h = absurd (cc)
 or_off false false h = (refl, refl)
 
 -- an entry is done
-pub board_done : (w : List Entry) (at : ℕ) (x y : Entry) (b : Board) (running done storing candidates waiting : MarkSet) → IsBoard w b → slice_get w at ≡ Some x → is_running x.stage ≡ true → is_done y.stage ≡ true → y.profile ≡ x.profile → y.effect ≡ x.effect
+pub board_done : (w : List Entry) (at : ℕ) (x y : Entry) (b : Board) (running done storing candidates waiting : MarkSet) → IsBoard w b → slice_get w at ≡ Some x → is_running x.stage ≡ true → is_done y.stage ≡ true → profile_of y ≡ profile_of x → done_by y.result ≡ done_by x.result
     → ((i : ℕ) → has running i ≡ (if i == b.base + at then false else has b.running i))
     → ((i : ℕ) → has done i ≡ (if i == b.base + at then true else has b.done i))
     → ((i : ℕ) → has storing i ≡ (if i == b.base + at then false else has b.storing i))
     → ((i : ℕ) → has candidates i ≡ (has b.candidates i || has waiting i))
-    → ((i : ℕ) → has waiting (b.base + i) ≡ false → (holds_at (reads x.profile.rd) w i ≡ false) ⊎ IsWrittenBetween w x.profile.rd at i)
+    → ((i : ℕ) → has waiting (b.base + i) ≡ false → (holds_at (reads (profile_of x).rd) w i ≡ false) ⊎ IsWrittenBetween w (profile_of x).rd at i)
     → IsBoard (slice_set w at y) (record b { running = running; done = done; storing = storing; candidates = candidates })
 board_done w at x y b running done storing candidates waiting i is was now profile effect takes puts closes adds others =
     let before = runs_only x.stage was in
@@ -335,7 +336,7 @@ board_done w at x y b running done storing candidates waiting i is was now profi
       done = those_set (λ e. is_done e.stage) w at x y b.base true b.done done i.done is now puts;
       gone = λ n h. puts n ∙ ap (λ (c : Bool). if c then true else has b.done n) (apart_mark b.base at n h) ∙ i.gone n h;
       storing = those_set is_open_store w at x y b.base false b.storing storing i.storing is (closed y now) closes;
-      stored = those_same (λ e. is_store e.effect) w at x y b.base b.stored i.stored is (ap is_store effect);
+      stored = those_same (λ e. is_store (done_by e.result)) w at x y b.base b.stored i.stored is (ap is_store effect);
       loads = those_same is_load w at x y b.base b.loads i.loads is (load_same x y profile);
       candidates = λ n none.
           let neither = or_off (has b.candidates (b.base + n)) (has waiting (b.base + n)) (sym (adds (b.base + n)) ∙ none) in
@@ -406,7 +407,7 @@ put_sets xs r mark t long puts = λ n h i. ap (λ (s : MarkSet). has s i) (get_s
 
 none_writes : (w : List Entry) (i : ℕ) → holds_at (writes 0) w i ≡ false
 none_writes [] i = refl
-none_writes (e ∷ w) zero = and_off (e.profile.rd == 0)
+none_writes (e ∷ w) zero = and_off ((profile_of e).rd == 0)
 none_writes (e ∷ w) (suc i) = none_writes w i
 
 -- those of x0 were taken out, of which there are none
@@ -426,7 +427,7 @@ not_x0 : (a z : Bool) → z ≡ false → a ≡ (a && not z)
 not_x0 true z is = rw is refl
 not_x0 false z is = refl
 
-writers_push : (w : List Entry) (e : Entry) (base : ℕ) (xs : List MarkSet) (t : MarkSet) (r : ℕ) → r ≡ e.profile.rd → length xs ≡ 32
+writers_push : (w : List Entry) (e : Entry) (base : ℕ) (xs : List MarkSet) (t : MarkSet) (r : ℕ) → r ≡ (profile_of e).rd → length xs ≡ 32
     → IsPut true (base + length w) (get_or xs r no_mark) t
     → ((n : ℕ) → n < 32 → AreThose (writes n) w base (get_or xs n no_mark))
     → (n : ℕ) → n < 32 → AreThose (writes n) (w ++ e ∷ []) base (get_or (slice_set (slice_set xs r t) 0 no_mark) n no_mark)
@@ -436,7 +437,7 @@ writers_push w e base xs t r is long puts those n h =
     those_cleared (0 == n) writes (w ++ e ∷ []) base ys n refl (omega arith) (none_writes (w ++ e ∷ []))
     (λ some.
     those_push (writes n) w e base (get_or xs n no_mark) (get_or ys n no_mark) (r == n) (those n h)
-    (ap (λ (m : ℕ). m == n) is ∙ not_x0 (e.profile.rd == n) (n == 0) some)
+    (ap (λ (m : ℕ). m == n) is ∙ not_x0 ((profile_of e).rd == n) (n == 0) some)
     (put_sets xs r (base + length w) t long puts n h))
 
 either : (a b c : Bool) → (a || (b || c)) ≡ ((a || b) || c)
@@ -461,7 +462,7 @@ put_both a b mark s t u first second = λ i.
     ∙ ap (λ (c : Bool). if i == mark then a || (if mark == mark then b || has s mark else has s mark) else c) (first i)
     ∙ joint (i == mark) a b i mark s refl
 
-readers_push : (w : List Entry) (e : Entry) (base : ℕ) (xs : List MarkSet) (t u : MarkSet) (r1 r2 : ℕ) → r1 ≡ e.profile.rs1 → r2 ≡ e.profile.rs2 → length xs ≡ 32
+readers_push : (w : List Entry) (e : Entry) (base : ℕ) (xs : List MarkSet) (t u : MarkSet) (r1 r2 : ℕ) → r1 ≡ (profile_of e).rs1 → r2 ≡ (profile_of e).rs2 → length xs ≡ 32
     → IsPut true (base + length w) (get_or xs r1 no_mark) t → IsPut true (base + length w) (get_or (slice_set xs r1 t) r2 no_mark) u
     → ((n : ℕ) → n < 32 → AreThose (reads n) w base (get_or xs n no_mark))
     → (n : ℕ) → n < 32 → AreThose (reads n) (w ++ e ∷ []) base (get_or (slice_set (slice_set (slice_set xs r1 t) r2 u) 0 no_mark) n no_mark)
@@ -476,22 +477,22 @@ readers_push w e base xs t u r1 r2 is1 is2 long first second those n h =
     those_push (reads n) w e base (get_or xs n no_mark) (get_or zs n no_mark) ((r2 == n) || (r1 == n)) (those n h)
     (turned (r2 == n) (r1 == n)
     ∙ ap (λ (m : ℕ). (m == n) || (r2 == n)) is1
-    ∙ ap (λ (m : ℕ). (e.profile.rs1 == n) || (m == n)) is2
-    ∙ not_x0 ((e.profile.rs1 == n) || (e.profile.rs2 == n)) (n == 0) some)
+    ∙ ap (λ (m : ℕ). ((profile_of e).rs1 == n) || (m == n)) is2
+    ∙ not_x0 (((profile_of e).rs1 == n) || ((profile_of e).rs2 == n)) (n == 0) some)
     (put_both (r2 == n) (r1 == n) mark (get_or xs n no_mark) (get_or ys n no_mark) (get_or zs n no_mark) (put_sets xs r1 mark t long first n h) (put_sets ys r2 mark u (once ∙ long) second n h)))
 
 -- ---- an entry more, and an entry less
 
-could_last : (older w : List Entry) (e : Entry) (n : ℕ) → n ≡ length w → (is_available (older ++ w) e.profile.rs1 && is_available (older ++ w) e.profile.rs2) ≡ false → could_at older (w ++ e ∷ []) n ≡ false
+could_last : (older w : List Entry) (e : Entry) (n : ℕ) → n ≡ length w → (is_available (older ++ w) (profile_of e).rs1 && is_available (older ++ w) (profile_of e).rs2) ≡ false → could_at older (w ++ e ∷ []) n ≡ false
 could_last older [] e zero is none =
-    let here : (is_available older e.profile.rs1 && is_available older e.profile.rs2) ≡ false = ap (λ (o : List Entry). is_available o e.profile.rs1 && is_available o e.profile.rs2) (sym (append-nil older)) ∙ none in
+    let here : (is_available older (profile_of e).rs1 && is_available older (profile_of e).rs2) ≡ false = ap (λ (o : List Entry). is_available o (profile_of e).rs1 && is_available o (profile_of e).rs2) (sym (append-nil older)) ∙ none in
     rw here (and_off (is_waiting e.stage))
 could_last older [] e (suc n) is none = absurd (omega arith)
 could_last older (x ∷ w) e zero is none = absurd (omega arith)
 could_last older (x ∷ w) e (suc n) is none =
-    could_last (older ++ x ∷ []) w e n (omega arith) (ap (λ (o : List Entry). is_available o e.profile.rs1 && is_available o e.profile.rs2) (append_assoc older (x ∷ []) w) ∙ none)
+    could_last (older ++ x ∷ []) w e n (omega arith) (ap (λ (o : List Entry). is_available o (profile_of e).rs1 && is_available o (profile_of e).rs2) (append_assoc older (x ∷ []) w) ∙ none)
 
-pushed_by : (c ready : Bool) (w : List Entry) (e : Entry) (n : ℕ) (b : Board) → IsBoard w b → ready ≡ (is_available w e.profile.rs1 && is_available w e.profile.rs2)
+pushed_by : (c ready : Bool) (w : List Entry) (e : Entry) (n : ℕ) (b : Board) → IsBoard w b → ready ≡ (is_available w (profile_of e).rs1 && is_available w (profile_of e).rs2)
     → (b.base + n == b.base + length w) ≡ c → (if c then ready || has b.candidates (b.base + length w) else has b.candidates (b.base + n)) ≡ false → could_at [] (w ++ e ∷ []) n ≡ false
 pushed_by true ready w e n b i sources is none =
     let at : n ≡ length w = grind (arith, nat_tests) in
@@ -507,8 +508,8 @@ open_by_stage (Running left) c waits = absurd (cc)
 open_by_stage Done c waits = absurd (cc)
 
 -- a store that waits is not done
-pub open_waiting : (e : Entry) (p : Profile) → p ≡ e.profile → is_waiting e.stage ≡ true → is_storing p.class ≡ is_open_store e
-open_waiting e p is waits = ap (λ (q : Profile). is_storing q.class) is ∙ open_by_stage e.stage e.profile.class waits
+pub open_waiting : (e : Entry) (p : Profile) → p ≡ profile_of e → is_waiting e.stage ≡ true → is_storing p.class ≡ is_open_store e
+open_waiting e p is waits = ap (λ (q : Profile). is_storing q.class) is ∙ open_by_stage e.stage (profile_of e).class waits
 
 -- the sets by register behind an entry more
 abbrev with_registers : Board → (rd r1 r2 : ℕ) (writers first second : MarkSet) → Board
@@ -518,8 +519,8 @@ with_registers b rd r1 r2 writers first second = record b {
 }
 
 board_more : (w : List Entry) (e : Entry) (b : Board) (candidates waiting storing loads writers first second : MarkSet) (rd r1 r2 : ℕ) (ready stores loading : Bool)
-    → IsBoard w b → is_waiting e.stage ≡ true → is_store e.effect ≡ false → rd ≡ e.profile.rd → r1 ≡ e.profile.rs1 → r2 ≡ e.profile.rs2
-    → ready ≡ (is_available w e.profile.rs1 && is_available w e.profile.rs2) → stores ≡ is_open_store e → loading ≡ is_load e
+    → IsBoard w b → is_waiting e.stage ≡ true → is_store (done_by e.result) ≡ false → rd ≡ (profile_of e).rd → r1 ≡ (profile_of e).rs1 → r2 ≡ (profile_of e).rs2
+    → ready ≡ (is_available w (profile_of e).rs1 && is_available w (profile_of e).rs2) → stores ≡ is_open_store e → loading ≡ is_load e
     → IsPut ready (b.base + length w) b.candidates candidates → IsPut true (b.base + length w) b.waiting waiting
     → IsPut stores (b.base + length w) b.storing storing → IsPut loading (b.base + length w) b.loads loads
     → IsPut true (b.base + length w) (get_or b.writers rd no_mark) writers
@@ -536,7 +537,7 @@ board_more w e b candidates waiting storing loads writers first second rd r1 r2 
       done = those_push (λ x. is_done x.stage) w e b.base b.done b.done false i.done (sym idle.1) (put_else false mark b.done refl);
       gone = i.gone;
       storing = those_push is_open_store w e b.base b.storing storing stores i.storing iss puts;
-      stored = those_push (λ x. is_store x.effect) w e b.base b.stored b.stored false i.stored (sym none) (put_else false mark b.stored refl);
+      stored = those_push (λ x. is_store (done_by x.result)) w e b.base b.stored b.stored false i.stored (sym none) (put_else false mark b.stored refl);
       loads = those_push is_load w e b.base b.loads loads loading i.loads isl putl;
       candidates = λ n no. pushed_by (b.base + n == b.base + length w) ready w e n b i sources refl (sym (putc (b.base + n)) ∙ no);
       write_sets = length-set (slice_set b.writers rd writers) 0 no_mark ∙ length-set b.writers rd writers ∙ i.write_sets;
@@ -550,8 +551,8 @@ board_more w e b candidates waiting storing loads writers first second rd r1 r2 
     }
 
 pub board_pushed : (w : List Entry) (e : Entry) (b c : Board) (candidates waiting storing loads writers first second : MarkSet) (rd r1 r2 : ℕ) (ready stores loading : Bool)
-    → IsBoard w b → is_waiting e.stage ≡ true → is_store e.effect ≡ false → rd ≡ e.profile.rd → r1 ≡ e.profile.rs1 → r2 ≡ e.profile.rs2
-    → ready ≡ (is_available w e.profile.rs1 && is_available w e.profile.rs2) → stores ≡ is_open_store e → loading ≡ is_load e
+    → IsBoard w b → is_waiting e.stage ≡ true → is_store (done_by e.result) ≡ false → rd ≡ (profile_of e).rd → r1 ≡ (profile_of e).rs1 → r2 ≡ (profile_of e).rs2
+    → ready ≡ (is_available w (profile_of e).rs1 && is_available w (profile_of e).rs2) → stores ≡ is_open_store e → loading ≡ is_load e
     → c ≡ record b { candidates = candidates; waiting = waiting; storing = storing; loads = loads }
     → IsPut ready (b.base + length w) b.candidates candidates → IsPut true (b.base + length w) b.waiting waiting
     → IsPut stores (b.base + length w) b.storing storing → IsPut loading (b.base + length w) b.loads loads
@@ -588,7 +589,7 @@ board_kept w b c most i keepw keepr keepd keeps keepe keepl ws rs writers reader
       done = those_kept (λ x. is_done x.stage) w b.base most b.done c.done i.done keepd;
       gone = λ n h. keepd n ∙ ap (λ (k : Bool). if k then has b.done n else false) (within_end b.base most n h) ∙ i.gone n h;
       storing = those_kept is_open_store w b.base most b.storing c.storing i.storing keeps;
-      stored = those_kept (λ x. is_store x.effect) w b.base most b.stored c.stored i.stored keepe;
+      stored = those_kept (λ x. is_store (done_by x.result)) w b.base most b.stored c.stored i.stored keepe;
       loads = those_kept is_load w b.base most b.loads c.loads i.loads keepl;
       candidates = λ n none. could_taken [] w most n (i.candidates n none);
       write_sets = ws;
@@ -619,7 +620,7 @@ board_lowered w b c is i lowerw lowerr lowerd lowers lowere lowerl lowerc ws rs 
       done = those_lowered (λ x. is_done x.stage) w b.base b.done c.done is i.done lowerd;
       gone = λ n h. absurd (omega arith);
       storing = those_lowered is_open_store w b.base b.storing c.storing is i.storing lowers;
-      stored = those_lowered (λ x. is_store x.effect) w b.base b.stored c.stored is i.stored lowere;
+      stored = those_lowered (λ x. is_store (done_by x.result)) w b.base b.stored c.stored is i.stored lowere;
       loads = those_lowered is_load w b.base b.loads c.loads is i.loads lowerl;
       candidates = λ n none.
           let at : b.base + n ≡ 32 + (0 + n) = omega arith in

@@ -6,7 +6,7 @@ use Rattle.diva_isa.specs.declared.record.Record.{Record}
 use Rattle.diva_ahead.specs.Effects.{done_by}
 use Rattle.diva_ahead.specs.Ahead.{Ahead, with_record, is_epoch}
 use Rattle.diva_core.specs.Told.{Told}
-use Rattle.diva_ooo.specs.declared.entry.Entry.{Entry}
+use Rattle.diva_ooo.specs.Entry.{Entry}
 use Rattle.diva_ooo.specs.Issue.{is_done}
 use Rattle.diva_ooo.specs.Ooo.{IsOooCall, OooCall, Ooo, call_of, completed, dropped, handed_over, ooo_call, restarted, with_handed, worked}
 

@@ -6,7 +6,7 @@ use Rattle.std.proofs.lemmas.Grind.{common_steps}
 use Rattle.std.proofs.lemmas.List.{append-nil, take-append-drop}
 use Rattle.diva_isa.specs.State.{State}
 use Rattle.diva_ahead.specs.Ahead.{Ahead}
-use Rattle.diva_ooo.specs.declared.entry.Entry.{Entry}
+use Rattle.diva_ooo.specs.Entry.{Entry, profile_of}
 use Rattle.diva_ooo.specs.declared.profile.Class.{Class}
 use Rattle.diva_ooo.specs.declared.profile.Class.TheVariants.{Plain, Loads, Stores, Calls}
 use Rattle.diva_ooo.specs.declared.profile.Profile.{Profile}
@@ -102,7 +102,7 @@ and_more true b c = refl
 and_more false b c = refl
 
 abbrev is_stored : Entry → Bool
-is_stored e = is_done e.stage || not (is_storing e.profile.class)
+is_stored e = is_done e.stage || not (is_storing (profile_of e).class)
 
 stored_more : (o : List Entry) (x : Entry) → are_stored (o ++ x ∷ []) ≡ (are_stored o && is_stored x)
 stored_more [] x = and_true (is_stored x)
@@ -122,14 +122,14 @@ like_more o1 o2 x like =
       long = let long = like.long in grind (arith, common_steps);
     }
 
-like_staged : (o : List Entry) (x y : Entry) → y.profile ≡ x.profile → is_done y.stage ≡ is_done x.stage → AreLike (o ++ y ∷ []) (o ++ x ∷ [])
+like_staged : (o : List Entry) (x y : Entry) → profile_of y ≡ profile_of x → is_done y.stage ≡ is_done x.stage → AreLike (o ++ y ∷ []) (o ++ x ∷ [])
 like_staged o x y profile stage =
     record {
       available = staged_same o x y profile stage;
       stored =
           stored_more o y
           ∙ ap (λ (p : Profile). are_stored o && (is_done y.stage || not (is_storing p.class))) profile
-          ∙ ap (λ (c : Bool). are_stored o && (c || not (is_storing x.profile.class))) stage
+          ∙ ap (λ (c : Bool). are_stored o && (c || not (is_storing (profile_of x).class))) stage
           ∙ sym (stored_more o x);
       long = grind (arith, common_steps);
     }
@@ -143,10 +143,10 @@ free_like Calls o1 o2 like = ap (λ (n : ℕ). n == 0) like.long
 can_like : (o1 o2 w : List Entry) (i : ℕ) → AreLike o1 o2 → can_at o1 w i ≡ can_at o2 w i
 unfolding is_ready
 can_like o1 o2 [] i like = refl
-can_like o1 o2 (e ∷ w) zero like = rw (like.available e.profile.rs1, like.available e.profile.rs2, free_like e.profile.class o1 o2 like) refl
+can_like o1 o2 (e ∷ w) zero like = rw (like.available (profile_of e).rs1, like.available (profile_of e).rs2, free_like (profile_of e).class o1 o2 like) refl
 can_like o1 o2 (e ∷ w) (suc i) like = can_like (o1 ++ e ∷ []) (o2 ++ e ∷ []) w i (like_more o1 o2 e like)
 
-can_staged : (older w : List Entry) (at i : ℕ) (x y : Entry) → slice_get w at ≡ Some x → y.profile ≡ x.profile → is_done y.stage ≡ is_done x.stage → at < i → can_at older (slice_set w at y) i ≡ can_at older w i
+can_staged : (older w : List Entry) (at i : ℕ) (x y : Entry) → slice_get w at ≡ Some x → profile_of y ≡ profile_of x → is_done y.stage ≡ is_done x.stage → at < i → can_at older (slice_set w at y) i ≡ can_at older w i
 can_staged older [] at i x y is profile stage h = refl
 can_staged older (e ∷ w) zero zero x y is profile stage h = absurd (omega arith)
 can_staged older (e ∷ w) zero (suc i) x y is profile stage h =
@@ -162,13 +162,13 @@ holds_behind p (e ∷ w) zero (suc i) y h = refl
 holds_behind p (e ∷ w) (suc at) zero y h = absurd (omega arith)
 holds_behind p (e ∷ w) (suc at) (suc i) y h = holds_behind p w at i y (omega arith)
 
-stored_staged : (w : List Entry) (at i : ℕ) (x y : Entry) → slice_get w at ≡ Some x → y.profile ≡ x.profile → is_done y.stage ≡ is_done x.stage → are_stored (take i (slice_set w at y)) ≡ are_stored (take i w)
+stored_staged : (w : List Entry) (at i : ℕ) (x y : Entry) → slice_get w at ≡ Some x → profile_of y ≡ profile_of x → is_done y.stage ≡ is_done x.stage → are_stored (take i (slice_set w at y)) ≡ are_stored (take i w)
 stored_staged [] at i x y is profile stage = refl
 stored_staged (e ∷ w) zero zero x y is profile stage = refl
 stored_staged (e ∷ w) zero (suc i) x y is profile stage =
     let here : e ≡ x = cc in
     ap (λ (p : Profile). (is_done y.stage || not (is_storing p.class)) && are_stored (take i w)) profile
-    ∙ ap (λ (c : Bool). (c || not (is_storing x.profile.class)) && are_stored (take i w)) stage
+    ∙ ap (λ (c : Bool). (c || not (is_storing (profile_of x).class)) && are_stored (take i w)) stage
     ∙ ap (λ (z : Entry). is_stored z && are_stored (take i w)) (sym here)
 stored_staged (e ∷ w) (suc at) zero x y is profile stage = refl
 stored_staged (e ∷ w) (suc at) (suc i) x y is profile stage = ap (λ (c : Bool). is_stored e && c) (stored_staged w at i x y is profile stage)
@@ -189,7 +189,7 @@ before_same w new at same =
       stored = λ i. ap (λ (x : List Entry). are_stored (take i x)) same;
     }
 
-before_begun : (w new : List Entry) (at : ℕ) (e y : Entry) → slice_get w at ≡ Some e → is_waiting e.stage ≡ true → y.profile ≡ e.profile → is_done y.stage ≡ false → new ≡ slice_set w at y → AreAsBefore w new at
+before_begun : (w new : List Entry) (at : ℕ) (e y : Entry) → slice_get w at ≡ Some e → is_waiting e.stage ≡ true → profile_of y ≡ profile_of e → is_done y.stage ≡ false → new ≡ slice_set w at y → AreAsBefore w new at
 before_begun w new at e y is waits profile not_done sets =
     let stage : is_done y.stage ≡ is_done e.stage = not_done ∙ sym (waits_only e.stage waits).1 in
     record {

@@ -4,7 +4,7 @@ use Rattle.std.specs.Prelude.{slice_set, slice_index}
 use Rattle.std.proofs.lemmas.Bool.Decides.{nat_tests}
 use Rattle.std.proofs.lemmas.List.{append-nil}
 use Rattle.diva_isa.specs.Regs.{with_reg}
-use Rattle.diva_ooo.specs.declared.entry.Entry.{Entry}
+use Rattle.diva_ooo.specs.Entry.{Entry, profile_of}
 use Rattle.diva_ooo.specs.declared.board.Board.{Board}
 use Rattle.diva_ooo.specs.Board.{IsBoard, IsLastOf, can_at, could_at, has_result, writes}
 use Rattle.diva_ooo.specs.Issue.{can_begin, is_available, is_done, is_free, is_ready, is_waiting, written}
@@ -68,24 +68,24 @@ no_result true false h is = refl
 no_result false c h is = absurd (cc)
 
 written_step : (d : Bool) (regs : List ℕ) (e : Entry) (n : ℕ) → is_done e.stage ≡ d → n < length regs → has_result n e ≡ false
-    → slice_index (if d then with_reg regs e.profile.rd e.result.value else regs) n ≡ slice_index regs n
-written_step true regs e n is h none = reg_other_by (e.profile.rd == 0) regs e.profile.rd e.result.value n refl h (no_result (is_done e.stage) (writes n e) none is)
+    → slice_index (if d then with_reg regs (profile_of e).rd e.result.value else regs) n ≡ slice_index regs n
+written_step true regs e n is h none = reg_other_by ((profile_of e).rd == 0) regs (profile_of e).rd e.result.value n refl h (no_result (is_done e.stage) (writes n e) none is)
 written_step false regs e n is h none = refl
 
-written_long : (d : Bool) (regs : List ℕ) (e : Entry) → length (if d then with_reg regs e.profile.rd e.result.value else regs) ≡ length regs
-written_long true regs e = reg_long_by (e.profile.rd == 0) regs e.profile.rd e.result.value
+written_long : (d : Bool) (regs : List ℕ) (e : Entry) → length (if d then with_reg regs (profile_of e).rd e.result.value else regs) ≡ length regs
+written_long true regs e = reg_long_by ((profile_of e).rd == 0) regs (profile_of e).rd e.result.value
 written_long false regs e = refl
 
 written_none : (regs : List ℕ) (w : List Entry) (n : ℕ) → n < length regs → ((i : ℕ) → holds_at (has_result n) w i ≡ false) → slice_index (written regs w) n ≡ slice_index regs n
 written_none regs [] n h none = refl
 written_none regs (e ∷ w) n h none =
     let long = written_long (is_done e.stage) regs e in
-    written_none (if is_done e.stage then with_reg regs e.profile.rd e.result.value else regs) w n (omega arith) (λ i. none (suc i))
+    written_none (if is_done e.stage then with_reg regs (profile_of e).rd e.result.value else regs) w n (omega arith) (λ i. none (suc i))
     ∙ written_step (is_done e.stage) regs e n refl h (none 0)
 
 result_by : (d : Bool) (regs : List ℕ) (e : Entry) (n : ℕ) → is_done e.stage ≡ d → n < length regs → (writes n e && d) ≡ true
-    → slice_index (if d then with_reg regs e.profile.rd e.result.value else regs) n ≡ e.result.value
-result_by true regs e n is h there = reg_same_by (e.profile.rd == 0) regs e.profile.rd e.result.value n refl h (reg_left (writes n e) true there)
+    → slice_index (if d then with_reg regs (profile_of e).rd e.result.value else regs) n ≡ e.result.value
+result_by true regs e n is h there = reg_same_by ((profile_of e).rd == 0) regs (profile_of e).rd e.result.value n refl h (reg_left (writes n e) true there)
 result_by false regs e n is h there = absurd (and_never (writes n e) there)
 
 written_last : (regs : List ℕ) (w : List Entry) (n j : ℕ) (x : Entry) → n < length regs → slice_get w j ≡ Some x → holds_at (has_result n) w j ≡ true → ((i : ℕ) → j < i → holds_at (has_result n) w i ≡ false)
@@ -94,12 +94,12 @@ written_last regs [] n j x h is there last = absurd (cc)
 written_last regs (e ∷ w) n zero x h is there last =
     let here : e ≡ x = cc in
     let long = written_long (is_done e.stage) regs e in
-    written_none (if is_done e.stage then with_reg regs e.profile.rd e.result.value else regs) w n (omega arith) (λ i. last (suc i) (omega arith))
+    written_none (if is_done e.stage then with_reg regs (profile_of e).rd e.result.value else regs) w n (omega arith) (λ i. last (suc i) (omega arith))
     ∙ result_by (is_done e.stage) regs e n refl h there
     ∙ ap (λ (z : Entry). z.result.value) here
 written_last regs (e ∷ w) n (suc j) x h is there last =
     let long = written_long (is_done e.stage) regs e in
-    written_last (if is_done e.stage then with_reg regs e.profile.rd e.result.value else regs) w n j x (omega arith) is there (λ i k. last (suc i) (omega arith))
+    written_last (if is_done e.stage then with_reg regs (profile_of e).rd e.result.value else regs) w n j x (omega arith) is there (λ i k. last (suc i) (omega arith))
 
 get_take : (w : List Entry) (at j : ℕ) → j < at → slice_get (take at w) j ≡ slice_get w j
 get_take [] zero j h = refl
@@ -128,14 +128,14 @@ pub can_here : (w : List Entry) (at : ℕ) (e : Entry) → slice_get w at ≡ So
 can_here w at e is = can_here_of [] w at e is
 
 abbrev could : List Entry → Entry → Bool
-could older e = is_waiting e.stage && (is_available older e.profile.rs1 && is_available older e.profile.rs2)
+could older e = is_waiting e.stage && (is_available older (profile_of e).rs1 && is_available older (profile_of e).rs2)
 
 could_here_of : (older w : List Entry) (at : ℕ) (e : Entry) → slice_get w at ≡ Some e → could_at older w at ≡ could (older ++ take at w) e
 could_here_of older [] at e is = absurd (cc)
 could_here_of older (x ∷ w) zero e is = let here : x ≡ e = cc in ap (could older) here ∙ ap (λ (o : List Entry). could o e) (sym (append-nil older))
 could_here_of older (x ∷ w) (suc at) e is = could_here_of (older ++ x ∷ []) w at e is ∙ ap (λ (o : List Entry). could o e) (append_assoc older (x ∷ []) (take at w))
 
-pub could_not : (w : List Entry) (at : ℕ) (e : Entry) → slice_get w at ≡ Some e → (is_available (take at w) e.profile.rs1 && is_available (take at w) e.profile.rs2) ≡ false → could_at [] w at ≡ false
+pub could_not : (w : List Entry) (at : ℕ) (e : Entry) → slice_get w at ≡ Some e → (is_available (take at w) (profile_of e).rs1 && is_available (take at w) (profile_of e).rs2) ≡ false → could_at [] w at ≡ false
 could_not w at e is none = could_here_of [] w at e is ∙ rw none (and_off (is_waiting e.stage))
 
 no_sources : (a b c d : Bool) → (b && c) ≡ false → (a && ((b && c) && d)) ≡ false
@@ -144,15 +144,15 @@ no_sources a b c d none = rw none (and_off a)
 all_sources : (a b c d : Bool) → a ≡ true → (b && c) ≡ true → d ≡ (a && ((b && c) && d))
 all_sources a b c d is h = rw (is, h) refl
 
-pub can_not : (w : List Entry) (at : ℕ) (e : Entry) → slice_get w at ≡ Some e → (is_available (take at w) e.profile.rs1 && is_available (take at w) e.profile.rs2) ≡ false → can_at [] w at ≡ false
+pub can_not : (w : List Entry) (at : ℕ) (e : Entry) → slice_get w at ≡ Some e → (is_available (take at w) (profile_of e).rs1 && is_available (take at w) (profile_of e).rs2) ≡ false → can_at [] w at ≡ false
 unfolding is_ready
-can_not w at e is none = can_here w at e is ∙ no_sources (is_waiting e.stage) (is_available (take at w) e.profile.rs1) (is_available (take at w) e.profile.rs2) (is_free e.profile.class (take at w)) none
+can_not w at e is none = can_here w at e is ∙ no_sources (is_waiting e.stage) (is_available (take at w) (profile_of e).rs1) (is_available (take at w) (profile_of e).rs2) (is_free (profile_of e).class (take at w)) none
 
-pub can_if_free : (w : List Entry) (at : ℕ) (e : Entry) → slice_get w at ≡ Some e → is_waiting e.stage ≡ true → (is_available (take at w) e.profile.rs1 && is_available (take at w) e.profile.rs2) ≡ true
-    → is_free e.profile.class (take at w) ≡ can_at [] w at
+pub can_if_free : (w : List Entry) (at : ℕ) (e : Entry) → slice_get w at ≡ Some e → is_waiting e.stage ≡ true → (is_available (take at w) (profile_of e).rs1 && is_available (take at w) (profile_of e).rs2) ≡ true
+    → is_free (profile_of e).class (take at w) ≡ can_at [] w at
 unfolding is_ready
 can_if_free w at e is waits sources =
-    all_sources (is_waiting e.stage) (is_available (take at w) e.profile.rs1) (is_available (take at w) e.profile.rs2) (is_free e.profile.class (take at w)) waits sources ∙ sym (can_here w at e is)
+    all_sources (is_waiting e.stage) (is_available (take at w) (profile_of e).rs1) (is_available (take at w) (profile_of e).rs2) (is_free (profile_of e).class (take at w)) waits sources ∙ sym (can_here w at e is)
 
 -- ---- the oldest goes
 

@@ -2,27 +2,28 @@
 -- Only private contracts of this crate cite this: a reader of its promises can pass over it.
 use Rattle.std.specs.Prelude.{◌≡◌, ℕ, zero, suc, ◌<◌, ◌≤◌, ◌+◌, ◌==◌, ◌&&◌, ◌||◌, not, length, get_or, List, [], ◌∷◌, ◌++◌, Bool, true, false}
 use Rattle.diva_core.specs.Cycle.{is_store}
-use Rattle.diva_ooo.specs.declared.entry.Entry.{Entry}
+use Rattle.diva_ooo.specs.Entry.{Entry, profile_of}
 use Rattle.diva_ooo.specs.declared.board.Board.{Board}
 use Rattle.diva_ooo.specs.declared.mark_set.MarkSet.{MarkSet}
 use Rattle.diva_ooo.specs.declared.profile.Class.{Class}
 use Rattle.diva_ooo.specs.declared.profile.Class.TheVariants.{Plain, Loads, Stores, Calls}
 use Rattle.diva_ooo.specs.Finish.{is_running}
 use Rattle.diva_ooo.specs.Issue.{can_begin, is_available, is_done, is_storing, is_waiting}
+use Rattle.diva_ahead.specs.Effects.{done_by}
 use Rattle.diva_ooo.specs.MarkSets.{AreThose, has, holds_at}
 
 -- an entry writes a register, or reads it; none does x0
 abbrev pub writes : ℕ → Entry → Bool
-writes n e = (e.profile.rd == n) && not (n == 0)
+writes n e = ((profile_of e).rd == n) && not (n == 0)
 
 abbrev pub reads : ℕ → Entry → Bool
-reads n e = ((e.profile.rs1 == n) || (e.profile.rs2 == n)) && not (n == 0)
+reads n e = (((profile_of e).rs1 == n) || ((profile_of e).rs2 == n)) && not (n == 0)
 
 abbrev pub has_result : ℕ → Entry → Bool
 has_result n e = writes n e && is_done e.stage
 
 abbrev pub is_open_store : Entry → Bool
-is_open_store e = not (is_done e.stage) && is_storing e.profile.class
+is_open_store e = not (is_done e.stage) && is_storing (profile_of e).class
 
 abbrev pub is_loading : Class → Bool
 is_loading Plain = false
@@ -31,12 +32,12 @@ is_loading Stores = false
 is_loading Calls = false
 
 abbrev pub is_load : Entry → Bool
-is_load e = is_loading e.profile.class
+is_load e = is_loading (profile_of e).class
 
 -- whether the entry at a place waits and has its sources, behind the older ones
 abbrev pub could_at : (older : List Entry) → List Entry → ℕ → Bool
 could_at older [] i = false
-could_at older (e ∷ rest) zero = is_waiting e.stage && (is_available older e.profile.rs1 && is_available older e.profile.rs2)
+could_at older (e ∷ rest) zero = is_waiting e.stage && (is_available older (profile_of e).rs1 && is_available older (profile_of e).rs2)
 could_at older (e ∷ rest) (suc i) = could_at (older ++ e ∷ []) rest i
 
 abbrev pub no_mark : MarkSet
@@ -51,7 +52,7 @@ pub record IsBoard (w : List Entry) (b : Board) : Type 0 where
   -- those that are gone were done
   pub gone : (i : ℕ) → i < b.base → has b.done i ≡ true
   pub storing : AreThose is_open_store w b.base b.storing
-  pub stored : AreThose (λ e. is_store e.effect) w b.base b.stored
+  pub stored : AreThose (λ e. is_store (done_by e.result)) w b.base b.stored
   pub loads : AreThose is_load w b.base b.loads
   -- no other than a candidate could begin
   pub candidates : (i : ℕ) → has b.candidates (b.base + i) ≡ false → could_at [] w i ≡ false

@@ -7,7 +7,7 @@ use Rattle.diva_isa.specs.Step.{record_fetched}
 use Rattle.diva_isa.specs.declared.record.Record.{Record}
 use Rattle.diva_ahead.specs.Effects.{done_by}
 use Rattle.diva_ahead.specs.Ahead.{Ahead, seen}
-use Rattle.diva_ooo.specs.declared.entry.Entry.{Entry}
+use Rattle.diva_ooo.specs.Entry.{Entry, profile_of}
 use Rattle.diva_ooo.specs.declared.entry.Progress.{Progress}
 use Rattle.diva_ooo.specs.declared.entry.Progress.TheVariants.{Waiting, Running, Done}
 use Rattle.diva_ooo.specs.declared.profile.Class.{Class}
@@ -34,7 +34,7 @@ is_storing Calls = false
 -- whether the youngest of some entries that write a register is still under way; `so` where none writes it
 abbrev pub is_awaited : (so : Bool) → List Entry → ℕ → Bool
 is_awaited so [] n = so
-is_awaited so (e ∷ older) n = is_awaited (if e.profile.rd == n then not (is_done e.stage) else so) older n
+is_awaited so (e ∷ older) n = is_awaited (if (profile_of e).rd == n then not (is_done e.stage) else so) older n
 
 -- a register is available where no older entry writes it, or the youngest that does is done; x0 always is
 abbrev pub is_available : List Entry → ℕ → Bool
@@ -42,7 +42,7 @@ is_available older n = (n == 0) || not (is_awaited false older n)
 
 -- each older store is done
 abbrev pub are_stored : List Entry → Bool
-are_stored older = list_all (λ e. is_done e.stage || not (is_storing e.profile.class)) older
+are_stored older = list_all (λ e. is_done e.stage || not (is_storing (profile_of e).class)) older
 
 -- a load waits for each older store, and a call until it is the oldest
 abbrev pub is_free : Class → List Entry → Bool
@@ -52,7 +52,7 @@ is_free Stores older = true
 is_free Calls older = length older == 0
 
 unfoldable pub is_ready : List Entry → Entry → Bool
-is_ready older e = is_available older e.profile.rs1 && is_available older e.profile.rs2 && is_free e.profile.class older
+is_ready older e = is_available older (profile_of e).rs1 && is_available older (profile_of e).rs2 && is_free (profile_of e).class older
 
 abbrev pub can_begin : List Entry → Entry → Bool
 can_begin older e = is_waiting e.stage && is_ready older e
@@ -66,17 +66,17 @@ begins begun older e = nat_lt begun 2 && can_begin older e
 -- the registers behind some entries: those that are done have written theirs
 abbrev pub written : List ℕ → List Entry → List ℕ
 written regs [] = regs
-written regs (e ∷ older) = written (if is_done e.stage then with_reg regs e.profile.rd e.result.value else regs) older
+written regs (e ∷ older) = written (if is_done e.stage then with_reg regs (profile_of e).rd e.result.value else regs) older
 
 -- what an entry sees, as if the core had handed over the older ones: each byte of memory is that of the youngest older store
 -- of the window that covers it, else of the ring, else that of s
 abbrev pub seen_by : Ahead → State → List Entry → Entry → State
 seen_by ahead s older e =
-    seen (record ahead { regs = written ahead.regs older; pc = e.pc; ring = ahead.ring ++ map (λ x. x.effect) older }) s
+    seen (record ahead { regs = written ahead.regs older; pc = e.pc; ring = ahead.ring ++ map (λ x. done_by x.result) older }) s
 
 -- an entry that begins with a record
 abbrev pub running : Entry → Record → Entry
-running e r = record e { stage = Running e.profile.cycles; result = r; effect = done_by r }
+running e r = record e { stage = Running (profile_of e).cycles; result = r }
 
 -- it computes its record at once, by the word that was fetched
 unfoldable pub started : Ahead → State → List Entry → Entry → Entry

@@ -1,4 +1,4 @@
--- What holds of each entry of a window.
+-- What the code keeps with each entry of a window, so that it is worked out once.
 -- Only private contracts of this crate cite this: a reader of its promises can pass over it.
 use Rattle.std.specs.Prelude.{◌≡◌, ◌<◌, IfSome, true, false}
 use Rattle.std.specs.Option.{option_and_then}
@@ -6,8 +6,9 @@ use Rattle.diva_decode.specs.Table.{HasRegisters, row_of}
 use Rattle.diva_isa.specs.Step.{HasRegister}
 use Rattle.diva_core.specs.Cycle.{is_store}
 use Rattle.diva_ahead.specs.Effects.{done_by}
-use Rattle.diva_ooo.specs.declared.entry.Entry.{Entry}
+use Rattle.diva_ooo.specs.declared.entry.Entry.TheInside.{Inside}
 use Rattle.diva_ooo.specs.declared.profile.Profile.{Profile}
+use Rattle.diva_ooo.specs.Profile.{profile_by}
 use Rattle.diva_ooo.specs.Issue.{is_waiting}
 
 -- its registers are below 32
@@ -17,9 +18,10 @@ pub record HasSources (s : Profile) : Type 0 where
   pub rd : s.rd < 32
 
 -- what its word says is noted, and so is what its result does
-pub record IsKnown (e : Entry) : Type 0 where
+pub record IsKnown (e : Inside) : Type 0 where
   pub decoded : e.decoded ≡ option_and_then row_of e.word
   pub registers : IfSome e.decoded HasRegisters
+  pub profile : e.profile ≡ profile_by (option_and_then row_of e.word)
   pub sources : HasSources e.profile
   pub effect : e.effect ≡ done_by e.result
   pub register : HasRegister e.effect

@@ -2,7 +2,7 @@
 -- Only private contracts of this crate cite this: a reader of its promises can pass over it.
 use Rattle.std.specs.Prelude.{◌≡◌, ℕ, zero, suc, ◌+◌, ◌==◌, ◌<◌, ◌≤◌, List, [], ◌∷◌, Bool, true, false}
 use Rattle.std.specs.Int.{bit_at}
-use Rattle.diva_ooo.specs.declared.entry.Entry.{Entry}
+use Rattle.diva_ooo.specs.Entry.{Entry}
 use Rattle.diva_ooo.specs.declared.mark_set.MarkSet.{MarkSet}
 
 abbrev pub has : MarkSet → ℕ → Bool

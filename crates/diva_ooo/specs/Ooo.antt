@@ -2,18 +2,16 @@
 -- fifth.
 use Rattle.std.specs.Prelude.{ℕ, zero, suc, ◌≡◌, ◌==◌, ◌&&◌, nat_lt, not, List, [], ◌∷◌, ◌++◌, length, Bool, true, false, Option, is_none, if◌then◌else◌}
 use Rattle.std.specs.Option.{option_and_then}
-use Rattle.diva_decode.specs.declared.instr.Instr.{Instr}
 use Rattle.diva_decode.specs.Table.{row_of}
 use Rattle.diva_isa.specs.State.{State, word_of}
 use Rattle.diva_isa.specs.declared.record.Record.{Record}
-use Rattle.diva_isa.specs.declared.effect.Effect.TheVariants.{Nothing}
 use Rattle.diva_core.specs.Told.{Told}
 use Rattle.diva_ahead.specs.Ahead.{Ahead, new_ahead, synced, trimmed, with_record, is_epoch}
-use Rattle.diva_ooo.specs.declared.entry.Entry.{Entry}
+use Rattle.diva_ooo.specs.Entry.{Entry}
 use Rattle.diva_ooo.specs.declared.entry.Progress.TheVariants.{Waiting}
 use Rattle.diva_ooo.specs.declared.finishing.Redirect.{Redirect}
 use Rattle.diva_ooo.specs.declared.finishing.Redirect.TheVariants.{On, Dry, To}
-use Rattle.diva_ooo.specs.Profile.{predicted, profile_of}
+use Rattle.diva_ooo.specs.Profile.{predicted}
 use Rattle.diva_ooo.specs.Finish.{finished}
 use Rattle.diva_ooo.specs.Issue.{issued, is_done}
 
@@ -83,26 +81,17 @@ with_issued p s = record p { window = issued p.ahead s p.window }
 abbrev pub blank : Record
 blank = record { pc = 0; word = 0; src1 = 0; src2 = 0; addr = 0; value = 0; next = 0; end = 0 }
 
--- an entry that waits, of the word at pc if there is one; decoded is what that says
-abbrev pub new_entry : (pc : ℕ) → Option ℕ → Option Instr → Entry
-new_entry pc word decoded =
-    record {
-      pc = pc;
-      word = word;
-      decoded = decoded;
-      profile = profile_of decoded;
-      predicted = predicted decoded pc;
-      stage = Waiting;
-      result = blank;
-      effect = Nothing;
-    }
+-- an entry that waits, of the word at pc if there is one
+abbrev pub new_entry : (pc : ℕ) → Option ℕ → Entry
+new_entry pc word =
+    record { pc = pc; word = word; predicted = predicted (option_and_then row_of word) pc; stage = Waiting; result = blank }
 
 -- the fetch stops where there is no word
-abbrev pub with_word : Ooo → Option ℕ → Option Instr → Ooo
-with_word p word decoded =
+abbrev pub with_word : Ooo → Option ℕ → Ooo
+with_word p word =
     record p {
-      window = p.window ++ new_entry p.fetch_pc word decoded ∷ [];
-      fetch_pc = predicted decoded p.fetch_pc;
+      window = p.window ++ new_entry p.fetch_pc word ∷ [];
+      fetch_pc = predicted (option_and_then row_of word) p.fetch_pc;
       dry = is_none word;
     }
 
@@ -110,7 +99,7 @@ abbrev pub can_fetch : Ooo → Bool
 can_fetch p = nat_lt (length p.window) 32 && not p.dry && not p.ahead.stopped
 
 unfoldable pub fetched : Ooo → State → Ooo
-fetched p s = if can_fetch p then with_word p (word_of s p.fetch_pc) (option_and_then row_of (word_of s p.fetch_pc)) else p
+fetched p s = if can_fetch p then with_word p (word_of s p.fetch_pc) else p
 
 -- ---- the call
 

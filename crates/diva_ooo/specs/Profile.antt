@@ -40,24 +40,24 @@ profiled rs1 rs2 rd class cycles = record { rs1 = rs1; rs2 = rs2; rd = rd; class
 
 -- the registers that an instruction reads and writes, x0 where it reads or writes none. A call reads none here: it waits until
 -- no older instruction is under way
-abbrev pub profile_by : Kind → Instr → Profile
-profile_by Lui i = profiled 0 0 i.rd Plain (cycles_of i.op)
-profile_by Auipc i = profiled 0 0 i.rd Plain (cycles_of i.op)
-profile_by Jal i = profiled 0 0 i.rd Plain (cycles_of i.op)
-profile_by Jalr i = profiled i.rs1 0 i.rd Plain (cycles_of i.op)
-profile_by Branch i = profiled i.rs1 i.rs2 0 Plain (cycles_of i.op)
-profile_by (Load width) i = profiled i.rs1 0 i.rd Loads (cycles_of i.op)
-profile_by (Store width) i = profiled i.rs1 i.rs2 0 Stores (cycles_of i.op)
-profile_by OpImm i = profiled i.rs1 0 i.rd Plain (cycles_of i.op)
-profile_by OpReg i = profiled i.rs1 i.rs2 i.rd Plain (cycles_of i.op)
-profile_by Fence i = profiled 0 0 0 Plain (cycles_of i.op)
-profile_by Ecall i = profiled 0 0 0 Calls (cycles_of i.op)
-profile_by Ebreak i = profiled 0 0 0 Plain (cycles_of i.op)
+abbrev pub profile : Kind → Instr → Profile
+profile Lui i = profiled 0 0 i.rd Plain (cycles_of i.op)
+profile Auipc i = profiled 0 0 i.rd Plain (cycles_of i.op)
+profile Jal i = profiled 0 0 i.rd Plain (cycles_of i.op)
+profile Jalr i = profiled i.rs1 0 i.rd Plain (cycles_of i.op)
+profile Branch i = profiled i.rs1 i.rs2 0 Plain (cycles_of i.op)
+profile (Load width) i = profiled i.rs1 0 i.rd Loads (cycles_of i.op)
+profile (Store width) i = profiled i.rs1 i.rs2 0 Stores (cycles_of i.op)
+profile OpImm i = profiled i.rs1 0 i.rd Plain (cycles_of i.op)
+profile OpReg i = profiled i.rs1 i.rs2 i.rd Plain (cycles_of i.op)
+profile Fence i = profiled 0 0 0 Plain (cycles_of i.op)
+profile Ecall i = profiled 0 0 0 Calls (cycles_of i.op)
+profile Ebreak i = profiled 0 0 0 Plain (cycles_of i.op)
 
 -- the same of what a word says; one that says nothing, and no word, run one cycle
-abbrev pub profile_of : Option Instr → Profile
-profile_of None = profiled 0 0 0 Plain 1
-profile_of (Some i) = profile_by (kind i.op) i
+abbrev pub profile_by : Option Instr → Profile
+profile_by None = profiled 0 0 0 Plain 1
+profile_by (Some i) = profile (kind i.op) i
 
 -- ---- the prediction
 

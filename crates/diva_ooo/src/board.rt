@@ -1,6 +1,7 @@
 // What is known of the entries of a window.
 ghost use Rattle.std.specs.Prelude.{◌≡◌, ◌+◌, ◌&&◌, ◌<◌, ◌≤◌, ◌⊎◌, ℕ, List, [], ◌∷◌, ◌++◌, length, get_or, nat_lt, take, IfSome, IsNone, Some, false, if◌then◌else◌, slice_get, slice_set, true};
-ghost use Rattle.diva_ooo.specs.declared.entry.Entry.{Entry};
+ghost use Rattle.diva_ooo.specs.Entry.{Entry, profile_of};
+ghost use Rattle.diva_ahead.specs.Effects.{done_by};
 ghost use Rattle.diva_core.specs.Cycle.{is_store};
 ghost use Rattle.diva_ooo.specs.Board.{IsBoard, IsLastOf, IsNextOf, IsWrittenBetween, can_at, could_at, has_result, is_load, no_mark, reads};
 ghost use Rattle.diva_ooo.specs.Finish.{is_running};
@@ -68,7 +69,7 @@ impl Board {
         requires place { at < 32 }
         requires sources { HasSources profile.now }
         ensures board { (w : List Entry) (e : Entry) → IsBoard w self.old → length w ≡ at → is_waiting e.stage ≡ true
-            → is_store e.effect ≡ false → e.profile ≡ profile.now → IsBoard (w ++ e ∷ []) self.new }
+            → is_store (done_by e.result) ≡ false → profile_of e ≡ profile.now → IsBoard (w ++ e ∷ []) self.new }
         ensures base { self.new.base ≡ self.old.base }
     {
         let mark = self.base + at;
@@ -162,8 +163,8 @@ impl Board {
         requires base { self.old.base ≤ 32 }
         requires place { at < 32 }
         ensures board { (w : List Entry) (e new : Entry) → IsBoard w self.old → slice_get w at ≡ Some e
-            → is_waiting e.stage ≡ true → is_running new.stage ≡ true → new.profile ≡ e.profile
-            → is_store e.effect ≡ false → is_store new.effect ≡ stores → IsBoard (slice_set w at new) self.new }
+            → is_waiting e.stage ≡ true → is_running new.stage ≡ true → profile_of new ≡ profile_of e
+            → is_store (done_by e.result) ≡ false → is_store (done_by new.result) ≡ stores → IsBoard (slice_set w at new) self.new }
         ensures base { self.new.base ≡ self.old.base }
     {
         let mark = self.base + at;
@@ -178,8 +179,8 @@ impl Board {
         requires place { at < 32 }
         requires register { rd < 32 }
         ensures board { (w : List Entry) (e new : Entry) → IsBoard w self.old → slice_get w at ≡ Some e
-            → is_running e.stage ≡ true → is_done new.stage ≡ true → new.profile ≡ e.profile → new.effect ≡ e.effect
-            → rd ≡ e.profile.rd → IsBoard (slice_set w at new) self.new }
+            → is_running e.stage ≡ true → is_done new.stage ≡ true → profile_of new ≡ profile_of e → done_by new.result ≡ done_by e.result
+            → rd ≡ (profile_of e).rd → IsBoard (slice_set w at new) self.new }
         ensures base { self.new.base ≡ self.old.base }
     {
         let mark = self.base + at;
@@ -226,9 +227,9 @@ impl Board {
     pub(crate) fn next_store(&self, from: usize) -> Option<usize>
         requires base { self.now.base < 32 }
         requires place { from ≤ 32 }
-        ensures some { (w : List Entry) → IsBoard w self.now → IfSome result (IsNextOf (λ e. is_store e.effect) w from) }
+        ensures some { (w : List Entry) → IsBoard w self.now → IfSome result (IsNextOf (λ e. is_store (done_by e.result)) w from) }
         ensures none { (w : List Entry) → IsBoard w self.now → IsNone result
-            → (i : ℕ) → from ≤ i → holds_at (λ e. is_store e.effect) w i ≡ false }
+            → (i : ℕ) → from ≤ i → holds_at (λ e. is_store (done_by e.result)) w i ≡ false }
     {
         match self.stored.next(self.base + from) {
             Some(mark) => Some(mark - self.base),

@@ -5,6 +5,7 @@ ghost use Rattle.diva_ooo.specs.Issue.{is_done};
 use crate::profile::Profile;
 use diva_decode::Instr;
 use diva_isa::{Effect, Record};
+use std::marker::Model;
 
 /// How far an instruction is.
 #[derive(Clone, Copy, Debug, PartialEq, Eq)]
@@ -26,8 +27,8 @@ impl Progress {
     }
 }
 
-/// An instruction under way.
-#[derive(Clone, Copy, Debug, PartialEq, Eq)]
+/// An instruction under way. What follows from its word and its result is noted beside them, so that it is worked out once.
+#[derive(Drop)]
 pub struct Entry {
     /// The address where it was fetched.
     pub pc: u32,
@@ -45,4 +46,16 @@ pub struct Entry {
     pub result: Record,
     /// What that does besides moving the pc: nothing where it ends, or where it has not begun.
     pub effect: Effect,
+}
+
+impl Model for Entry {
+    ghost use Rattle.diva_ooo.specs.Entry.{Entry};
+
+    ghost Value = { Entry };
+
+    ghost use Rattle.diva_ooo.specs.Known.{IsKnown};
+
+    ghost view = { λ e. record { pc = e.pc; word = e.word; predicted = e.predicted; stage = e.stage; result = e.result } };
+
+    ghost invariant = { IsKnown };
 }

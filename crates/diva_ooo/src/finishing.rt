@@ -2,7 +2,7 @@
 ghost use Rattle.std.specs.Prelude.{◌≡◌, ◌+◌, ◌<◌, ◌≤◌, drop, length, take};
 ghost use Rattle.diva_ooo.specs.Finish.{Finish, finished, finished_from, turn_by, turned};
 
-use crate::entry::{Entry, Progress};
+use crate::entry::Progress;
 use crate::window::Window;
 use diva_isa::Record;
 
@@ -54,11 +54,8 @@ fn finish_at(window: &mut Window, at: usize) -> Redirect
             Redirect::On
         }
         Progress::Running(_) => {
-            let Entry {
-                result,
-                predicted,
-                ..
-            } = *entry;
+            let result = entry.result;
+            let predicted = entry.predicted;
             window.complete(at);
             turn_by(&result, predicted)
         }

@@ -2,7 +2,8 @@
 ghost use Rattle.std.specs.Prelude.{◌≡◌, ◌≤◌, ◌<◌, ◌++◌, length, map, take, IsSome, IsTrue, Some, slice_get, true};
 ghost use Rattle.std.specs.List.{list_all};
 ghost use Rattle.diva_isa.specs.State.{State, byte_of, word_of};
-ghost use Rattle.diva_ooo.specs.declared.entry.Entry.{Entry};
+ghost use Rattle.diva_ooo.specs.Entry.{Entry};
+ghost use Rattle.diva_ahead.specs.Effects.{done_by};
 ghost use Rattle.diva_core.specs.Effects.{is_apart, with_effects};
 
 use crate::window::Window;
@@ -33,8 +34,9 @@ impl<'a> Flight<'a> {
         ensures place { result.at ≡ at }
         ensures view { result.view.now ≡ view.now }
     {
+        let entry = window.entry(at);
         Flight {
-            pc: window.entry(at).pc,
+            pc: entry.pc,
             ahead,
             window,
             at,
@@ -46,12 +48,13 @@ impl<'a> Flight<'a> {
 impl Flight<'_> {
     #[inline]
     fn find_word(&self, addr: u32) -> Option<u32>
-        ensures { result ≡ word_of (with_effects self.now.view.now (self.now.ahead.now.ring ++ map (λ x. x.effect) (take self.now.at self.now.window.now))) addr }
+        ensures { result ≡ word_of (with_effects self.now.view.now (self.now.ahead.now.ring ++ map (λ x. done_by x.result) (take self.now.at self.now.window.now))) addr }
     {
         let mut latest = self.ahead.ring().word(self.view, addr)?;
         let mut from = 0;
         while let Some(place) = self.window.next_store(from, self.at) {
-            let effect = &self.window.entry(place).effect;
+            let entry = self.window.entry(place);
+            let effect = &entry.effect;
             match *effect {
                 Effect::Stores {
                     width: Width::Word,
@@ -70,7 +73,7 @@ impl Flight<'_> {
     #[cold]
     fn overlaid(&self, addr: u32) -> Option<u32>
         requires { IsSome (word_of (with_effects self.now.view.now self.now.ahead.now.ring) addr) }
-        ensures { result ≡ word_of (with_effects self.now.view.now (self.now.ahead.now.ring ++ map (λ x. x.effect) (take self.now.at self.now.window.now))) addr }
+        ensures { result ≡ word_of (with_effects self.now.view.now (self.now.ahead.now.ring ++ map (λ x. done_by x.result) (take self.now.at self.now.window.now))) addr }
     {
         Some(u32::from_le_bytes([
             self.byte(addr)?,
@@ -84,9 +87,10 @@ impl Flight<'_> {
 impl Look for Flight<'_> {
     ghost use Rattle.std.specs.Prelude.{◌++◌, map, take};
     ghost use Rattle.diva_ahead.specs.Ahead.{seen};
+    ghost use Rattle.diva_ahead.specs.Effects.{done_by};
     ghost use Rattle.diva_ooo.specs.Issue.{written};
 
-    ghost shows = { λ x. seen (record x.ahead.now { regs = written x.ahead.now.regs (take x.at x.window.now); pc = x.pc; ring = x.ahead.now.ring ++ map (λ e. e.effect) (take x.at x.window.now) }) x.view.now };
+    ghost shows = { λ x. seen (record x.ahead.now { regs = written x.ahead.now.regs (take x.at x.window.now); pc = x.pc; ring = x.ahead.now.ring ++ map (λ e. done_by e.result) (take x.at x.window.now) }) x.view.now };
 
     fn pc(&self) -> u32 {
         self.pc
@@ -100,7 +104,8 @@ impl Look for Flight<'_> {
         let mut byte = self.ahead.ring().byte(self.view, addr)?;
         let mut from = 0;
         while let Some(place) = self.window.next_store(from, self.at) {
-            byte = byte_in(&self.window.entry(place).effect, addr).unwrap_or(byte);
+            let entry = self.window.entry(place);
+            byte = byte_in(&entry.effect, addr).unwrap_or(byte);
             from = place + 1;
         }
         Some(byte)

@@ -4,7 +4,7 @@ ghost use Rattle.diva_decode.specs.Table.{HasRegisters, row_of};
 ghost use Rattle.diva_isa.specs.Kind.{kind};
 ghost use Rattle.diva_isa.specs.Step.{HasRegister, effect_of};
 ghost use Rattle.diva_ahead.specs.Effects.{done_by};
-ghost use Rattle.diva_ooo.specs.declared.entry.Entry.{Entry};
+ghost use Rattle.diva_ooo.specs.Entry.{Entry};
 ghost use Rattle.diva_ooo.specs.Issue.{is_waiting, issued, started};
 
 use crate::flight::Flight;

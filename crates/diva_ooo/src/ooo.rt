@@ -134,15 +134,12 @@ impl Ooo {
         if self.window.len() == 0 {
             return false;
         }
-        let Entry {
-            stage,
-            result,
-            effect,
-            ..
-        } = *self.window.entry(0);
-        if !stage.is_done() {
+        let entry = self.window.entry(0);
+        if !entry.stage.is_done() {
             return false;
         }
+        let result = entry.result;
+        let effect = entry.effect;
         self.window.pop();
         out.push(result);
         if result.end != 0 {
@@ -177,8 +174,7 @@ impl Ooo {
     #[inline(always)]
     fn fetch_next(&mut self, view: &View<'_>)
         requires { length self.old.window < 32 }
-        ensures { self.new ≡ with_word self.old (word_of view.now self.old.fetch_pc)
-            (option_and_then row_of (word_of view.now self.old.fetch_pc)) }
+        ensures { self.new ≡ with_word self.old (word_of view.now self.old.fetch_pc) }
     {
         let word = view.word(self.fetch_pc);
         match decoded_of(word) {
@@ -193,7 +189,7 @@ impl Ooo {
     fn add_unread(&mut self, word: Option<u32>)
         requires room { length self.old.window < 32 }
         requires says { option_and_then row_of word ≡ None }
-        ensures { self.new ≡ with_word self.old word None }
+        ensures { self.new ≡ with_word self.old word }
     {
         self.add(word, None);
     }
@@ -204,7 +200,7 @@ impl Ooo {
         requires room { length self.old.window < 32 }
         requires says { decoded ≡ option_and_then row_of word }
         requires registers { IfSome decoded HasRegisters }
-        ensures { self.new ≡ with_word self.old word decoded }
+        ensures { self.new ≡ with_word self.old word }
     {
         let pc = self.fetch_pc;
         self.fetch_pc = predicted(decoded, pc);

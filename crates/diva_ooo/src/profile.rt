@@ -3,11 +3,11 @@ ghost use Rattle.std.specs.Prelude.{◌≡◌, ℕ, List, length, true, Option, 
 ghost use Rattle.std.specs.Option.{option_and_then};
 ghost use Rattle.diva_decode.specs.Table.{HasRegisters, row_of};
 ghost use Rattle.diva_isa.specs.Kind.{kind};
-ghost use Rattle.diva_ooo.specs.declared.entry.Entry.{Entry};
+ghost use Rattle.diva_ooo.specs.Entry.{Entry};
 ghost use Rattle.diva_ooo.specs.Board.{is_loading};
 ghost use Rattle.diva_ooo.specs.Issue.{are_stored, is_free, is_storing};
 ghost use Rattle.diva_ooo.specs.Known.{HasSources};
-ghost use Rattle.diva_ooo.specs.Profile.{class_of, cycles_of, profile_by, profile_of, profiled};
+ghost use Rattle.diva_ooo.specs.Profile.{class_of, cycles_of, profile, profile_by, profiled};
 
 use diva_decode::{Instr, Op};
 
@@ -72,7 +72,7 @@ impl Profile {
     pub fn of(decoded: Option<Instr>) -> Profile
         requires registers { IfSome decoded HasRegisters }
         requires says { (word : Option ℕ) × (decoded ≡ option_and_then row_of word) }
-        ensures value { result ≡ profile_of decoded }
+        ensures value { result ≡ profile_by decoded }
         ensures below { HasSources result }
     {
         match decoded {
@@ -86,7 +86,7 @@ impl Profile {
     fn by(i: &Instr) -> Profile
         requires registers { HasRegisters i.now }
         requires says { (word : ℕ) × (row_of word ≡ Some i.now) }
-        ensures value { result ≡ profile_by (kind i.now.op) i.now }
+        ensures value { result ≡ profile (kind i.now.op) i.now }
         ensures below { HasSources result }
     {
         let (class, cycles) = needs_of(i.op);

@@ -1,12 +1,11 @@
 // The instructions under way, in program order.
 ghost use Rattle.std.specs.Prelude.{◌≡◌, ◌≤◌, ◌<◌, ◌+◌, ◌-◌, ℕ, false, [], ◌∷◌, ◌++◌, length, drop, take, IfOk, IfSome, IsNone, Some, slice_get, slice_index, slice_set, true};
-ghost use Rattle.std.specs.List.{All, position_or_len};
+ghost use Rattle.std.specs.List.{position_or_len};
 ghost use Rattle.diva_ooo.specs.declared.entry.Progress.TheVariants.{Done, Running};
 ghost use Rattle.diva_core.specs.Cycle.{is_store};
 ghost use Rattle.diva_ooo.specs.Board.{IsBoard, IsNextOf, can_at, is_load};
 ghost use Rattle.diva_ooo.specs.Finish.{is_running};
 ghost use Rattle.diva_ooo.specs.Issue.{are_stored, is_done, is_waiting, running, written};
-ghost use Rattle.diva_ooo.specs.Known.{IsKnown};
 ghost use Rattle.diva_ooo.specs.MarkSets.{has, holds_at};
 
 use crate::board::Board;
@@ -27,21 +26,19 @@ pub(crate) struct Window {
 
 impl Model for Window {
     ghost use Rattle.std.specs.Prelude.{List, ◌≡◌, ◌<◌};
-    ghost use Rattle.std.specs.List.{All};
-    ghost use Rattle.diva_ooo.specs.declared.entry.Entry.{Entry};
+    ghost use Rattle.diva_ooo.specs.Entry.{Entry};
     ghost use Rattle.diva_ooo.specs.Board.{IsBoard};
-    ghost use Rattle.diva_ooo.specs.Known.{IsKnown};
 
     ghost Value = { List Entry };
 
     ghost view = { λ w. w.entries.items };
 
     ghost invariant = { λ w.
-        (w.entries.capacity ≡ 32) × All IsKnown w.entries.items × IsBoard w.entries.items w.board × (w.board.base < 32) };
+        (w.entries.capacity ≡ 32) × IsBoard w.entries.items w.board × (w.board.base < 32) };
 }
 
 impl Window {
-    ghost use Rattle.diva_ooo.specs.declared.entry.Entry.{Entry};
+    ghost use Rattle.diva_ooo.specs.Entry.{Entry};
     ghost use Rattle.diva_ahead.specs.Effects.{done_by};
     ghost use Rattle.diva_isa.specs.Step.{HasRegister};
 
@@ -78,8 +75,7 @@ impl Window {
     #[inline]
     pub(crate) fn entry(&self, at: usize) -> &Entry
         requires { at < length self.now }
-        ensures value { slice_get self.now at ≡ Some result.now }
-        ensures known { IsKnown result.now }
+        ensures { slice_get self.now at ≡ Some result.now }
     {
         self.entries.get(at).unwrap()
     }
@@ -89,9 +85,9 @@ impl Window {
     pub(crate) fn next_store(&self, from: usize, end: usize) -> Option<usize>
         requires from { from ≤ end }
         requires end { end ≤ length self.now }
-        ensures some { IfSome result (λ n. IsNextOf (λ e. is_store e.effect) self.now from n × (n < end)) }
+        ensures some { IfSome result (λ n. IsNextOf (λ e. is_store (done_by e.result)) self.now from n × (n < end)) }
         ensures below { IfSome result (λ n. n < 32) }
-        ensures none { IsNone result → (i : ℕ) → from ≤ i → i < end → holds_at (λ e. is_store e.effect) self.now i ≡ false }
+        ensures none { IsNone result → (i : ℕ) → from ≤ i → i < end → holds_at (λ e. is_store (done_by e.result)) self.now i ≡ false }
     {
         self.recall();
         match self.board.next_store(from) {
@@ -143,7 +139,10 @@ impl Window {
         self.recall();
         let before = regs.get(n);
         match self.board.last_result(at, n) {
-            Some(place) => self.entries.get(place).unwrap().result.value,
+            Some(place) => {
+                let entry = self.entries.get(place).unwrap();
+                entry.result.value
+            }
             None => before,
         }
     }
@@ -200,13 +199,12 @@ impl Window {
     #[inline(always)]
     pub(crate) fn push(&mut self, entry: Entry)
         requires room { length self.old < 32 }
-        requires known { IsKnown entry }
         requires waits { is_waiting entry.stage ≡ true }
         ensures { self.new ≡ self.old ++ entry ∷ [] }
     {
         let at = self.entries.len();
-        let _ = self.entries.try_push_back(entry);
         self.board.push(at, &entry.profile);
+        let _ = self.entries.try_push_back(entry);
     }
 
     /// Removes the oldest entry, if there is one. It is done.
@@ -246,7 +244,6 @@ impl Window {
 
 /// The same of a window in its parts; where the entry has not its sources, it is no candidate any more.
 fn is_ready_at(entries: &HeapCircularBuffer<Entry>, board: &mut Board, at: usize) -> bool
-    requires known { All IsKnown entries.now.items }
     requires few { length entries.now.items ≤ 32 }
     requires place { at < length entries.now.items }
     requires waits { holds_at (λ e. is_waiting e.stage) entries.now.items at ≡ true }
@@ -257,7 +254,8 @@ fn is_ready_at(entries: &HeapCircularBuffer<Entry>, board: &mut Board, at: usize
     ensures board { IsBoard entries.now.items board.new }
     ensures base { board.new.base ≡ board.old.base }
 {
-    let profile = &entries.get(at).unwrap().profile;
+    let entry = entries.get(at).unwrap();
+    let profile = &entry.profile;
     if !board.has_sources(at, profile) {
         board.pass(at);
         return false;

@@ -5,6 +5,7 @@ use Rattle.diva_ooo.specs.Finish.{is_running}
 use Rattle.diva_ooo.specs.Issue.{is_done, is_waiting}
 use Rattle.diva_ooo.proofs.Boarding.{blank_those}
 use Rattle.diva_ooo.proofs.Marking.{those_none}
+use Rattle.diva_ahead.specs.Effects.{done_by}
 use Rattle.diva_ooo.proofs.board.Board.new.Goals as goal
 
 pub returns-clause-board : goal.returns-clause-board
@@ -16,7 +17,7 @@ returns-clause-board c =
       done = those_none (λ e. is_done e.stage) 0;
       gone = λ i h. absurd (omega arith);
       storing = those_none is_open_store 0;
-      stored = those_none (λ e. is_store e.effect) 0;
+      stored = those_none (λ e. is_store (done_by e.result)) 0;
       loads = those_none is_load 0;
       candidates = λ i none. refl;
       write_sets = refl;

@@ -6,6 +6,7 @@ use Rattle.diva_ooo.specs.declared.profile.Profile.{Profile}
 use Rattle.diva_ooo.specs.Issue.{is_available}
 use Rattle.diva_ooo.proofs.Boarding.{IsPut, board_pushed, open_waiting, put_else, put_if}
 use Rattle.diva_ooo.proofs.board.Board.push.Goals.{else-has_sources_behind, else-is_loading, else-is_storing, then-has_sources_behind, then-is_loading, then-is_storing}
+use Rattle.diva_ooo.specs.Entry.{profile_of}
 use Rattle.diva_ooo.proofs.board.Board.push.Goals as goal
 
 pub returns-clause-board : goal.returns-clause-board
@@ -16,7 +17,7 @@ returns-clause-board c = λ w e i long waits none is.
     let s1 = c.if-has_sources_behind.self in
     let s2 = c.if-is_storing.self in
     let s3 = c.if-is_loading.self in
-    let field : (get : Profile → ℕ) → get profile ≡ get e.profile = λ get. ap get (sym is) in
+    let field : (get : Profile → ℕ) → get profile ≡ get (profile_of e) = λ get. ap get (sym is) in
     let candidates : (t : MarkSet) × (s1 ≡ record b { candidates = t }) × IsPut c.has_sources_behind.result mark b.candidates t =
     elim c.if-has_sources_behind.branch [
       | then-has_sources_behind v ↦ (v.put.new.self, v.self-is, put_if c.has_sources_behind.result mark b.candidates v.put.new.self v.if-has_sources_behind.true v.put.ensures)
@@ -36,7 +37,7 @@ returns-clause-board c = λ w e i long waits none is.
     storing.1 ∙ ap (λ (s : Board). record s { waiting = c.put-2.new.self; storing = storing.0 }) candidates.1 in
     let loaded : s3 ≡ record b { candidates = candidates.0; waiting = c.put-2.new.self; storing = storing.0; loads = loads.0 } =
     loads.1 ∙ ap (λ (s : Board). record s { loads = loads.0 }) stored in
-    let sources : c.has_sources_behind.result ≡ (is_available w e.profile.rs1 && is_available w e.profile.rs2) =
+    let sources : c.has_sources_behind.result ≡ (is_available w (profile_of e).rs1 && is_available w (profile_of e).rs2) =
     c.has_sources_behind.ensures w i (omega arith)
     ∙ ap (λ (p : Profile). is_available w p.rs1 && is_available w p.rs2) (sym is) in
     let waiting : IsPut true mark b.waiting c.put-2.new.self = subst (λ (s : Board). IsPut true mark s.waiting c.put-2.new.self) candidates.1 c.put-2.ensures in

@@ -1,11 +1,14 @@
-use Rattle.std.proofs.Common.{◌≡◌, ◌<◌, ◌^◌, List, None, Some, arith, sym, ap, refl, ◌∙◌, rules, take}
+use Rattle.std.proofs.Common.{◌≡◌, ◌<◌, ◌^◌, List, None, Some, arith, sym, ap, refl, ◌∙◌, rules, slice_get, take}
 use Rattle.diva_isa.specs.State.{word_of}
 use Rattle.diva_isa.specs.declared.effect.Effect.{Effect}
 use Rattle.diva_isa.specs.declared.effect.Effect.TheVariants.{Stores}
 use Rattle.diva_isa.specs.declared.kind.Width.TheVariants.{Word}
-use Rattle.diva_core.specs.Effects.{with_effects}
+use Rattle.diva_core.specs.Effects.{is_apart, with_effects}
+use Rattle.diva_ooo.specs.Entry.{Entry}
+use Rattle.diva_ooo.proofs.Knowing.{shown}
 use Rattle.diva_ooo.proofs.Reading.{effects, none_yet, older_word_none, word_apart, word_quiet, word_whole}
 use Rattle.diva_ooo.proofs.flight.Flight.find_word.Goals as goal
+use Rattle.diva_ahead.specs.Effects.{done_by}
 use Rattle.diva_ooo.proofs.flight.Flight.find_word.Goals.{in-Stores-Word-default-default, in_default-effect}
 
 pub returns-in_err-latest : goal.returns-in_err-latest
@@ -32,18 +35,21 @@ loop-place-preserved c =
     let before = next.1 in
     let place = c.in-Some.place in
     let latest = c.loop-place.latest in
-    let e = c.entry.result.now in
+    let e : Entry = shown c.entry.inside in
+    let does = c.entry.invariant.effect in
+    let here : slice_get f.window.now place ≡ Some e = c.entry-entry.ensures ∙ ap Some (sym c.entry.view_is) in
     let quiet = word_quiet f.view.now f.ahead.now.ring f.window.now c.loop-place.from place c.args.addr latest next.0.behind (λ i h k. next.0.first i h k) c.loop-place.invariant.seen in
     record {
       seen =
           elim c.match-effect.branch [
             | in-Stores-Word-default-default w ↦
                 let v = w.in-Stores-Word-default-default.value in
-                let whole : e.effect ≡ Stores Word c.args.addr v = search rules in
+                let stores : c.entry.inside.effect ≡ Stores Word c.args.addr v = search rules in
+                let whole : done_by e.result ≡ Stores Word c.args.addr v = sym does ∙ stores in
                 let fits : v < 2 ^ 32 = search rules in
-                rw w.latest-is (word_whole f.view.now f.ahead.now.ring f.window.now place e c.args.addr v latest c.entry.ensures.value whole fits quiet)
+                rw w.latest-is (word_whole f.view.now f.ahead.now.ring f.window.now place e c.args.addr v latest here whole fits quiet)
             | in_default-effect w ↦
-                rw w.latest-is (word_apart f.view.now f.ahead.now.ring f.window.now place e c.args.addr latest c.entry.ensures.value (sym w.is_apart.ensures ∙ w.if-is_apart.true) quiet)
+                rw w.latest-is (word_apart f.view.now f.ahead.now.ring f.window.now place e c.args.addr latest here (ap (λ (d : Effect). is_apart d c.args.addr 4) (sym does) ∙ sym w.is_apart.ensures ∙ w.if-is_apart.true) quiet)
           ];
       within = omega arith;
     }

@@ -1,5 +1,3 @@
-use Rattle.std.proofs.lemmas.List.Elements.{All-take}
-use Rattle.diva_ooo.specs.Known.{IsKnown}
 use Rattle.diva_ooo.proofs.window.Window.keep.Goals as goal
 
 pub invariant_of-self : goal.invariant_of-self
@@ -7,7 +5,6 @@ invariant_of-self c =
     let w = c.self.inside.entries.items in
     rw c.truncate_back.ensures (
       c.self.invariant.0,
-      All-take IsKnown c.args.most w c.self.invariant.1,
-      c.keep.ensures.board w c.self.invariant.2,
-      rw c.keep.ensures.base c.self.invariant.3,
+      c.keep.ensures.board w c.self.invariant.1,
+      rw c.keep.ensures.base c.self.invariant.2,
     )
