@@ -3,6 +3,7 @@ ghost use Rattle.std.specs.Prelude.{◌≡◌, ℕ, true, Result, IsOk};
 ghost use Rattle.diva_outside.specs.Text.{Text};
 ghost use Rattle.diva_args.specs.Options.{RunOptions, SoakOptions};
 ghost use Rattle.diva_args.specs.declared.job.CoreChoice.TheVariants.{Own};
+ghost use Rattle.diva_cli.specs.Changes.{change};
 ghost use Rattle.diva_cli.specs.Runs.{HasRun};
 ghost use Rattle.diva_cli.specs.SoakTexts.{HasSoaked};
 ghost use Rattle.diva_cli.specs.Wanted.{FileBytes};
@@ -16,12 +17,12 @@ use diva_ooo::Ooo;
 pub fn text_is_determined()
     ensures run { (options : RunOptions) (bytes : FileBytes) (after last : Ooo) (ended other : Result ℕ Text) (text same : Text)
         → options.setup.core ≡ Own
-        → HasRun IsOooCall options bytes new_ooo after ended text
-        → HasRun IsOooCall options bytes new_ooo last other same
+        → HasRun IsOooCall options bytes (change new_ooo after) ended text
+        → HasRun IsOooCall options bytes (change new_ooo last) other same
         → (options.trace ≡ true → IsOk ended × IsOk other) → text ≡ same }
     ensures soak { (options : SoakOptions) (after last : Ooo) (ended other : Result ℕ Text) (text same : Text)
-        → HasSoaked IsOooCall options new_ooo after ended text
-        → HasSoaked IsOooCall options new_ooo last other same → text ≡ same }
+        → HasSoaked IsOooCall options (change new_ooo after) ended text
+        → HasSoaked IsOooCall options (change new_ooo last) other same → text ≡ same }
 {
     own_run_is_determined::<Ooo>();
 }

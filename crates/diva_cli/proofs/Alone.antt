@@ -1,26 +1,27 @@
 -- What a command answers that asks no core, of what was put of its text.
-use Rattle.std.proofs.Common.{ℕ, List, [], Option, Some, Ok, Err}
+use Rattle.std.proofs.Common.{ℕ, List, [], Ok, Err}
 use Rattle.diva_outside.specs.Files.{Contents}
-use Rattle.diva_outside.specs.Sink.{Puts}
 use Rattle.diva_outside.proofs.Sinks.{past_nothing}
-use Rattle.diva_outside.specs.declared.files.What.{What}
 use Rattle.diva_outside.specs.declared.sink.SinkFailed.{SinkFailed}
 use Rattle.diva_core.specs.History.{Meaning}
 use Rattle.diva_args.specs.declared.job.Job.{Job}
 use Rattle.diva_cli.specs.declared.stop.Failure.TheVariants.{Cut}
+use Rattle.diva_cli.specs.Asked.{asked_for}
+use Rattle.diva_cli.specs.Changes.{FileFaults, PutsTo, SinkChange, change}
 use Rattle.diva_cli.specs.Wanted.{AreSound, FileBytes, wanted}
 use Rattle.diva_cli.specs.Texts.{HasText}
 use Rattle.diva_cli.specs.Parts.{Answers}
 use Rattle.diva_cli.proofs.Working.{done_answers}
 
-module _ {C : Type 0} (gives : Meaning C) (job : Job) (contents : Contents) (before now : What → ℕ) (bytes : FileBytes) (core : C)
-    (old new : Option (List ℕ)) (faults faults' : ℕ) (text : List ℕ) (sound : AreSound contents (wanted job) bytes) where
-  pub wrote_all : HasText gives job bytes core core (Ok 0) text → Puts {E = SinkFailed} text old new faults faults' (Ok tt)
-      → Answers gives (Some job) contents before now core core old new faults faults' (Ok 0)
+module _ {C S : Type 0} (gives : Meaning C) (job : Job) (contents : Contents) (files : FileFaults) (bytes : FileBytes) (core : C)
+    (sink : SinkChange S) (text : List ℕ) (sound : AreSound contents (wanted job) bytes) where
+  pub wrote_all : HasText gives job bytes (change core core) (Ok 0) text → PutsTo {E = SinkFailed} sink text (Ok tt)
+      → Answers gives (asked_for job contents) files (change core core) sink (Ok 0)
   wrote_all means put =
-      done_answers gives contents before now core old new faults faults' job bytes core (Ok 0) sound (record { text = text; means = means; written = put.ok })
+      done_answers gives contents files core sink job bytes core (Ok 0) sound (record { text = text; means = means; written = put.ok })
 
-  pub wrote_part : (fault : SinkFailed) → HasText gives job bytes core core (Err []) text → Puts text old new faults faults' (Err fault)
-      → Answers gives (Some job) contents before now core core old new faults faults' (Err Cut)
+  pub wrote_part : (fault : SinkFailed) → HasText gives job bytes (change core core) (Err []) text → PutsTo sink text (Err fault)
+      → Answers gives (asked_for job contents) files (change core core) sink (Err Cut)
   wrote_part fault means put =
-      done_answers gives contents before now core old new faults faults' job bytes core (Err Cut) sound (record { rose = put.failed; put = []; text = text; means = means; written = past_nothing old new text put.part })
+      done_answers gives contents files core sink job bytes core (Err Cut) sound
+      (record { rose = put.failed; put = []; text = text; means = means; written = past_nothing (sink.contents sink.before) (sink.contents sink.after) text put.part })

@@ -17,6 +17,7 @@ use Rattle.diva_outside.proofs.Sinks.{puts_nothing, puts_past, puts_then}
 use Rattle.diva_debug.specs.Moves.{Moves, steps_by}
 use Rattle.diva_debug.specs.Replies.{reply_of}
 use Rattle.diva_debug.specs.declared.command.Command.{Command}
+use Rattle.diva_cli.specs.Changes.{change, sink_change}
 use Rattle.diva_cli.specs.Cuts.{BeforeLast}
 use Rattle.diva_cli.specs.Replies.{AreLed, cycles_of, joined, newest_after, replies_of}
 use Rattle.diva_cli.specs.Tasks.{IsReplied}
@@ -219,12 +220,12 @@ replies_more gives commands n m core mid between old now new f g h c last after 
         }
 
 pub replied :
-    {C : Type 0} (gives : Meaning C) (commands : List Command) (n : ℕ) (m : Timed) (core : C) (last : Timed) (after : C) (old new : Option (List ℕ)) (f g : ℕ) (result : Result (Unit {0}) SinkFailed)
-    → RepliesSoFar gives commands n m core last after old new f g result
+    {C S : Type 0} (gives : Meaning C) (commands : List Command) (n : ℕ) (m : Timed) (core : C) (last : Timed) (after : C) (contents : S → Option (List ℕ)) (faults : S → ℕ) (s s' : S) (result : Result (Unit {0}) SinkFailed)
+    → RepliesSoFar gives commands n m core last after (contents s) (contents s') (faults s) (faults s') result
     → last.cycles ≤ m.cycles + cycles_of n m.config.limit
     → OnOk result (n ≡ length commands)
-    → Performs gives m core last after (λ lists. IsReplied commands m lists old new f g result)
-replied gives commands n m core last after old new f g result s within all =
+    → Performs gives (change m last) (change core after) (λ lists. IsReplied commands m lists (sink_change contents faults s s') result)
+replied gives commands n m core last after contents faults old new result s within all =
     record {
       turns = s.turns;
       done = record {
@@ -272,18 +273,31 @@ file-fits cycles n limit none few small =
 
 -- ---- the replies of a session
 
-module _ {C : Type 0} (gives : Meaning C) (options : DebugOptions) (bytes : FileBytes) (session : SessionReady) (core : C) (last : Timed) (after : C)
-    (old new : Option (List ℕ)) (before now : ℕ) (result : Result (Unit {0}) SinkFailed)
+module _ {C S : Type 0} (gives : Meaning C) (options : DebugOptions) (bytes : FileBytes) (session : SessionReady) (core : C) (last : Timed) (after : C)
+    (contents : S → Option (List ℕ)) (faults : S → ℕ) (s s' : S) (result : Result (Unit {0}) SinkFailed)
     (fits : IsConfig options.setup.config) (is : IsSession options bytes session) (commands : List Command) (same : commands ≡ session.commands.items)
-    (p : PerformsBy gives session.ready.core session.ready.script session.ready.machine.timed core last after
-    (λ lists. IsReplied commands session.ready.machine.timed lists old new before now result)) where
+    (p : PerformsBy gives session.ready.core session.ready.script (change session.ready.machine.timed last) (change core after)
+    (λ lists. IsReplied commands session.ready.machine.timed lists (sink_change contents faults s s') result)) where
+  -- the sink before and after
+  abbrev old : Option (List ℕ)
+  old = contents s
+
+  abbrev new : Option (List ℕ)
+  new = contents s'
+
+  abbrev before : ℕ
+  before = faults s
+
+  abbrev now : ℕ
+  now = faults s'
+
   abbrev first : Timed
   first = new_timed options.setup.config (start_in bytes)
 
   few : length p.lists ≤ cycles_of (length p.done.done) options.setup.config.limit
   few = subst (λ (m : Timed). length p.lists ≤ cycles_of (length p.done.done) m.config.limit) is.ready.begun p.done.most
 
-  abbrev over : IsRunOver gives options.setup (cycles_of (length p.done.done) options.setup.config.limit) bytes core last after
+  abbrev over : IsRunOver gives options.setup (cycles_of (length p.done.done) options.setup.config.limit) bytes (change core after) last
   over = run_over gives options.setup (cycles_of (length p.done.done) options.setup.config.limit) bytes session.ready core last after fits is.ready p.lists p.ran p.each p.handed few
 
   all_lists : over.run.driven.lists ≡ p.lists
@@ -295,7 +309,7 @@ module _ {C : Type 0} (gives : Meaning C) (options : DebugOptions) (bytes : File
   has_replies : (ended : Result ℕ (List ℕ))
       → IfOk ended (λ s. (s ≡ 0) × (p.done.left ≡ []))
       → IfErr ended (λ put. BeforeLast p.done.done (λ earlier. put ≡ replies_of earlier 0 (start_in bytes) (newest_after first p.done.parts)))
-      → HasReplies gives options bytes core after ended text
+      → HasReplies gives options bytes (change core after) ended text
   has_replies ended whole cut =
       record {
         done = p.done.done;
@@ -314,7 +328,7 @@ module _ {C : Type 0} (gives : Meaning C) (options : DebugOptions) (bytes : File
   puts : Puts text old new before now result
   puts = subst (λ (m : Timed). Puts (replies_of p.done.done m.count m.arch (newest_after m p.done.parts)) old new before now result) is.ready.begun p.done.put
 
-  pub wrote_replies : result ≡ Ok tt → WritesWhole gives (Debug options) bytes core after old new 0
+  pub wrote_replies : result ≡ Ok tt → WritesWhole gives (Debug options) bytes (change core after) (sink_change contents faults s s') 0
   wrote_replies ok =
       record {
         text = text;
@@ -322,7 +336,7 @@ module _ {C : Type 0} (gives : Meaning C) (options : DebugOptions) (bytes : File
         written = (subst (λ (r : Result (Unit {0}) SinkFailed). Puts text old new before now r) ok puts).ok;
       }
 
-  pub cut_replies : (e : SinkFailed) → result ≡ Err e → WritesPart gives (Debug options) bytes core after old new before now
+  pub cut_replies : (e : SinkFailed) → result ≡ Err e → WritesPart gives (Debug options) bytes (change core after) (sink_change contents faults s s')
   cut_replies e err =
       let q = subst (λ (r : Result (Unit {0}) SinkFailed). Puts text old new before now r) err puts in
       let b : CutAt p.done.done first p.done.parts old new =

@@ -1,7 +1,6 @@
 -- A job all of whose files are known and sound is done.
 use Rattle.std.proofs.Common.{◌≡◌, ◌⊎◌, ℕ, List, [], ◌∷◌, length, Option, Some, None, Result, Ok, Err, IsOk, inl, inr, sym, ◌∙◌, refl, ap, arith, subst}
 use Rattle.std.proofs.lemmas.Bool.{true≢false}
-use Rattle.std.specs.Io.KnownBytes.{Appends}
 use Rattle.diva_outside.specs.Causes.{Rose}
 use Rattle.diva_outside.specs.Files.{Contents}
 use Rattle.diva_outside.specs.declared.files.What.{What}
@@ -15,6 +14,8 @@ use Rattle.diva_args.specs.declared.job.Job.{Job}
 use Rattle.diva_args.specs.declared.job.Job.TheVariants.{Run, Tape, Debug, Asm, Dis, Soak}
 use Rattle.diva_cli.specs.declared.stop.Failure.{Failure}
 use Rattle.diva_cli.specs.declared.stop.Failure.TheVariants.{Cut, Memory}
+use Rattle.diva_cli.specs.Asked.{Asked}
+use Rattle.diva_cli.specs.Changes.{Change, FileFaults, HasFailed, SinkChange, Takes}
 use Rattle.diva_cli.specs.Wanted.{Wanted, FileBytes, wanted, IsFaultless, HasFault}
 use Rattle.diva_cli.specs.Stops.{StopsAt, StopsLoading, IsUnread, IsRefused, IsTooLong, HasFirstFault}
 use Rattle.diva_cli.specs.Runs.{EndsWith, end_status}
@@ -33,18 +34,18 @@ done_by GoesOn = inr (inr refl)
 ends_done : (last : Timed) (cycles status : ℕ) → EndsWith last cycles status → IsDone status
 ends_done last cycles status h = subst IsDone (sym h.by_end) (done_by (end_of last.arch.end))
 
-can_end : {C : Type 0} (gives : Meaning C) (job : Job) (bytes : FileBytes) (core after : C) (status : ℕ) (text : List ℕ)
-    → HasText gives job bytes core after (Ok status) text → CanEnd job status
-can_end gives (Run options) bytes core after status text h =
+can_end : {C : Type 0} (gives : Meaning C) (job : Job) (bytes : FileBytes) (core : Change C) (status : ℕ) (text : List ℕ)
+    → HasText gives job bytes core (Ok status) text → CanEnd job status
+can_end gives (Run options) bytes core status text h =
     elim h.written [
       | inl s ↦ ends_done h.last options.cycles status s.says
       | inr b ↦ absurd (let e = b.cut.holds in cc)
     ]
-can_end gives (Tape options) bytes core after status text h = ends_done h.last options.cycles status h.whole.ended
-can_end gives (Debug options) bytes core after status text h = h.whole.0
-can_end gives (Asm name) bytes core after status text h = h.alone.whole
-can_end gives (Dis name) bytes core after status text h = h.alone.whole
-can_end gives (Soak options) bytes core after status text h = h.whole
+can_end gives (Tape options) bytes core status text h = ends_done h.last options.cycles status h.whole.ended
+can_end gives (Debug options) bytes core status text h = h.whole.0
+can_end gives (Asm name) bytes core status text h = h.alone.whole
+can_end gives (Dis name) bytes core status text h = h.alone.whole
+can_end gives (Soak options) bytes core status text h = h.whole
 
 -- ---- a file that is held is no cause to stop
 
@@ -86,28 +87,28 @@ held-stops contents this never (w ∷ ws) h (inr later) = held-stops contents th
 
 -- ---- so it is done
 
-module _ {C : Type 0} (gives : Meaning C) (command : Option Job) (contents : Contents) (before now : What → ℕ) (core after : C) (old new : Option (List ℕ)) (faults faults' : ℕ)
-    (can : CanWork command contents) (files_well : (what : What) → Rose (before what) (now what) → ⊥) (sink_well : Rose faults faults' → ⊥) where
-  held_of : (job : Job) → command ≡ Some job → AreHeld contents (wanted job)
-  held_of job named = subst (λ (j : Job). AreHeld contents (wanted j)) (some_same command can.job job can.named named) can.held
+module _ {C S : Type 0} (gives : Meaning C) (asked : Asked) (files : FileFaults) (core : Change C) (sink : SinkChange S)
+    (can : CanWork asked) (files_well : (what : What) → Rose (files.before what) (files.after what) → ⊥) (sink_well : HasFailed sink → ⊥) where
+  held_of : (job : Job) → asked.command ≡ Some job → AreHeld asked.contents (wanted job)
+  held_of job named = subst (λ (j : Job). AreHeld asked.contents (wanted j)) (some_same asked.command can.job job can.named named) can.held
 
   abbrev pub Ended : ℕ → Type 0
-  Ended status = HasEnded gives command contents core after old new status
+  Ended status = HasEnded gives asked core sink status
 
-  answered : (status : ℕ) (text : List ℕ) → IsAnswer gives command contents before now core after (Ok status) text → Appends old new text → Ended status
+  answered : (status : ℕ) (text : List ℕ) → IsAnswer gives asked files core (Ok status) text → Takes sink text → Ended status
   answered status text (misused m same s) w = absurd (let e = sym can.named ∙ m.none in cc)
   answered status text (unread u same s) w =
-      absurd (held-stops contents (IsUnread contents before now text) (λ w behind. held-unread contents before now text w behind files_well) (wanted u.job) (held_of u.job u.named) u.first)
+      absurd (held-stops asked.contents (IsUnread asked.contents files.before files.after text) (λ w behind. held-unread asked.contents files.before files.after text w behind files_well) (wanted u.job) (held_of u.job u.named) u.first)
   answered status text (refused r same s) w =
-      absurd (held-stops contents (StopsLoading contents before now text) (λ w behind h s. held-refused contents text w h s.refused) (wanted r.job) (held_of r.job r.named) r.first)
+      absurd (held-stops asked.contents (StopsLoading asked.contents files.before files.after text) (λ w behind h s. held-refused asked.contents text w h s.refused) (wanted r.job) (held_of r.job r.named) r.first)
   answered status text (done d) w = record {
     job = d.job;
     named = d.named;
-    ends = can_end gives d.job d.bytes core after status text d.means;
+    ends = can_end gives d.job d.bytes core status text d.means;
     worked = record { text = text; done = d; written = w };
   }
 
-  pub complete : (result : Result ℕ Failure) → Answers gives command contents before now core after old new faults faults' result
+  pub complete : (result : Result ℕ Failure) → Answers gives asked files core sink result
       → Ended (status_of result) ⊎ (status_of result ≡ 10)
   complete (Ok status) w = inl (answered status w.text w.answer w.written)
   complete (Err Cut) w = absurd (sink_well w.rose)

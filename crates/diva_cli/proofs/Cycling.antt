@@ -17,6 +17,7 @@ use Rattle.diva_core.proofs.Turning.{IsHistory-more, IsHistory-run, length-lists
 use Rattle.diva_outside.specs.Sink.{AppendsPast, Puts}
 use Rattle.diva_outside.specs.declared.sink.SinkFailed.{SinkFailed}
 use Rattle.diva_outside.proofs.Sinks.{puts_nothing, puts_past, puts_then}
+use Rattle.diva_cli.specs.Changes.{change, sink_change}
 use Rattle.diva_cli.specs.Cuts.{BeforeLast}
 use Rattle.diva_cli.specs.Tasks.{CycleText, cycles_text, IsWritten, Performs}
 
@@ -124,23 +125,25 @@ module _ {D : Type 0} (gives : Meaning D) (text : CycleText) (says : List Record
         (subst (λ x. Puts (text x committed list) now new g h result) fe puts))
         says_it)
 
-  pub writes_performs : (n budget : ℕ) (last : Timed) (after : D) (new : Option (List ℕ)) (now : ℕ) (result : Result (Unit {0}) SinkFailed)
-      → WritesSoFar n last after new now result
-      → n ≤ budget
-      → OnOk result (goes_on last.arch ≡ true → n ≡ budget)
-      → Performs gives m core last after (λ lists. IsWritten text says budget m lists last old new before now result)
-  writes_performs n budget last after new now result w most whole =
-      record {
-        turns = w.turns;
-        done = record { most = (let l = long in omega arith); whole = go result whole; said = w.said; put = w.put; cut = w.cut };
-      }
-    where
-      long : length (lists_of w.turns.history) ≡ n
-      long = let e = w.turns.each in let l = length-lists_of w.turns.history in let k = w.many in omega arith
+pub writes_performs :
+    {D S : Type 0} (gives : Meaning D) (text : CycleText) (says : List Record → Type 0) (m : Timed) (core : D) (contents : S → Option (List ℕ)) (faults : S → ℕ) (s s' : S)
+    (n budget : ℕ) (last : Timed) (after : D) (result : Result (Unit {0}) SinkFailed)
+    → WritesSoFar gives text says m core (contents s) (faults s) n last after (contents s') (faults s') result
+    → n ≤ budget
+    → OnOk result (goes_on last.arch ≡ true → n ≡ budget)
+    → Performs gives (change m last) (change core after) (λ lists. IsWritten text says budget (change m last) lists (sink_change contents faults s s') result)
+writes_performs gives text says m core contents faults s s' n budget last after result w most whole =
+    record {
+      turns = w.turns;
+      done = record { most = (let l = long in omega arith); whole = go result whole; said = w.said; put = w.put; cut = w.cut };
+    }
+  where
+    long : length (lists_of w.turns.history) ≡ n
+    long = let e = w.turns.each in let l = length-lists_of w.turns.history in let k = w.many in omega arith
 
-      go : (r : Result (Unit {0}) SinkFailed) → OnOk r (goes_on last.arch ≡ true → n ≡ budget) → OnOk r (goes_on last.arch ≡ true → length (lists_of w.turns.history) ≡ budget)
-      go (Ok u) all = λ on. (let x = all on in let l = long in omega arith)
-      go (Err e) all = tt
+    go : (r : Result (Unit {0}) SinkFailed) → OnOk r (goes_on last.arch ≡ true → n ≡ budget) → OnOk r (goes_on last.arch ≡ true → length (lists_of w.turns.history) ≡ budget)
+    go (Ok u) all = λ on. (let x = all on in let l = long in omega arith)
+    go (Err e) all = tt
 
 -- the number of an instruction has room in 64 bits
 pub numbers_fit : (m : Timed) → IsMachine m → m.cycles ≤ 2 ^ 60 → m.count < 2 ^ 64

@@ -23,6 +23,7 @@ use Rattle.diva_args.specs.declared.job.CoreChoice.{CoreChoice}
 use Rattle.diva_args.specs.declared.job.CoreChoice.TheVariants.{Own}
 use Rattle.diva_cli.specs.Wanted.{FileBytes}
 use Rattle.diva_cli.specs.Determined.{IsDetermined}
+use Rattle.diva_cli.specs.Changes.{change}
 use Rattle.diva_cli.specs.Driven.{AreHanded, ByTurns}
 use Rattle.diva_cli.specs.Runs.{AreRows, HasRun, asked_trace, shown_dump, start_in}
 use Rattle.diva_cli.specs.SoakTexts.{HasSoaked, soak_cycles, soak_start}
@@ -60,8 +61,8 @@ rows_same None bytes rows rows' i j = i ∙ sym j
 rows_same (Some name) bytes rows rows' i j = let e = sym i ∙ j in cc
 
 own_turns : {C : Type 0} (gives : Meaning C) (choice : CoreChoice) (tape : List (List Record)) (rows : List Row) (m : Timed) (core : C) (lists : List (List Record)) (last : Timed) (after : C)
-    → choice ≡ Own → AreHanded gives choice tape rows m core lists last after → ByTurns (spoiled rows gives) m core lists last after
-own_turns gives choice tape rows m core lists last after own h = subst (λ (x : CoreChoice). AreHanded gives x tape rows m core lists last after) own h
+    → choice ≡ Own → AreHanded gives choice tape rows (change m last) (change core after) lists → ByTurns (spoiled rows gives) (change m last) (change core after) lists
+own_turns gives choice tape rows m core lists last after own h = subst (λ (x : CoreChoice). AreHanded gives x tape rows (change m last) (change core after) lists) own h
 
 -- the turns of a run
 record Ran {C : Type 0} (gives : Meaning C) (n : ℕ) (m : Timed) (core : C) (last : Timed) (after : C) : Type 0 where
@@ -71,7 +72,7 @@ record Ran {C : Type 0} (gives : Meaning C) (n : ℕ) (m : Timed) (core : C) (la
   all : goes_on last.arch ≡ true → length history ≡ n
 
 ran : {C : Type 0} (gives : Meaning C) (options : RunOptions) (bytes : FileBytes) (core after : C) (ended : Result ℕ Text) (text : Text) (rows : List Row)
-    → options.setup.core ≡ Own → (h : HasRun gives options bytes core after ended text) → (options.trace ≡ true → IsOk ended) → h.over.script ≡ rows
+    → options.setup.core ≡ Own → (h : HasRun gives options bytes (change core after) ended text) → (options.trace ≡ true → IsOk ended) → h.over.script ≡ rows
     → Ran (spoiled rows gives) options.cycles (new_timed options.setup.config (start_in bytes)) core h.last after
 ran gives options bytes core after ended text rows own h asked is =
     let shown = shown_whole gives options bytes core after ended text h asked in
@@ -84,7 +85,7 @@ ran gives options bytes core after ended text rows own h asked is =
     (record { history = turns.history; good = turns.good; most = omega arith; all = λ on. (let e = shown.0.all on in omega arith) })
 
 pub text_same : {C : Type 0} (gives : Meaning C) → IsDetermined gives → (options : RunOptions) (bytes : FileBytes) (core after last : C) (ended other : Result ℕ Text) (text same : Text)
-    → options.setup.core ≡ Own → HasRun gives options bytes core after ended text → HasRun gives options bytes core last other same
+    → options.setup.core ≡ Own → HasRun gives options bytes (change core after) ended text → HasRun gives options bytes (change core last) other same
     → (options.trace ≡ true → IsOk ended × IsOk other) → text ≡ same
 text_same gives determined options bytes core after last ended other text same own h k asked =
     let rows = k.over.script in
@@ -99,11 +100,11 @@ text_same gives determined options bytes core after last ended other text same o
 
 -- the turns of its second run, which has ended
 soak_ran : {C : Type 0} (gives : Meaning C) (options : SoakOptions) (core after : C) (ended : Result ℕ Text) (text : Text)
-    → (h : HasSoaked gives options core after ended text)
+    → (h : HasSoaked gives options (change core after) ended text)
     → Ran (spoiled [] gives) (soak_cycles options.instructions) (new_timed default_config (soak_start options)) core h.second after
 soak_ran gives options core after ended text h =
     let driven = h.under_own.driven in
-    let turns : ByTurns (spoiled [] gives) (new_timed default_config (soak_start options)) core driven.lists h.second after = driven.handed in
+    let turns : ByTurns (spoiled [] gives) (change (new_timed default_config (soak_start options)) h.second) (change core after) driven.lists = driven.handed in
     let long : length driven.lists ≡ length turns.history = ap length turns.in_order ∙ length-map turns.history (λ turn. turn.0) in
     let most = driven.most in
     let off : goes_on h.second.arch ≡ false = ap (λ end. end == 0) h.halts.1 in
@@ -113,7 +114,7 @@ line_same : (core : SoakCore) (n n' y y' f f' : ℕ) → n ≡ n' → y ≡ y' �
 line_same core n n' y y' f f' a b c = cc
 
 pub soak_same : {C : Type 0} (gives : Meaning C) → IsDetermined gives → (options : SoakOptions) (core after last : C) (ended other : Result ℕ Text) (text same : Text)
-    → HasSoaked gives options core after ended text → HasSoaked gives options core last other same → text ≡ same
+    → HasSoaked gives options (change core after) ended text → HasSoaked gives options (change core last) other same → text ≡ same
 soak_same gives determined options core after last ended other text same h k =
     let i = soak_ran gives options core after ended text h in
     let j = soak_ran gives options core last other same k in

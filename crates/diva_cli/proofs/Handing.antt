@@ -26,6 +26,7 @@ use Rattle.diva_tape.specs.Scalar.{IsScalarCall}
 use Rattle.diva_tape.specs.TapeCalls.{tape_call}
 use Rattle.diva_cli.specs.declared.driving.CoreInUse.{CoreInUse}
 use Rattle.diva_cli.specs.declared.driving.CoreInUse.TheVariants.{Own, Lockstep, Scalar, Silent, Flood, Echo, Noise, Tape}
+use Rattle.diva_cli.specs.Changes.{change, sink_change}
 use Rattle.diva_cli.specs.Driven.{scripted_lists, scripted_rule}
 use Rattle.diva_cli.specs.Tasks.{AreHandedBy, IsQuiet, Performs, PerformsBy}
 
@@ -43,8 +44,8 @@ no_rows (row ∷ rows) script same none = absurd (let n = is_zero (length (row �
 pub performs_none :
     {D : Type 0} (gives : Meaning D) (script : List Row) (m : Timed) (core : D) (last : Timed) (after : D) (this : List (List Record) → Type 0)
     → script ≡ []
-    → Performs gives m core last after this
-    → Performs (spoiled script gives) m core last after this
+    → Performs gives (change m last) (change core after) this
+    → Performs (spoiled script gives) (change m last) (change core after) this
 performs_none gives script m core last after this none p =
     let t = Turns-none gives m core last after p.turns in
     rw none (record { turns = t.turns; done = subst this (sym t.same) p.done })
@@ -55,8 +56,8 @@ pub performs_faulty :
     → inside f ≡ core
     → rows_in f ≡ script
     → (lent_name f ≡ lent_name final → after ≡ inside final)
-    → Performs (spoiled_call gives) m f last final this
-    → Performs (spoiled script gives) m core last after this
+    → Performs (spoiled_call gives) (change m last) (change f final) this
+    → Performs (spoiled script gives) (change m last) (change core after) this
 performs_faulty gives script m core f last final after this lent rows ends p =
     let t = Turns-spoiled gives script m core f last final after lent rows ends p.turns in
     record { turns = t.turns; done = subst this (sym t.same) p.done }
@@ -77,13 +78,13 @@ went_far m last budget Ended most ends runs = record { most = most; whole = λ o
 went_far m last budget Budget most ends runs = record { most = most; whole = λ on. (runs.0 refl).0 }
 
 pub performs_quiet :
-    {D : Type 0} (gives : Meaning D) (budget : ℕ) (m : Timed) (core : D) (last : Timed) (after : D) (contents : Option (List ℕ)) (faults : ℕ) (r : Drive)
+    {D S : Type 0} (gives : Meaning D) (budget : ℕ) (m : Timed) (core : D) (last : Timed) (after : D) (contents : S → Option (List ℕ)) (faults : S → ℕ) (s : S) (r : Drive)
     → Turns gives m core last after
     → last.cycles ≤ m.cycles + budget
     → (r ≡ Ended) ↔ (goes_on last.arch ≡ false)
     → (r ≡ Budget) ↔ ((last.cycles ≡ m.cycles + budget) × (goes_on last.arch ≡ true))
-    → Performs gives m core last after (λ lists. IsQuiet budget lists last contents contents faults faults (Ok tt))
-performs_quiet gives budget m core last after contents faults r t within ended ran =
+    → Performs gives (change m last) (change core after) (λ lists. IsQuiet budget (change m last) lists (sink_change contents faults s s) (Ok tt))
+performs_quiet gives budget m core last after contents faults s r t within ended ran =
     let far = went_far m last budget r within ended ran in
     let l = length-lists_of t.history in
     record {
@@ -99,8 +100,8 @@ performs_quiet gives budget m core last after contents faults r t within ended r
 
 -- ---- a line for each core
 
-module _ {C D : Type 0} (gives : Meaning C) (its : Meaning D) (script : List Row) (m last : Timed) (core : C) (first final : D) (this : List (List Record) → Type 0) (p : Performs (spoiled script its) m first last final this) where
-  by : (used : CoreInUse) (after : C) → AreHandedBy gives used script m core (lists_of p.turns.history) last after → PerformsBy gives used script m core last after this
+module _ {C D : Type 0} (gives : Meaning C) (its : Meaning D) (script : List Row) (m last : Timed) (core : C) (first final : D) (this : List (List Record) → Type 0) (p : Performs (spoiled script its) (change m last) (change first final) this) where
+  by : (used : CoreInUse) (after : C) → AreHandedBy gives used script (change m last) (change core after) (lists_of p.turns.history) → PerformsBy gives used script (change m last) (change core after) this
   by used after handed =
       record {
         lists = lists_of p.turns.history;
@@ -121,47 +122,47 @@ module _ {C D : Type 0} (gives : Meaning C) (its : Meaning D) (script : List Row
 
   pub by_lockstep :
       ((before : D) (told : Told) (s : State) (list : List Record) (after : D) → its before told s list after → list ≡ lockstep_call told s)
-      → PerformsBy gives Lockstep script m core last core this
+      → PerformsBy gives Lockstep script (change m last) (change core core) this
   by_lockstep is_rule =
       by Lockstep core (record { follows = by_rule lockstep_list (λ n before list after h. is_rule before (told_of n) n.arch list after h); same = refl })
 
   pub by_silent :
       ((before : D) (told : Told) (s : State) (list : List Record) (after : D) → its before told s list after → list ≡ [])
-      → PerformsBy gives Silent script m core last core this
+      → PerformsBy gives Silent script (change m last) (change core core) this
   by_silent is_rule =
       by Silent core (record { follows = by_rule silent_list (λ n before list after h. is_rule before (told_of n) n.arch list after h); same = refl })
 
   pub by_flood :
       ((before : D) (told : Told) (s : State) (list : List Record) (after : D) → its before told s list after → list ≡ replicate 8 zeros)
-      → PerformsBy gives Flood script m core last core this
+      → PerformsBy gives Flood script (change m last) (change core core) this
   by_flood is_rule =
       by Flood core (record { follows = by_rule flood_list (λ n before list after h. is_rule before (told_of n) n.arch list after h); same = refl })
 
   pub by_echo :
       ((before : D) (told : Told) (s : State) (list : List Record) (after : D) → its before told s list after → list ≡ echo_call told s)
-      → PerformsBy gives Echo script m core last core this
+      → PerformsBy gives Echo script (change m last) (change core core) this
   by_echo is_rule =
       by Echo core (record { follows = by_rule echo_list (λ n before list after h. is_rule before (told_of n) n.arch list after h); same = refl })
 
 pub by_own :
     {C : Type 0} (gives : Meaning C) (script : List Row) (m last : Timed) (core after : C) (this : List (List Record) → Type 0)
-    → Performs (spoiled script gives) m core last after this
-    → PerformsBy gives Own script m core last after this
+    → Performs (spoiled script gives) (change m last) (change core after) this
+    → PerformsBy gives Own script (change m last) (change core after) this
 by_own gives script m last core after this p =
     by gives gives script m last core core after this p Own after (record { history = p.turns.history; good = p.turns.good; in_order = refl })
 
 module _ {C : Type 0} (gives : Meaning C) (script : List Row) (m last : Timed) (core : C) (this : List (List Record) → Type 0) where
-  pub by_scalar : (first final : Ahead) → Performs (spoiled script IsScalarCall) m first last final this → PerformsBy gives (Scalar first) script m core last core this
+  pub by_scalar : (first final : Ahead) → Performs (spoiled script IsScalarCall) (change m last) (change first final) this → PerformsBy gives (Scalar first) script (change m last) (change core core) this
   by_scalar first final p =
       by gives IsScalarCall script m last core first final this p (Scalar first) core
       (record { final = final; turns = record { history = p.turns.history; good = p.turns.good; in_order = refl }; same = refl })
 
-  pub by_noise : (first final : ℕ) → Performs (spoiled script noise_call) m first last final this → PerformsBy gives (Noise first) script m core last core this
+  pub by_noise : (first final : ℕ) → Performs (spoiled script noise_call) (change m last) (change first final) this → PerformsBy gives (Noise first) script (change m last) (change core core) this
   by_noise first final p =
       by gives noise_call script m last core first final this p (Noise first) core
       (record { final = final; turns = record { history = p.turns.history; good = p.turns.good; in_order = refl }; same = refl })
 
-  pub by_tape : (first final : List (List Record)) → Performs (spoiled script tape_call) m first last final this → PerformsBy gives (Tape first) script m core last core this
+  pub by_tape : (first final : List (List Record)) → Performs (spoiled script tape_call) (change m last) (change first final) this → PerformsBy gives (Tape first) script (change m last) (change core core) this
   by_tape first final p =
       by gives tape_call script m last core first final this p (Tape first) core
       (record { final = final; turns = record { history = p.turns.history; good = p.turns.good; in_order = refl }; same = refl })

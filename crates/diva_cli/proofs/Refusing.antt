@@ -1,7 +1,6 @@
 -- Known files, the first of which that can't be used is refused or is not there.
 use Rattle.std.proofs.Common.{◌≡◌, ◌⊎◌, ℕ, List, [], ◌∷◌, length, Option, Some, None, Result, Ok, Err, IsSome, inl, inr, sym, ◌∙◌, refl, ap, arith, subst}
 use Rattle.std.proofs.lemmas.Bool.{true≢false}
-use Rattle.std.specs.Io.KnownBytes.{Appends}
 use Rattle.diva_outside.specs.Files.{Contents, IsMissing}
 use Rattle.diva_outside.specs.Lines.{LineFault}
 use Rattle.diva_outside.specs.declared.files.What.{What}
@@ -15,6 +14,8 @@ use Rattle.diva_core.specs.History.{Meaning}
 use Rattle.diva_args.specs.declared.job.Job.{Job}
 use Rattle.diva_cli.specs.declared.stop.Failure.{Failure}
 use Rattle.diva_cli.specs.declared.stop.Failure.TheVariants.{Cut, Memory}
+use Rattle.diva_cli.specs.Asked.{Asked}
+use Rattle.diva_cli.specs.Changes.{Change, FileFaults, SinkChange, Takes}
 use Rattle.diva_cli.specs.Wanted.{Wanted, FileBytes, AreSound, HasFault, wanted}
 use Rattle.diva_cli.specs.Stops.{CanBeUsed, StopsAt, StopsLoading, IsRefused, IsTooLong, HasFirstFault}
 use Rattle.diva_cli.specs.Answers.{IsAnswer, misused, unread, refused, done}
@@ -100,34 +101,37 @@ module _ (bytes_of : List ℕ → Option (List ℕ)) where
 
 -- ---- what is answered
 
-module _ {C : Type 0} (gives : Meaning C) (command : Option Job) (bytes_of : List ℕ → Option (List ℕ)) (before now : What → ℕ) (core after : C) (old new : Option (List ℕ)) (faults faults' : ℕ)
+module _ {C S : Type 0} (gives : Meaning C) (command : Option Job) (bytes_of : List ℕ → Option (List ℕ)) (files : FileFaults) (core : Change C) (sink : SinkChange S)
     (job : Job) (named : command ≡ Some job) where
+  abbrev pub asked : Asked
+  asked = record { command = command; contents = Some bytes_of }
+
   first_of : (this : Wanted → List Wanted → Type 0) (other : Job) → command ≡ Some other → StopsAt (Some bytes_of) this (wanted job) → StopsAt (Some bytes_of) this (wanted other)
   first_of this other e s = subst (λ (j : Job). StopsAt (Some bytes_of) this (wanted j)) (some_same command job other named e) s
 
   abbrev pub Refuses : List ℕ → ℕ → Type 0
-  Refuses text status = ((status ≡ 5) × Appends old new text) ⊎ IsHindered status
+  Refuses text status = ((status ≡ 5) × Takes sink text) ⊎ IsHindered status
 
   abbrev pub Refused : List ℕ → Wanted → List Wanted → Type 0
   Refused text w behind = IsRefused (Some bytes_of) text w
 
   abbrev pub Stopped : List ℕ → Wanted → List Wanted → Type 0
-  Stopped line = StopsLoading (Some bytes_of) before now line
+  Stopped line = StopsLoading (Some bytes_of) files.before files.after line
 
   answered_refused : (text : List ℕ) → StopsAt (Some bytes_of) (Refused text) (wanted job)
-      → (status : ℕ) (line : List ℕ) → IsAnswer gives command (Some bytes_of) before now core after (Ok status) line → Appends old new line → Refuses text status
+      → (status : ℕ) (line : List ℕ) → IsAnswer gives asked files core (Ok status) line → Takes sink line → Refuses text status
   answered_refused text first status line (misused m same s) w = absurd (let e = sym named ∙ m.none in cc)
   answered_refused text first status line (unread u same s) w = inr (inl s)
   answered_refused text first status line (refused r same s) w =
       let one : line ≡ text = both_stop bytes_of (Stopped line) (Refused text) (line ≡ text)
       (λ w behind u s. usable-refused bytes_of line w u s.refused) (λ w behind. usable-refused bytes_of text w) (λ w behind s t. one_refusal bytes_of line text w s.refused t)
       (wanted r.job) r.first (first_of (Refused text) r.job r.named first) in
-      inl (s, subst (λ (t : List ℕ). Appends old new t) one w)
+      inl (s, subst (λ (t : List ℕ). Takes sink t) one w)
   answered_refused text first status line (done d) w =
       absurd (sound-stops bytes_of (Refused text) (λ w behind. usable-refused bytes_of text w) (wanted d.job) d.bytes d.sound (first_of (Refused text) d.job d.named first))
 
   refuses_known : (text : List ℕ) → StopsAt (Some bytes_of) (Refused text) (wanted job)
-      → (result : Result ℕ Failure) → Answers gives command (Some bytes_of) before now core after old new faults faults' result → Refuses text (status_of result)
+      → (result : Result ℕ Failure) → Answers gives asked files core sink result → Refuses text (status_of result)
   refuses_known text first (Ok status) w = answered_refused text first status w.text w.answer w.written
   refuses_known text first (Err Cut) w = inr (inr (inl refl))
   refuses_known text first (Err Memory) w = inr (inr (inr refl))
@@ -136,7 +140,7 @@ module _ {C : Type 0} (gives : Meaning C) (command : Option Job) (bytes_of : Lis
   Missing w behind = IsMissing (Some bytes_of) w.name
 
   answered_missing : StopsAt (Some bytes_of) Missing (wanted job)
-      → (status : ℕ) (line : List ℕ) → IsAnswer gives command (Some bytes_of) before now core after (Ok status) line → IsHindered status
+      → (status : ℕ) (line : List ℕ) → IsAnswer gives asked files core (Ok status) line → IsHindered status
   answered_missing first status line (misused m same s) = absurd (let e = sym named ∙ m.none in cc)
   answered_missing first status line (unread u same s) = inl s
   answered_missing first status line (refused r same s) =
@@ -147,7 +151,7 @@ module _ {C : Type 0} (gives : Meaning C) (command : Option Job) (bytes_of : Lis
       absurd (sound-stops bytes_of Missing (λ w behind. usable-missing bytes_of w) (wanted d.job) d.bytes d.sound (first_of Missing d.job d.named first))
 
   misses_known : StopsAt (Some bytes_of) Missing (wanted job)
-      → (result : Result ℕ Failure) → Answers gives command (Some bytes_of) before now core after old new faults faults' result → IsHindered (status_of result)
+      → (result : Result ℕ Failure) → Answers gives asked files core sink result → IsHindered (status_of result)
   misses_known first (Ok status) w = answered_missing first status w.text w.answer
   misses_known first (Err Cut) w = inr (inl refl)
   misses_known first (Err Memory) w = inr (inr refl)
@@ -157,22 +161,22 @@ nothing-stops [] s = s
 nothing-stops (w ∷ ws) (inl here) = here
 nothing-stops (w ∷ ws) (inr later) = nothing-stops ws later.1
 
-module _ {C : Type 0} (gives : Meaning C) (command : Option Job) (contents : Contents) (before now : What → ℕ) (core after : C) (old new : Option (List ℕ)) (faults faults' : ℕ)
-    (result : Result ℕ Failure) (answers : Answers gives command contents before now core after old new faults faults' result) where
-  pub refuses : (text : List ℕ) → MustRefuse command contents text → ((status_of result ≡ 5) × Appends old new text) ⊎ IsHindered (status_of result)
+module _ {C S : Type 0} (gives : Meaning C) (command : Option Job) (contents : Contents) (files : FileFaults) (core : Change C) (sink : SinkChange S)
+    (result : Result ℕ Failure) (answers : Answers gives (record { command = command; contents = contents }) files core sink result) where
+  pub refuses : (text : List ℕ) → MustRefuse (record { command = command; contents = contents }) text → ((status_of result ≡ 5) × Takes sink text) ⊎ IsHindered (status_of result)
   refuses text must = go contents must.known must.refused.first answers
     where
       go : (told : Contents) → IsSome told → StopsAt told (λ w behind. IsRefused told text w) (wanted must.refused.job)
-          → Answers gives command told before now core after old new faults faults' result → ((status_of result ≡ 5) × Appends old new text) ⊎ IsHindered (status_of result)
+          → Answers gives (record { command = command; contents = told }) files core sink result → ((status_of result ≡ 5) × Takes sink text) ⊎ IsHindered (status_of result)
       go None known first a = absurd (true≢false (sym known))
       go (Some bytes_of) known first a =
-          refuses_known gives command bytes_of before now core after old new faults faults' must.refused.job must.refused.named text first result a
+          refuses_known gives command bytes_of files core sink must.refused.job must.refused.named text first result a
 
-  pub misses : HasMissing command contents → IsHindered (status_of result)
+  pub misses : HasMissing (record { command = command; contents = contents }) → IsHindered (status_of result)
   misses missing = go contents missing.first answers
     where
       go : (told : Contents) → StopsAt told (λ w behind. IsMissing told w.name) (wanted missing.job)
-          → Answers gives command told before now core after old new faults faults' result → IsHindered (status_of result)
+          → Answers gives (record { command = command; contents = told }) files core sink result → IsHindered (status_of result)
       go None first a = absurd (nothing-stops (wanted missing.job) first)
       go (Some bytes_of) first a =
-          misses_known gives command bytes_of before now core after old new faults faults' missing.job missing.named first result a
+          misses_known gives command bytes_of files core sink missing.job missing.named first result a

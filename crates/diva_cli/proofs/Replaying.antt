@@ -27,6 +27,7 @@ use Rattle.diva_args.specs.declared.job.CoreChoice.TheVariants.{Tape as OfTape}
 use Rattle.diva_args.specs.declared.job.Job.TheVariants.{Tape}
 use Rattle.diva_trace.specs.Text.{text_of}
 use Rattle.diva_cli.specs.declared.loading.Ready.{Ready}
+use Rattle.diva_cli.specs.Changes.{change, sink_change}
 use Rattle.diva_cli.specs.Wanted.{FileBytes, tape_name}
 use Rattle.diva_cli.specs.Cuts.{BeforeLast}
 use Rattle.diva_cli.specs.Driven.{IsDriven, scripted_lists}
@@ -96,7 +97,7 @@ module _ (options : TapeOptions) (bytes : FileBytes) (lists : List (List Record)
 
   module _ {C : Type 0} (gives : Meaning C) (text : List ℕ) (reads : tape_of text ≡ Ok lists)
       (replay : RunOptions) (its_bytes : FileBytes) (is : IsReplay options bytes text replay its_bytes)
-      (core after : C) (ended : Result ℕ (List ℕ)) (shown : List ℕ) (run : HasRun gives replay its_bytes core after ended shown)
+      (core after : C) (ended : Result ℕ (List ℕ)) (shown : List ℕ) (run : HasRun gives replay its_bytes (change core after) ended shown)
       (asked : replay.trace ≡ true → IsOk ended) where
     abbrev whole_run : IsWhole replay.setup replay.cycles (start_in its_bytes) run.last
         × (shown ≡ asked_trace replay.trace (start_in its_bytes) run.last.count ++ text_of run.last (shown_dump replay.dump))
@@ -114,13 +115,13 @@ module _ (options : TapeOptions) (bytes : FileBytes) (lists : List (List Record)
     same_first : new_timed replay.setup.config (start_in its_bytes) ≡ first
     same_first = ap (λ (z : Config). new_timed z (start_in its_bytes)) is.config ∙ ap (λ (b : List ℕ). new_timed options.setup.config (start_of (image_of b))) is.image
 
-    driven : IsDriven gives (OfTape is.name) lists [] options.cycles first core run.last after
+    driven : IsDriven gives (OfTape is.name) lists [] options.cycles (change first run.last) (change core after)
     driven =
-        subst (λ (c : CoreChoice). IsDriven gives c lists [] options.cycles first core run.last after) is.core
-        (subst (λ (t : List (List Record)). IsDriven gives replay.setup.core t [] options.cycles first core run.last after) same_lists
-        (subst (λ (rows : List Row). IsDriven gives replay.setup.core run.over.tape rows options.cycles first core run.last after) none
-        (subst (λ (n : ℕ). IsDriven gives replay.setup.core run.over.tape run.over.script n first core run.last after) is.cycles
-        (subst (λ (m : Timed). IsDriven gives replay.setup.core run.over.tape run.over.script replay.cycles m core run.last after) same_first run.over.run.driven))))
+        subst (λ (c : CoreChoice). IsDriven gives c lists [] options.cycles (change first run.last) (change core after)) is.core
+        (subst (λ (t : List (List Record)). IsDriven gives replay.setup.core t [] options.cycles (change first run.last) (change core after)) same_lists
+        (subst (λ (rows : List Row). IsDriven gives replay.setup.core run.over.tape rows options.cycles (change first run.last) (change core after)) none
+        (subst (λ (n : ℕ). IsDriven gives replay.setup.core run.over.tape run.over.script n (change first run.last) (change core after)) is.cycles
+        (subst (λ (m : Timed). IsDriven gives replay.setup.core run.over.tape run.over.script replay.cycles (change m run.last) (change core after)) same_first run.over.run.driven))))
 
     handed : IsHandedFor options.cycles first driven.lists
     handed =
@@ -145,15 +146,29 @@ tape_lines : (m : Timed) (lists : List (List Record)) → cycles_text tape_line 
 tape_lines m [] = refl
 tape_lines m (list ∷ lists) = ap (λ (t : List ℕ). list_text list ++ t) (tape_lines (cycle_of m list) lists)
 
-module _ {C : Type 0} (gives : Meaning C) (options : TapeOptions) (bytes : FileBytes) (ready : Ready) (core : C) (last : Timed) (after : C)
-    (cycles : ℕ) (old new : Option (List ℕ)) (before now : ℕ) (result : Result (Unit {0}) SinkFailed)
+module _ {C S : Type 0} (gives : Meaning C) (options : TapeOptions) (bytes : FileBytes) (ready : Ready) (core : C) (last : Timed) (after : C)
+    (cycles : ℕ) (contents : S → Option (List ℕ)) (faults : S → ℕ) (s s' : S) (result : Result (Unit {0}) SinkFailed)
     (y : cycles ≡ options.cycles) (fits : IsConfig options.setup.config)
     (is : IsReady options.setup bytes ready)
-    (p : PerformsBy gives ready.core ready.script ready.machine.timed core last after (λ lists. IsWritten tape_line IsList cycles ready.machine.timed lists last old new before now result)) where
+    (p : PerformsBy gives ready.core ready.script (change ready.machine.timed last) (change core after)
+    (λ lists. IsWritten tape_line IsList cycles (change ready.machine.timed last) lists (sink_change contents faults s s') result)) where
+  -- the sink before and after
+  abbrev old : Option (List ℕ)
+  old = contents s
+
+  abbrev new : Option (List ℕ)
+  new = contents s'
+
+  abbrev before : ℕ
+  before = faults s
+
+  abbrev now : ℕ
+  now = faults s'
+
   few : length p.lists ≤ options.cycles
   few = let m = p.done.most in omega arith
 
-  abbrev over : IsRunOver gives options.setup options.cycles bytes core last after
+  abbrev over : IsRunOver gives options.setup options.cycles bytes (change core after) last
   over = run_over gives options.setup options.cycles bytes ready core last after fits is p.lists p.ran p.each p.handed few
 
   all_lists : over.run.driven.lists ≡ p.lists
@@ -162,7 +177,7 @@ module _ {C : Type 0} (gives : Meaning C) (options : TapeOptions) (bytes : FileB
   puts : Puts (tape_text p.lists) old new before now result
   puts = subst (λ (t : List ℕ). Puts t old new before now result) (tape_lines ready.machine.timed p.lists) p.done.put
 
-  pub wrote_tape : (status : ℕ) → status ≡ end_status (end_of last.arch.end) → result ≡ Ok tt → WritesWhole gives (Tape options) bytes core after old new status
+  pub wrote_tape : (status : ℕ) → status ≡ end_status (end_of last.arch.end) → result ≡ Ok tt → WritesWhole gives (Tape options) bytes (change core after) (sink_change contents faults s s') status
   wrote_tape status says ok =
       let all : goes_on last.arch ≡ true → length p.lists ≡ cycles = subst (λ (r : Result (Unit {0}) SinkFailed). OnOk r (goes_on last.arch ≡ true → length p.lists ≡ cycles)) ok p.done.whole in
       let are : All IsList p.lists = subst (λ (r : Result (Unit {0}) SinkFailed). OnOk r (All IsList p.lists)) ok p.done.said in
@@ -189,7 +204,7 @@ module _ {C : Type 0} (gives : Meaning C) (options : TapeOptions) (bytes : FileB
         written = (subst (λ (r : Result (Unit {0}) SinkFailed). Puts (tape_text p.lists) old new before now r) ok puts).ok;
       }
 
-  pub cut_tape : (e : SinkFailed) → result ≡ Err e → WritesPart gives (Tape options) bytes core after old new before now
+  pub cut_tape : (e : SinkFailed) → result ≡ Err e → WritesPart gives (Tape options) bytes (change core after) (sink_change contents faults s s')
   cut_tape e err =
       let q = subst (λ (r : Result (Unit {0}) SinkFailed). Puts (tape_text p.lists) old new before now r) err puts in
       let b : BeforeLast p.lists (λ earlier. AppendsPast old new (cycles_text tape_line ready.machine.timed earlier) (cycles_text tape_line ready.machine.timed p.lists)) =

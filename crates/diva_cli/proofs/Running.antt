@@ -42,6 +42,7 @@ use Rattle.diva_trace.specs.Text.{commits_text, text_of, trace_of}
 use Rattle.diva_trace.proofs.Numbered.{commits_text-append, commits_text-none}
 use Rattle.diva_cli.specs.declared.driving.CoreInUse.{CoreInUse}
 use Rattle.diva_cli.specs.declared.loading.Ready.{Ready}
+use Rattle.diva_cli.specs.Changes.{SinkChange, change, sink_change}
 use Rattle.diva_cli.specs.Wanted.{FileBytes}
 use Rattle.diva_cli.specs.Cuts.{BeforeLast}
 use Rattle.diva_cli.specs.Driven.{IsDriven, AreHanded, ByCalls, ByOther, scripted_lists, scripted_rule}
@@ -66,9 +67,9 @@ follow_same rule other same m (list ∷ rest) h = (h.0 ∙ same m, follow_same r
 
 -- the lists of a new Scalar, where no row changes them
 module _ {C : Type 0} (script : List Row) (m : Timed) (core : C) (lists : List (List Record)) (last : Timed) (after : C)
-    (leads : MayLead m new_scalar) (none : script ≡ []) (by : ByOther IsScalarCall new_scalar script m core lists last after) where
-  unscripted : ByOther IsScalarCall new_scalar [] m core lists last after
-  unscripted = subst (λ (rows : List Row). ByOther IsScalarCall new_scalar rows m core lists last after) none by
+    (leads : MayLead m new_scalar) (none : script ≡ []) (by : ByOther IsScalarCall new_scalar script (change m last) (change core after) lists) where
+  unscripted : ByOther IsScalarCall new_scalar [] (change m last) (change core after) lists
+  unscripted = subst (λ (rows : List Row). ByOther IsScalarCall new_scalar rows (change m last) (change core after) lists) none by
 
   good : IsHistory IsScalarCall m new_scalar unscripted.turns.history last unscripted.final
   good = history-none IsScalarCall m new_scalar unscripted.turns.history last unscripted.final unscripted.turns.good
@@ -83,13 +84,13 @@ module _ {C : Type 0} (script : List Row) (m : Timed) (core : C) (lists : List (
 right_handed :
     {C : Type 0} (gives : Meaning C) (choice : CoreChoice) (tape : List (List Record)) (script : List Row) (m : Timed) (core : C) (lists : List (List Record)) (last : Timed) (after : C)
     → MayLead m new_scalar
-    → (choice ≡ Lockstep) ⊎ (choice ≡ Scalar) → script ≡ [] → AreHanded gives choice tape script m core lists last after → AreRight m lists
+    → (choice ≡ Lockstep) ⊎ (choice ≡ Scalar) → script ≡ [] → AreHanded gives choice tape script (change m last) (change core after) lists → AreRight m lists
 right_handed gives choice tape script m core lists last after leads (inl is) none handed =
-    let one : AreHanded gives Lockstep tape script m core lists last after = subst (λ (c : CoreChoice). AreHanded gives c tape script m core lists last after) is handed in
-    let two : AreHanded gives Lockstep tape [] m core lists last after = subst (λ (rows : List Row). AreHanded gives Lockstep tape rows m core lists last after) none one in
+    let one : AreHanded gives Lockstep tape script (change m last) (change core after) lists = subst (λ (c : CoreChoice). AreHanded gives c tape script (change m last) (change core after) lists) is handed in
+    let two : AreHanded gives Lockstep tape [] (change m last) (change core after) lists = subst (λ (rows : List Row). AreHanded gives Lockstep tape rows (change m last) (change core after) lists) none one in
     rule_right m lists (follow_same (scripted_rule [] lockstep_list) lockstep_list (λ n. scripted-none (n.cycles + 1) (lockstep_list n)) m lists two.follows)
 right_handed gives choice tape script m core lists last after leads (inr is) none handed =
-    let one : AreHanded gives Scalar tape script m core lists last after = subst (λ (c : CoreChoice). AreHanded gives c tape script m core lists last after) is handed in
+    let one : AreHanded gives Scalar tape script (change m last) (change core after) lists = subst (λ (c : CoreChoice). AreHanded gives c tape script (change m last) (change core after) lists) is handed in
     scalar_right script m core lists last after leads none one.by
 
 -- ---- a run from a state
@@ -101,8 +102,8 @@ by_calls :
     → ((before after : D) (told : Told) (s : State) (list : List Record) (n : ℕ) → its before told s list after → list ∷ calls n after ≡ calls (suc n) before)
     → (first : D) (script : List Row) (m : Timed) (core : C) (lists : List (List Record)) (last : Timed) (after : C)
     → IsMachine m
-    → ByOther its first script m core lists last after
-    → ByCalls calls first script m core lists after
+    → ByOther its first script (change m last) (change core after) lists
+    → ByCalls calls first script m (change core after) lists
 by_calls its calls none more first script m core lists last after inv by =
     record {
       in_order = subst (λ (l : List (List Record)). l ≡ scripted_lists script (m.cycles + 1) (calls (length l) first)) (sym by.turns.in_order)
@@ -122,7 +123,7 @@ tape_goes_on before after told s list n h =
 pub handed_for :
     {C : Type 0} (gives : Meaning C) (asked : CoreChoice) (tape : List (List Record)) (script : List Row) (m : Timed) (core : C) (lists : List (List Record)) (last : Timed) (after : C)
     → MayLead m new_scalar
-    → AreHandedBy gives (core_for asked tape) script m core lists last after → AreHanded gives asked tape script m core lists last after
+    → AreHandedBy gives (core_for asked tape) script (change m last) (change core after) lists → AreHanded gives asked tape script (change m last) (change core after) lists
 handed_for gives Own tape script m core lists last after leads h = h
 handed_for gives Lockstep tape script m core lists last after leads h = h
 handed_for gives Scalar tape script m core lists last after leads h = record { by = h; alone = λ none. scalar_follows script m core lists last after leads none h }
@@ -137,8 +138,8 @@ handed_for gives (Tape name) tape script m core lists last after leads h =
 pub run_from_start :
     {C : Type 0} (gives : Meaning C) (setup : Setup) (cycles : ℕ) (tape : List (List Record)) (script : List Row) (start : State) (core : C) (last : Timed) (after : C)
     → IsConfig setup.config
-    → IsDriven gives setup.core tape script cycles (new_timed setup.config start) core last after
-    → IsRunFrom gives setup cycles tape script start core last after
+    → IsDriven gives setup.core tape script cycles (change (new_timed setup.config start) last) (change core after)
+    → IsRunFrom gives setup cycles tape script start (change core after) last
 run_from_start gives setup cycles tape script start core last after ok d =
     record {
       driven = d;
@@ -156,7 +157,7 @@ module _ {C : Type 0} (gives : Meaning C) (setup : Setup) (cycles : ℕ) (bytes 
     (fits : IsConfig setup.config) (is : IsReady setup bytes ready) (lists : List (List Record))
     (ran : last ≡ run_of ready.machine.timed lists)
     (each : last.cycles ≡ ready.machine.timed.cycles + length lists)
-    (handed : AreHandedBy gives ready.core ready.script ready.machine.timed core lists last after) where
+    (handed : AreHandedBy gives ready.core ready.script (change ready.machine.timed last) (change core after) lists) where
   abbrev first : Timed
   first = new_timed setup.config (start_in bytes)
 
@@ -166,13 +167,13 @@ module _ {C : Type 0} (gives : Meaning C) (setup : Setup) (cycles : ℕ) (bytes 
   pub each_new : last.cycles ≡ length lists
   each_new = let e = ap (λ (m : Timed). m.cycles) is.begun in omega arith
 
-  handed_new : AreHanded gives setup.core is.core.tape ready.script first core lists last after
+  handed_new : AreHanded gives setup.core is.core.tape ready.script (change first last) (change core after) lists
   handed_new =
       handed_for gives setup.core is.core.tape ready.script first core lists last after (new_leads setup.config (start_in bytes) fits)
-      (subst (λ (m : Timed). AreHandedBy gives (core_for setup.core is.core.tape) ready.script m core lists last after) is.begun
-      (subst (λ (used : CoreInUse). AreHandedBy gives used ready.script ready.machine.timed core lists last after) is.core.is handed))
+      (subst (λ (m : Timed). AreHandedBy gives (core_for setup.core is.core.tape) ready.script (change m last) (change core after) lists) is.begun
+      (subst (λ (used : CoreInUse). AreHandedBy gives used ready.script (change ready.machine.timed last) (change core after) lists) is.core.is handed))
 
-  pub run_over : length lists ≤ cycles → IsRunOver gives setup cycles bytes core last after
+  pub run_over : length lists ≤ cycles → IsRunOver gives setup cycles bytes (change core after) last
   run_over most =
       record {
         script = ready.script;
@@ -260,24 +261,26 @@ on_err : {A E : Type 0} {P Q : Type 0} (r : Result A E) → (P → Q) → OnErr 
 on_err (Ok a) f h = tt
 on_err (Err e) f h = f h
 
-went : (trace : Bool) (cycles : ℕ) (m : Timed) (lists : List (List Record)) (last : Timed) (old new : Option (List ℕ)) (before now : ℕ) (result : Result (Unit {0}) SinkFailed)
-    → Does (run_task trace cycles) m lists last old new before now result → Went trace cycles m lists last old new before now result
-went false cycles m lists last old new before now result q =
+went : {S : Type 0} (trace : Bool) (cycles : ℕ) (m : Timed) (lists : List (List Record)) (last : Timed) (sink : SinkChange S) (result : Result (Unit {0}) SinkFailed)
+    → Does (run_task trace cycles) (change m last) lists sink result
+    → Went trace cycles m lists last (sink.contents sink.before) (sink.contents sink.after) (sink.faults sink.before) (sink.faults sink.after) result
+went false cycles m lists last sink result q =
     record {
       most = q.most;
       whole = subst (λ (r : Result (Unit {0}) SinkFailed). OnOk r (goes_on last.arch ≡ true → length lists ≡ cycles)) (sym q.never_fails) q.whole;
-      put = subst (λ (r : Result (Unit {0}) SinkFailed). Puts [] old new before now r) (sym q.never_fails)
-          (subst (λ (c : Option (List ℕ)). Puts {E = SinkFailed} [] old c before now (Ok tt)) (sym q.contents)
-          (subst (λ f. Puts {E = SinkFailed} [] old old before f (Ok tt)) (sym q.faults) (puts_nothing old before)));
-      cut = subst (λ (r : Result (Unit {0}) SinkFailed). OnErr r (CutLines false m lists old new)) (sym q.never_fails) tt;
+      put = subst (λ (r : Result (Unit {0}) SinkFailed). Puts [] (sink.contents sink.before) (sink.contents sink.after) (sink.faults sink.before) (sink.faults sink.after) r) (sym q.never_fails)
+          (subst (λ (c : Option (List ℕ)). Puts {E = SinkFailed} [] (sink.contents sink.before) c (sink.faults sink.before) (sink.faults sink.after) (Ok tt)) (sym q.contents)
+          (subst (λ f. Puts {E = SinkFailed} [] (sink.contents sink.before) (sink.contents sink.before) (sink.faults sink.before) f (Ok tt)) (sym q.faults)
+          (puts_nothing (sink.contents sink.before) (sink.faults sink.before))));
+      cut = subst (λ (r : Result (Unit {0}) SinkFailed). OnErr r (CutLines false m lists (sink.contents sink.before) (sink.contents sink.after))) (sym q.never_fails) tt;
     }
-went true cycles m lists last old new before now result w =
+went true cycles m lists last sink result w =
     record { most = w.most; whole = w.whole; put = w.put; cut = on_err result (λ b. (refl, b)) w.cut }
 
 -- ---- the text of a run, where its commit lines were all put if they are asked for
 
 pub shown_whole : {C : Type 0} (gives : Meaning C) (options : RunOptions) (bytes : FileBytes) (core after : C) (ended : Result ℕ (List ℕ)) (text : List ℕ)
-    (h : HasRun gives options bytes core after ended text) → (options.trace ≡ true → IsOk ended)
+    (h : HasRun gives options bytes (change core after) ended text) → (options.trace ≡ true → IsOk ended)
     → IsWhole options.setup options.cycles (start_in bytes) h.last
     × (text ≡ asked_trace options.trace (start_in bytes) h.last.count ++ text_of h.last (shown_dump options.dump))
 shown_whole gives options bytes core after ended text h asked =
@@ -286,16 +289,38 @@ shown_whole gives options bytes core after ended text h asked =
       | inr b ↦ absurd (true≢false (sym (subst IsOk b.cut.holds (asked b.traced))))
     ]
 
-module _ {C : Type 0} (gives : Meaning C) (options : RunOptions) (bytes : FileBytes) (ready : Ready) (core : C) (last : Timed) (after : C)
-    (trace : Bool) (cycles : ℕ) (dump : Option DumpRange) (old mid new : Option (List ℕ)) (before between now : ℕ) (result : Result (Unit {0}) SinkFailed)
+module _ {C S : Type 0} (gives : Meaning C) (options : RunOptions) (bytes : FileBytes) (ready : Ready) (core : C) (last : Timed) (after : C)
+    (trace : Bool) (cycles : ℕ) (dump : Option DumpRange) (contents : S → Option (List ℕ)) (faults : S → ℕ) (s0 s1 s2 : S) (result : Result (Unit {0}) SinkFailed)
     (t : trace ≡ options.trace) (y : cycles ≡ options.cycles) (d : dump ≡ options.dump) (fits : IsConfig options.setup.config)
     (is : IsReady options.setup bytes ready) (task : Task) (task_is : task ≡ run_task trace cycles)
-    (p : PerformsBy gives ready.core ready.script ready.machine.timed core last after (λ lists. Does task ready.machine.timed lists last old mid before between result)) where
+    (p : PerformsBy gives ready.core ready.script (change ready.machine.timed last) (change core after)
+    (λ lists. Does task (change ready.machine.timed last) lists (sink_change contents faults s0 s1) result)) where
+  -- the sink before the run, behind the commit lines, and at the end
+  abbrev old : Option (List ℕ)
+  old = contents s0
+
+  abbrev mid : Option (List ℕ)
+  mid = contents s1
+
+  abbrev new : Option (List ℕ)
+  new = contents s2
+
+  abbrev before : ℕ
+  before = faults s0
+
+  abbrev between : ℕ
+  between = faults s1
+
+  abbrev now : ℕ
+  now = faults s2
+
   abbrev run_text : List ℕ
   run_text = asked_trace options.trace (start_in bytes) last.count ++ text_of last (shown_dump options.dump)
 
   w : Went trace cycles ready.machine.timed p.lists last old mid before between result
-  w = went trace cycles ready.machine.timed p.lists last old mid before between result (subst (λ (k : Task). Does k ready.machine.timed p.lists last old mid before between result) task_is p.done)
+  w =
+      went trace cycles ready.machine.timed p.lists last (sink_change contents faults s0 s1) result
+      (subst (λ (k : Task). Does k (change ready.machine.timed last) p.lists (sink_change contents faults s0 s1) result) task_is p.done)
 
   run_from_new : last ≡ run_of (new_timed options.setup.config (start_in bytes)) p.lists
   run_from_new = p.ran ∙ ap (λ (m : Timed). run_of m p.lists) is.begun
@@ -306,7 +331,7 @@ module _ {C : Type 0} (gives : Meaning C) (options : RunOptions) (bytes : FileBy
       (subst (λ (x : List ℕ). Puts x old mid before between result)
       (ap (λ (m : Timed). commits_if trace m p.lists) is.begun ∙ trace-run options.setup.config (start_in bytes) p.lists last trace fits run_from_new) w.put)
 
-  abbrev over : IsRunOver gives options.setup options.cycles bytes core last after
+  abbrev over : IsRunOver gives options.setup options.cycles bytes (change core after) last
   over = run_over gives options.setup options.cycles bytes ready core last after fits is p.lists p.ran p.each p.handed (let m = w.most in omega arith)
 
   whole_if : (goes_on last.arch ≡ true → length p.lists ≡ cycles) → IsWhole options.setup options.cycles (start_in bytes) last
@@ -331,7 +356,7 @@ module _ {C : Type 0} (gives : Meaning C) (options : RunOptions) (bytes : FileBy
       (subst (λ (x : Option DumpRange). Puts (text_of last (shown_dump x)) mid new between now (Err e)) d puts)
 
   pub wrote_run : result ≡ Ok tt → (status : ℕ) → status ≡ end_status (end_of last.arch.end) → Puts {E = SinkFailed} (text_of last (shown_dump dump)) mid new between now (Ok tt)
-      → WritesWhole gives (Run options) bytes core after old new status
+      → WritesWhole gives (Run options) bytes (change core after) (sink_change contents faults s0 s2) status
   wrote_run ok status says puts =
       record {
         text = run_text;
@@ -344,7 +369,7 @@ module _ {C : Type 0} (gives : Meaning C) (options : RunOptions) (bytes : FileBy
       }
 
   pub cut_run : result ≡ Ok tt → (e : SinkFailed) → Puts (text_of last (shown_dump dump)) mid new between now (Err e)
-      → WritesPart gives (Run options) bytes core after old new before now
+      → WritesPart gives (Run options) bytes (change core after) (sink_change contents faults s0 s2)
   cut_run ok e puts =
       let q = both ok (Err e) puts in
       record {
@@ -367,7 +392,7 @@ module _ {C : Type 0} (gives : Meaning C) (options : RunOptions) (bytes : FileBy
   lines_to : (lists : List (List Record)) (m : Timed) → m ≡ run_of start lists → cycles_text trace_lines start lists ≡ trace_of (start_in bytes) m.count
   lines_to lists m ran = trace-run options.setup.config (start_in bytes) lists m true fits ran
 
-  pub cut_trace : (e : SinkFailed) → result ≡ Err e → WritesPart gives (Run options) bytes core after old mid before between
+  pub cut_trace : (e : SinkFailed) → result ≡ Err e → WritesPart gives (Run options) bytes (change core after) (sink_change contents faults s0 s1)
   cut_trace e err =
       let q = subst (λ (x : Result (Unit {0}) SinkFailed). Puts (asked_trace options.trace (start_in bytes) last.count) old mid before between x) err puts_trace in
       let c = cut_lines e err in

@@ -1,6 +1,5 @@
 -- What the two runs of `soak` come to, and what is written of them.
-use Rattle.std.proofs.Common.{◌≡◌, ◌↔◌, ◌≤◌, ◌+◌, ◌==◌, ℕ, true, false, List, [], length, Option, Result, IfOk, Ok, Err, refl, ap, sym, ◌∙◌, subst, arith}
-use Rattle.diva_outside.specs.Sink.{Puts}
+use Rattle.std.proofs.Common.{◌≡◌, ◌↔◌, ◌≤◌, ◌+◌, ◌==◌, ℕ, true, false, List, [], length, Result, IfOk, Ok, Err, refl, ap, sym, ◌∙◌, subst, arith}
 use Rattle.diva_outside.proofs.Sinks.{past_nothing}
 use Rattle.diva_outside.specs.declared.sink.SinkFailed.{SinkFailed}
 use Rattle.diva_isa.specs.State.{State, goes_on}
@@ -30,6 +29,7 @@ use Rattle.diva_args.specs.Options.{SoakOptions, longest_soak}
 use Rattle.diva_args.specs.declared.job.CoreChoice.{CoreChoice}
 use Rattle.diva_args.specs.declared.job.CoreChoice.TheVariants.{Own, Scalar}
 use Rattle.diva_args.specs.declared.job.Job.TheVariants.{Soak}
+use Rattle.diva_cli.specs.Changes.{PutsTo, SinkChange, change}
 use Rattle.diva_cli.specs.Wanted.{FileBytes}
 use Rattle.diva_cli.specs.SoakTexts.{HasSoaked, IsSoakRun, soak_cycles, soak_setup, soak_start}
 use Rattle.diva_cli.specs.Driven.{AreHanded, ByTurns}
@@ -71,7 +71,7 @@ pub drove :
     → last.cycles ≤ m.cycles + budget
     → (r ≡ Ended) ↔ (goes_on last.arch ≡ false)
     → (r ≡ Budget) ↔ ((last.cycles ≡ m.cycles + budget) × (goes_on last.arch ≡ true))
-    → Soaks gives options core last after
+    → Soaks gives options (change core after) last
 drove gives options m core last after budget r is all t within ended ran =
     let far = went_far m last budget r within ended ran in
     let none : m.cycles ≡ 0 = ap (λ (n : Timed). n.cycles) is in
@@ -82,7 +82,7 @@ drove gives options m core last after budget r is all t within ended ran =
     }
 
 module _ {D : Type 0} (gives : Meaning D) (options : SoakOptions) (core : D) (last : Timed) (after : D)
-    (few : options.instructions ≤ longest_soak) (s : Soaks gives options core last after) where
+    (few : options.instructions ≤ longest_soak) (s : Soaks gives options (change core after) last) where
   abbrev lists : List (List Record)
   lists = lists_of s.turns.history
 
@@ -114,9 +114,9 @@ module _ {D : Type 0} (gives : Meaning D) (options : SoakOptions) (core : D) (la
 -- it is a run by the core of a choice, where its lists are those of that core
 soak_run :
     {C D : Type 0} (gives : Meaning C) (its : Meaning D) (options : SoakOptions) (choice : CoreChoice) (core after : C) (first : D) (last : Timed) (final : D)
-    (few : options.instructions ≤ longest_soak) (s : Soaks its options first last final)
-    → AreHanded gives choice [] [] (soak_new options) core (lists its options first last final few s) last after
-    → IsSoakRun gives options choice core last after
+    (few : options.instructions ≤ longest_soak) (s : Soaks its options (change first final) last)
+    → AreHanded gives choice [] [] (change (soak_new options) last) (change core after) (lists its options first last final few s)
+    → IsSoakRun gives options choice (change core after) last
 soak_run gives its options choice core after first last final few s handed =
     run_from_start gives (soak_setup choice) (soak_cycles options.instructions) [] [] (soak_start options) core last after sizes_fit
     (record {
@@ -130,23 +130,23 @@ soak_run gives its options choice core after first last final few s handed =
 -- its turns are those of the core under a script that has no rows
 soak_turns :
     {D : Type 0} (its : Meaning D) (options : SoakOptions) (first : D) (last : Timed) (final : D)
-    (few : options.instructions ≤ longest_soak) (s : Soaks its options first last final)
-    → ByTurns (spoiled [] its) (soak_new options) first (lists its options first last final few s) last final
+    (few : options.instructions ≤ longest_soak) (s : Soaks its options (change first final) last)
+    → ByTurns (spoiled [] its) (change (soak_new options) last) (change first final) (lists its options first last final few s)
 soak_turns its options first last final few s =
     let t = Turns-none its (soak_new options) first last final s.turns in
     record { history = t.turns.history; good = t.turns.good; in_order = sym t.same }
 
 own_run :
     {C : Type 0} (gives : Meaning C) (options : SoakOptions) (core : C) (last : Timed) (after : C)
-    → options.instructions ≤ longest_soak → Soaks gives options core last after
-    → IsSoakRun gives options Own core last after
+    → options.instructions ≤ longest_soak → Soaks gives options (change core after) last
+    → IsSoakRun gives options Own (change core after) last
 own_run gives options core last after few s =
     soak_run gives gives options Own core after core last after few s (soak_turns gives options core last after few s)
 
 scalar_run :
     {C : Type 0} (gives : Meaning C) (options : SoakOptions) (core : C) (last : Timed) (ahead : Ahead)
-    → options.instructions ≤ longest_soak → Soaks IsScalarCall options new_scalar last ahead
-    → IsSoakRun gives options Scalar core last core
+    → options.instructions ≤ longest_soak → Soaks IsScalarCall options (change new_scalar ahead) last
+    → IsSoakRun gives options Scalar (change core core) last
 scalar_run gives options core last ahead few s =
     soak_run gives IsScalarCall options Scalar core core new_scalar last ahead few s
     (handed_for gives Scalar [] [] (soak_new options) core (lists IsScalarCall options new_scalar last ahead few s) last core
@@ -155,9 +155,9 @@ scalar_run gives options core last ahead few s =
 
 -- ---- what is written of them
 
-module _ {C : Type 0} (gives : Meaning C) (options : SoakOptions) (bytes : FileBytes) (core : C) (ahead : Ahead) (first second : Timed) (after : C)
-    (few : options.instructions ≤ longest_soak) (one : Soaks IsScalarCall options new_scalar first ahead) (two : Soaks gives options core second after)
-    (old new : Option (List ℕ)) (before now : ℕ) where
+module _ {C S : Type 0} (gives : Meaning C) (options : SoakOptions) (bytes : FileBytes) (core : C) (ahead : Ahead) (first second : Timed) (after : C)
+    (few : options.instructions ≤ longest_soak) (one : Soaks IsScalarCall options (change new_scalar ahead) first) (two : Soaks gives options (change core after) second)
+    (sink : SinkChange S) where
   abbrev first_end : (first.arch ≡ steps (table_halts options few).after (soak_start options)) × (first.count ≡ (table_halts options few).after)
   first_end = at_end IsScalarCall options new_scalar first ahead few one
 
@@ -167,7 +167,7 @@ module _ {C : Type 0} (gives : Meaning C) (options : SoakOptions) (bytes : FileB
   first_halts : first.arch.end ≡ halt 0
   first_halts = halted IsScalarCall options new_scalar first ahead few one
 
-  means : (ended : Result ℕ (List ℕ)) → IfOk ended (λ s. s ≡ 0) → HasSoaked gives options core after ended (soak_text first second)
+  means : (ended : Result ℕ (List ℕ)) → IfOk ended (λ s. s ≡ 0) → HasSoaked gives options (change core after) ended (soak_text first second)
   means ended whole = record {
     first = first;
     under_scalar = scalar_run gives options core first ahead few one;
@@ -182,8 +182,8 @@ module _ {C : Type 0} (gives : Meaning C) (options : SoakOptions) (bytes : FileB
     whole = whole;
   }
 
-  pub wrote_soaked : Puts {E = SinkFailed} (soak_text first second) old new before now (Ok tt) → WritesWhole gives (Soak options) bytes core after old new 0
+  pub wrote_soaked : PutsTo {E = SinkFailed} sink (soak_text first second) (Ok tt) → WritesWhole gives (Soak options) bytes (change core after) sink 0
   wrote_soaked put = record { text = soak_text first second; means = means (Ok 0) refl; written = put.ok }
 
-  pub cut_soaked : (e : SinkFailed) → Puts (soak_text first second) old new before now (Err e) → WritesPart gives (Soak options) bytes core after old new before now
-  cut_soaked e put = record { rose = put.failed; put = []; text = soak_text first second; means = means (Err []) tt; written = past_nothing old new (soak_text first second) put.part }
+  pub cut_soaked : (e : SinkFailed) → PutsTo sink (soak_text first second) (Err e) → WritesPart gives (Soak options) bytes (change core after) sink
+  cut_soaked e put = record { rose = put.failed; put = []; text = soak_text first second; means = means (Err []) tt; written = past_nothing (sink.contents sink.before) (sink.contents sink.after) (soak_text first second) put.part }

@@ -1,5 +1,5 @@
 -- What a command answers, from what was loaded for it and what was written of it.
-use Rattle.std.proofs.Common.{◌≡◌, ℕ, List, [], Option, Some, None, Result, Ok, Err, refl, sym, ◌∙◌, ap, subst}
+use Rattle.std.proofs.Common.{◌≡◌, ℕ, List, [], Option, None, Result, Ok, Err, refl, sym, ◌∙◌, ap, subst}
 use Rattle.diva_outside.specs.Files.{Contents}
 use Rattle.diva_outside.specs.declared.files.What.{What}
 use Rattle.diva_outside.proofs.Sinks.{past_nothing}
@@ -11,17 +11,19 @@ use Rattle.diva_cli.specs.declared.stop.Stop.{Stop}
 use Rattle.diva_cli.specs.declared.stop.Stop.TheVariants.{Memory, Unread, Refused}
 use Rattle.diva_cli.specs.declared.stop.Failure.{Failure}
 use Rattle.diva_cli.specs.declared.stop.Failure.TheVariants.{Cut, Memory as NoMemory}
+use Rattle.diva_cli.specs.Asked.{asked_for}
+use Rattle.diva_cli.specs.Changes.{FileFaults, SinkChange, change}
 use Rattle.diva_cli.specs.Wanted.{Wanted, FileBytes, AreSound, machine_files, wanted}
 use Rattle.diva_cli.specs.Lines.{usage_line}
 use Rattle.diva_cli.specs.Answers.{misused, unread, refused, done}
 use Rattle.diva_cli.specs.Parts.{HoldsReady, IsReady, Stops, WritesLine, WritesStop, WritesText, Answers}
 
-module _ {C : Type 0} (gives : Meaning C) (contents : Contents) (before now : What → ℕ) (core : C) (old new : Option (List ℕ)) (faults faults' : ℕ) where
+module _ {C S : Type 0} (gives : Meaning C) (contents : Contents) (files : FileFaults) (core : C) (sink : SinkChange S) where
   -- the files are sound, and the job's text was written
   pub done_answers : (job : Job) (bytes : FileBytes) (after : C) (result : Result ℕ Failure)
       → AreSound contents (wanted job) bytes
-      → WritesText gives job bytes core after old new faults faults' result
-      → Answers gives (Some job) contents before now core after old new faults faults' result
+      → WritesText gives job bytes (change core after) sink result
+      → Answers gives (asked_for job contents) files (change core after) sink result
   done_answers job bytes after (Ok status) sound w =
       record { text = w.text; answer = done (record { job = job; named = refl; bytes = bytes; sound = sound; means = w.means }); written = w.written }
   done_answers job bytes after (Err Cut) sound w =
@@ -30,32 +32,32 @@ module _ {C : Type 0} (gives : Meaning C) (contents : Contents) (before now : Wh
 
   -- the loading stopped, and a line was written of it
   pub stop_answers : (job : Job) (stop : Stop) (result : Result ℕ Failure)
-      → Stops contents before now (wanted job) stop
-      → WritesStop stop old new faults faults' result
-      → Answers gives (Some job) contents before now core core old new faults faults' result
-  stop_answers job Memory (Ok status) s w = cc
-  stop_answers job Memory (Err Cut) s w = cc
-  stop_answers job Memory (Err NoMemory) s w = refl
+      → Stops contents files.before files.after (wanted job) stop
+      → WritesStop stop sink result
+      → Answers gives (asked_for job contents) files (change core core) sink result
+  stop_answers job Memory (Ok status) s w = (let e = w.0 in cc)
+  stop_answers job Memory (Err Cut) s w = (let e = w.0 in cc)
+  stop_answers job Memory (Err NoMemory) s w = record { unasked = refl; unput = w.1 }
   stop_answers job (Unread what) (Ok status) s w =
       record { text = _; answer = unread (record { job = job; named = refl; first = s }) refl w.0; written = w.1 }
   stop_answers job (Unread what) (Err Cut) s w =
-      record { rose = w.0; put = []; text = _; answer = unread (record { job = job; named = refl; first = s }) refl tt; written = past_nothing old new _ w.1 }
+      record { rose = w.0; put = []; text = _; answer = unread (record { job = job; named = refl; first = s }) refl tt; written = past_nothing (sink.contents sink.before) (sink.contents sink.after) _ w.1 }
   stop_answers job (Unread what) (Err NoMemory) s w = absurd w
   stop_answers job (Refused what kind place) (Ok status) s w =
       record { text = _; answer = refused (record { job = job; named = refl; first = s }) refl w.0; written = w.1 }
   stop_answers job (Refused what kind place) (Err Cut) s w =
-      record { rose = w.0; put = []; text = _; answer = refused (record { job = job; named = refl; first = s }) refl tt; written = past_nothing old new _ w.1 }
+      record { rose = w.0; put = []; text = _; answer = refused (record { job = job; named = refl; first = s }) refl tt; written = past_nothing (sink.contents sink.before) (sink.contents sink.after) _ w.1 }
   stop_answers job (Refused what kind place) (Err NoMemory) s w = absurd w
 
   -- the words ask for no job, and the usage line was written
   pub misused_answers : (command : Option Job) (line : List ℕ) (result : Result ℕ Failure)
-      → command ≡ None → line ≡ usage_line → ((what : What) → now what ≡ before what)
-      → WritesLine line 2 old new faults faults' result
-      → Answers gives command contents before now core core old new faults faults' result
+      → command ≡ None → line ≡ usage_line → ((what : What) → files.after what ≡ files.before what)
+      → WritesLine line 2 sink result
+      → Answers gives (record { command = command; contents = contents }) files (change core core) sink result
   misused_answers command line (Ok status) none is same w =
       record { text = line; answer = misused (record { none = none; line = is; uncounted = same }) refl w.0; written = w.1 }
   misused_answers command line (Err Cut) none is same w =
-      record { rose = w.0; put = []; text = line; answer = misused (record { none = none; line = is; uncounted = same }) refl tt; written = past_nothing old new line w.1 }
+      record { rose = w.0; put = []; text = line; answer = misused (record { none = none; line = is; uncounted = same }) refl tt; written = past_nothing (sink.contents sink.before) (sink.contents sink.after) line w.1 }
   misused_answers command line (Err NoMemory) none is same w = absurd w
 
   -- ---- a job whose files are those of a machine
@@ -64,18 +66,18 @@ module _ {C : Type 0} (gives : Meaning C) (contents : Contents) (before now : Wh
   pub ready_answers : (job : Job) (setup asked : Setup) (ready : Ready) (after : C) (result : Result ℕ Failure)
       → setup ≡ asked → wanted job ≡ machine_files asked
       → HoldsReady contents setup ready
-      → ((bytes : FileBytes) → IsReady asked bytes ready → WritesText gives job bytes core after old new faults faults' result)
-      → Answers gives (Some job) contents before now core after old new faults faults' result
-  ready_answers job setup asked ready after result same files held writes =
+      → ((bytes : FileBytes) → IsReady asked bytes ready → WritesText gives job bytes (change core after) sink result)
+      → Answers gives (asked_for job contents) files (change core after) sink result
+  ready_answers job setup asked ready after result same wants held writes =
       let h : HoldsReady contents asked ready = subst (λ (s : Setup). HoldsReady contents s ready) same held in
-      done_answers job h.bytes after result (subst (λ (ws : List Wanted). AreSound contents ws h.bytes) (sym files) h.sound) (writes h.bytes h.is)
+      done_answers job h.bytes after result (subst (λ (ws : List Wanted). AreSound contents ws h.bytes) (sym wants) h.sound) (writes h.bytes h.is)
 
   -- the loading stopped, and a line was written of it
   pub unready_answers : (job : Job) (setup asked : Setup) (stop : Stop) (result : Result ℕ Failure)
       → setup ≡ asked → wanted job ≡ machine_files asked
-      → Stops contents before now (machine_files setup) stop
-      → WritesStop stop old new faults faults' result
-      → Answers gives (Some job) contents before now core core old new faults faults' result
-  unready_answers job setup asked stop result same files stopped wrote =
+      → Stops contents files.before files.after (machine_files setup) stop
+      → WritesStop stop sink result
+      → Answers gives (asked_for job contents) files (change core core) sink result
+  unready_answers job setup asked stop result same wants stopped wrote =
       stop_answers job stop result
-      (subst (λ (ws : List Wanted). Stops contents before now ws stop) (ap (λ (s : Setup). machine_files s) same ∙ sym files) stopped) wrote
+      (subst (λ (ws : List Wanted). Stops contents files.before files.after ws stop) (ap (λ (s : Setup). machine_files s) same ∙ sym wants) stopped) wrote

@@ -8,6 +8,7 @@ use Rattle.diva_core.specs.History.{Meaning}
 use Rattle.diva_args.specs.Options.{DebugOptions}
 use Rattle.diva_debug.specs.Reading.{commands_of}
 use Rattle.diva_debug.specs.declared.command.Command.{Command}
+use Rattle.diva_cli.specs.Changes.{Change}
 use Rattle.diva_cli.specs.Wanted.{FileBytes}
 use Rattle.diva_cli.specs.Runs.{IsRunOver, start_in}
 use Rattle.diva_cli.specs.Cuts.{BeforeLast}
@@ -15,14 +16,14 @@ use Rattle.diva_cli.specs.Replies.{AreLed, cycles_of, joined, newest_after, repl
 
 -- the text of `debug` over files with these bytes, and how the writing of it ended. Each reply is told from the table's state at
 -- its place, but for the newest flush; that is the machine's, which runs as any other does
-pub record HasReplies {C : Type 0} (gives : Meaning C) (options : DebugOptions) (bytes : FileBytes) (core after : C)
+pub record HasReplies {C : Type 0} (gives : Meaning C) (options : DebugOptions) (bytes : FileBytes) (core : Change C)
     (ended : Result ℕ Text) (text : Text) : Type 0 where
   pub done : List Command
   pub left : List Command
   pub read : commands_of (bytes Commands) ≡ Ok (done ++ left)
   pub whole : IfOk ended (λ s. (s ≡ 0) × (left ≡ []))
   pub last : Timed
-  pub over : IsRunOver gives options.setup (cycles_of (length done) options.setup.config.limit) bytes core last after
+  pub over : IsRunOver gives options.setup (cycles_of (length done) options.setup.config.limit) bytes core last
   pub parts : List (List (List Record))
   pub together : over.run.driven.lists ≡ joined parts
   pub led : AreLed done (new_timed options.setup.config (start_in bytes)) parts

@@ -7,21 +7,22 @@ use Rattle.diva_image.specs.Images.{image_bytes, image_of}
 use Rattle.diva_image.specs.Layout.{Layout}
 use Rattle.diva_asm.specs.Listing.{listing_of}
 use Rattle.diva_asm.specs.Sources.{source_of}
+use Rattle.diva_cli.specs.Changes.{Change}
 use Rattle.diva_cli.specs.Wanted.{FileBytes}
 
 -- the core stays as it was, and the status is 0 where the text was written whole
-pub record IsAlone {C : Type 0} (core after : C) (ended : Result ℕ Text) : Type 0 where
-  pub unasked : after ≡ core
+pub record IsAlone {C : Type 0} (core : Change C) (ended : Result ℕ Text) : Type 0 where
+  pub unasked : core.after ≡ core.before
   pub whole : IfOk ended (λ s. s ≡ 0)
 
 -- the bytes of the image of a source
-pub record HasAssembled {C : Type 0} (bytes : FileBytes) (core after : C) (ended : Result ℕ Text) (text : Text) : Type 0 where
+pub record HasAssembled {C : Type 0} (bytes : FileBytes) (core : Change C) (ended : Result ℕ Text) (text : Text) : Type 0 where
   pub image : Layout
   pub assembled : source_of (bytes Source) ≡ Ok image
   pub written : text ≡ image_bytes image
-  pub alone : IsAlone core after ended
+  pub alone : IsAlone core ended
 
 -- a line for each word of an image
-pub record HasListing {C : Type 0} (bytes : FileBytes) (core after : C) (ended : Result ℕ Text) (text : Text) : Type 0 where
+pub record HasListing {C : Type 0} (bytes : FileBytes) (core : Change C) (ended : Result ℕ Text) (text : Text) : Type 0 where
   pub lines : text ≡ concat (listing_of (image_of (bytes Image)))
-  pub alone : IsAlone core after ended
+  pub alone : IsAlone core ended

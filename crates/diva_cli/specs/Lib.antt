@@ -1,4 +1,6 @@
 -- What the contracts of this crate cite.
+pub mod Asked
+pub mod Changes
 pub mod Lines
 pub mod Wanted
 pub mod Stops

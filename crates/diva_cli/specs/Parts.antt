@@ -1,10 +1,7 @@
 -- What the parts of the program promise one another.
 -- Only private contracts of this crate cite this: a reader of its promises can pass over it.
 use Rattle.std.specs.Prelude.{◌≡◌, ◌≤◌, ℕ, true, List, Option, Result, Ok, Err}
-use Rattle.std.specs.Io.KnownBytes.{Appends}
-use Rattle.diva_outside.specs.Causes.{Rose}
 use Rattle.diva_outside.specs.Files.{Contents}
-use Rattle.diva_outside.specs.Sink.{AppendsPart, AppendsPast}
 use Rattle.diva_outside.specs.Text.{Text}
 use Rattle.diva_outside.specs.declared.files.What.{What}
 use Rattle.diva_outside.specs.declared.files.What.TheVariants.{Script, Tape as TapeFile, Commands}
@@ -28,6 +25,8 @@ use Rattle.diva_cli.specs.declared.stop.Stop.{Stop}
 use Rattle.diva_cli.specs.declared.stop.Stop.TheVariants.{Memory, Unread, Refused}
 use Rattle.diva_cli.specs.declared.stop.Failure.{Failure}
 use Rattle.diva_cli.specs.declared.stop.Failure.TheVariants.{Cut, Memory as NoMemory}
+use Rattle.diva_cli.specs.Asked.{Asked}
+use Rattle.diva_cli.specs.Changes.{Change, FileFaults, HasFailed, SinkChange, Takes, TakesPart, TakesPast}
 use Rattle.diva_cli.specs.Lines.{unreadable_line, refused_line}
 use Rattle.diva_cli.specs.Wanted.{Wanted, FileBytes, IsSound, AreSound, file_if, machine_files, session_files, tape_name}
 use Rattle.diva_cli.specs.Runs.{AreRows, AreLists, start_in}
@@ -35,7 +34,7 @@ use Rattle.diva_cli.specs.SoakTexts.{soak_cycles, soak_start}
 use Rattle.diva_cli.specs.Stops.{StopsAt, IsUnread, StopsLoading}
 use Rattle.diva_cli.specs.Texts.{HasText}
 use Rattle.diva_cli.specs.Answers.{IsAnswer}
-use Rattle.diva_cli.specs.Statuses.{IsCut}
+use Rattle.diva_cli.specs.Statuses.{HasNoMemory, IsCut}
 
 -- ---- loading
 
@@ -113,63 +112,58 @@ pub record IsSoakReady (options : SoakOptions) (ready : SoakReady) : Type 0 wher
   pub scalar : ready.scalar ≡ new_scalar
 
 -- turns of a core led from a new machine with the image of the seed to one that has ended, or that has run all the cycles
-pub record Soaks {D : Type 0} (gives : Meaning D) (options : SoakOptions) (core : D) (last : Timed) (after : D) : Type 0 where
-  pub turns : Turns gives (new_timed default_config (soak_start options)) core last after
+pub record Soaks {D : Type 0} (gives : Meaning D) (options : SoakOptions) (core : Change D) (last : Timed) : Type 0 where
+  pub turns : Turns gives (new_timed default_config (soak_start options)) core.before last core.after
   pub most : last.cycles ≤ soak_cycles options.instructions
   pub whole : goes_on last.arch ≡ true → last.cycles ≡ soak_cycles options.instructions
 
 -- ---- writing
 
 -- a line was written, with its status; or a prefix of it
-abbrev pub WritesLine : Text → (due : ℕ) → (old new : Option Text) → (faults faults' : ℕ) → Result ℕ Failure → Type 0
-WritesLine line due old new faults faults' (Ok status) = (status ≡ due) × Appends old new line
-WritesLine line due old new faults faults' (Err Cut) = Rose faults faults' × AppendsPart old new line
-WritesLine line due old new faults faults' (Err NoMemory) = ⊥
+abbrev pub WritesLine : {S : Type 0} → Text → (due : ℕ) → SinkChange S → Result ℕ Failure → Type 0
+WritesLine line due sink (Ok status) = (status ≡ due) × Takes sink line
+WritesLine line due sink (Err Cut) = HasFailed sink × TakesPart sink line
+WritesLine line due sink (Err NoMemory) = ⊥
 
--- the line of a stop was written, and none where memory ran out
-abbrev pub WritesStop : Stop → (old new : Option Text) → (faults faults' : ℕ) → Result ℕ Failure → Type 0
-WritesStop Memory old new faults faults' result = result ≡ Err NoMemory
-WritesStop (Unread what) old new faults faults' result = WritesLine (unreadable_line what) 8 old new faults faults' result
-WritesStop (Refused what kind place) old new faults faults' result =
-    WritesLine (refused_line what kind place) 5 old new faults faults' result
+-- the line of a stop was written; and none where memory ran out, where nothing was put to the sink
+abbrev pub WritesStop : {S : Type 0} → Stop → SinkChange S → Result ℕ Failure → Type 0
+WritesStop Memory sink result = (result ≡ Err NoMemory) × (sink.after ≡ sink.before)
+WritesStop (Unread what) sink result = WritesLine (unreadable_line what) 8 sink result
+WritesStop (Refused what kind place) sink result = WritesLine (refused_line what kind place) 5 sink result
 
-pub record WritesWhole {C : Type 0} (gives : Meaning C) (job : Job) (bytes : FileBytes) (core after : C)
-    (old new : Option Text) (status : ℕ) : Type 0 where
+pub record WritesWhole {C S : Type 0} (gives : Meaning C) (job : Job) (bytes : FileBytes) (core : Change C) (sink : SinkChange S)
+    (status : ℕ) : Type 0 where
   pub text : Text
-  pub means : HasText gives job bytes core after (Ok status) text
-  pub written : Appends old new text
+  pub means : HasText gives job bytes core (Ok status) text
+  pub written : Takes sink text
 
-pub record WritesPart {C : Type 0} (gives : Meaning C) (job : Job) (bytes : FileBytes) (core after : C)
-    (old new : Option Text) (faults faults' : ℕ) : Type 0 where
-  pub rose : Rose faults faults'
+pub record WritesPart {C S : Type 0} (gives : Meaning C) (job : Job) (bytes : FileBytes) (core : Change C) (sink : SinkChange S) : Type 0 where
+  pub rose : HasFailed sink
   pub put : Text
   pub text : Text
-  pub means : HasText gives job bytes core after (Err put) text
-  pub written : AppendsPast old new put text
+  pub means : HasText gives job bytes core (Err put) text
+  pub written : TakesPast sink put text
 
 -- the text of a job was written, with its status; or a prefix of it
-abbrev pub WritesText : {C : Type 0} → Meaning C → Job → FileBytes → (core after : C) → (old new : Option Text)
-    → (faults faults' : ℕ) → Result ℕ Failure → Type 0
-WritesText gives job bytes core after old new faults faults' (Ok status) = WritesWhole gives job bytes core after old new status
-WritesText gives job bytes core after old new faults faults' (Err Cut) = WritesPart gives job bytes core after old new faults faults'
-WritesText gives job bytes core after old new faults faults' (Err NoMemory) = ⊥
+abbrev pub WritesText : {C S : Type 0} → Meaning C → Job → FileBytes → Change C → SinkChange S → Result ℕ Failure → Type 0
+WritesText gives job bytes core sink (Ok status) = WritesWhole gives job bytes core sink status
+WritesText gives job bytes core sink (Err Cut) = WritesPart gives job bytes core sink
+WritesText gives job bytes core sink (Err NoMemory) = ⊥
 
 -- ---- the answer
 
-pub record WritesAnswer {C : Type 0} (gives : Meaning C) (command : Option Job) (contents : Contents) (before now : What → ℕ)
-    (core after : C) (old new : Option Text) (status : ℕ) : Type 0 where
+pub record WritesAnswer {C S : Type 0} (gives : Meaning C) (asked : Asked) (files : FileFaults) (core : Change C) (sink : SinkChange S)
+    (status : ℕ) : Type 0 where
   pub text : Text
-  pub answer : IsAnswer gives command contents before now core after (Ok status) text
-  pub written : Appends old new text
+  pub answer : IsAnswer gives asked files core (Ok status) text
+  pub written : Takes sink text
 
--- the answer was written, with its status; or a prefix of it; or memory ran out, and no core was asked
-abbrev pub Answers : {C : Type 0} → Meaning C → Option Job → Contents → (before now : What → ℕ) → (core after : C)
-    → (old new : Option Text) → (faults faults' : ℕ) → Result ℕ Failure → Type 0
-Answers gives command contents before now core after old new faults faults' (Ok status) =
-    WritesAnswer gives command contents before now core after old new status
-Answers gives command contents before now core after old new faults faults' (Err Cut) =
-    IsCut gives command contents before now core after old new faults faults'
-Answers gives command contents before now core after old new faults faults' (Err NoMemory) = after ≡ core
+-- what each command promises, and so the whole program: the answer was written, with its status; or a prefix of it; or memory ran
+-- out, no core was asked, and nothing was put to the sink
+abbrev pub Answers : {C S : Type 0} → Meaning C → Asked → FileFaults → Change C → SinkChange S → Result ℕ Failure → Type 0
+Answers gives asked files core sink (Ok status) = WritesAnswer gives asked files core sink status
+Answers gives asked files core sink (Err Cut) = IsCut gives asked files core sink
+Answers gives asked files core sink (Err NoMemory) = HasNoMemory core sink
 
 -- the status that the program ends with
 abbrev pub status_of : Result ℕ Failure → ℕ

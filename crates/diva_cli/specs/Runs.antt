@@ -22,6 +22,7 @@ use Rattle.diva_args.specs.Options.{Setup, RunOptions, DumpRange}
 use Rattle.diva_args.specs.declared.job.CoreChoice.TheVariants.{Lockstep, Scalar}
 use Rattle.diva_trace.specs.declared.report.Dump.{Dump}
 use Rattle.diva_trace.specs.Text.{text_of, trace_of}
+use Rattle.diva_cli.specs.Changes.{Change, change}
 use Rattle.diva_cli.specs.Wanted.{FileBytes, tape_name}
 use Rattle.diva_cli.specs.Cuts.{BeforeLast}
 use Rattle.diva_cli.specs.Driven.{IsDriven}
@@ -36,8 +37,8 @@ pub record IsUnflushed (m : Timed) : Type 0 where
 -- a run of so many cycles at most from the state `start` led to the machine `last`, whatever the core handed over and the
 -- script made of it
 pub record IsRunFrom {C : Type 0} (gives : Meaning C) (setup : Setup) (cycles : ℕ) (tape : List (List Record)) (script : List Row)
-    (start : State) (core : C) (last : Timed) (after : C) : Type 0 where
-  pub driven : IsDriven gives setup.core tape script cycles (new_timed setup.config start) core last after
+    (start : State) (core : Change C) (last : Timed) : Type 0 where
+  pub driven : IsDriven gives setup.core tape script cycles (change (new_timed setup.config start) last) core
   -- the committed state is the table's after the counted instructions
   pub stepped : last.arch ≡ steps last.count start
   -- in each cycle equal claims that had waited committed, or the one instruction that ran solo
@@ -86,13 +87,13 @@ abbrev pub start_in : FileBytes → State
 start_in bytes = start_of (image_of (bytes Image))
 
 -- a run over files with these bytes
-pub record IsRunOver {C : Type 0} (gives : Meaning C) (setup : Setup) (cycles : ℕ) (bytes : FileBytes) (core : C) (last : Timed)
-    (after : C) : Type 0 where
+pub record IsRunOver {C : Type 0} (gives : Meaning C) (setup : Setup) (cycles : ℕ) (bytes : FileBytes) (core : Change C)
+    (last : Timed) : Type 0 where
   pub script : List Row
   pub rows : AreRows setup.script (bytes Script) script
   pub tape : List (List Record)
   pub lists : AreLists (tape_name setup.core) (bytes TapeFile) tape
-  pub run : IsRunFrom gives setup cycles tape script (start_in bytes) core last after
+  pub run : IsRunFrom gives setup cycles tape script (start_in bytes) core last
 
 -- ---- the command
 
@@ -123,9 +124,9 @@ pub record IsBrokenOff (options : RunOptions) (start : State) (lists : List (Lis
   pub cut : BeforeLast lists (λ earlier. ended ≡ Err (trace_of start (run_of (new_timed options.setup.config start) earlier).count))
 
 -- the text of `run` over files with these bytes, and how the writing of it ended
-pub record HasRun {C : Type 0} (gives : Meaning C) (options : RunOptions) (bytes : FileBytes) (core after : C)
+pub record HasRun {C : Type 0} (gives : Meaning C) (options : RunOptions) (bytes : FileBytes) (core : Change C)
     (ended : Result ℕ Text) (text : Text) : Type 0 where
   pub last : Timed
-  pub over : IsRunOver gives options.setup options.cycles bytes core last after
+  pub over : IsRunOver gives options.setup options.cycles bytes core last
   pub written : IsShown options (start_in bytes) last ended text
       ⊎ IsBrokenOff options (start_in bytes) over.run.driven.lists last ended text

@@ -12,6 +12,7 @@ use Rattle.diva_trace.specs.Text.{soak_text}
 use Rattle.diva_args.specs.Options.{Setup, SoakOptions}
 use Rattle.diva_args.specs.declared.job.CoreChoice.{CoreChoice}
 use Rattle.diva_args.specs.declared.job.CoreChoice.TheVariants.{Own, Scalar}
+use Rattle.diva_cli.specs.Changes.{Change, change}
 use Rattle.diva_cli.specs.Runs.{IsRunFrom}
 
 -- ---- one run
@@ -29,18 +30,18 @@ abbrev pub soak_start : SoakOptions → State
 soak_start options = start_of (soak_of options.seed options.instructions)
 
 -- a run from there by the core of a choice, for these cycles at most, without a script
-abbrev pub IsSoakRun : {C : Type 0} → Meaning C → SoakOptions → CoreChoice → (core : C) → (last : Timed) → (after : C) → Type 0
-IsSoakRun gives options choice core last after =
-    IsRunFrom gives (soak_setup choice) (soak_cycles options.instructions) [] [] (soak_start options) core last after
+abbrev pub IsSoakRun : {C : Type 0} → Meaning C → SoakOptions → CoreChoice → Change C → (last : Timed) → Type 0
+IsSoakRun gives options choice core last =
+    IsRunFrom gives (soak_setup choice) (soak_cycles options.instructions) [] [] (soak_start options) core last
 
 -- ---- the command
 
 -- the text of `soak`, and the status that goes with it where it was written whole. Both runs are over by then
-pub record HasSoaked {C : Type 0} (gives : Meaning C) (options : SoakOptions) (core after : C) (ended : Result ℕ Text) (text : Text) : Type 0 where
+pub record HasSoaked {C : Type 0} (gives : Meaning C) (options : SoakOptions) (core : Change C) (ended : Result ℕ Text) (text : Text) : Type 0 where
   pub first : Timed
-  pub under_scalar : IsSoakRun gives options Scalar core first core
+  pub under_scalar : IsSoakRun gives options Scalar (change core.before core.before) first
   pub second : Timed
-  pub under_own : IsSoakRun gives options Own core second after
+  pub under_own : IsSoakRun gives options Own core second
   -- both halt with status 0, after three instructions more than were drawn at most, and leave the same
   pub halts : (first.arch.end ≡ halt 0) × (second.arch.end ≡ halt 0)
   pub few : first.count ≤ options.instructions + 3

@@ -1,13 +1,11 @@
 -- What each status of the program says.
 use Rattle.std.specs.Prelude.{◌≡◌, ◌⊎◌, ◌≤◌, ℕ, List, [], ◌∷◌, length, Option, Some, None, IsSome, Ok, Err}
-use Rattle.std.specs.Io.KnownBytes.{Appends}
-use Rattle.diva_outside.specs.Causes.{Rose}
 use Rattle.diva_outside.specs.Files.{Contents, IsMissing, IsKnown}
-use Rattle.diva_outside.specs.Sink.{AppendsPast}
 use Rattle.diva_outside.specs.Text.{Text}
-use Rattle.diva_outside.specs.declared.files.What.{What}
 use Rattle.diva_core.specs.History.{Meaning}
 use Rattle.diva_args.specs.declared.job.Job.{Job}
+use Rattle.diva_cli.specs.Asked.{Asked}
+use Rattle.diva_cli.specs.Changes.{Change, FileFaults, HasFailed, SinkChange, Takes, TakesPast}
 use Rattle.diva_cli.specs.Wanted.{Wanted, wanted, IsFaultless, file_limit}
 use Rattle.diva_cli.specs.Texts.{CanEnd}
 use Rattle.diva_cli.specs.Stops.{IsRefused}
@@ -19,32 +17,30 @@ IsStatus status =
     (status ≡ 0) ⊎ (status ≡ 2) ⊎ (status ≡ 3) ⊎ (status ≡ 4) ⊎ (status ≡ 5) ⊎ (status ≡ 8) ⊎ (status ≡ 9) ⊎ (status ≡ 10)
 
 -- statuses 0, 3 and 4: all files are sound, and the job's whole text was written, with the status that goes with it
-pub record HasWorked {C : Type 0} (gives : Meaning C) (command : Option Job) (contents : Contents) (core after : C)
-    (old new : Option Text) (status : ℕ) : Type 0 where
+pub record HasWorked {C S : Type 0} (gives : Meaning C) (asked : Asked) (core : Change C) (sink : SinkChange S) (status : ℕ) : Type 0 where
   pub text : Text
-  pub done : HasDone gives command contents core after (Ok status) text
-  pub written : Appends old new text
+  pub done : HasDone gives asked core (Ok status) text
+  pub written : Takes sink text
 
 -- statuses 2, 5 and 8: nothing was run, no core was asked, and just the one line was written
-pub record HasLine {C : Type 0} (cause : Text → Type 0) (core after : C) (old new : Option Text) : Type 0 where
+pub record HasLine {C S : Type 0} (cause : Text → Type 0) (core : Change C) (sink : SinkChange S) : Type 0 where
   pub text : Text
   pub caused : cause text
-  pub unasked : after ≡ core
-  pub written : Appends old new text
+  pub unasked : core.after ≡ core.before
+  pub written : Takes sink text
 
 -- status 9: the sink's count of faults rose, and a prefix of the answer's text was written, with all that had been put already
-pub record IsCut {C : Type 0} (gives : Meaning C) (command : Option Job) (contents : Contents) (before now : What → ℕ)
-    (core after : C) (old new : Option Text) (faults faults' : ℕ) : Type 0 where
-  pub rose : Rose faults faults'
+pub record IsCut {C S : Type 0} (gives : Meaning C) (asked : Asked) (files : FileFaults) (core : Change C) (sink : SinkChange S) : Type 0 where
+  pub rose : HasFailed sink
   pub put : Text
   pub text : Text
-  pub answer : IsAnswer gives command contents before now core after (Err put) text
-  pub written : AppendsPast old new put text
+  pub answer : IsAnswer gives asked files core (Err put) text
+  pub written : TakesPast sink put text
 
 -- status 10: memory ran out, no core was asked, and the sink is as it was, so nothing was put to it
-pub record HasNoMemory {C S : Type 0} (core after : C) (sink sink' : S) : Type 0 where
-  pub unasked : after ≡ core
-  pub unput : sink' ≡ sink
+pub record HasNoMemory {C S : Type 0} (core : Change C) (sink : SinkChange S) : Type 0 where
+  pub unasked : core.after ≡ core.before
+  pub unput : sink.after ≡ sink.before
 
 -- the words ask for no job, or for one that wants no file
 abbrev pub LoadsNothing : Option Job → Type 0
@@ -58,13 +54,13 @@ abbrev pub IsHindered : ℕ → Type 0
 IsHindered status = (status ≡ 8) ⊎ ((status ≡ 9) ⊎ (status ≡ 10))
 
 -- the contents are known, and the first file that can't be used is refused by this line
-pub record MustRefuse (command : Option Job) (contents : Contents) (text : Text) : Type 0 where
-  pub known : IsSome contents
-  pub refused : HasStopped command contents (λ w behind. IsRefused contents text w)
+pub record MustRefuse (asked : Asked) (text : Text) : Type 0 where
+  pub known : IsSome asked.contents
+  pub refused : HasStopped asked (λ w behind. IsRefused asked.contents text w)
 
 -- it is known that there is no file of the name of the first one that can't be used
-abbrev pub HasMissing : Option Job → Contents → Type 0
-HasMissing command contents = HasStopped command contents (λ w behind. IsMissing contents w.name)
+abbrev pub HasMissing : Asked → Type 0
+HasMissing asked = HasStopped asked (λ w behind. IsMissing asked.contents w.name)
 
 -- ---- completeness
 
@@ -80,15 +76,14 @@ AreHeld contents [] = Unit {0}
 AreHeld contents (w ∷ ws) = IsHeld contents w × AreHeld contents ws
 
 -- the words ask for a job all of whose files are held
-pub record CanWork (command : Option Job) (contents : Contents) : Type 0 where
+pub record CanWork (asked : Asked) : Type 0 where
   pub job : Job
-  pub named : command ≡ Some job
-  pub held : AreHeld contents (wanted job)
+  pub named : asked.command ≡ Some job
+  pub held : AreHeld asked.contents (wanted job)
 
 -- the whole text of the job was written, and the status is the one that goes with it
-pub record HasEnded {C : Type 0} (gives : Meaning C) (command : Option Job) (contents : Contents) (core after : C)
-    (old new : Option Text) (status : ℕ) : Type 0 where
+pub record HasEnded {C S : Type 0} (gives : Meaning C) (asked : Asked) (core : Change C) (sink : SinkChange S) (status : ℕ) : Type 0 where
   pub job : Job
-  pub named : command ≡ Some job
+  pub named : asked.command ≡ Some job
   pub ends : CanEnd job status
-  pub worked : HasWorked gives command contents core after old new status
+  pub worked : HasWorked gives asked core sink status

@@ -13,6 +13,7 @@ use Rattle.diva_tape.specs.TapeText.{tape_text}
 use Rattle.diva_trace.specs.Text.{text_of}
 use Rattle.diva_args.specs.Options.{RunOptions, TapeOptions}
 use Rattle.diva_args.specs.declared.job.CoreChoice.TheVariants.{Tape as OfTape}
+use Rattle.diva_cli.specs.Changes.{Change, change}
 use Rattle.diva_cli.specs.Wanted.{FileBytes}
 use Rattle.diva_cli.specs.Cuts.{BeforeLast}
 use Rattle.diva_cli.specs.Runs.{IsRunOver, IsWhole, EndsWith, HasRun, asked_trace, start_in, shown_dump}
@@ -46,16 +47,16 @@ pub record IsTapeOf {C : Type 0} (gives : Meaning C) (options : TapeOptions) (by
       → run_of (new_timed options.setup.config (start_in bytes)) others ≡ last
   -- so running the image with that tape leaves the text of this machine; with commit lines, where they are all written
   pub replays : (replay : RunOptions) → (its_bytes : FileBytes) → IsReplay options bytes text replay its_bytes
-      → (core after : C) → (ended : Result ℕ Text) → (shown : Text) → HasRun gives replay its_bytes core after ended shown
+      → (core after : C) → (ended : Result ℕ Text) → (shown : Text) → HasRun gives replay its_bytes (change core after) ended shown
       → (replay.trace ≡ true → IsOk ended)
       → shown ≡ asked_trace replay.trace (start_in bytes) last.count ++ text_of last (shown_dump replay.dump)
 
 -- the text of `tape` over files with these bytes, and how the writing of it ended: a line for each cycle. Where the sink failed, it
 -- did so in the last of these cycles, and the lines of those before it had been put
-pub record HasTape {C : Type 0} (gives : Meaning C) (options : TapeOptions) (bytes : FileBytes) (core after : C)
+pub record HasTape {C : Type 0} (gives : Meaning C) (options : TapeOptions) (bytes : FileBytes) (core : Change C)
     (ended : Result ℕ Text) (text : Text) : Type 0 where
   pub last : Timed
-  pub over : IsRunOver gives options.setup options.cycles bytes core last after
+  pub over : IsRunOver gives options.setup options.cycles bytes core last
   pub lines : text ≡ tape_text over.run.driven.lists
   pub whole : IfOk ended (IsTapeOf gives options bytes over.run.driven.lists last text)
   pub cut : IfErr ended (λ put. BeforeLast over.run.driven.lists (λ earlier. put ≡ tape_text earlier))

@@ -5,6 +5,7 @@ use Rattle.diva_outside.specs.Text.{Text}
 use Rattle.diva_core.specs.History.{Meaning}
 use Rattle.diva_args.specs.declared.job.Job.{Job}
 use Rattle.diva_args.specs.declared.job.Job.TheVariants.{Run, Tape, Debug, Asm, Dis, Soak}
+use Rattle.diva_cli.specs.Changes.{Change}
 use Rattle.diva_cli.specs.Wanted.{FileBytes}
 use Rattle.diva_cli.specs.Runs.{HasRun}
 use Rattle.diva_cli.specs.TapeTexts.{HasTape}
@@ -14,13 +15,13 @@ use Rattle.diva_cli.specs.SoakTexts.{HasSoaked}
 
 -- ---- a line for each command
 
-abbrev pub HasText : {C : Type 0} → Meaning C → Job → FileBytes → (core after : C) → (ended : Result ℕ Text) → Text → Type 0
-HasText gives (Run options) bytes core after ended text = HasRun gives options bytes core after ended text
-HasText gives (Tape options) bytes core after ended text = HasTape gives options bytes core after ended text
-HasText gives (Debug options) bytes core after ended text = HasReplies gives options bytes core after ended text
-HasText gives (Asm name) bytes core after ended text = HasAssembled bytes core after ended text
-HasText gives (Dis name) bytes core after ended text = HasListing bytes core after ended text
-HasText gives (Soak options) bytes core after ended text = HasSoaked gives options core after ended text
+abbrev pub HasText : {C : Type 0} → Meaning C → Job → FileBytes → Change C → (ended : Result ℕ Text) → Text → Type 0
+HasText gives (Run options) bytes core ended text = HasRun gives options bytes core ended text
+HasText gives (Tape options) bytes core ended text = HasTape gives options bytes core ended text
+HasText gives (Debug options) bytes core ended text = HasReplies gives options bytes core ended text
+HasText gives (Asm name) bytes core ended text = HasAssembled bytes core ended text
+HasText gives (Dis name) bytes core ended text = HasListing bytes core ended text
+HasText gives (Soak options) bytes core ended text = HasSoaked gives options core ended text
 
 -- the statuses of commands whose text was written whole
 abbrev pub IsDone : ℕ → Type 0

@@ -1,6 +1,7 @@
 // The command `asm`: it assembles a source, and writes the bytes of the image.
-ghost use Rattle.std.specs.Prelude.{◌≡◌, Some, IsErrOf};
 ghost use Rattle.diva_args.specs.declared.job.Job.TheVariants.{Asm};
+ghost use Rattle.diva_cli.specs.Asked.{asked_for};
+ghost use Rattle.diva_cli.specs.Changes.{change, file_faults, sink_change};
 ghost use Rattle.diva_cli.specs.Parts.{Answers};
 
 use crate::loading::load_source;
@@ -21,10 +22,8 @@ pub(crate) fn asm<F: Files, S: Sink, C: Core>(
     sink: &mut S,
     _core: &C,
 ) -> Result<u8, Failure>
-    ensures answers { Answers C.gives (Some (Asm source)) (F.contents files.old) (F.faults files.old)
-        (F.faults files.new) _core.now _core.now (S.contents sink.old) (S.contents sink.new)
-        (S.faults sink.old) (S.faults sink.new) result }
-    ensures unput { IsErrOf result Failure.Memory → sink.new ≡ sink.old }
+    ensures { Answers C.gives (asked_for (Asm source) (F.contents files.old)) (file_faults F.faults files.old files.new)
+        (change _core.now _core.now) (sink_change S.contents S.faults sink.old sink.new) result }
 {
     let image = match load_source(alloc, files, &source) {
         Ok(image) => image,

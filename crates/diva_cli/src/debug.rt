@@ -1,9 +1,11 @@
 // The command `debug`: it reads its files with neither core nor sink in its hands, and then replies to the commands.
-ghost use Rattle.std.specs.Prelude.{◌≡◌, ◌≤◌, length, Some, IsErrOf};
+ghost use Rattle.std.specs.Prelude.{◌≡◌, ◌≤◌, length};
 ghost use Rattle.std.specs.List.{All};
 ghost use Rattle.diva_args.specs.declared.job.Job.TheVariants.{Debug};
 ghost use Rattle.diva_core.specs.Machine.{IsConfig};
 ghost use Rattle.diva_debug.specs.Moves.{IsShort};
+ghost use Rattle.diva_cli.specs.Asked.{asked_for};
+ghost use Rattle.diva_cli.specs.Changes.{change, file_faults, sink_change};
 ghost use Rattle.diva_cli.specs.Wanted.{FileBytes, file_limit};
 ghost use Rattle.diva_cli.specs.Parts.{Answers, IsSession, WritesText};
 
@@ -26,10 +28,8 @@ pub(crate) fn debug<F: Files, S: Sink, C: Core>(
     sink: &mut S,
     core: &mut C,
 ) -> Result<u8, Failure>
-    ensures answers { Answers C.gives (Some (Debug options)) (F.contents files.old) (F.faults files.old)
-        (F.faults files.new) core.old core.new (S.contents sink.old) (S.contents sink.new)
-        (S.faults sink.old) (S.faults sink.new) result }
-    ensures unput { IsErrOf result Failure.Memory → sink.new ≡ sink.old }
+    ensures { Answers C.gives (asked_for (Debug options) (F.contents files.old)) (file_faults F.faults files.old files.new)
+        (change core.old core.new) (sink_change S.contents S.faults sink.old sink.new) result }
 {
     match make_session(alloc, files, &options) {
         Ok(session) => debug_ready(session, options, sink, core),
@@ -49,10 +49,9 @@ fn debug_ready<S: Sink, C: Core>(
     requires narrow { session.ready.machine.timed.config.width ≡ 1 }
     requires few { length session.commands.items ≤ file_limit }
     requires short { All IsShort session.commands.items }
-    ensures writes { (bytes : FileBytes) → IsSession options bytes session
-        → WritesText C.gives (Debug options) bytes core.old core.new
-        (S.contents sink.old) (S.contents sink.new) (S.faults sink.old) (S.faults sink.new) result }
-    ensures unput { IsErrOf result Failure.Memory → sink.new ≡ sink.old }
+    ensures { (bytes : FileBytes) → IsSession options bytes session
+        → WritesText C.gives (Debug options) bytes
+        (change core.old core.new) (sink_change S.contents S.faults sink.old sink.new) result }
 {
     let SessionReady { ready, commands } = session;
     let Ready {

@@ -1,7 +1,9 @@
 // The command `dis`: it lists the words of an image.
-ghost use Rattle.std.specs.Prelude.{◌≡◌, ◌+◌, ◌≤◌, ◌<◌, Some, length, slice_index, IsErrOf};
+ghost use Rattle.std.specs.Prelude.{◌≡◌, ◌+◌, ◌≤◌, ◌<◌, length, slice_index};
 ghost use Rattle.diva_args.specs.declared.job.Job.TheVariants.{Dis};
 ghost use Rattle.diva_asm.specs.Listing.{list_line, word_at};
+ghost use Rattle.diva_cli.specs.Asked.{asked_for};
+ghost use Rattle.diva_cli.specs.Changes.{change, file_faults, sink_change};
 ghost use Rattle.diva_cli.specs.Parts.{Answers};
 
 use crate::loading::load_image;
@@ -22,10 +24,8 @@ pub(crate) fn dis<F: Files, S: Sink, C: Core>(
     sink: &mut S,
     _core: &C,
 ) -> Result<u8, Failure>
-    ensures answers { Answers C.gives (Some (Dis image)) (F.contents files.old) (F.faults files.old)
-        (F.faults files.new) _core.now _core.now (S.contents sink.old) (S.contents sink.new)
-        (S.faults sink.old) (S.faults sink.new) result }
-    ensures unput { IsErrOf result Failure.Memory → sink.new ≡ sink.old }
+    ensures { Answers C.gives (asked_for (Dis image) (F.contents files.old)) (file_faults F.faults files.old files.new)
+        (change _core.now _core.now) (sink_change S.contents S.faults sink.old sink.new) result }
 {
     let listed = match load_image(alloc, files, &image) {
         Ok(listed) => listed,

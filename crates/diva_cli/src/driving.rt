@@ -1,4 +1,5 @@
 // The core that drives a machine, and what is done with them.
+ghost use Rattle.diva_cli.specs.Changes.{change, sink_change};
 ghost use Rattle.diva_cli.specs.Tasks.{Allows, Does, PerformsBy};
 
 use crate::tasks::{Task, perform_under};
@@ -32,9 +33,9 @@ pub(crate) fn perform_by<C: Core, S: Sink>(
     sink: &mut S,
 ) -> Result<(), SinkFailed>
     requires { Allows task m.old.timed }
-    ensures { PerformsBy C.gives core.old script.now m.old.timed own.old m.new.timed own.new
-        (λ lists. Does task.entry m.old.timed lists m.new.timed
-        (S.contents sink.old) (S.contents sink.new) (S.faults sink.old) (S.faults sink.new) result) }
+    ensures { PerformsBy C.gives core.old script.now (change m.old.timed m.new.timed) (change own.old own.new)
+        (λ lists. Does task.entry (change m.old.timed m.new.timed) lists
+        (sink_change S.contents S.faults sink.old sink.new) result) }
 {
     match core {
         CoreInUse::Own => perform_under(script, m, own, task, sink),

@@ -3,6 +3,7 @@ ghost use Rattle.std.specs.Prelude.{◌≡◌, ℕ, true, Result, IsOk};
 ghost use Rattle.diva_outside.specs.Text.{Text};
 ghost use Rattle.diva_args.specs.Options.{RunOptions, SoakOptions};
 ghost use Rattle.diva_args.specs.declared.job.CoreChoice.TheVariants.{Own};
+ghost use Rattle.diva_cli.specs.Changes.{change};
 ghost use Rattle.diva_cli.specs.Determined.{IsDetermined};
 ghost use Rattle.diva_cli.specs.Runs.{HasRun};
 ghost use Rattle.diva_cli.specs.SoakTexts.{HasSoaked};
@@ -17,10 +18,10 @@ pub fn own_run_is_determined<C: Core>()
     requires { IsDetermined C.gives }
     ensures run { (options : RunOptions) (bytes : FileBytes) (core after last : C) (ended other : Result ℕ Text) (text same : Text)
         → options.setup.core ≡ Own
-        → HasRun C.gives options bytes core after ended text → HasRun C.gives options bytes core last other same
+        → HasRun C.gives options bytes (change core after) ended text → HasRun C.gives options bytes (change core last) other same
         → (options.trace ≡ true → IsOk ended × IsOk other)
         → text ≡ same }
     ensures soak { (options : SoakOptions) (core after last : C) (ended other : Result ℕ Text) (text same : Text)
-        → HasSoaked C.gives options core after ended text → HasSoaked C.gives options core last other same
+        → HasSoaked C.gives options (change core after) ended text → HasSoaked C.gives options (change core last) other same
         → text ≡ same }
 {}

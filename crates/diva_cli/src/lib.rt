@@ -13,12 +13,18 @@
 //! - `sure`: the program over files and a sink that never fail;
 //! - `laws`: that the text of a run, and that of `soak`, is determined.
 //!
-//! What is promised, in the order in which it is best read: `specs/Statuses.antt` says what each
-//! status says, and `Answers.antt` what is answered and why; `Wanted.antt` which files a job wants,
-//! and what is wrong with their bytes, `Stops.antt` at which of them loading stops; `Texts.antt` has
-//! the text of each command, `Runs.antt` that of `run`, with what holds of the machine, `TapeTexts.antt`
-//! that of `tape`, `Cuts.antt` in which part of a text a sink failed, `DebugTexts.antt` with `Replies.antt` that of `debug`, `ImageTexts.antt` those of `asm` and `dis`,
-//! `SoakTexts.antt` that of `soak`, and `Driven.antt` what drove the machine. `Tasks.antt` and `Parts.antt` are what the parts of the program promise one another.
+//! What is promised, each part in a file of `specs/`, in the order in which it is best read:
+//!
+//! - `Asked`: what the program is asked; `Changes`: what became of what it was handed;
+//! - `Statuses`: what each status says; `Answers`: what is answered, and why;
+//! - `Wanted`: which files a job wants, and what is wrong with their bytes; `Stops`: at which of them loading stops;
+//! - `Texts`: the text of each command; `Runs`: that of `run`, with what holds of the machine; `Driven`: what drove it;
+//! - `TapeTexts`: the text of `tape`; `DebugTexts`, with `Replies`: that of `debug`; `ImageTexts`: those of `asm` and `dis`;
+//!   `SoakTexts`: that of `soak`; `Cuts`: in which part of a text a sink failed;
+//! - `Determined`: what is determined of a run.
+//!
+//! `Tasks` and `Parts` are what the parts of the program promise one another. What each command promises, and so the whole
+//! program, stands once: `Answers` of `Parts`.
 #![tactic(auto)]
 
 mod asm;

@@ -1,10 +1,10 @@
 // The whole program, from the words to the status.
-ghost use Rattle.std.specs.Prelude.{◌≡◌, ◌⊎◌, [], map, None, Some, IsErrOf};
-ghost use Rattle.std.specs.Io.KnownBytes.{Appends};
+ghost use Rattle.std.specs.Prelude.{◌≡◌, ◌⊎◌, [], None};
 ghost use Rattle.diva_outside.specs.Causes.{Rose};
 ghost use Rattle.diva_outside.specs.Text.{Text};
 ghost use Rattle.diva_outside.specs.declared.files.What.{What};
-ghost use Rattle.diva_args.specs.Line.{command_of};
+ghost use Rattle.diva_cli.specs.Asked.{asked_by, asked_for, command_in};
+ghost use Rattle.diva_cli.specs.Changes.{HasFailed, Takes, change, file_faults, sink_change};
 ghost use Rattle.diva_cli.specs.Texts.{IsDone};
 ghost use Rattle.diva_cli.specs.Answers.{IsMisused, HasUnread, HasRefused};
 ghost use Rattle.diva_cli.specs.Statuses.{HasWorked, HasLine, IsCut, HasNoMemory, MustRefuse, HasMissing, IsHindered};
@@ -54,50 +54,46 @@ pub fn top<F: Files, S: Sink, C: Core>(
     // The replies of a session show the table's states, and the flushes of such a machine. Both runs of
     // a seed's image halt, in the same state.
     ensures worked { IsDone result
-        → HasWorked C.gives (command_of (map (λ w. w.now) words.now)) (F.contents files.old)
-        core.old core.new (S.contents sink.old) (S.contents sink.new) result }
+        → HasWorked C.gives (asked_by words.now (F.contents files.old))
+        (change core.old core.new) (sink_change S.contents S.faults sink.old sink.new) result }
 
     // Nothing is run: the words, the first file's fault, or the files' count of faults says why. No fault was counted
     // for a file behind the one at which the loading stopped.
     ensures misused { result ≡ 2
-        → HasLine (IsMisused (command_of (map (λ w. w.now) words.now)) (F.faults files.old) (F.faults files.new))
-        core.old core.new (S.contents sink.old) (S.contents sink.new) }
+        → HasLine (IsMisused (asked_by words.now (F.contents files.old)) (file_faults F.faults files.old files.new))
+        (change core.old core.new) (sink_change S.contents S.faults sink.old sink.new) }
     ensures refused { result ≡ 5
-        → HasLine (HasRefused (command_of (map (λ w. w.now) words.now)) (F.contents files.old)
-        (F.faults files.old) (F.faults files.new))
-        core.old core.new (S.contents sink.old) (S.contents sink.new) }
+        → HasLine (HasRefused (asked_by words.now (F.contents files.old)) (file_faults F.faults files.old files.new))
+        (change core.old core.new) (sink_change S.contents S.faults sink.old sink.new) }
     ensures unread { result ≡ 8
-        → HasLine (HasUnread (command_of (map (λ w. w.now) words.now)) (F.contents files.old)
-        (F.faults files.old) (F.faults files.new))
-        core.old core.new (S.contents sink.old) (S.contents sink.new) }
+        → HasLine (HasUnread (asked_by words.now (F.contents files.old)) (file_faults F.faults files.old files.new))
+        (change core.old core.new) (sink_change S.contents S.faults sink.old sink.new) }
 
     // Where the words ask for no file, the files are as they were: none was loaded.
-    ensures unloaded { LoadsNothing (command_of (map (λ w. w.now) words.now)) → files.new ≡ files.old }
+    ensures unloaded { LoadsNothing (command_in words.now) → files.new ≡ files.old }
 
     // The sink's count of faults rose, and the core was not asked again; memory ran out.
     ensures cut { result ≡ 9
-        → IsCut C.gives (command_of (map (λ w. w.now) words.now)) (F.contents files.old)
-        (F.faults files.old) (F.faults files.new) core.old core.new
-        (S.contents sink.old) (S.contents sink.new) (S.faults sink.old) (S.faults sink.new) }
-    ensures memory { result ≡ 10 → HasNoMemory core.old core.new sink.old sink.new }
+        → IsCut C.gives (asked_by words.now (F.contents files.old)) (file_faults F.faults files.old files.new)
+        (change core.old core.new) (sink_change S.contents S.faults sink.old sink.new) }
+    ensures memory { result ≡ 10
+        → HasNoMemory (change core.old core.new) (sink_change S.contents S.faults sink.old sink.new) }
 
     // Words that are not a valid command line are answered by the usage line.
-    ensures usage { command_of (map (λ w. w.now) words.now) ≡ None
-        → (result ≡ 2) ⊎ ((result ≡ 9) ⊎ (result ≡ 10)) }
+    ensures usage { command_in words.now ≡ None → (result ≡ 2) ⊎ ((result ≡ 9) ⊎ (result ≡ 10)) }
 
     // Of known files, the first that can't be used is refused by its line, or is not there.
     ensures refuses { (text : Text)
-        → MustRefuse (command_of (map (λ w. w.now) words.now)) (F.contents files.old) text
-        → ((result ≡ 5) × Appends (S.contents sink.old) (S.contents sink.new) text) ⊎ IsHindered result }
-    ensures misses { HasMissing (command_of (map (λ w. w.now) words.now)) (F.contents files.old)
-        → IsHindered result }
+        → MustRefuse (asked_by words.now (F.contents files.old)) text
+        → ((result ≡ 5) × Takes (sink_change S.contents S.faults sink.old sink.new) text) ⊎ IsHindered result }
+    ensures misses { HasMissing (asked_by words.now (F.contents files.old)) → IsHindered result }
 
     // A job whose files are known and sound is done, where neither they nor the sink fail.
-    ensures complete { CanWork (command_of (map (λ w. w.now) words.now)) (F.contents files.old)
+    ensures complete { CanWork (asked_by words.now (F.contents files.old))
         → ((what : What) → Rose (F.faults files.old what) (F.faults files.new what) → ⊥)
-        → (Rose (S.faults sink.old) (S.faults sink.new) → ⊥)
-        → HasEnded C.gives (command_of (map (λ w. w.now) words.now)) (F.contents files.old)
-        core.old core.new (S.contents sink.old) (S.contents sink.new) result ⊎ (result ≡ 10) }
+        → (HasFailed (sink_change S.contents S.faults sink.old sink.new) → ⊥)
+        → HasEnded C.gives (asked_by words.now (F.contents files.old))
+        (change core.old core.new) (sink_change S.contents S.faults sink.old sink.new) result ⊎ (result ≡ 10) }
 {
     status_of(answer(alloc, words, files, sink, core))
 }
@@ -121,11 +117,9 @@ fn answer<F: Files, S: Sink, C: Core>(
     sink: &mut S,
     core: &mut C,
 ) -> Result<u8, Failure>
-    ensures answers { Answers C.gives (command_of (map (λ w. w.now) words.now)) (F.contents files.old)
-        (F.faults files.old) (F.faults files.new) core.old core.new
-        (S.contents sink.old) (S.contents sink.new) (S.faults sink.old) (S.faults sink.new) result }
-    ensures unput { IsErrOf result Failure.Memory → sink.new ≡ sink.old }
-    ensures unloaded { LoadsNothing (command_of (map (λ w. w.now) words.now)) → files.new ≡ files.old }
+    ensures answers { Answers C.gives (asked_by words.now (F.contents files.old)) (file_faults F.faults files.old files.new)
+        (change core.old core.new) (sink_change S.contents S.faults sink.old sink.new) result }
+    ensures unloaded { LoadsNothing (command_in words.now) → files.new ≡ files.old }
 {
     match read_words(alloc, words) {
         Ok(job) => work(alloc, job, files, sink, core),
@@ -142,10 +136,8 @@ fn work<F: Files, S: Sink, C: Core>(
     sink: &mut S,
     core: &mut C,
 ) -> Result<u8, Failure>
-    ensures answers { Answers C.gives (Some job) (F.contents files.old) (F.faults files.old)
-        (F.faults files.new) core.old core.new (S.contents sink.old) (S.contents sink.new)
-        (S.faults sink.old) (S.faults sink.new) result }
-    ensures unput { IsErrOf result Failure.Memory → sink.new ≡ sink.old }
+    ensures answers { Answers C.gives (asked_for job (F.contents files.old)) (file_faults F.faults files.old files.new)
+        (change core.old core.new) (sink_change S.contents S.faults sink.old sink.new) result }
     ensures unloaded { wanted job ≡ [] → files.new ≡ files.old }
 {
     match job {

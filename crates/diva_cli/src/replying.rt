@@ -1,6 +1,6 @@
 // Commands that move a machine, and the replies to them.
-ghost use Rattle.diva_cli.specs.Tasks.{CanReply, IsReplied};
-ghost use Rattle.diva_cli.specs.Tasks.{Performs};
+ghost use Rattle.diva_cli.specs.Changes.{change, sink_change};
+ghost use Rattle.diva_cli.specs.Tasks.{CanReply, IsReplied, Performs};
 
 use diva_core::Core;
 use diva_debug::{Command, reply_to};
@@ -15,9 +15,8 @@ pub(crate) fn reply_each<D: Core, S: Sink>(
     sink: &mut S,
 ) -> Result<(), SinkFailed>
     requires { CanReply commands.now m.old.timed }
-    ensures { Performs D.gives m.old.timed core.old m.new.timed core.new
-        (λ lists. IsReplied commands.now m.old.timed lists
-        (S.contents sink.old) (S.contents sink.new) (S.faults sink.old) (S.faults sink.new) result) }
+    ensures { Performs D.gives (change m.old.timed m.new.timed) (change core.old core.new)
+        (λ lists. IsReplied commands.now m.old.timed lists (sink_change S.contents S.faults sink.old sink.new) result) }
 {
     for command in commands {
         let line = reply_to(m, core, command);

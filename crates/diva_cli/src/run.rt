@@ -1,7 +1,9 @@
 // The commands `run` and `tape`: each reads its files with neither core nor sink in its hands, and then drives a machine.
-ghost use Rattle.std.specs.Prelude.{◌≡◌, Some, IsErrOf};
+ghost use Rattle.std.specs.Prelude.{◌≡◌};
 ghost use Rattle.diva_args.specs.declared.job.Job.TheVariants.{Run, Tape};
 ghost use Rattle.diva_core.specs.Machine.{IsConfig};
+ghost use Rattle.diva_cli.specs.Asked.{asked_for};
+ghost use Rattle.diva_cli.specs.Changes.{change, file_faults, sink_change};
 ghost use Rattle.diva_cli.specs.Wanted.{FileBytes};
 ghost use Rattle.diva_cli.specs.Tasks.{run_task};
 ghost use Rattle.diva_cli.specs.Parts.{Answers, IsReady, WritesText};
@@ -25,10 +27,8 @@ pub(crate) fn run<F: Files, S: Sink, C: Core>(
     sink: &mut S,
     core: &mut C,
 ) -> Result<u8, Failure>
-    ensures answers { Answers C.gives (Some (Run options)) (F.contents files.old) (F.faults files.old)
-        (F.faults files.new) core.old core.new (S.contents sink.old) (S.contents sink.new)
-        (S.faults sink.old) (S.faults sink.new) result }
-    ensures unput { IsErrOf result Failure.Memory → sink.new ≡ sink.old }
+    ensures { Answers C.gives (asked_for (Run options) (F.contents files.old)) (file_faults F.faults files.old files.new)
+        (change core.old core.new) (sink_change S.contents S.faults sink.old sink.new) result }
 {
     match make_ready(alloc, files, &options.setup) {
         Ok(mut ready) => run_ready(&mut ready, options, sink, core),
@@ -45,10 +45,9 @@ fn run_ready<S: Sink, C: Core>(
 ) -> Result<u8, Failure>
     requires new { ready.old.machine.timed.cycles ≡ 0 }
     requires fits { IsConfig options.setup.config }
-    ensures writes { (bytes : FileBytes) → IsReady options.setup bytes ready.old
-        → WritesText C.gives (Run options) bytes core.old core.new
-        (S.contents sink.old) (S.contents sink.new) (S.faults sink.old) (S.faults sink.new) result }
-    ensures unput { IsErrOf result Failure.Memory → sink.new ≡ sink.old }
+    ensures { (bytes : FileBytes) → IsReady options.setup bytes ready.old
+        → WritesText C.gives (Run options) bytes
+        (change core.old core.new) (sink_change S.contents S.faults sink.old sink.new) result }
 {
     let task = run_task(options.trace, options.cycles);
     perform_by(
@@ -83,10 +82,8 @@ pub(crate) fn tape<F: Files, S: Sink, C: Core>(
     sink: &mut S,
     core: &mut C,
 ) -> Result<u8, Failure>
-    ensures answers { Answers C.gives (Some (Tape options)) (F.contents files.old) (F.faults files.old)
-        (F.faults files.new) core.old core.new (S.contents sink.old) (S.contents sink.new)
-        (S.faults sink.old) (S.faults sink.new) result }
-    ensures unput { IsErrOf result Failure.Memory → sink.new ≡ sink.old }
+    ensures { Answers C.gives (asked_for (Tape options) (F.contents files.old)) (file_faults F.faults files.old files.new)
+        (change core.old core.new) (sink_change S.contents S.faults sink.old sink.new) result }
 {
     match make_ready(alloc, files, &options.setup) {
         Ok(mut ready) => tape_ready(&mut ready, options, sink, core),
@@ -103,10 +100,9 @@ fn tape_ready<S: Sink, C: Core>(
 ) -> Result<u8, Failure>
     requires new { ready.old.machine.timed.cycles ≡ 0 }
     requires fits { IsConfig options.setup.config }
-    ensures writes { (bytes : FileBytes) → IsReady options.setup bytes ready.old
-        → WritesText C.gives (Tape options) bytes core.old core.new
-        (S.contents sink.old) (S.contents sink.new) (S.faults sink.old) (S.faults sink.new) result }
-    ensures unput { IsErrOf result Failure.Memory → sink.new ≡ sink.old }
+    ensures { (bytes : FileBytes) → IsReady options.setup bytes ready.old
+        → WritesText C.gives (Tape options) bytes
+        (change core.old core.new) (sink_change S.contents S.faults sink.old sink.new) result }
 {
     let task = Task::Tape(options.cycles);
     perform_by(

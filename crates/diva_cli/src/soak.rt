@@ -1,9 +1,11 @@
 // The command `soak`: it makes the image of a seed and two machines that begin with it, and drives one under a new `Scalar` and one
 // under the core that is handed in.
-ghost use Rattle.std.specs.Prelude.{◌≡◌, IfOk, IsErrOf, Some};
+ghost use Rattle.std.specs.Prelude.{◌≡◌, IfOk};
 ghost use Rattle.diva_core.specs.Timed.{default_config, new_timed};
 ghost use Rattle.diva_tape.specs.Scalar.{IsScalarCall};
 ghost use Rattle.diva_args.specs.declared.job.Job.TheVariants.{Soak};
+ghost use Rattle.diva_cli.specs.Asked.{asked_for};
+ghost use Rattle.diva_cli.specs.Changes.{change, file_faults, sink_change};
 ghost use Rattle.diva_cli.specs.SoakTexts.{soak_cycles, soak_start};
 ghost use Rattle.diva_cli.specs.Wanted.{FileBytes};
 ghost use Rattle.diva_cli.specs.Parts.{Answers, IsSoakReady, Soaks, WritesText};
@@ -27,10 +29,8 @@ pub(crate) fn soak<F: Files, S: Sink, C: Core>(
     sink: &mut S,
     core: &mut C,
 ) -> Result<u8, Failure>
-    ensures answers { Answers C.gives (Some (Soak options)) (F.contents _files.now) (F.faults _files.now)
-        (F.faults _files.now) core.old core.new (S.contents sink.old) (S.contents sink.new)
-        (S.faults sink.old) (S.faults sink.new) result }
-    ensures unput { IsErrOf result Failure.Memory → sink.new ≡ sink.old }
+    ensures { Answers C.gives (asked_for (Soak options) (F.contents _files.now)) (file_faults F.faults _files.now _files.now)
+        (change core.old core.new) (sink_change S.contents S.faults sink.old sink.new) result }
 {
     let mut ready = make_soak(alloc, &options)?;
     soak_ready(&mut ready, options, sink, core)
@@ -69,9 +69,8 @@ fn soak_ready<S: Sink, C: Core>(
     core: &mut C,
 ) -> Result<u8, Failure>
     requires { IsSoakReady options ready.old }
-    ensures writes { (bytes : FileBytes) → WritesText C.gives (Soak options) bytes core.old core.new
-        (S.contents sink.old) (S.contents sink.new) (S.faults sink.old) (S.faults sink.new) result }
-    ensures unput { IsErrOf result Failure.Memory → sink.new ≡ sink.old }
+    ensures { (bytes : FileBytes) → WritesText C.gives (Soak options) bytes
+        (change core.old core.new) (sink_change S.contents S.faults sink.old sink.new) result }
 {
     drive_both(ready, &options, core);
     write_soaked(&ready.first, &ready.second, sink)?;
@@ -81,8 +80,8 @@ fn soak_ready<S: Sink, C: Core>(
 /// Drives both machines to their ends: the first under its `Scalar`, and then the second under the core that is handed in.
 fn drive_both<C: Core>(ready: &mut SoakReady, options: &SoakOptions, core: &mut C)
     requires { IsSoakReady options.now ready.old }
-    ensures under_scalar { Soaks IsScalarCall options.now ready.old.scalar ready.new.first.timed ready.new.scalar }
-    ensures under_own { Soaks C.gives options.now core.old ready.new.second.timed core.new }
+    ensures under_scalar { Soaks IsScalarCall options.now (change ready.old.scalar ready.new.scalar) ready.new.first.timed }
+    ensures under_own { Soaks C.gives options.now (change core.old core.new) ready.new.second.timed }
 {
     drive_new(&mut ready.first, &mut ready.scalar, options);
     drive_new(&mut ready.second, core, options);
@@ -91,7 +90,7 @@ fn drive_both<C: Core>(ready: &mut SoakReady, options: &SoakOptions, core: &mut 
 /// Drives a new machine to its end.
 fn drive_new<D: Core>(machine: &mut Machine, core: &mut D, options: &SoakOptions)
     requires { machine.old.timed ≡ new_timed default_config (soak_start options.now) }
-    ensures { Soaks D.gives options.now core.old machine.new.timed core.new }
+    ensures { Soaks D.gives options.now (change core.old core.new) machine.new.timed }
 {
     drive(machine, core, soak_cycles(options.instructions));
 }

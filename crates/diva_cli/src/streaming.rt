@@ -1,7 +1,7 @@
 // Texts that are written cycle by cycle, as a machine is driven.
 ghost use Rattle.std.specs.Prelude.{◌≡◌, ◌+◌, ◌<◌, ◌≤◌, ◌^◌, length, OnOk};
-ghost use Rattle.diva_outside.specs.Sink.{Puts};
 ghost use Rattle.diva_tape.specs.TapeText.{IsList, list_text};
+ghost use Rattle.diva_cli.specs.Changes.{PutsTo, change, sink_change};
 ghost use Rattle.diva_cli.specs.Tasks.{IsWritten, Performs};
 
 use diva_core::{Claims, Core};
@@ -15,7 +15,7 @@ use diva_trace::write_commits;
 pub(crate) trait CycleWriter {
     ghost use Rattle.std.specs.Prelude.{ℕ, List, OnOk};
     ghost use Rattle.diva_isa.specs.declared.record.Record.{Record};
-    ghost use Rattle.diva_outside.specs.Sink.{Puts};
+    ghost use Rattle.diva_cli.specs.Changes.{PutsTo, sink_change};
 
     /// The text of a cycle: of the number of the first instruction that it committed, of the records
     /// that it committed, and of the list that was handed over.
@@ -32,8 +32,7 @@ pub(crate) trait CycleWriter {
         sink: &mut S,
     ) -> Result<(), SinkFailed>
         requires { first + length committed.now < 2 ^ 64 }
-        ensures put { Puts (text first committed.now handed.now)
-            (S.contents sink.old) (S.contents sink.new) (S.faults sink.old) (S.faults sink.new) result }
+        ensures put { PutsTo (sink_change S.contents S.faults sink.old sink.new) (text first committed.now handed.now) result }
         ensures says { OnOk result (says handed.now) };
 }
 
@@ -83,8 +82,7 @@ impl CycleWriter for TapeWriter {
 
 /// Writes the line of a list: claim by claim, and then its line feed.
 fn write_list<S: Sink>(list: &Claims, sink: &mut S) -> Result<(), SinkFailed>
-    ensures put { Puts (list_text list.now)
-        (S.contents sink.old) (S.contents sink.new) (S.faults sink.old) (S.faults sink.new) result }
+    ensures put { PutsTo (sink_change S.contents S.faults sink.old sink.new) (list_text list.now) result }
     ensures says { OnOk result (IsList list.now) }
 {
     for (place, claim) in list.as_slice().iter().enumerate() {
@@ -103,9 +101,9 @@ pub(crate) fn drive_writing<D: Core, W: CycleWriter, S: Sink>(
     sink: &mut S,
 ) -> Result<(), SinkFailed>
     requires { m.old.timed.cycles + budget ≤ 2 ^ 60 }
-    ensures { Performs D.gives m.old.timed core.old m.new.timed core.new
-        (λ lists. IsWritten W.text W.says budget m.old.timed lists m.new.timed
-        (S.contents sink.old) (S.contents sink.new) (S.faults sink.old) (S.faults sink.new) result) }
+    ensures { Performs D.gives (change m.old.timed m.new.timed) (change core.old core.new)
+        (λ lists. IsWritten W.text W.says budget (change m.old.timed m.new.timed) lists
+        (sink_change S.contents S.faults sink.old sink.new) result) }
 {
     if !m.goes_on() {
         return Ok(());

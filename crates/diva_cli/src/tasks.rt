@@ -1,5 +1,6 @@
 // What is done with a machine and a core, under a script.
 ghost use Rattle.diva_faults.specs.Spoiled.{spoiled};
+ghost use Rattle.diva_cli.specs.Changes.{change, sink_change};
 ghost use Rattle.diva_cli.specs.Tasks.{Allows, Does, Performs};
 
 use crate::replying::reply_each;
@@ -34,9 +35,9 @@ pub(crate) fn perform_under<D: Core, S: Sink>(
     sink: &mut S,
 ) -> Result<(), SinkFailed>
     requires { Allows task m.old.timed }
-    ensures { Performs (spoiled script.now D.gives) m.old.timed core.old m.new.timed core.new
-        (λ lists. Does task.entry m.old.timed lists m.new.timed
-        (S.contents sink.old) (S.contents sink.new) (S.faults sink.old) (S.faults sink.new) result) }
+    ensures { Performs (spoiled script.now D.gives) (change m.old.timed m.new.timed) (change core.old core.new)
+        (λ lists. Does task.entry (change m.old.timed m.new.timed) lists
+        (sink_change S.contents S.faults sink.old sink.new) result) }
 {
     if script.rows().is_empty() {
         perform(m, core, task, sink)
@@ -53,9 +54,9 @@ fn perform_faulty<D: Core, S: Sink>(
     sink: &mut S,
 ) -> Result<(), SinkFailed>
     requires { Allows task m.old.timed }
-    ensures { Performs (spoiled script.now D.gives) m.old.timed core.old m.new.timed core.new
-        (λ lists. Does task.entry m.old.timed lists m.new.timed
-        (S.contents sink.old) (S.contents sink.new) (S.faults sink.old) (S.faults sink.new) result) }
+    ensures { Performs (spoiled script.now D.gives) (change m.old.timed m.new.timed) (change core.old core.new)
+        (λ lists. Does task.entry (change m.old.timed m.new.timed) lists
+        (sink_change S.contents S.faults sink.old sink.new) result) }
 {
     let mut faulty = Faulty::new(core, script);
     perform(m, &mut faulty, task, sink)
@@ -70,9 +71,9 @@ fn perform<D: Core, S: Sink>(
     sink: &mut S,
 ) -> Result<(), SinkFailed>
     requires { Allows task m.old.timed }
-    ensures { Performs D.gives m.old.timed core.old m.new.timed core.new
-        (λ lists. Does task.entry m.old.timed lists m.new.timed
-        (S.contents sink.old) (S.contents sink.new) (S.faults sink.old) (S.faults sink.new) result) }
+    ensures { Performs D.gives (change m.old.timed m.new.timed) (change core.old core.new)
+        (λ lists. Does task.entry (change m.old.timed m.new.timed) lists
+        (sink_change S.contents S.faults sink.old sink.new) result) }
 {
     match task {
         Task::Quiet(cycles) => {

@@ -1,10 +1,10 @@
 // What is written, and the status that goes with it. No memory is taken.
-ghost use Rattle.std.specs.Prelude.{◌≡◌, ◌+◌, ◌≤◌, ◌^◌, IsErrOf};
+ghost use Rattle.std.specs.Prelude.{◌≡◌, ◌+◌, ◌≤◌, ◌^◌};
 ghost use Rattle.std.specs.Option.{ForSome};
 ghost use Rattle.diva_isa.specs.End.{end_of};
 ghost use Rattle.diva_trace.specs.Text.{soak_text, text_of};
 ghost use Rattle.diva_trace.specs.Lines.{soak_line};
-ghost use Rattle.diva_outside.specs.Sink.{Puts};
+ghost use Rattle.diva_cli.specs.Changes.{PutsTo, sink_change};
 ghost use Rattle.diva_cli.specs.Runs.{end_status, shown_dump};
 ghost use Rattle.diva_cli.specs.Parts.{WritesLine, WritesStop};
 
@@ -19,8 +19,7 @@ use diva_trace::{
 
 /// Writes a line, and answers its status.
 pub(crate) fn write_line<S: Sink>(line: &Line, status: u8, sink: &mut S) -> Result<u8, Failure>
-    ensures { WritesLine line.now status
-        (S.contents sink.old) (S.contents sink.new) (S.faults sink.old) (S.faults sink.new) result }
+    ensures { WritesLine line.now status (sink_change S.contents S.faults sink.old sink.new) result }
 {
     put_line(line, sink)?;
     Ok(status)
@@ -29,9 +28,7 @@ pub(crate) fn write_line<S: Sink>(line: &Line, status: u8, sink: &mut S) -> Resu
 /// Writes why the files of a job can't be used, and answers the status that goes with it. Where
 /// memory ran out nothing is written.
 pub(crate) fn write_stop<S: Sink>(stop: Stop, sink: &mut S) -> Result<u8, Failure>
-    ensures wrote { WritesStop stop
-        (S.contents sink.old) (S.contents sink.new) (S.faults sink.old) (S.faults sink.new) result }
-    ensures unput { IsErrOf result Failure.Memory → sink.new ≡ sink.old }
+    ensures { WritesStop stop (sink_change S.contents S.faults sink.old sink.new) result }
 {
     match stop {
         Stop::Memory => Err(Failure::Memory),
@@ -48,8 +45,7 @@ pub(crate) fn write_finished<S: Sink>(
     dump: Option<DumpRange>,
     sink: &mut S,
 ) -> Result<(), SinkFailed>
-    ensures { Puts (text_of machine.now.timed (shown_dump dump))
-        (S.contents sink.old) (S.contents sink.new) (S.faults sink.old) (S.faults sink.new) result }
+    ensures { PutsTo (sink_change S.contents S.faults sink.old sink.new) (text_of machine.now.timed (shown_dump dump)) result }
 {
     let report = Report {
         rows: machine.log(),
@@ -84,8 +80,7 @@ pub(crate) fn write_soaked<S: Sink>(
     second: &Machine,
     sink: &mut S,
 ) -> Result<(), SinkFailed>
-    ensures { Puts (soak_text first.now.timed second.now.timed)
-        (S.contents sink.old) (S.contents sink.new) (S.faults sink.old) (S.faults sink.new) result }
+    ensures { PutsTo (sink_change S.contents S.faults sink.old sink.new) (soak_text first.now.timed second.now.timed) result }
 {
     put_lines(
         &[

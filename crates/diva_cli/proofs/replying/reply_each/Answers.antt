@@ -35,7 +35,7 @@ returns-in_err-put_line g c =
     let reply = c.reply_to-line.ensures in
     let at : slice_get c.args.commands.now c.loop-command.command-index ≡ Some c.command-item.result = slice_get_read c.args.commands.now (length c.args.commands.now) c.loop-command.command-index c.command-item.result refl c.loop-command-test.true c.command-item.is in
     let failed = err_from_is_err_and c.from_residual.result c.from_residual.ensures.1 in
-    rw failed.1 (replied g.D.Core.gives _ (c.loop-command.command-index + 1) _ _ _ _ _ _ _ _ _
+    rw failed.1 (replied g.D.Core.gives _ (c.loop-command.command-index + 1) _ _ _ _ g.S.Sink.contents g.S.Sink.faults _ _ _
     (replies_more g.D.Core.gives _ c.loop-command.command-index _ _ _ _ _ _ _ _ _ _ c.command-item.result _ _ _ _ inv.replies at reply.drives.turns reply.moved reply.at_once reply.reply c.in_err-put_line.ensures)
     (cycles-more c.loop-command.m.timed.cycles _ c.loop-command.command-index _ c.loop-command.m.timed.config.limit _ inv.within (ap (λ (z : Config). z.limit) inv.config) reply.million)
     tt)
@@ -43,5 +43,5 @@ returns-in_err-put_line g c =
 pub returns : goal.returns
 returns g c =
     let inv = c.loop-command.invariant in
-    replied g.D.Core.gives _ c.loop-command.command-index _ _ _ _ _ _ _ _ _ inv.replies inv.within
+    replied g.D.Core.gives _ c.loop-command.command-index _ _ _ _ g.S.Sink.contents g.S.Sink.faults _ _ _ inv.replies inv.within
     (let l = c.loop-command-test.false in let m = c.loop-command.auto.command-index-end in omega arith)

@@ -5,12 +5,12 @@ use Rattle.diva_args.specs.declared.job.Job.TheVariants.{Run}
 use Rattle.diva_cli.proofs.Working.{ready_answers, unready_answers}
 use Rattle.diva_cli.proofs.run.run.Goals as goal
 
-pub returns-in-Ok-clause-answers : goal.returns-in-Ok-clause-answers
-returns-in-Ok-clause-answers g c =
-    ready_answers g.C.Core.gives _ _ _ _ _ _ _ _ (Run c.args.options) _ c.args.options.setup _ _ _ (ap (λ (o : RunOptions). o.setup) c.options.view_is) refl
-    c.in-Ok.ensures.ready c.run_ready.ensures.writes
+pub returns-in-Ok : goal.returns-in-Ok
+returns-in-Ok g c =
+    ready_answers g.C.Core.gives _ _ _ _ (Run c.args.options) _ c.args.options.setup _ _ _ (ap (λ (o : RunOptions). o.setup) c.options.view_is) refl
+    c.in-Ok.ensures.ready c.run_ready.ensures
 
-pub returns-in-Err-clause-answers : goal.returns-in-Err-clause-answers
-returns-in-Err-clause-answers g c =
-    unready_answers g.C.Core.gives _ _ _ _ _ _ _ _ (Run c.args.options) _ c.args.options.setup c.in-Err.stop _ (ap (λ (o : RunOptions). o.setup) c.options.view_is) refl
-    c.in-Err.ensures.stopped c.write_stop.ensures.wrote
+pub returns-in-Err : goal.returns-in-Err
+returns-in-Err g c =
+    unready_answers g.C.Core.gives _ _ _ _ (Run c.args.options) _ c.args.options.setup c.in-Err.stop _ (ap (λ (o : RunOptions). o.setup) c.options.view_is) refl
+    c.in-Err.ensures.stopped c.write_stop.ensures

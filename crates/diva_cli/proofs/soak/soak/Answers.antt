@@ -4,6 +4,6 @@ use Rattle.diva_args.specs.declared.job.Job.TheVariants.{Soak}
 use Rattle.diva_cli.proofs.Working.{done_answers}
 use Rattle.diva_cli.proofs.soak.soak.Goals as goal
 
-pub returns-clause-answers : goal.returns-clause-answers
-returns-clause-answers g c =
-    done_answers g.C.Core.gives _ _ _ _ _ _ _ _ (Soak c.args.options) (λ _. []) _ _ tt (c.soak_ready.ensures.writes (λ _. []))
+pub returns : goal.returns
+returns g c =
+    done_answers g.C.Core.gives _ _ _ _ (Soak c.args.options) (λ _. []) _ _ tt (c.soak_ready.ensures (λ _. []))

@@ -6,7 +6,7 @@ use Rattle.diva_cli.proofs.streaming.drive_writing.Goals as goal
 
 pub returns-then-not-goes_on : goal.returns-then-not-goes_on
 returns-then-not-goes_on g c =
-    writes_performs g.D.Core.gives g.W.CycleWriter.text g.W.CycleWriter.says _ _ _ _ 0 c.args.budget _ _ _ _ _ (writes_none g.D.Core.gives g.W.CycleWriter.text g.W.CycleWriter.says _ _ _ _) (omega arith)
+    writes_performs g.D.Core.gives g.W.CycleWriter.text g.W.CycleWriter.says _ _ g.S.Sink.contents g.S.Sink.faults _ _ 0 c.args.budget _ _ _ (writes_none g.D.Core.gives g.W.CycleWriter.text g.W.CycleWriter.says _ _ _ _) (omega arith)
     (ended c.args.m.now.timed 0 c.args.budget (sym c.goes_on.ensures.value ∙ c.if-not-goes_on.true))
 
 pub loop-init : goal.loop-init
@@ -21,14 +21,14 @@ pub returns-in_err-write : goal.returns-in_err-write
 returns-in_err-write g c =
     let inv = c.loop.invariant in
     let failed = err_from_is_err_and c.from_residual.result c.from_residual.ensures.1 in
-    rw failed.1 (writes_performs g.D.Core.gives g.W.CycleWriter.text g.W.CycleWriter.says _ _ _ _ (c.loop.counter + 1) c.args.budget _ _ _ _ _
+    rw failed.1 (writes_performs g.D.Core.gives g.W.CycleWriter.text g.W.CycleWriter.says _ _ g.S.Sink.contents g.S.Sink.faults _ _ (c.loop.counter + 1) c.args.budget _ _ _
     (writes_turn g.D.Core.gives g.W.CycleWriter.text g.W.CycleWriter.says _ _ _ _ c.loop.counter _ _ _ _ inv.writes _ _ _ _ _ _ _ _ c.count-first.ensures (c.last.ensures ∙ c.turn.ensures.last) c.turn.ensures.cycled inv.sound inv.on (c.turn.ensures.asked inv.on) c.in_err-write.ensures.put c.in_err-write.ensures.says)
     (let l = c.loop-test.true in omega arith) tt)
 
 pub returns-then-not-goes_on-2 : goal.returns-then-not-goes_on-2
 returns-then-not-goes_on-2 g c =
     let inv = c.loop.invariant in
-    writes_performs g.D.Core.gives g.W.CycleWriter.text g.W.CycleWriter.says _ _ _ _ (c.loop.counter + 1) c.args.budget _ _ _ _ _
+    writes_performs g.D.Core.gives g.W.CycleWriter.text g.W.CycleWriter.says _ _ g.S.Sink.contents g.S.Sink.faults _ _ (c.loop.counter + 1) c.args.budget _ _ _
     (writes_turn g.D.Core.gives g.W.CycleWriter.text g.W.CycleWriter.says _ _ _ _ c.loop.counter _ _ _ _ inv.writes _ _ _ _ _ _ _ _ c.count-first.ensures (c.last.ensures ∙ c.turn.ensures.last) c.turn.ensures.cycled inv.sound inv.on (c.turn.ensures.asked inv.on) c.in_ok-write.ensures.put c.in_ok-write.ensures.says)
     (let l = c.loop-test.true in omega arith)
     (ended c.turn.new.m.timed (c.loop.counter + 1) c.args.budget (sym c.goes_on-in-loop.ensures.value ∙ c.if-not-goes_on-2.true))
@@ -44,6 +44,6 @@ loop-preserved g c =
 
 pub returns : goal.returns
 returns g c =
-    writes_performs g.D.Core.gives g.W.CycleWriter.text g.W.CycleWriter.says _ _ _ _ c.loop.counter c.args.budget _ _ _ _ _ c.loop.invariant.writes
+    writes_performs g.D.Core.gives g.W.CycleWriter.text g.W.CycleWriter.says _ _ g.S.Sink.contents g.S.Sink.faults _ _ c.loop.counter c.args.budget _ _ _ c.loop.invariant.writes
     (let e = c.loop.auto.counter-end in omega arith)
     (λ on. (let e = c.loop.auto.counter-end in let f = c.loop-test.false in omega arith))

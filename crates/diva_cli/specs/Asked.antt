@@ -1,0 +1,24 @@
+-- What the program is asked.
+use Rattle.std.specs.Prelude.{List, Option, Some, map}
+use Rattle.std.specs.Borrow.{Bor}
+use Rattle.diva_outside.specs.Files.{Contents}
+use Rattle.diva_outside.specs.Text.{Text}
+use Rattle.diva_args.specs.Line.{command_of}
+use Rattle.diva_args.specs.declared.job.Job.{Job}
+
+-- the job that the words ask for, if they ask for one, and the contents of the files
+pub record Asked : Type 0 where
+  pub command : Option Job
+  pub contents : Contents
+
+-- the job in the words of the command line, without the program's name
+abbrev pub command_in : List (Bor Text) → Option Job
+command_in words = command_of (map (λ w. w.now) words)
+
+-- what is asked by words
+abbrev pub asked_by : List (Bor Text) → Contents → Asked
+asked_by words contents = record { command = command_in words; contents = contents }
+
+-- what is asked where a job is to be done
+abbrev pub asked_for : Job → Contents → Asked
+asked_for job contents = record { command = Some job; contents = contents }
