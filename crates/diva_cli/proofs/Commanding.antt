@@ -17,7 +17,7 @@ use Rattle.diva_outside.proofs.Sinks.{puts_nothing, puts_past, puts_then}
 use Rattle.diva_debug.specs.Moves.{Moves, steps_by}
 use Rattle.diva_debug.specs.Replies.{reply_of}
 use Rattle.diva_debug.specs.declared.command.Command.{Command}
-use Rattle.diva_cli.specs.Changes.{change, sink_change}
+use Rattle.diva_cli.specs.Changes.{PutsTo, SinkChange, change, sink_change}
 use Rattle.diva_cli.specs.Cuts.{BeforeLast}
 use Rattle.diva_cli.specs.Replies.{AreLed, cycles_of, joined, newest_after, replies_of}
 use Rattle.diva_cli.specs.Tasks.{IsReplied}
@@ -274,23 +274,10 @@ file-fits cycles n limit none few small =
 -- ---- the replies of a session
 
 module _ {C S : Type 0} (gives : Meaning C) (options : DebugOptions) (bytes : FileBytes) (session : SessionReady) (core : C) (last : Timed) (after : C)
-    (contents : S → Option (List ℕ)) (faults : S → ℕ) (s s' : S) (result : Result (Unit {0}) SinkFailed)
+    (sink : SinkChange S) (result : Result (Unit {0}) SinkFailed)
     (fits : IsConfig options.setup.config) (is : IsSession options bytes session) (commands : List Command) (same : commands ≡ session.commands.items)
     (p : PerformsBy gives session.ready.core session.ready.script (change session.ready.machine.timed last) (change core after)
-    (λ lists. IsReplied commands session.ready.machine.timed lists (sink_change contents faults s s') result)) where
-  -- the sink before and after
-  abbrev old : Option (List ℕ)
-  old = contents s
-
-  abbrev new : Option (List ℕ)
-  new = contents s'
-
-  abbrev before : ℕ
-  before = faults s
-
-  abbrev now : ℕ
-  now = faults s'
-
+    (λ lists. IsReplied commands session.ready.machine.timed lists sink result)) where
   abbrev first : Timed
   first = new_timed options.setup.config (start_in bytes)
 
@@ -325,23 +312,23 @@ module _ {C S : Type 0} (gives : Meaning C) (options : DebugOptions) (bytes : Fi
         cut = cut;
       }
 
-  puts : Puts text old new before now result
-  puts = subst (λ (m : Timed). Puts (replies_of p.done.done m.count m.arch (newest_after m p.done.parts)) old new before now result) is.ready.begun p.done.put
+  puts : PutsTo sink text result
+  puts = subst (λ (m : Timed). PutsTo sink (replies_of p.done.done m.count m.arch (newest_after m p.done.parts)) result) is.ready.begun p.done.put
 
-  pub wrote_replies : result ≡ Ok tt → WritesWhole gives (Debug options) bytes (change core after) (sink_change contents faults s s') 0
+  pub wrote_replies : result ≡ Ok tt → WritesWhole gives (Debug options) bytes (change core after) sink 0
   wrote_replies ok =
       record {
         text = text;
         means = has_replies (Ok 0) (refl, subst (λ (r : Result (Unit {0}) SinkFailed). OnOk r (p.done.left ≡ [])) ok p.done.whole) tt;
-        written = (subst (λ (r : Result (Unit {0}) SinkFailed). Puts text old new before now r) ok puts).ok;
+        written = (subst (λ (r : Result (Unit {0}) SinkFailed). PutsTo sink text r) ok puts).ok;
       }
 
-  pub cut_replies : (e : SinkFailed) → result ≡ Err e → WritesPart gives (Debug options) bytes (change core after) (sink_change contents faults s s')
+  pub cut_replies : (e : SinkFailed) → result ≡ Err e → WritesPart gives (Debug options) bytes (change core after) sink
   cut_replies e err =
-      let q = subst (λ (r : Result (Unit {0}) SinkFailed). Puts text old new before now r) err puts in
-      let b : CutAt p.done.done first p.done.parts old new =
-      subst (λ (m : Timed). CutAt p.done.done m p.done.parts old new) is.ready.begun
-      (subst (λ (r : Result (Unit {0}) SinkFailed). OnErr r (CutAt p.done.done session.ready.machine.timed p.done.parts old new)) err p.done.cut) in
+      let q = subst (λ (r : Result (Unit {0}) SinkFailed). PutsTo sink text r) err puts in
+      let b : CutAt p.done.done first p.done.parts (sink.contents sink.before) (sink.contents sink.after) =
+      subst (λ (m : Timed). CutAt p.done.done m p.done.parts (sink.contents sink.before) (sink.contents sink.after)) is.ready.begun
+      (subst (λ (r : Result (Unit {0}) SinkFailed). OnErr r (CutAt p.done.done session.ready.machine.timed p.done.parts (sink.contents sink.before) (sink.contents sink.after))) err p.done.cut) in
       let put : List ℕ = replies_of b.earlier 0 (start_in bytes) (newest_after first p.done.parts) in
       record {
         rose = q.failed;

@@ -18,7 +18,6 @@ use Rattle.diva_tape.specs.TapeText.{IsList, list_text, tape_text}
 use Rattle.diva_tape.specs.TapeCalls.{next_list, later_lists, played}
 use Rattle.diva_tape.proofs.Playing.{played-next}
 use Rattle.diva_tape.proofs.ReadingBack.{tape_read_back}
-use Rattle.diva_outside.specs.Sink.{AppendsPast, Puts}
 use Rattle.diva_outside.specs.declared.files.What.TheVariants.{Script, Tape as TapeFile}
 use Rattle.diva_outside.specs.declared.sink.SinkFailed.{SinkFailed}
 use Rattle.diva_args.specs.Options.{RunOptions, TapeOptions}
@@ -27,7 +26,7 @@ use Rattle.diva_args.specs.declared.job.CoreChoice.TheVariants.{Tape as OfTape}
 use Rattle.diva_args.specs.declared.job.Job.TheVariants.{Tape}
 use Rattle.diva_trace.specs.Text.{text_of}
 use Rattle.diva_cli.specs.declared.loading.Ready.{Ready}
-use Rattle.diva_cli.specs.Changes.{change, sink_change}
+use Rattle.diva_cli.specs.Changes.{PutsTo, SinkChange, TakesPast, change}
 use Rattle.diva_cli.specs.Wanted.{FileBytes, tape_name}
 use Rattle.diva_cli.specs.Cuts.{BeforeLast}
 use Rattle.diva_cli.specs.Driven.{IsDriven, scripted_lists}
@@ -147,24 +146,11 @@ tape_lines m [] = refl
 tape_lines m (list ∷ lists) = ap (λ (t : List ℕ). list_text list ++ t) (tape_lines (cycle_of m list) lists)
 
 module _ {C S : Type 0} (gives : Meaning C) (options : TapeOptions) (bytes : FileBytes) (ready : Ready) (core : C) (last : Timed) (after : C)
-    (cycles : ℕ) (contents : S → Option (List ℕ)) (faults : S → ℕ) (s s' : S) (result : Result (Unit {0}) SinkFailed)
+    (cycles : ℕ) (sink : SinkChange S) (result : Result (Unit {0}) SinkFailed)
     (y : cycles ≡ options.cycles) (fits : IsConfig options.setup.config)
     (is : IsReady options.setup bytes ready)
     (p : PerformsBy gives ready.core ready.script (change ready.machine.timed last) (change core after)
-    (λ lists. IsWritten tape_line IsList cycles (change ready.machine.timed last) lists (sink_change contents faults s s') result)) where
-  -- the sink before and after
-  abbrev old : Option (List ℕ)
-  old = contents s
-
-  abbrev new : Option (List ℕ)
-  new = contents s'
-
-  abbrev before : ℕ
-  before = faults s
-
-  abbrev now : ℕ
-  now = faults s'
-
+    (λ lists. IsWritten tape_line IsList cycles (change ready.machine.timed last) lists sink result)) where
   few : length p.lists ≤ options.cycles
   few = let m = p.done.most in omega arith
 
@@ -174,10 +160,10 @@ module _ {C S : Type 0} (gives : Meaning C) (options : TapeOptions) (bytes : Fil
   all_lists : over.run.driven.lists ≡ p.lists
   all_lists = over_lists gives options.setup options.cycles bytes ready core last after fits is p.lists p.ran p.each p.handed few
 
-  puts : Puts (tape_text p.lists) old new before now result
-  puts = subst (λ (t : List ℕ). Puts t old new before now result) (tape_lines ready.machine.timed p.lists) p.done.put
+  puts : PutsTo sink (tape_text p.lists) result
+  puts = subst (λ (t : List ℕ). PutsTo sink t result) (tape_lines ready.machine.timed p.lists) p.done.put
 
-  pub wrote_tape : (status : ℕ) → status ≡ end_status (end_of last.arch.end) → result ≡ Ok tt → WritesWhole gives (Tape options) bytes (change core after) (sink_change contents faults s s') status
+  pub wrote_tape : (status : ℕ) → status ≡ end_status (end_of last.arch.end) → result ≡ Ok tt → WritesWhole gives (Tape options) bytes (change core after) sink status
   wrote_tape status says ok =
       let all : goes_on last.arch ≡ true → length p.lists ≡ cycles = subst (λ (r : Result (Unit {0}) SinkFailed). OnOk r (goes_on last.arch ≡ true → length p.lists ≡ cycles)) ok p.done.whole in
       let are : All IsList p.lists = subst (λ (r : Result (Unit {0}) SinkFailed). OnOk r (All IsList p.lists)) ok p.done.said in
@@ -201,14 +187,14 @@ module _ {C S : Type 0} (gives : Meaning C) (options : TapeOptions) (bytes : Fil
           });
           cut = tt;
         };
-        written = (subst (λ (r : Result (Unit {0}) SinkFailed). Puts (tape_text p.lists) old new before now r) ok puts).ok;
+        written = (subst (λ (r : Result (Unit {0}) SinkFailed). PutsTo sink (tape_text p.lists) r) ok puts).ok;
       }
 
-  pub cut_tape : (e : SinkFailed) → result ≡ Err e → WritesPart gives (Tape options) bytes (change core after) (sink_change contents faults s s')
+  pub cut_tape : (e : SinkFailed) → result ≡ Err e → WritesPart gives (Tape options) bytes (change core after) sink
   cut_tape e err =
-      let q = subst (λ (r : Result (Unit {0}) SinkFailed). Puts (tape_text p.lists) old new before now r) err puts in
-      let b : BeforeLast p.lists (λ earlier. AppendsPast old new (cycles_text tape_line ready.machine.timed earlier) (cycles_text tape_line ready.machine.timed p.lists)) =
-      subst (λ (r : Result (Unit {0}) SinkFailed). OnErr r (BeforeLast p.lists (λ earlier. AppendsPast old new (cycles_text tape_line ready.machine.timed earlier) (cycles_text tape_line ready.machine.timed p.lists))))
+      let q = subst (λ (r : Result (Unit {0}) SinkFailed). PutsTo sink (tape_text p.lists) r) err puts in
+      let b : BeforeLast p.lists (λ earlier. TakesPast sink (cycles_text tape_line ready.machine.timed earlier) (cycles_text tape_line ready.machine.timed p.lists)) =
+      subst (λ (r : Result (Unit {0}) SinkFailed). OnErr r (BeforeLast p.lists (λ earlier. TakesPast sink (cycles_text tape_line ready.machine.timed earlier) (cycles_text tape_line ready.machine.timed p.lists))))
       err p.done.cut in
       record {
         rose = q.failed;
@@ -221,6 +207,6 @@ module _ {C S : Type 0} (gives : Meaning C) (options : TapeOptions) (bytes : Fil
           whole = tt;
           cut = record { earlier = b.earlier; last = b.last; in_order = all_lists ∙ b.in_order; holds = refl };
         };
-        written = subst (λ (x : List ℕ). AppendsPast old new x (tape_text p.lists)) (tape_lines ready.machine.timed b.earlier)
-            (subst (λ (x : List ℕ). AppendsPast old new (cycles_text tape_line ready.machine.timed b.earlier) x) (tape_lines ready.machine.timed p.lists) b.holds);
+        written = subst (λ (x : List ℕ). TakesPast sink x (tape_text p.lists)) (tape_lines ready.machine.timed b.earlier)
+            (subst (λ (x : List ℕ). TakesPast sink (cycles_text tape_line ready.machine.timed b.earlier) x) (tape_lines ready.machine.timed p.lists) b.holds);
       }
