@@ -3,9 +3,10 @@ use Rattle.std.proofs.Common.{◌≡◌, refl, sym, subst, ◌∙◌, ap, List, 
 use Rattle.std.specs.Prelude.{Result, Ok, Err}
 use Rattle.diva_outside.specs.Steps.{and_then}
 use Rattle.diva_outside.specs.Text.{Text}
-use Rattle.diva_asm.specs.Inner.{Gives, Appends}
-use Rattle.diva_asm.specs.declared.fault.Stop.{Stop}
-use Rattle.diva_asm.specs.declared.fault.Stop.TheVariants.{Fault, Memory}
+use Rattle.diva_outside.specs.TextFaults.{GivesLine}
+use Rattle.diva_outside.specs.declared.text_fault.LineStop.{LineStop}
+use Rattle.diva_outside.specs.declared.text_fault.LineStop.TheVariants.{Fault, Memory}
+use Rattle.diva_asm.specs.Inner.{Appends}
 use Rattle.diva_asm.specs.Texts.{labels_of, onto_names}
 use Rattle.diva_asm.specs.Laying.{with_label, with_labels, with_text, with_statement_of}
 use Rattle.diva_asm.specs.declared.fault.Kind.{Kind}
@@ -27,15 +28,15 @@ unfolding with_text with_labels
 text_ends laid text e = rw e refl
 
 -- what stops a first step stops the whole
-pub stopped : {A B : Type 0} (due : Result A Kind) (f : A → Result B Kind) (whole : Result B Kind) (stop : Stop) → whole ≡ and_then due f → Gives due (Err stop) → Gives whole (Err stop)
+pub stopped : {A B : Type 0} (due : Result A Kind) (f : A → Result B Kind) (whole : Result B Kind) (stop : LineStop Kind) → whole ≡ and_then due f → GivesLine due (Err stop) → GivesLine whole (Err stop)
 stopped due f whole (Fault kind) e g = e ∙ ap (λ d. and_then d f) g
 stopped due f whole Memory e g = tt
 
 -- the same, due in other words
-pub given : {A : Type 0} (due whole : Result A Kind) (r : Result A Stop) → whole ≡ due → Gives due r → Gives whole r
-given due whole r e g = subst (λ d. Gives d r) (sym e) g
+pub given : {A : Type 0} (due whole : Result A Kind) (r : Result A (LineStop Kind)) → whole ≡ due → GivesLine due r → GivesLine whole r
+given due whole r e g = subst (λ d. GivesLine d r) (sym e) g
 
 -- and where bytes were to be appended
-pub appended_stop : {B : Type 0} (due : Result (List ℕ) Kind) (f : List ℕ → Result B Kind) (whole : Result B Kind) (old new : List ℕ) (stop : Stop) → whole ≡ and_then due f → Appends due old new (Err stop) → Gives whole (Err stop)
+pub appended_stop : {B : Type 0} (due : Result (List ℕ) Kind) (f : List ℕ → Result B Kind) (whole : Result B Kind) (old new : List ℕ) (stop : LineStop Kind) → whole ≡ and_then due f → Appends due old new (Err stop) → GivesLine whole (Err stop)
 appended_stop due f whole old new (Fault kind) e g = e ∙ ap (λ d. and_then d f) g
 appended_stop due f whole old new Memory e g = tt

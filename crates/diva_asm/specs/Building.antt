@@ -9,9 +9,8 @@ use Rattle.diva_decode.specs.Table.Format.{U, J, B}
 use Rattle.diva_decode.specs.declared.op.Op.{Op}
 use Rattle.diva_decode.specs.declared.op.Op.TheVariants.{Lui, Addi, Jal, Jalr}
 use Rattle.diva_decode.specs.declared.instr.Instr.{Instr}
-use Rattle.diva_outside.specs.Steps.{and_then, fault_by}
+use Rattle.diva_outside.specs.Steps.{and_then}
 use Rattle.diva_outside.specs.Text.{Text}
-use Rattle.diva_asm.specs.Kinds.{number_of_kind}
 use Rattle.diva_asm.specs.Labels.{Labels, address_of}
 use Rattle.diva_asm.specs.Texts.{without_comment, labels_of}
 use Rattle.diva_asm.specs.Operands.{Place, word_from, is_within}
@@ -134,5 +133,5 @@ built_by base labels built (Some s) =
 unfoldable pub built_text : ℕ → Labels → Built → Text → Result Built Kind
 built_text base labels built text = and_then (statement_of (labels_of text).rest) (λ s. built_by base labels built s)
 
-abbrev pub built_line : ℕ → Labels → Built → Text → Result Built ℕ
-built_line base labels built line = fault_by number_of_kind (built_text base labels built (without_comment line))
+abbrev pub built_line : ℕ → Labels → Built → Text → Result Built Kind
+built_line base labels built line = built_text base labels built (without_comment line)

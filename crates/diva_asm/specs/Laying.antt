@@ -3,9 +3,8 @@ use Rattle.std.specs.Prelude.{ℕ, ◌+◌, ◌%◌, ◌^◌, ◌==◌, ◌&&◌
 use Rattle.std.specs.Int.{cast_signed, w32}
 use Rattle.std.specs.Option.{unwrap_or}
 use Rattle.diva_image.specs.Layout.{most_size}
-use Rattle.diva_outside.specs.Steps.{and_then, fault_by}
+use Rattle.diva_outside.specs.Steps.{and_then}
 use Rattle.diva_outside.specs.Text.{Text}
-use Rattle.diva_asm.specs.Kinds.{number_of_kind}
 use Rattle.diva_asm.specs.Labels.{address_of, with_address}
 use Rattle.diva_asm.specs.Texts.{without_comment, labels_of}
 use Rattle.diva_asm.specs.Operands.{word_from, is_within}
@@ -91,5 +90,5 @@ with_statement_of laid text = and_then (statement_of text) (λ s. with_any laid 
 unfoldable pub with_text : Laid → Text → Result Laid Kind
 with_text laid text = and_then (with_labels laid (labels_of text).names) (λ next. with_statement_of next (labels_of text).rest)
 
-abbrev pub with_line : Laid → Text → Result Laid ℕ
-with_line laid line = fault_by number_of_kind (with_text laid (without_comment line))
+abbrev pub with_line : Laid → Text → Result Laid Kind
+with_line laid line = with_text laid (without_comment line)

@@ -20,7 +20,6 @@ pub mod Kinds
 -- labels and where they stand
 pub mod Labels
 -- what the calls give where memory does not run out
-pub mod Gives
 -- what the operands of a statement that was read can be
 -- what only private contracts cite
 pub mod Reads

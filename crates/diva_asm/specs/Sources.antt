@@ -4,10 +4,10 @@ use Rattle.std.specs.Prelude.{ℕ, ◌+◌, ◌*◌, ◌/◌, max, List, length,
 use Rattle.std.specs.Option.{ok_or, unwrap_or}
 use Rattle.diva_image.specs.Images.{image_from}
 use Rattle.diva_image.specs.Layout.{Layout}
-use Rattle.diva_outside.specs.Lines.{LineFault, lines_of, over_lines}
+use Rattle.diva_outside.specs.Lines.{LineFault, fold_lines}
 use Rattle.diva_outside.specs.Steps.{and_then}
 use Rattle.diva_outside.specs.Text.{Text}
-use Rattle.diva_asm.specs.Kinds.{number_of_kind}
+use Rattle.diva_asm.specs.Kinds.{source_kind_number}
 use Rattle.diva_asm.specs.Laying.{nothing_laid, with_line}
 use Rattle.diva_asm.specs.Building.{nothing_built, built_line}
 use Rattle.diva_asm.specs.declared.fault.Kind.TheVariants.{NoImage}
@@ -23,11 +23,11 @@ image_of_built said_base said_size built =
     let base = unwrap_or said_base 0 in
     let size = unwrap_or said_size (least_size built.bytes) in
     let entry = unwrap_or built.entry base in
-    ok_or (image_from base size entry built.bytes) (record { line = 0; kind = number_of_kind NoImage })
+    ok_or (image_from base size entry built.bytes) (record { line = 0; kind = source_kind_number NoImage })
 
+-- the first pass over all lines, the second one, and then what they have built
 unfoldable pub source_of : Text → Result Layout LineFault
 source_of text =
-    let lines = lines_of text in
-    and_then (over_lines with_line 1 nothing_laid lines) (λ laid.
-    and_then (over_lines (built_line (unwrap_or laid.base 0) laid.labels) 1 nothing_built lines) (λ built.
+    and_then (fold_lines source_kind_number with_line nothing_laid text) (λ laid.
+    and_then (fold_lines source_kind_number (built_line (unwrap_or laid.base 0) laid.labels) nothing_built text) (λ built.
     image_of_built laid.base laid.size built))

@@ -1,22 +1,19 @@
 // A source to its image, or to its first fault.
-ghost use Rattle.std.specs.Prelude.{◌≡◌, ◌≤◌, ◌+◌, ◌*◌, ◌/◌, Ok, max, unwrap_or, IfOk, IfErr};
+ghost use Rattle.std.specs.Prelude.{◌≡◌, ◌≤◌, ◌+◌, ◌*◌, ◌/◌, Ok, max, IfOk, IfErr};
 ghost use Rattle.diva_image.specs.ImageLayout.{layout};
 ghost use Rattle.diva_image.specs.Layout.{most_size};
-ghost use Rattle.diva_outside.specs.Lines.{lines_of, over_lines};
-ghost use Rattle.diva_asm.specs.Laying.{nothing_laid, with_line};
-ghost use Rattle.diva_asm.specs.Building.{nothing_built, built_line};
+ghost use Rattle.diva_outside.specs.TextFaults.{IsFirstFault};
+ghost use Rattle.diva_outside.specs.declared.text_fault.TextFault.TheVariants.{Bad};
 ghost use Rattle.diva_asm.specs.Sources.{image_of_built, source_of};
-ghost use Rattle.diva_asm.specs.Gives.{IsFirstFault};
-ghost use Rattle.diva_asm.specs.Inner.{GivesAll};
-ghost use Rattle.diva_asm.specs.Kinds.{number_of_kind};
-ghost use Rattle.diva_asm.specs.declared.fault.AsmFault.TheVariants.{Bad};
+ghost use Rattle.diva_asm.specs.Kinds.{source_kind_number};
 ghost use Rattle.diva_asm.specs.declared.fault.Kind.TheVariants.{NoImage};
 
 use crate::building::Built;
-use crate::fault::{AsmFault, Kind};
+use crate::fault::{AsmFault, Kind, Stop};
+use crate::labels::Labels;
 use crate::laying::Laid;
 use diva_image::{Image, MOST_SIZE};
-use diva_outside::lines;
+use diva_outside::{FaultKind, LineReader, fold_lines};
 use std::alloc::Global;
 
 /// The image of a source, or its first fault.
@@ -27,51 +24,51 @@ pub fn assemble(alloc: Global, source: &[u8]) -> Result<Image, AsmFault>
     ensures image { IfOk result (λ image. source_of source.now ≡ Ok (layout image)) }
     ensures fault { IfErr result (IsFirstFault (source_of source.now)) }
 {
-    let laid = match lay_lines(alloc, source) {
-        Ok(laid) => laid,
-        Err(fault) => return Err(fault),
+    let laid = fold_lines(&FirstPass, Laid::new(alloc), source)?;
+    let second = SecondPass {
+        base: laid.base.unwrap_or(0),
+        labels: &laid.labels,
     };
-    let built = match build_lines(alloc, &laid, source) {
-        Ok(built) => built,
-        Err(fault) => return Err(fault),
-    };
+    let built = fold_lines(&second, Built::new(alloc, laid.total)?, source)?;
     image_of(laid.base, laid.size, built)
 }
 
-/// The first pass.
-fn lay_lines(alloc: Global, source: &[u8]) -> Result<Laid<'_>, AsmFault>
-    ensures { GivesAll (over_lines with_line 1 nothing_laid (lines_of source.now)) result }
-{
-    let mut laid = Laid::new(alloc);
-    let mut number = 0;
-    for line in lines(source) {
-        number += 1;
-        laid = match laid.with_line(line) {
-            Ok(laid) => laid,
-            Err(stop) => return Err(stop.at(number)),
-        };
+/// The first pass, which lays lines.
+struct FirstPass;
+
+impl<'a> LineReader<'a> for FirstPass {
+    ghost use Rattle.diva_asm.specs.Laying.{with_line};
+
+    type Kept = Laid<'a>;
+
+    type Kind = Kind;
+
+    ghost step = { λ pass. with_line };
+
+    fn line(&self, laid: Laid<'a>, line: &'a [u8]) -> Result<Laid<'a>, Stop> {
+        laid.with_line(line)
     }
-    Ok(laid)
 }
 
-/// The second pass.
-fn build_lines(alloc: Global, laid: &Laid<'_>, source: &[u8]) -> Result<Built, AsmFault>
-    ensures { GivesAll (over_lines (built_line (unwrap_or laid.now.base 0) laid.now.labels) 1 nothing_built (lines_of source.now)) result }
-{
-    let base = laid.base.unwrap_or(0);
-    let mut built = match Built::new(alloc, laid.total) {
-        Ok(built) => built,
-        Err(_) => return Err(AsmFault::Memory),
-    };
-    let mut number = 0;
-    for line in lines(source) {
-        number += 1;
-        built = match built.with_line(base, &laid.labels, line) {
-            Ok(built) => built,
-            Err(stop) => return Err(stop.at(number)),
-        };
+/// The second pass, which builds them, where the labels stand.
+#[derive(Drop)]
+struct SecondPass<'l, 'n> {
+    base: u32,
+    labels: &'l Labels<'n>,
+}
+
+impl LineReader<'_> for SecondPass<'_, '_> {
+    ghost use Rattle.diva_asm.specs.Building.{built_line};
+
+    type Kept = Built;
+
+    type Kind = Kind;
+
+    ghost step = { λ pass. built_line pass.base pass.labels.now };
+
+    fn line(&self, built: Built, line: &[u8]) -> Result<Built, Stop> {
+        built.with_line(self.base, self.labels, line)
     }
-    Ok(built)
 }
 
 /// The image of what was built, if it keeps the rules.
@@ -95,7 +92,7 @@ fn image_of(base: Option<u32>, size: Option<u32>, built: Built) -> Result<Image,
 
 /// The fault of a source whose image breaks the rules.
 fn no_image() -> AsmFault
-    ensures { result ≡ Bad 0 (number_of_kind NoImage) }
+    ensures { result ≡ Bad 0 (source_kind_number NoImage) }
 {
     AsmFault::Bad {
         line: 0,

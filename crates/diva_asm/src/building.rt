@@ -1,11 +1,12 @@
 // The second pass: the bytes that statements lay.
 ghost use Rattle.std.specs.Prelude.{◌≡◌, ◌++◌, ◌+◌, ◌%◌, ◌^◌, ◌<◌, ◌∷◌, [], Some, Ok, length, IfOk, OnOk};
+ghost use Rattle.diva_outside.specs.TextFaults.{GivesLine};
 ghost use Rattle.diva_decode.specs.Table.{format, IsValid};
 ghost use Rattle.diva_asm.specs.Mnemonics.{format_operands};
 ghost use Rattle.diva_asm.specs.Reads.{Keeps, uses, unused, IsRead};
 ghost use Rattle.diva_asm.specs.Building.{nothing_built, value_of, two_words, in_bytes, one_instruction, instructions, bytes_of_words, statement_bytes, is_entry, built_at, built_by, built_text};
 ghost use Rattle.diva_asm.specs.Texts.{without_comment, labels_of};
-ghost use Rattle.diva_asm.specs.Inner.{Gives, Appends};
+ghost use Rattle.diva_asm.specs.Inner.{Appends};
 
 use crate::bytes::Bytes;
 use crate::fault::{Kind, Stop};
@@ -40,7 +41,7 @@ impl Built {
     /// With one more line of a source with base and labels.
     #[tactic(auto, unfolding(crate::specs::Building::built_text))]
     pub fn with_line(self, base: u32, labels: &Labels<'_>, line: &[u8]) -> Result<Self, Stop>
-        ensures { Gives (built_text base labels.now self (without_comment line.now)) result }
+        ensures { GivesLine (built_text base labels.now self (without_comment line.now)) result }
     {
         match read_statement(without_labels(without_comment(line)))? {
             Some(statement) => self.with_statement(base, labels, &statement),
@@ -50,7 +51,7 @@ impl Built {
 
     fn with_statement(self, base: u32, labels: &Labels<'_>, s: &Statement<'_>) -> Result<Self, Stop>
         requires { IsRead s.now.mnemonic s.now.operands }
-        ensures { Gives (built_by base labels.now self (Some s.now)) result }
+        ensures { GivesLine (built_by base labels.now self (Some s.now)) result }
     {
         let address = value_of(labels, &s.operands.place).ok_or(Kind::UndefinedName)?;
         self.with_statement_at(base, s.mnemonic, &s.operands, address)
@@ -65,7 +66,7 @@ impl Built {
         address: u32,
     ) -> Result<Self, Stop>
         requires { IsRead mnemonic operands.now }
-        ensures { Gives (built_at base self mnemonic operands.now address) result }
+        ensures { GivesLine (built_at base self mnemonic operands.now address) result }
     {
         if is_entry(mnemonic) {
             return Ok(Built {

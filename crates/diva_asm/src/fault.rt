@@ -1,43 +1,30 @@
 // Why a text is no source of an image.
-ghost use Rattle.std.specs.Prelude.{◌≡◌};
-ghost use Rattle.diva_asm.specs.Inner.{stopped_at};
-ghost use Rattle.diva_asm.specs.Kinds.{number_of_kind};
-ghost use Rattle.diva_asm.specs.declared.fault.Stop.TheVariants.{Fault, Memory};
+use diva_outside::{FaultKind, LineStop};
 
-use std::alloc::{AllocError, AllocFailed};
-
-/// Why a source was not assembled.
-#[derive(Clone, Copy, Debug, PartialEq, Eq)]
-pub enum AsmFault {
-    /// A line has a fault: the first such line of the first pass, else the first of the second.
-    Bad {
-        /// The line, from 1; 0 for the source as a whole.
-        line: u64,
-        /// The kind of the fault. The first pass tests a line's labels, its mnemonic, its operands as a whole, each of them from
-        /// the left, its directive, where it stands, and how much there is so far:
-        ///
-        /// 1. an unknown mnemonic or directive;
-        /// 2. the operands have another number or shape, or the line is none of the forms;
-        /// 3. no register where one must stand;
-        /// 4. a number is unreadable or out of range;
-        /// 6. a label that an earlier place defines;
-        /// 8. an instruction or `.word` at an address that is no multiple of 4;
-        /// 9. a directive repeated, or `.base` behind a label or a byte;
-        /// 10. more than 16,777,216 bytes.
-        ///
-        /// The second pass tests what a place needs all labels for:
-        ///
-        /// 5. a name that no label defines;
-        /// 7. an offset that is odd, or that a branch or a jump can't reach.
-        ///
-        /// Last comes the source as a whole:
-        ///
-        /// 11. base, size and entry break the rules of an image, or the bytes exceed the size.
-        kind: u8,
-    },
-    /// Memory ran out.
-    Memory,
-}
+/// Why a source was not assembled: the first line with a fault of the first pass, else the first with one of the second. The
+/// line is 0 for the source as a whole.
+///
+/// The kinds of faults have numbers. The first pass tests a line's labels, its mnemonic, its operands as a whole, each of them
+/// from the left, its directive, where it stands, and how much there is so far:
+///
+/// 1. an unknown mnemonic or directive;
+/// 2. the operands have another number or shape, or the line is none of the forms;
+/// 3. no register where one must stand;
+/// 4. a number is unreadable or out of range;
+/// 6. a label that an earlier place defines;
+/// 8. an instruction or `.word` at an address that is no multiple of 4;
+/// 9. a directive repeated, or `.base` behind a label or a byte;
+/// 10. more than 16,777,216 bytes.
+///
+/// The second pass tests what a place needs all labels for:
+///
+/// 5. a name that no label defines;
+/// 7. an offset that is odd, or that a branch or a jump can't reach.
+///
+/// Last comes the source as a whole:
+///
+/// 11. base, size and entry break the rules of an image, or the bytes exceed the size.
+pub use diva_outside::TextFault as AsmFault;
 
 /// The kinds of faults.
 #[derive(Clone, Copy, Debug, PartialEq, Eq)]
@@ -61,58 +48,15 @@ pub(crate) enum Kind {
     NoImage = 11,
 }
 
-impl Kind {
-    pub(crate) fn number(self) -> u8
-        ensures { result ≡ number_of_kind self }
-    {
+impl FaultKind for Kind {
+    ghost use Rattle.diva_asm.specs.Kinds.{source_kind_number};
+
+    ghost number = { source_kind_number };
+
+    fn number(self) -> u8 {
         self as u8
     }
 }
 
 /// Why a line was not taken.
-#[derive(Clone, Copy, Debug)]
-pub(crate) enum Stop {
-    /// It has a fault.
-    Fault(Kind),
-    /// Memory ran out.
-    Memory,
-}
-
-impl Stop {
-    /// The fault of the source whose line, by its number, was not taken.
-    pub(crate) fn at(self, line: u64) -> AsmFault
-        ensures { result ≡ stopped_at line self }
-    {
-        match self {
-            Stop::Fault(kind) => AsmFault::Bad {
-                line,
-                kind: kind.number(),
-            },
-            Stop::Memory => AsmFault::Memory,
-        }
-    }
-}
-
-impl From<Kind> for Stop {
-    ghost from_gives = { λ kind stop. stop ≡ Fault kind };
-
-    fn from(kind: Kind) -> Self {
-        Stop::Fault(kind)
-    }
-}
-
-impl From<AllocError> for Stop {
-    ghost from_gives = { λ _ e. e ≡ Memory };
-
-    fn from(_: AllocError) -> Self {
-        Stop::Memory
-    }
-}
-
-impl<T: Drop> From<AllocFailed<T>> for Stop {
-    ghost from_gives = { λ _ e. e ≡ Memory };
-
-    fn from(_: AllocFailed<T>) -> Self {
-        Stop::Memory
-    }
-}
+pub(crate) type Stop = LineStop<Kind>;

@@ -1,9 +1,8 @@
 // The first pass: where each label and each statement stands.
-ghost use Rattle.std.specs.Prelude.{◌≡◌, ◌≤◌, IfOk};
-ghost use Rattle.diva_image.specs.Layout.{most_size};
+ghost use Rattle.std.specs.Prelude.{◌≡◌};
+ghost use Rattle.diva_outside.specs.TextFaults.{GivesLine};
 ghost use Rattle.diva_asm.specs.Laying.{nothing_laid, here, with_label, is_short, len_of, is_free, with_bytes, with_statement, with_statement_of, with_text};
 ghost use Rattle.diva_asm.specs.Texts.{without_comment};
-ghost use Rattle.diva_asm.specs.Inner.{Gives};
 
 use crate::fault::{Kind, Stop};
 use crate::labels::Labels;
@@ -51,9 +50,7 @@ impl<'a> Laid<'a> {
 
     /// With one more line.
     pub fn with_line(self, line: &'a [u8]) -> Result<Self, Stop>
-        requires { self.total ≤ most_size }
-        ensures gives { Gives (with_text self.entry (without_comment line.now)) result }
-        ensures total { IfOk result (λ laid. laid.total ≤ most_size) }
+        ensures { GivesLine (with_text self.entry (without_comment line.now)) result }
     {
         let mut laid = self;
         let mut text = without_comment(line);
@@ -69,9 +66,7 @@ impl<'a> Laid<'a> {
 
     /// With the statement of a text that begins with no label, if there is one.
     fn with_statement_of(self, text: &[u8]) -> Result<Self, Stop>
-        requires { self.total ≤ most_size }
-        ensures gives { Gives (with_statement_of self.entry text.now) result }
-        ensures total { IfOk result (λ laid. laid.total ≤ most_size) }
+        ensures { GivesLine (with_statement_of self.entry text.now) result }
     {
         match read_statement(text)? {
             Some(statement) => self.with_statement(&statement),
@@ -81,9 +76,7 @@ impl<'a> Laid<'a> {
 
     #[tactic(auto, unfolding(crate::specs::Laying::with_label))]
     fn with_label(self, name: &'a [u8]) -> Result<Self, Stop>
-        requires { self.total ≤ most_size }
-        ensures gives { Gives (with_label self.entry name.now) result }
-        ensures total { IfOk result (λ laid. laid.total ≤ most_size) }
+        ensures { GivesLine (with_label self.entry name.now) result }
     {
         if self.labels.get(name).is_some() {
             return Err(Stop::Fault(Kind::RepeatedLabel));
@@ -102,9 +95,7 @@ impl<'a> Laid<'a> {
 
     #[tactic(auto, unfolding(crate::specs::Laying::with_statement))]
     fn with_statement(self, s: &Statement<'_>) -> Result<Self, Stop>
-        requires { self.total ≤ most_size }
-        ensures gives { Gives (with_statement self.entry s.now.mnemonic s.now.operands) result }
-        ensures total { IfOk result (λ laid. laid.total ≤ most_size) }
+        ensures { GivesLine (with_statement self.entry s.now.mnemonic s.now.operands) result }
     {
         match s.mnemonic {
             Mnemonic::Base => {
@@ -141,9 +132,7 @@ impl<'a> Laid<'a> {
     /// With the bytes that a statement lays.
     #[tactic(auto, unfolding(crate::specs::Laying::with_bytes))]
     fn with_bytes(self, mnemonic: Mnemonic, operands: &Operands<'_>) -> Result<Self, Stop>
-        requires { self.total ≤ most_size }
-        ensures gives { Gives (with_bytes self.entry mnemonic operands.now) result }
-        ensures total { IfOk result (λ laid. laid.total ≤ most_size) }
+        ensures { GivesLine (with_bytes self.entry mnemonic operands.now) result }
     {
         if !is_free(mnemonic) && self.here() % 4 != 0 {
             return Err(Stop::Fault(Kind::Misaligned));

@@ -10,7 +10,7 @@ abbrev pub kind_of : WordFault → Kind
 kind_of Count = WordCount
 kind_of Unreadable = Number
 
-abbrev pub number_of_kind : Kind → ℕ
-number_of_kind Unknown = 1
-number_of_kind Number = 2
-number_of_kind WordCount = 3
+abbrev pub command_kind_number : Kind → ℕ
+command_kind_number Unknown = 1
+command_kind_number Number = 2
+command_kind_number WordCount = 3

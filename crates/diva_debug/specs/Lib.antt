@@ -2,7 +2,6 @@
 pub mod Ranges
 pub mod Kinds
 pub mod Reading
-pub mod Gives
 pub mod Moves
 pub mod Replies
 pub mod Sessions

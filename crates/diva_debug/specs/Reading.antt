@@ -2,50 +2,36 @@
 -- word says, or the kind of its fault.
 use Rattle.std.specs.Prelude.{ℕ, ◌-◌, ◌^◌, min, List, [], ◌∷◌, ◌++◌, codes, Option, Some, None, Result, Ok, Err, if◌then◌else◌}
 use Rattle.std.specs.Str.{bytes_eq}
-use Rattle.diva_outside.specs.Lines.{LineFault, lines_of, over_lines}
-use Rattle.diva_outside.specs.NextWords.{first_hex, first_number, no_more, with_first}
-use Rattle.diva_outside.specs.Steps.{and_then, fault_by}
+use Rattle.diva_outside.specs.Lines.{LineFault, fold_lines}
+use Rattle.diva_outside.specs.NextWords.{and_no_more, hex_in, if_words, number_in, with_first}
+use Rattle.diva_outside.specs.Steps.{and_then}
 use Rattle.diva_outside.specs.Text.{Text}
 use Rattle.diva_outside.specs.Words.{words_of}
 use Rattle.diva_debug.specs.declared.command.Command.{Command}
 use Rattle.diva_debug.specs.declared.command.Command.TheVariants.{Step, Until, Reg, Mem, Why}
 use Rattle.diva_debug.specs.declared.fault.Kind.{Kind}
 use Rattle.diva_debug.specs.declared.fault.Kind.TheVariants.{Unknown}
-use Rattle.diva_debug.specs.Kinds.{kind_of, number_of_kind}
-
--- ---- words from the left
-
--- the first word as a decimal number from low to high
-abbrev pub number_in : ℕ → ℕ → List Text → Result ℕ Kind
-number_in low high words = fault_by kind_of (first_number low high words)
-
--- the first word as one to eight hex digits
-abbrev pub hex_in : List Text → Result ℕ Kind
-hex_in words = fault_by kind_of (first_hex words)
-
--- no word is left over
-abbrev pub and_no_more : {A : Type 0} → A → List Text → Result A Kind
-and_no_more value words = and_then (fault_by kind_of (no_more words)) (λ done. Ok value)
+use Rattle.diva_debug.specs.Kinds.{kind_of, command_kind_number}
 
 -- ---- one command
 
 -- after step: K
 unfoldable pub step_in : List Text → Result Command Kind
 step_in words =
-    with_first (number_in 1 1000000) words (λ k words.
-    and_no_more (Step k) words)
+    with_first (number_in kind_of 1 1000000) words (λ k words.
+    and_no_more kind_of (Step k) words)
 
 -- after until: PC
 unfoldable pub until_in : List Text → Result Command Kind
 until_in words =
-    with_first hex_in words (λ pc words.
-    and_no_more (Until pc) words)
+    with_first (hex_in kind_of) words (λ pc words.
+    and_no_more kind_of (Until pc) words)
 
 -- after reg: N
 unfoldable pub reg_in : List Text → Result Command Kind
 reg_in words =
-    with_first (number_in 0 31) words (λ n words.
-    and_no_more (Reg n) words)
+    with_first (number_in kind_of 0 31) words (λ n words.
+    and_no_more kind_of (Reg n) words)
 
 -- 32 bytes at most, and none past 2^32
 abbrev pub most_bytes : ℕ → ℕ
@@ -54,9 +40,9 @@ most_bytes addr = min 32 (2 ^ 32 - addr)
 -- after mem: ADDR LEN
 unfoldable pub mem_in : List Text → Result Command Kind
 mem_in words =
-    with_first hex_in words (λ addr words.
-    with_first (number_in 1 (most_bytes addr)) words (λ len words.
-    and_no_more (Mem (record { addr = addr; len = len })) words))
+    with_first (hex_in kind_of) words (λ addr words.
+    with_first (number_in kind_of 1 (most_bytes addr)) words (λ len words.
+    and_no_more kind_of (Mem (record { addr = addr; len = len })) words))
 
 -- a command by its first word, and the others
 unfoldable pub command_in : Text → List Text → Result Command Kind
@@ -65,24 +51,19 @@ command_in word words =
     else (if bytes_eq word (codes "until") then until_in words
     else (if bytes_eq word (codes "reg") then reg_in words
     else (if bytes_eq word (codes "mem") then mem_in words
-    else (if bytes_eq word (codes "why") then and_no_more Why words
+    else (if bytes_eq word (codes "why") then and_no_more kind_of Why words
     else Err Unknown))))
 
 -- ---- all commands
-
--- the command of a line's words, if it has words
-unfoldable pub line_in : List Text → Result (Option Command) Kind
-line_in [] = Ok None
-line_in (word ∷ words) = and_then (command_in word words) (λ command. Ok (Some command))
 
 -- the commands so far with that of one more line, if it has one
 abbrev pub and_command : List Command → Option Command → Result (List Command) Kind
 and_command commands None = Ok commands
 and_command commands (Some command) = Ok (commands ++ command ∷ [])
 
-abbrev pub with_line : List Command → Text → Result (List Command) ℕ
-with_line commands line = fault_by number_of_kind (and_then (line_in (words_of line)) (and_command commands))
+abbrev pub with_line : List Command → Text → Result (List Command) Kind
+with_line commands line = and_then (if_words command_in (words_of line)) (and_command commands)
 
 -- the commands of a text in their order, or its first fault
 unfoldable pub commands_of : Text → Result (List Command) LineFault
-commands_of text = over_lines with_line 1 [] (lines_of text)
+commands_of text = fold_lines command_kind_number with_line [] text

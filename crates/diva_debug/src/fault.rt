@@ -1,26 +1,17 @@
 // Why a text has no commands.
 ghost use Rattle.std.specs.Prelude.{◌≡◌};
-ghost use Rattle.diva_debug.specs.Kinds.{kind_of, number_of_kind};
+ghost use Rattle.diva_debug.specs.Kinds.{kind_of};
 
-use diva_outside::WordFault;
+use diva_outside::{FaultKind, WordFault};
 
-/// Why commands were not read.
-#[derive(Clone, Copy, Debug, PartialEq, Eq)]
-pub enum CommandFault {
-    /// A line has a fault: the first such line, and the first fault of its words, from the left.
-    Bad {
-        /// The line, from 1.
-        line: u64,
-        /// The kind of the fault:
-        ///
-        /// 1. the command is unknown;
-        /// 2. a number is unreadable or out of range;
-        /// 3. a word is missing or left over.
-        kind: u8,
-    },
-    /// Memory ran out.
-    Memory,
-}
+/// Why commands were not read: the first line with a fault, and the first fault of its words, from the left.
+///
+/// The kinds of faults have numbers:
+///
+/// 1. the command is unknown;
+/// 2. a number is unreadable or out of range;
+/// 3. a word is missing or left over.
+pub use diva_outside::TextFault as CommandFault;
 
 /// The kinds of faults of a line.
 #[derive(Clone, Copy, Debug, PartialEq, Eq)]
@@ -33,10 +24,12 @@ pub(crate) enum Kind {
     WordCount = 3,
 }
 
-impl Kind {
-    pub(crate) fn number(self) -> u8
-        ensures { result ≡ number_of_kind self }
-    {
+impl FaultKind for Kind {
+    ghost use Rattle.diva_debug.specs.Kinds.{command_kind_number};
+
+    ghost number = { command_kind_number };
+
+    fn number(self) -> u8 {
         self as u8
     }
 }

@@ -1,51 +1,79 @@
 // The commands of a text, or its first fault.
 ghost use Rattle.std.specs.Prelude.{◌≡◌, ◌≤◌, length, IfOk, IfErr, IfSome, Ok};
 ghost use Rattle.std.specs.List.{All};
+ghost use Rattle.diva_outside.specs.NextWords.{if_words};
+ghost use Rattle.diva_outside.specs.TextFaults.{IsFirstFault};
 ghost use Rattle.diva_outside.specs.Words.{words_of};
-ghost use Rattle.diva_debug.specs.declared.fault.CommandFault.TheVariants.{Bad};
-ghost use Rattle.diva_debug.specs.Gives.{IsFirstFault};
-ghost use Rattle.diva_debug.specs.Kinds.{number_of_kind};
 ghost use Rattle.diva_debug.specs.Moves.{IsShort};
-ghost use Rattle.diva_debug.specs.Reading.{command_in, commands_of, line_in, mem_in, most_bytes, reg_in, step_in, until_in};
+ghost use Rattle.diva_debug.specs.Reading.{command_in, commands_of, mem_in, most_bytes, reg_in, step_in, until_in};
 
 use crate::command::Command;
 use crate::fault::{CommandFault, Kind};
 use crate::numbers::{MemRange, RegisterNumber, StepCount};
-use diva_outside::{LineWords, is_word, lines, words};
+use diva_outside::{LineReader, LineStop, LineWords, fold_lines, is_word, words};
 use std::alloc::Global;
+use std::marker::Model;
 
 /// The commands of a text in their order, or its first fault.
 ///
 /// Lines without words are skipped. Every other line is a command: `step K`, `until PC`, `reg N`, `mem ADDR LEN` or `why`. K
 /// is 1 to 1,000,000, N is 0 to 31, LEN is 1 to 32, all decimal; PC and ADDR are hex, and ADDR + LEN is 2^32 at most.
-#[tactic(auto, unfolding(crate::specs::Reading::commands_of))]
+#[tactic(auto, using(crate::proofs::Commanding::commands_few), unfolding(crate::specs::Reading::commands_of))]
 pub fn commands(alloc: Global, text: &[u8]) -> Result<Vec<Command>, CommandFault>
     ensures commands { IfOk result (λ commands. commands_of text.now ≡ Ok commands.items) }
     ensures few { IfOk result (λ commands. length commands.items ≤ length text.now) }
     ensures short { IfOk result (λ commands. All IsShort commands.items) }
     ensures fault { IfErr result (IsFirstFault (commands_of text.now)) }
 {
-    let mut commands = Vec::new(alloc);
-    let mut number = 0;
-    for line in lines(text) {
-        number += 1;
-        match line_in(line) {
-            Ok(Some(command)) => {
-                if commands.push(command).is_err() {
-                    return Err(CommandFault::Memory);
-                }
-            }
-            Ok(None) => {}
-            Err(kind) => return Err(bad(number, kind)),
+    let none = CommandList {
+        commands: Vec::new(alloc),
+    };
+    Ok(fold_lines(&CommandReader, none, text)?.commands)
+}
+
+/// The commands of the lines so far.
+#[derive(Drop)]
+struct CommandList {
+    commands: Vec<Command>,
+}
+
+impl Model for CommandList {
+    ghost use Rattle.std.specs.Prelude.{List};
+    ghost use Rattle.std.specs.List.{All};
+    ghost use Rattle.diva_debug.specs.declared.command.Command.{Command};
+    ghost use Rattle.diva_debug.specs.Moves.{IsShort};
+
+    ghost Value = { List Command };
+
+    ghost view = { λ c. c.commands.items };
+
+    ghost invariant = { λ c. All IsShort c.commands.items };
+}
+
+/// Reads a command of each line that has words.
+struct CommandReader;
+
+impl LineReader<'_> for CommandReader {
+    ghost use Rattle.diva_debug.specs.Reading.{with_line};
+
+    type Kept = CommandList;
+
+    type Kind = Kind;
+
+    ghost step = { λ reader. with_line };
+
+    fn line(&self, commands: CommandList, line: &[u8]) -> Result<CommandList, LineStop<Kind>> {
+        let mut commands = commands.commands;
+        if let Some(command) = line_in(line)? {
+            commands.push(command)?;
         }
+        Ok(CommandList { commands })
     }
-    Ok(commands)
 }
 
 /// The command of a line, if it has words.
-#[tactic(auto, unfolding(crate::specs::Reading::line_in))]
 fn line_in(line: &[u8]) -> Result<Option<Command>, Kind>
-    ensures command { result ≡ line_in (words_of line.now) }
+    ensures command { result ≡ if_words command_in (words_of line.now) }
     ensures short { IfOk result (λ command. IfSome command IsShort) }
 {
     let mut words = words(line);
@@ -128,14 +156,4 @@ fn most_bytes(addr: u32) -> u32
 {
     let left = (1 << 32) - u64::from(addr);
     left.min(32) as u32
-}
-
-/// The fault of a line.
-fn bad(line: u64, kind: Kind) -> CommandFault
-    ensures { result ≡ Bad line (number_of_kind kind) }
-{
-    CommandFault::Bad {
-        line,
-        kind: kind.number(),
-    }
 }

@@ -10,9 +10,9 @@ abbrev pub kind_of : WordFault → Kind
 kind_of Count = WordCount
 kind_of Unreadable = Number
 
-abbrev pub number_of_kind : Kind → ℕ
-number_of_kind Keyword = 1
-number_of_kind Number = 2
-number_of_kind FieldName = 3
-number_of_kind WordCount = 4
-number_of_kind RowCount = 5
+abbrev pub script_kind_number : Kind → ℕ
+script_kind_number Keyword = 1
+script_kind_number Number = 2
+script_kind_number FieldName = 3
+script_kind_number WordCount = 4
+script_kind_number RowCount = 5

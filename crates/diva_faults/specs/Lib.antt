@@ -1,4 +1,3 @@
-pub mod Gives
 pub mod Kinds
 pub mod Lists
 pub mod Reading

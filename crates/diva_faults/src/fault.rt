@@ -1,28 +1,19 @@
 // Why a text is no script.
 ghost use Rattle.std.specs.Prelude.{◌≡◌};
-ghost use Rattle.diva_faults.specs.Kinds.{kind_of, number_of_kind};
+ghost use Rattle.diva_faults.specs.Kinds.{kind_of};
 
-use diva_outside::WordFault;
+use diva_outside::{FaultKind, WordFault};
 
-/// Why a script was not read.
-#[derive(Clone, Copy, Debug, PartialEq, Eq)]
-pub enum ScriptFault {
-    /// A line has a fault: the first such line, and the first fault of its words, from the left.
-    Bad {
-        /// The line, from 1.
-        line: u64,
-        /// The kind of the fault:
-        ///
-        /// 1. a word that has to be `at`, `lane`, `hush`, `flip`, `set`, `lose` or `double` is another one;
-        /// 2. a number is unreadable or out of range;
-        /// 3. the field is unknown;
-        /// 4. a word is missing or left over;
-        /// 5. the row is one more than 4,096.
-        kind: u8,
-    },
-    /// Memory ran out.
-    Memory,
-}
+/// Why a script was not read: its first line with a fault, and the first fault of that line's words, from the left.
+///
+/// The kinds of faults have numbers:
+///
+/// 1. a word that has to be `at`, `lane`, `hush`, `flip`, `set`, `lose` or `double` is another one;
+/// 2. a number is unreadable or out of range;
+/// 3. the field is unknown;
+/// 4. a word is missing or left over;
+/// 5. the row is one more than 4,096.
+pub use diva_outside::TextFault as ScriptFault;
 
 /// The kinds of faults of a line.
 #[derive(Clone, Copy, Debug, PartialEq, Eq)]
@@ -39,10 +30,12 @@ pub(crate) enum Kind {
     RowCount = 5,
 }
 
-impl Kind {
-    pub(crate) fn number(self) -> u8
-        ensures { result ≡ number_of_kind self }
-    {
+impl FaultKind for Kind {
+    ghost use Rattle.diva_faults.specs.Kinds.{script_kind_number};
+
+    ghost number = { script_kind_number };
+
+    fn number(self) -> u8 {
         self as u8
     }
 }

@@ -1,21 +1,20 @@
 // The rows of a text, or its first fault.
-ghost use Rattle.std.specs.Prelude.{◌≡◌, ◌≤◌, ◌<◌, length, bit_and, find, IfOk, IfErr, IfSome, Ok};
+ghost use Rattle.std.specs.Prelude.{◌≡◌, ◌≤◌, ◌<◌, find, IfOk, IfErr, IfSome, Ok};
 ghost use Rattle.std.specs.List.{All};
 ghost use Rattle.std.specs.Str.{bytes_eq};
 ghost use Rattle.diva_core.specs.Difference.{all_fields, field_name};
-ghost use Rattle.diva_outside.specs.NextWords.{others_of};
+ghost use Rattle.diva_outside.specs.NextWords.{if_words, others_of};
+ghost use Rattle.diva_outside.specs.TextFaults.{IsFirstFault};
 ghost use Rattle.diva_outside.specs.Words.{words_of};
-ghost use Rattle.diva_faults.specs.declared.fault.ScriptFault.TheVariants.{Bad};
-ghost use Rattle.diva_faults.specs.Gives.{IsFirstFault};
-ghost use Rattle.diva_faults.specs.Kinds.{number_of_kind};
-ghost use Rattle.diva_faults.specs.Reading.{change_in, field_in, flip_in, hush_in, lane_in, line_in, part_in, row_in, script_of, set_in};
+ghost use Rattle.diva_faults.specs.Reading.{change_in, field_in, flip_in, hush_in, lane_in, part_in, row_in, script_of, set_in};
 ghost use Rattle.diva_faults.specs.Rows.{IsChange, IsCycle, IsRow};
 
 use crate::fault::{Kind, ScriptFault};
 use crate::rows::{Change, Row};
 use diva_core::Field;
-use diva_outside::{LineWords, is_word, lines, words};
+use diva_outside::{LineReader, LineStop, LineWords, fold_lines, is_word, words};
 use std::alloc::Global;
+use std::marker::Model;
 
 /// The most rows that a script has.
 const MOST_ROWS: usize = 4096;
@@ -27,30 +26,58 @@ pub(crate) fn read_rows(alloc: Global, text: &[u8]) -> Result<Vec<Row>, ScriptFa
     ensures ranges { IfOk result (λ rows. All IsRow rows.items) }
     ensures fault { IfErr result (IsFirstFault (script_of text.now)) }
 {
-    let mut rows = Vec::new(alloc);
-    let mut number = 0;
-    for line in lines(text) {
-        number += 1;
-        match line_in(line) {
-            Ok(Some(row)) => {
-                if rows.len() == MOST_ROWS {
-                    return Err(bad(number, Kind::RowCount));
-                }
-                if rows.push(row).is_err() {
-                    return Err(ScriptFault::Memory);
-                }
+    let none = Rows {
+        rows: Vec::new(alloc),
+    };
+    Ok(fold_lines(&RowReader, none, text)?.rows)
+}
+
+/// The rows of the lines so far.
+#[derive(Drop)]
+struct Rows {
+    rows: Vec<Row>,
+}
+
+impl Model for Rows {
+    ghost use Rattle.std.specs.Prelude.{List};
+    ghost use Rattle.std.specs.List.{All};
+    ghost use Rattle.diva_faults.specs.declared.rows.Row.{Row};
+    ghost use Rattle.diva_faults.specs.Rows.{IsRow};
+
+    ghost Value = { List Row };
+
+    ghost view = { λ r. r.rows.items };
+
+    ghost invariant = { λ r. All IsRow r.rows.items };
+}
+
+/// Reads a row of each line that has words.
+struct RowReader;
+
+impl LineReader<'_> for RowReader {
+    ghost use Rattle.diva_faults.specs.Reading.{with_line};
+
+    type Kept = Rows;
+
+    type Kind = Kind;
+
+    ghost step = { λ reader. with_line };
+
+    fn line(&self, rows: Rows, line: &[u8]) -> Result<Rows, LineStop<Kind>> {
+        let mut rows = rows.rows;
+        if let Some(row) = line_in(line)? {
+            if MOST_ROWS <= rows.len() {
+                return Err(LineStop::Fault(Kind::RowCount));
             }
-            Ok(None) => {}
-            Err(kind) => return Err(bad(number, kind)),
+            rows.push(row)?;
         }
+        Ok(Rows { rows })
     }
-    Ok(rows)
 }
 
 /// The row of a line, if it has words.
-#[tactic(auto, unfolding(crate::specs::Reading::line_in))]
 fn line_in(line: &[u8]) -> Result<Option<Row>, Kind>
-    ensures row { result ≡ line_in (words_of line.now) }
+    ensures row { result ≡ if_words row_in (words_of line.now) }
     ensures ranges { IfOk result (λ row. IfSome row IsRow) }
 {
     let mut words = words(line);
@@ -188,14 +215,4 @@ fn field_named(word: &[u8]) -> Option<Field>
         .iter()
         .copied()
         .find(|field| is_word(word, field.name()))
-}
-
-/// The fault of a line.
-fn bad(line: u64, kind: Kind) -> ScriptFault
-    ensures { result ≡ Bad line (number_of_kind kind) }
-{
-    ScriptFault::Bad {
-        line,
-        kind: kind.number(),
-    }
 }

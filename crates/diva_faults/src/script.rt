@@ -1,7 +1,7 @@
 // A script, as it is read.
 ghost use Rattle.std.specs.Prelude.{◌≡◌, [], Ok, IfOk, IfErr};
 ghost use Rattle.std.specs.List.{All};
-ghost use Rattle.diva_faults.specs.Gives.{IsFirstFault};
+ghost use Rattle.diva_outside.specs.TextFaults.{IsFirstFault};
 ghost use Rattle.diva_faults.specs.Lists.{scripted};
 ghost use Rattle.diva_faults.specs.Reading.{script_of};
 ghost use Rattle.diva_faults.specs.Rows.{IsRow};
@@ -48,10 +48,7 @@ impl Script {
         ensures fault { IfErr result (IsFirstFault (script_of bytes.now)) }
     {
         let rows = read_rows(alloc, bytes)?;
-        match Script::of(alloc, rows) {
-            Ok(script) => Ok(script),
-            Err(_) => Err(ScriptFault::Memory),
-        }
+        Ok(Script::of(alloc, rows)?)
     }
 
     /// The script that has no rows.

@@ -12,4 +12,5 @@ pub mod Sink
 pub mod StdSink
 pub mod Steps
 pub mod Text
+pub mod TextFaults
 pub mod Words

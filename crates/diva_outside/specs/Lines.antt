@@ -17,12 +17,17 @@ pub record LineFault : Type 0 where
   pub line : ℕ
   pub kind : ℕ
 
-abbrev pub at_line : {A : Type 0} → ℕ → Result A ℕ → (A → Result A LineFault) → Result A LineFault
-at_line n (Ok state) next = next state
-at_line n (Err kind) next = Err (record { line = n; kind = kind })
+-- what follows a line that has no fault, else its fault; the kinds of faults have numbers
+abbrev pub at_line : {A K : Type 0} → (K → ℕ) → ℕ → Result A K → (A → Result A LineFault) → Result A LineFault
+at_line number n (Ok kept) next = next kept
+at_line number n (Err kind) next = Err (record { line = n; kind = number kind })
 
--- what the lines from line n on make of a state by a step for each line, or the first fault: the first line whose step gives
--- the number of a kind
-abbrev pub over_lines : {A : Type 0} → (A → Text → Result A ℕ) → ℕ → A → List Text → Result A LineFault
-over_lines step n state [] = Ok state
-over_lines step n state (line ∷ lines) = at_line n (step state line) (λ next. over_lines step (n + 1) next lines)
+-- what the lines from line n on make of what is kept so far by a step for each line, or the first fault: that of the first
+-- line whose step gives a kind
+abbrev pub over_lines : {A K : Type 0} → (K → ℕ) → (A → Text → Result A K) → ℕ → A → List Text → Result A LineFault
+over_lines number step n kept [] = Ok kept
+over_lines number step n kept (line ∷ lines) = at_line number n (step kept line) (λ next. over_lines number step (n + 1) next lines)
+
+-- the same of all lines of a text
+abbrev pub fold_lines : {A K : Type 0} → (K → ℕ) → (A → Text → Result A K) → A → Text → Result A LineFault
+fold_lines number step kept text = over_lines number step 1 kept (lines_of text)

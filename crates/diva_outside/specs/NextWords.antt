@@ -2,7 +2,7 @@
 use Rattle.std.specs.Prelude.{ℕ, ◌≤◌, ◌&&◌, nat_le, List, [], ◌∷◌, Option, Some, None, option_and_then, Result, Ok, Err, if◌then◌else◌}
 use Rattle.std.specs.Option.{ok_or}
 use Rattle.diva_outside.specs.Numbers.{decimal_of, hex_of}
-use Rattle.diva_outside.specs.Steps.{and_then}
+use Rattle.diva_outside.specs.Steps.{and_then, fault_by}
 use Rattle.diva_outside.specs.Text.{Text}
 use Rattle.diva_outside.specs.declared.next_words.WordFault.{WordFault}
 use Rattle.diva_outside.specs.declared.next_words.WordFault.TheVariants.{Count, Unreadable}
@@ -41,3 +41,20 @@ others_of (word ∷ words) = words
 -- what a rule makes of the words by the first of them, and then the others by what that says
 abbrev pub with_first : {A B E : Type 0} → (List Text → Result A E) → List Text → (A → List Text → Result B E) → Result B E
 with_first rule words next = and_then (rule words) (λ value. next value (others_of words))
+
+-- ---- the same, where a format has a kind of its own for each fault of a word
+
+abbrev pub number_in : {K : Type 0} → (WordFault → K) → (low high : ℕ) → List Text → Result ℕ K
+number_in kind_of low high words = fault_by kind_of (first_number low high words)
+
+abbrev pub hex_in : {K : Type 0} → (WordFault → K) → List Text → Result ℕ K
+hex_in kind_of words = fault_by kind_of (first_hex words)
+
+-- a value, behind which no word is left over
+abbrev pub and_no_more : {A K : Type 0} → (WordFault → K) → A → List Text → Result A K
+and_no_more kind_of value words = and_then (fault_by kind_of (no_more words)) (λ done. Ok value)
+
+-- what a rule makes of the first word and the others, if there are words
+abbrev pub if_words : {A K : Type 0} → (Text → List Text → Result A K) → List Text → Result (Option A) K
+if_words rule [] = Ok None
+if_words rule (word ∷ words) = and_then (rule word words) (λ value. Ok (Some value))

@@ -14,6 +14,8 @@
 //! - `line`: `Line`, a line of text, written piece by piece.
 //! - `line_list`: lines that are made one at a time, and how lines are put into a sink.
 //! - `text_lines`: `lines`, the lines of a text. `line_words`: `words`, the words of a line, and the line without its comment.
+//! - `line_reader`: the trait `LineReader`, what lines are read to, and `fold_lines`, which reads them all. `text_fault`:
+//!   `TextFault`, why a text was not read; `LineStop`, why a line was not taken, and the kinds of its faults, `FaultKind`.
 //! - `numbers`: the hex and decimal numbers that words spell. `next_words`: the next word of a line as a number, or what is
 //!   wrong with it, `WordFault`.
 #![tactic(auto)]
@@ -23,6 +25,7 @@ mod faults;
 mod files;
 mod line;
 mod line_list;
+mod line_reader;
 mod line_words;
 mod mem_file;
 mod mem_files;
@@ -33,12 +36,14 @@ mod sink;
 mod std_sink;
 mod sure_files;
 mod sure_sink;
+mod text_fault;
 mod text_lines;
 
 pub use disk_files::DiskFiles;
 pub use files::{Files, LoadFault, What};
 pub use line::Line;
 pub use line_list::{LineList, put_line, put_lines};
+pub use line_reader::{LineReader, fold_lines};
 pub use line_words::{LineWords, without_comment, words};
 pub use mem_file::MemFile;
 pub use mem_files::MemFiles;
@@ -49,4 +54,5 @@ pub use sink::{Sink, SinkFailed};
 pub use std_sink::StdSink;
 pub use sure_files::SureFiles;
 pub use sure_sink::SureSink;
+pub use text_fault::{FaultKind, LineStop, TextFault};
 pub use text_lines::{TextLines, lines};

@@ -12,6 +12,7 @@ use Rattle.diva_outside.specs.Lines.{is_feed, lines_of, over_lines}
 use Rattle.diva_outside.specs.Numbers.{hex_of}
 use Rattle.diva_outside.specs.Text.{Text, hex_word}
 use Rattle.diva_outside.specs.Words.{begins_comment, is_blank, is_word, words_in, words_of}
+use Rattle.diva_tape.specs.Kinds.{tape_kind_number}
 use Rattle.diva_tape.specs.Tapes.{all_by, list_from, list_in, record_from, separates, tape_of, with_line}
 use Rattle.diva_tape.specs.TapeText.{claim_text, numbers_of, piece_text, pieces_text, tape_text, IsClaim, IsList}
 use Rattle.diva_tape.proofs.Listing.{numbers_in}
@@ -282,7 +283,7 @@ lines-written (list ∷ lists) =
     ∙ line-front (pieces_text true list) (tape_text lists) (pieces-bytes true list)
     ∙ ap (λ lines. pieces_text true list ∷ lines) (lines-written lists)
 
-lists-read : (n : ℕ) (before lists : List (List Record)) → AllByRecursion IsList lists → over_lines with_line n before (map (pieces_text true) lists) ≡ Ok (before ++ lists)
+lists-read : (n : ℕ) (before lists : List (List Record)) → AllByRecursion IsList lists → over_lines tape_kind_number with_line n before (map (pieces_text true) lists) ≡ Ok (before ++ lists)
 lists-read n before [] h = ap Ok (sym (append-nil before))
 lists-read n before (list ∷ lists) h =
     rw (line-read list h.0.most (recursion_from_All IsClaim list h.0.claims))
@@ -292,4 +293,4 @@ lists-read n before (list ∷ lists) h =
 pub tape_read_back : (lists : List (List Record)) → All IsList lists → tape_of (tape_text lists) ≡ Ok lists
 unfolding tape_of
 tape_read_back lists are =
-    ap (over_lines with_line 1 []) (lines-written lists) ∙ lists-read 1 [] lists (recursion_from_All IsList lists are)
+    ap (over_lines tape_kind_number with_line 1 []) (lines-written lists) ∙ lists-read 1 [] lists (recursion_from_All IsList lists are)

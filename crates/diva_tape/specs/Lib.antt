@@ -1,9 +1,9 @@
 -- What the contracts of this crate and of those above it cite.
+pub mod Kinds
 pub mod Lists
 pub mod Noise
 pub mod Scalar
 pub mod TapeCalls
-pub mod TapeFaults
 pub mod TapeParts
 pub mod TapeText
 pub mod Tapes

@@ -3,14 +3,14 @@ use Rattle.std.specs.Prelude.{ℕ, ◌==◌, nat_le, Bool, List, [], ◌∷◌, 
 use Rattle.std.specs.List.{before_first, slice_split}
 use Rattle.std.specs.Option.{ok_or}
 use Rattle.diva_isa.specs.declared.record.Record.{Record}
-use Rattle.diva_outside.specs.Lines.{LineFault, lines_of, over_lines}
+use Rattle.diva_outside.specs.Lines.{LineFault, fold_lines}
 use Rattle.diva_outside.specs.Numbers.{hex_of}
-use Rattle.diva_outside.specs.Steps.{and_then, fault_by}
+use Rattle.diva_outside.specs.Steps.{and_then}
 use Rattle.diva_outside.specs.Text.{Text}
 use Rattle.diva_outside.specs.Words.{begins_comment, words_of}
 use Rattle.diva_tape.specs.declared.fault.Kind.{Kind}
 use Rattle.diva_tape.specs.declared.fault.Kind.TheVariants.{Word, NumberCount, ClaimCount}
-use Rattle.diva_tape.specs.TapeFaults.{number_of_kind}
+use Rattle.diva_tape.specs.Kinds.{tape_kind_number}
 
 -- what a rule makes of each, in order; `None` where it makes nothing of some
 abbrev pub all_by : {A B : Type 0} → (A → Option B) → List A → Option (List B)
@@ -48,9 +48,9 @@ list_in line = if length (words_of line) == 0 then Ok [] else list_from (parts_o
 -- ---- all lines
 
 -- the lists so far, and that of one more line
-abbrev pub with_line : List (List Record) → Text → Result (List (List Record)) ℕ
-with_line lists line = fault_by number_of_kind (and_then (list_in line) (λ list. Ok (lists ++ list ∷ [])))
+abbrev pub with_line : List (List Record) → Text → Result (List (List Record)) Kind
+with_line lists line = and_then (list_in line) (λ list. Ok (lists ++ list ∷ []))
 
 -- the lists of a tape, one for each line, or its first fault
 unfoldable pub tape_of : Text → Result (List (List Record)) LineFault
-tape_of text = over_lines with_line 1 [] (lines_of text)
+tape_of text = fold_lines tape_kind_number with_line [] text

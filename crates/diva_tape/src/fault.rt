@@ -1,24 +1,14 @@
 // Why a text is no tape.
-ghost use Rattle.std.specs.Prelude.{◌≡◌};
-ghost use Rattle.diva_tape.specs.TapeFaults.{number_of_kind};
+use diva_outside::FaultKind;
 
-/// Why a tape was not read.
-#[derive(Clone, Copy, Debug, PartialEq, Eq)]
-pub enum TapeFault {
-    /// A line has a fault: the first such line, and the first of these kinds that it has.
-    Bad {
-        /// The line, from 1.
-        line: u64,
-        /// The kind of the fault:
-        ///
-        /// 1. a word is no hex number;
-        /// 2. a claim has other than eight numbers;
-        /// 3. there are more than eight claims.
-        kind: u8,
-    },
-    /// Memory ran out.
-    Memory,
-}
+/// Why a tape was not read: its first line with a fault, and the first of these kinds that it has.
+///
+/// The kinds of faults have numbers:
+///
+/// 1. a word is no hex number;
+/// 2. a claim has other than eight numbers;
+/// 3. there are more than eight claims.
+pub use diva_outside::TextFault as TapeFault;
 
 /// The kinds of faults of a line.
 #[derive(Clone, Copy, Debug, PartialEq, Eq)]
@@ -31,10 +21,12 @@ pub(crate) enum Kind {
     ClaimCount = 3,
 }
 
-impl Kind {
-    pub(crate) fn number(self) -> u8
-        ensures { result ≡ number_of_kind self }
-    {
+impl FaultKind for Kind {
+    ghost use Rattle.diva_tape.specs.Kinds.{tape_kind_number};
+
+    ghost number = { tape_kind_number };
+
+    fn number(self) -> u8 {
         self as u8
     }
 }

@@ -1,13 +1,12 @@
 // A tape, as it is read.
 ghost use Rattle.std.specs.Prelude.{◌≡◌, Ok, IfOk, IfErr};
-ghost use Rattle.diva_tape.specs.TapeFaults.{IsFirstFault, number_of_kind};
+ghost use Rattle.diva_outside.specs.TextFaults.{IsFirstFault};
 ghost use Rattle.diva_tape.specs.Tapes.{tape_of};
-ghost use Rattle.diva_tape.specs.declared.fault.TapeFault.TheVariants.{Bad};
 
 use crate::fault::{Kind, TapeFault};
 use crate::reading::list_in;
 use diva_core::Claim;
-use diva_outside::lines;
+use diva_outside::{LineReader, LineStop, fold_lines, lines};
 use std::alloc::Global;
 use std::marker::Model;
 
@@ -44,35 +43,34 @@ impl Tape {
         ensures lists { IfOk result (λ tape. tape_of bytes.now ≡ Ok tape) }
         ensures fault { IfErr result (IsFirstFault (tape_of bytes.now)) }
     {
-        let mut claims = Vec::new(alloc);
-        // A byte for each line, and no more.
-        let Ok(mut counts) = Vec::with_capacity(alloc, lines(bytes).count()) else {
-            return Err(TapeFault::Memory);
+        let none = Tape {
+            claims: Vec::new(alloc),
+            // A byte for each line, and no more.
+            counts: Vec::with_capacity(alloc, lines(bytes).count())?,
         };
-        let mut number = 0;
-        for line in lines(bytes) {
-            number += 1;
-            match list_in(line) {
-                Ok(list) => {
-                    if claims.extend_from_slice(list.as_slice()).is_err()
-                        || counts.push(list.len() as u8).is_err()
-                    {
-                        return Err(TapeFault::Memory);
-                    }
-                }
-                Err(kind) => return Err(bad(number, kind)),
-            }
-        }
-        Ok(Tape { claims, counts })
+        fold_lines(&TapeReader, none, bytes)
     }
 }
 
-/// The fault of a line.
-fn bad(line: u64, kind: Kind) -> TapeFault
-    ensures { result ≡ Bad line (number_of_kind kind) }
-{
-    TapeFault::Bad {
-        line,
-        kind: kind.number(),
+/// Reads a list of each line.
+struct TapeReader;
+
+impl LineReader<'_> for TapeReader {
+    ghost use Rattle.diva_tape.specs.Tapes.{with_line};
+
+    type Kept = Tape;
+
+    type Kind = Kind;
+
+    ghost step = { λ reader. with_line };
+
+    #[tactic(auto, using(crate::proofs::Keeping::still_parted, crate::proofs::Keeping::parted_push))]
+    fn line(&self, tape: Tape, line: &[u8]) -> Result<Tape, LineStop<Kind>> {
+        let list = list_in(line)?;
+        let mut claims = tape.claims;
+        let mut counts = tape.counts;
+        claims.extend_from_slice(list.as_slice())?;
+        counts.push(list.len() as u8)?;
+        Ok(Tape { claims, counts })
     }
 }
