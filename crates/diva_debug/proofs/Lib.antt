@@ -1,3 +1,2 @@
 pub mod Answering
-pub mod Commanding
 pub mod Stepping

@@ -2,11 +2,11 @@
 -- word says, or the kind of its fault.
 use Rattle.std.specs.Prelude.{ℕ, ◌-◌, ◌^◌, min, List, [], ◌∷◌, ◌++◌, codes, Option, Some, None, Result, Ok, Err, if◌then◌else◌}
 use Rattle.std.specs.Str.{bytes_eq}
-use Rattle.diva_outside.specs.Lines.{LineFault, fold_lines}
-use Rattle.diva_outside.specs.NextWords.{and_no_more, hex_in, if_words, number_in, with_first}
+use Rattle.diva_outside.specs.Items.{items_of}
+use Rattle.diva_outside.specs.Lines.{LineFault}
+use Rattle.diva_outside.specs.NextWords.{and_no_more, hex_in, number_in, with_first}
 use Rattle.diva_outside.specs.Steps.{and_then}
 use Rattle.diva_outside.specs.Text.{Text}
-use Rattle.diva_outside.specs.Words.{words_of}
 use Rattle.diva_debug.specs.declared.command.Command.{Command}
 use Rattle.diva_debug.specs.declared.command.Command.TheVariants.{Step, Until, Reg, Mem, Why}
 use Rattle.diva_debug.specs.declared.fault.Kind.{Kind}
@@ -56,14 +56,10 @@ command_in word words =
 
 -- ---- all commands
 
--- the commands so far with that of one more line, if it has one
-abbrev pub and_command : List Command → Option Command → Result (List Command) Kind
-and_command commands None = Ok commands
-and_command commands (Some command) = Ok (commands ++ command ∷ [])
-
-abbrev pub with_line : List Command → Text → Result (List Command) Kind
-with_line commands line = and_then (if_words command_in (words_of line)) (and_command commands)
+-- there may be any number
+abbrev pub surplus_command : ℕ → Option Kind
+surplus_command count = None
 
 -- the commands of a text in their order, or its first fault
 unfoldable pub commands_of : Text → Result (List Command) LineFault
-commands_of text = fold_lines command_kind_number with_line [] text
+commands_of text = items_of command_kind_number command_in surplus_command text

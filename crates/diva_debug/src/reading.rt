@@ -1,85 +1,53 @@
 // The commands of a text, or its first fault.
 ghost use Rattle.std.specs.Prelude.{◌≡◌, ◌≤◌, length, IfOk, IfErr, IfSome, Ok};
 ghost use Rattle.std.specs.List.{All};
-ghost use Rattle.diva_outside.specs.NextWords.{if_words};
 ghost use Rattle.diva_outside.specs.TextFaults.{IsFirstFault};
-ghost use Rattle.diva_outside.specs.Words.{words_of};
 ghost use Rattle.diva_debug.specs.Moves.{IsShort};
 ghost use Rattle.diva_debug.specs.Reading.{command_in, commands_of, mem_in, most_bytes, reg_in, step_in, until_in};
 
 use crate::command::Command;
 use crate::fault::{CommandFault, Kind};
 use crate::numbers::{MemRange, RegisterNumber, StepCount};
-use diva_outside::{LineReader, LineStop, LineWords, fold_lines, is_word, words};
+use diva_outside::{ItemReader, LineWords, is_word, read_items};
 use std::alloc::Global;
-use std::marker::Model;
 
 /// The commands of a text in their order, or its first fault.
 ///
 /// Lines without words are skipped. Every other line is a command: `step K`, `until PC`, `reg N`, `mem ADDR LEN` or `why`. K
 /// is 1 to 1,000,000, N is 0 to 31, LEN is 1 to 32, all decimal; PC and ADDR are hex, and ADDR + LEN is 2^32 at most.
-#[tactic(auto, using(crate::proofs::Commanding::commands_few), unfolding(crate::specs::Reading::commands_of))]
+#[tactic(auto, unfolding(crate::specs::Reading::commands_of))]
 pub fn commands(alloc: Global, text: &[u8]) -> Result<Vec<Command>, CommandFault>
     ensures commands { IfOk result (λ commands. commands_of text.now ≡ Ok commands.items) }
     ensures few { IfOk result (λ commands. length commands.items ≤ length text.now) }
     ensures short { IfOk result (λ commands. All IsShort commands.items) }
     ensures fault { IfErr result (IsFirstFault (commands_of text.now)) }
 {
-    let none = CommandList {
-        commands: Vec::new(alloc),
-    };
-    Ok(fold_lines(&CommandReader, none, text)?.commands)
+    read_items(alloc, &CommandReader, text)
 }
 
-/// The commands of the lines so far.
-#[derive(Drop)]
-struct CommandList {
-    commands: Vec<Command>,
-}
-
-impl Model for CommandList {
-    ghost use Rattle.std.specs.Prelude.{List};
-    ghost use Rattle.std.specs.List.{All};
-    ghost use Rattle.diva_debug.specs.declared.command.Command.{Command};
-    ghost use Rattle.diva_debug.specs.Moves.{IsShort};
-
-    ghost Value = { List Command };
-
-    ghost view = { λ c. c.commands.items };
-
-    ghost invariant = { λ c. All IsShort c.commands.items };
-}
-
-/// Reads a command of each line that has words.
+/// Reads the commands of a session.
 struct CommandReader;
 
-impl LineReader<'_> for CommandReader {
-    ghost use Rattle.diva_debug.specs.Reading.{with_line};
+impl ItemReader for CommandReader {
+    ghost use Rattle.diva_debug.specs.Moves.{IsShort};
+    ghost use Rattle.diva_debug.specs.Reading.{command_in, surplus_command};
 
-    type Kept = CommandList;
+    type Item = Command;
 
     type Kind = Kind;
 
-    ghost step = { λ reader. with_line };
+    ghost item = { command_in };
 
-    fn line(&self, commands: CommandList, line: &[u8]) -> Result<CommandList, LineStop<Kind>> {
-        let mut commands = commands.commands;
-        if let Some(command) = line_in(line)? {
-            commands.push(command)?;
-        }
-        Ok(CommandList { commands })
+    ghost keeps = { IsShort };
+
+    ghost surplus = { surplus_command };
+
+    fn item(&self, word: &[u8], words: &mut LineWords<'_>) -> Result<Command, Kind> {
+        command_in(word, words)
     }
-}
 
-/// The command of a line, if it has words.
-fn line_in(line: &[u8]) -> Result<Option<Command>, Kind>
-    ensures command { result ≡ if_words command_in (words_of line.now) }
-    ensures short { IfOk result (λ command. IfSome command IsShort) }
-{
-    let mut words = words(line);
-    match words.next() {
-        Some(word) => Ok(Some(command_in(word, &mut words)?)),
-        None => Ok(None),
+    fn surplus(&self, _count: usize) -> Option<Kind> {
+        None
     }
 }
 

@@ -1,15 +1,15 @@
 -- The rows of a script, or its first fault. A line's words are read from the left, each by a rule that gives what the first word
 -- says, or the kind of its fault.
-use Rattle.std.specs.Prelude.{ℕ, nat_lt, List, [], ◌∷◌, ◌++◌, length, codes, find, Option, Some, None, Result, Ok, Err, if◌then◌else◌}
+use Rattle.std.specs.Prelude.{ℕ, nat_lt, List, [], ◌∷◌, codes, find, Option, Some, None, Result, Ok, Err, if◌then◌else◌}
 use Rattle.std.specs.Option.{ok_or}
 use Rattle.std.specs.Str.{bytes_eq}
 use Rattle.diva_core.specs.declared.differences.Field.{Field}
 use Rattle.diva_core.specs.Difference.{all_fields, field_name}
-use Rattle.diva_outside.specs.Lines.{LineFault, fold_lines}
-use Rattle.diva_outside.specs.NextWords.{and_no_more, hex_in, if_words, number_in, with_first}
+use Rattle.diva_outside.specs.Items.{items_of}
+use Rattle.diva_outside.specs.Lines.{LineFault}
+use Rattle.diva_outside.specs.NextWords.{and_no_more, hex_in, number_in, with_first}
 use Rattle.diva_outside.specs.Steps.{and_then}
 use Rattle.diva_outside.specs.Text.{Text}
-use Rattle.diva_outside.specs.Words.{words_of}
 use Rattle.diva_faults.specs.declared.fault.Kind.{Kind}
 use Rattle.diva_faults.specs.declared.fault.Kind.TheVariants.{Keyword, FieldName, WordCount, RowCount}
 use Rattle.diva_faults.specs.declared.rows.Change.{Change}
@@ -80,14 +80,10 @@ row_in word words =
 abbrev pub most_rows : ℕ
 most_rows = 4096
 
--- the rows so far with that of one more line, if it has one
-abbrev pub and_row : List Row → Option Row → Result (List Row) Kind
-and_row rows None = Ok rows
-and_row rows (Some row) = if nat_lt (length rows) most_rows then Ok (rows ++ row ∷ []) else Err RowCount
-
-abbrev pub with_line : List Row → Text → Result (List Row) Kind
-with_line rows line = and_then (if_words row_in (words_of line)) (and_row rows)
+-- the kind of the fault of a row that is one too many behind so many
+abbrev pub surplus_row : ℕ → Option Kind
+surplus_row count = if nat_lt count most_rows then None else Some RowCount
 
 -- the rows of a script in their order, or its first fault
 unfoldable pub script_of : Text → Result (List Row) LineFault
-script_of text = fold_lines script_kind_number with_line [] text
+script_of text = items_of script_kind_number row_in surplus_row text

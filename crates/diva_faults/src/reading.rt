@@ -3,18 +3,16 @@ ghost use Rattle.std.specs.Prelude.{◌≡◌, ◌≤◌, ◌<◌, find, IfOk, I
 ghost use Rattle.std.specs.List.{All};
 ghost use Rattle.std.specs.Str.{bytes_eq};
 ghost use Rattle.diva_core.specs.Difference.{all_fields, field_name};
-ghost use Rattle.diva_outside.specs.NextWords.{if_words, others_of};
+ghost use Rattle.diva_outside.specs.NextWords.{others_of};
 ghost use Rattle.diva_outside.specs.TextFaults.{IsFirstFault};
-ghost use Rattle.diva_outside.specs.Words.{words_of};
 ghost use Rattle.diva_faults.specs.Reading.{change_in, field_in, flip_in, hush_in, lane_in, part_in, row_in, script_of, set_in};
 ghost use Rattle.diva_faults.specs.Rows.{IsChange, IsCycle, IsRow};
 
 use crate::fault::{Kind, ScriptFault};
 use crate::rows::{Change, Row};
 use diva_core::Field;
-use diva_outside::{LineReader, LineStop, LineWords, fold_lines, is_word, words};
+use diva_outside::{ItemReader, LineWords, is_word, read_items};
 use std::alloc::Global;
-use std::marker::Model;
 
 /// The most rows that a script has.
 const MOST_ROWS: usize = 4096;
@@ -26,64 +24,36 @@ pub(crate) fn read_rows(alloc: Global, text: &[u8]) -> Result<Vec<Row>, ScriptFa
     ensures ranges { IfOk result (λ rows. All IsRow rows.items) }
     ensures fault { IfErr result (IsFirstFault (script_of text.now)) }
 {
-    let none = Rows {
-        rows: Vec::new(alloc),
-    };
-    Ok(fold_lines(&RowReader, none, text)?.rows)
+    read_items(alloc, &RowReader, text)
 }
 
-/// The rows of the lines so far.
-#[derive(Drop)]
-struct Rows {
-    rows: Vec<Row>,
-}
-
-impl Model for Rows {
-    ghost use Rattle.std.specs.Prelude.{List};
-    ghost use Rattle.std.specs.List.{All};
-    ghost use Rattle.diva_faults.specs.declared.rows.Row.{Row};
-    ghost use Rattle.diva_faults.specs.Rows.{IsRow};
-
-    ghost Value = { List Row };
-
-    ghost view = { λ r. r.rows.items };
-
-    ghost invariant = { λ r. All IsRow r.rows.items };
-}
-
-/// Reads a row of each line that has words.
+/// Reads the rows of a script.
 struct RowReader;
 
-impl LineReader<'_> for RowReader {
-    ghost use Rattle.diva_faults.specs.Reading.{with_line};
+impl ItemReader for RowReader {
+    ghost use Rattle.diva_faults.specs.Reading.{row_in, surplus_row};
+    ghost use Rattle.diva_faults.specs.Rows.{IsRow};
 
-    type Kept = Rows;
+    type Item = Row;
 
     type Kind = Kind;
 
-    ghost step = { λ reader. with_line };
+    ghost item = { row_in };
 
-    fn line(&self, rows: Rows, line: &[u8]) -> Result<Rows, LineStop<Kind>> {
-        let mut rows = rows.rows;
-        if let Some(row) = line_in(line)? {
-            if MOST_ROWS <= rows.len() {
-                return Err(LineStop::Fault(Kind::RowCount));
-            }
-            rows.push(row)?;
-        }
-        Ok(Rows { rows })
+    ghost keeps = { IsRow };
+
+    ghost surplus = { surplus_row };
+
+    fn item(&self, word: &[u8], words: &mut LineWords<'_>) -> Result<Row, Kind> {
+        row_in(word, words)
     }
-}
 
-/// The row of a line, if it has words.
-fn line_in(line: &[u8]) -> Result<Option<Row>, Kind>
-    ensures row { result ≡ if_words row_in (words_of line.now) }
-    ensures ranges { IfOk result (λ row. IfSome row IsRow) }
-{
-    let mut words = words(line);
-    match words.next() {
-        Some(word) => Ok(Some(row_in(word, &mut words)?)),
-        None => Ok(None),
+    fn surplus(&self, count: usize) -> Option<Kind> {
+        if count < MOST_ROWS {
+            None
+        } else {
+            Some(Kind::RowCount)
+        }
     }
 }
 

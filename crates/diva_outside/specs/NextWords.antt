@@ -53,8 +53,3 @@ hex_in kind_of words = fault_by kind_of (first_hex words)
 -- a value, behind which no word is left over
 abbrev pub and_no_more : {A K : Type 0} → (WordFault → K) → A → List Text → Result A K
 and_no_more kind_of value words = and_then (fault_by kind_of (no_more words)) (λ done. Ok value)
-
--- what a rule makes of the first word and the others, if there are words
-abbrev pub if_words : {A K : Type 0} → (Text → List Text → Result A K) → List Text → Result (Option A) K
-if_words rule [] = Ok None
-if_words rule (word ∷ words) = and_then (rule word words) (λ value. Ok (Some value))

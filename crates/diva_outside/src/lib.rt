@@ -14,7 +14,8 @@
 //! - `line`: `Line`, a line of text, written piece by piece.
 //! - `line_list`: lines that are made one at a time, and how lines are put into a sink.
 //! - `text_lines`: `lines`, the lines of a text. `line_words`: `words`, the words of a line, and the line without its comment.
-//! - `line_reader`: the trait `LineReader`, what lines are read to, and `fold_lines`, which reads them all. `text_fault`:
+//! - `line_reader`: the trait `LineReader`, what lines are read to, and `fold_lines`, which reads them all. `item_reader`: the
+//!   trait `ItemReader`, by which a line with words is read to an item, and `read_items`, which reads them all. `text_fault`:
 //!   `TextFault`, why a text was not read; `LineStop`, why a line was not taken, and the kinds of its faults, `FaultKind`.
 //! - `numbers`: the hex and decimal numbers that words spell. `next_words`: the next word of a line as a number, or what is
 //!   wrong with it, `WordFault`.
@@ -23,6 +24,7 @@
 mod disk_files;
 mod faults;
 mod files;
+mod item_reader;
 mod line;
 mod line_list;
 mod line_reader;
@@ -41,6 +43,7 @@ mod text_lines;
 
 pub use disk_files::DiskFiles;
 pub use files::{Files, LoadFault, What};
+pub use item_reader::{ItemReader, read_items};
 pub use line::Line;
 pub use line_list::{LineList, put_line, put_lines};
 pub use line_reader::{LineReader, fold_lines};

@@ -37,12 +37,7 @@ pub fn fold_lines<'a, R: LineReader<'a>>(
         number += 1;
         kept = match reader.line(kept, line) {
             Ok(kept) => kept,
-            Err(LineStop::Fault(kind)) => {
-                return Err(TextFault::Bad {
-                    line: number,
-                    kind: kind.number(),
-                });
-            }
+            Err(LineStop::Fault(kind)) => return Err(TextFault::at(number, kind)),
             Err(LineStop::Memory) => return Err(TextFault::Memory),
         };
     }

@@ -1,5 +1,6 @@
 // Why a text was not read, and why a line of it was not taken.
 ghost use Rattle.std.specs.Prelude.{◌≡◌, ℕ};
+ghost use Rattle.diva_outside.specs.declared.text_fault.TextFault.TheVariants.{Bad};
 
 use std::alloc::{AllocError, AllocFailed};
 
@@ -15,6 +16,18 @@ pub enum TextFault {
     },
     /// Memory ran out.
     Memory,
+}
+
+impl TextFault {
+    /// A fault of this line and kind.
+    pub fn at<K: FaultKind>(line: u64, kind: K) -> Self
+        ensures { result ≡ Bad line (K.number kind) }
+    {
+        TextFault::Bad {
+            line,
+            kind: kind.number(),
+        }
+    }
 }
 
 impl From<AllocError> for TextFault {
