@@ -1,5 +1,5 @@
 -- What was loaded, as the machine, the core and the script that a command needs.
-use Rattle.std.proofs.Common.{◌≡◌, ℕ, List, [], ◌∷◌, ◌++◌, Option, Some, None, Ok, sym, ap, ◌∙◌}
+use Rattle.std.proofs.Common.{◌≡◌, ℕ, List, [], ◌∷◌, ◌++◌, Option, Some, None, sym, ap, ◌∙◌}
 use Rattle.diva_outside.specs.Files.{Contents}
 use Rattle.diva_outside.specs.declared.files.What.TheVariants.{Image, Script, Tape as TapeFile, Commands}
 use Rattle.diva_image.specs.Layout.{Layout}
@@ -7,11 +7,10 @@ use Rattle.diva_image.specs.Images.{image_of}
 use Rattle.diva_core.specs.Timed.{new_timed}
 use Rattle.diva_machine.specs.Start.{start_of}
 use Rattle.diva_args.specs.Options.{DebugOptions, Setup}
-use Rattle.diva_debug.specs.Reading.{commands_of}
 use Rattle.diva_cli.specs.declared.loading.Ready.{Ready}
 use Rattle.diva_cli.specs.declared.loading.SessionReady.{SessionReady}
 use Rattle.diva_cli.specs.Wanted.{AreSound, FileBytes, file, file_if, machine_files, tape_name}
-use Rattle.diva_cli.specs.Parts.{Holds, HoldsRows, HoldsCore, HoldsReady, HoldsSession}
+use Rattle.diva_cli.specs.Parts.{AreCommands, Holds, HoldsRows, HoldsCore, HoldsReady, HoldsSession}
 use Rattle.diva_cli.proofs.Stopping.{sound_both, sound_if}
 
 -- the bytes of an image, a script and a tape
@@ -63,11 +62,11 @@ machine_sound contents setup bytes commands s = (s.0, go setup.script (tape_name
 
 pub session_held : (contents : Contents) (options : DebugOptions) (session : SessionReady)
     → HoldsReady contents options.setup session.ready
-    → Holds contents (file Commands options.commands) (λ bytes. commands_of bytes ≡ Ok session.commands.items)
+    → Holds contents (file Commands options.commands) (λ bytes. AreCommands bytes session.commands.items)
     → HoldsSession contents options session
 session_held contents options session h k =
     record {
       bytes = with_commands h.bytes k.bytes;
       sound = sound_both contents (machine_files options.setup) (file Commands options.commands ∷ []) (with_commands h.bytes k.bytes) (machine_sound contents options.setup h.bytes k.bytes h.sound) (k.sound, tt);
-      is = record { ready = record { begun = h.is.begun; rows = h.is.rows; core = h.is.core }; read = k.holds };
+      is = record { ready = record { begun = h.is.begun; rows = h.is.rows; core = h.is.core }; read = k.holds.read };
     }

@@ -1,9 +1,12 @@
 -- What the parts of the program promise one another.
 -- Only private contracts of this crate cite this: a reader of its promises can pass over it.
-use Rattle.std.specs.Prelude.{◌≡◌, ◌≤◌, ℕ, true, List, Option, Result, Ok, Err}
+use Rattle.std.specs.Prelude.{◌≡◌, ◌≤◌, ℕ, true, List, length, Option, Result, Ok, Err}
+use Rattle.std.specs.List.{All}
 use Rattle.diva_outside.specs.Files.{Contents}
 use Rattle.diva_outside.specs.Text.{Text}
 use Rattle.diva_outside.specs.declared.files.What.{What}
+use Rattle.diva_outside.specs.declared.text_fault.TextFault.{TextFault}
+use Rattle.diva_outside.specs.declared.text_fault.TextFault.TheVariants as text
 use Rattle.diva_outside.specs.declared.files.What.TheVariants.{Script, Tape as TapeFile, Commands}
 use Rattle.diva_isa.specs.State.{goes_on}
 use Rattle.diva_isa.specs.declared.record.Record.{Record}
@@ -12,7 +15,9 @@ use Rattle.diva_core.specs.History.{Meaning, Turns}
 use Rattle.diva_faults.specs.declared.rows.Row.{Row}
 use Rattle.diva_tape.specs.Scalar.{new_scalar}
 use Rattle.diva_args.specs.Options.{DebugOptions, Setup, SoakOptions, longest_soak}
+use Rattle.diva_debug.specs.Moves.{IsShort}
 use Rattle.diva_debug.specs.Reading.{commands_of}
+use Rattle.diva_debug.specs.declared.command.Command.{Command}
 use Rattle.diva_args.specs.declared.job.CoreChoice.{CoreChoice}
 use Rattle.diva_args.specs.declared.job.CoreChoice.TheVariants as choice
 use Rattle.diva_args.specs.declared.job.Job.{Job}
@@ -28,7 +33,7 @@ use Rattle.diva_cli.specs.declared.stop.Failure.TheVariants.{Cut, Memory as NoMe
 use Rattle.diva_cli.specs.Asked.{Asked}
 use Rattle.diva_cli.specs.Changes.{Change, FileFaults, HasFailed, SinkChange, Takes, TakesPart, TakesPast}
 use Rattle.diva_cli.specs.Lines.{unreadable_line, refused_line}
-use Rattle.diva_cli.specs.Wanted.{Wanted, FileBytes, IsSound, AreSound, file_if, machine_files, session_files, tape_name}
+use Rattle.diva_cli.specs.Wanted.{Wanted, FileBytes, HasFault, IsSound, AreSound, file_if, machine_files, session_files, tape_name}
 use Rattle.diva_cli.specs.Runs.{AreRows, AreLists, start_in}
 use Rattle.diva_cli.specs.SoakTexts.{soak_cycles, soak_start}
 use Rattle.diva_cli.specs.Stops.{StopsAt, IsUnread, StopsLoading}
@@ -55,6 +60,23 @@ pub record HoldsIf (contents : Contents) (what : What) (name : Option (List ℕ)
   pub bytes : List ℕ
   pub sound : AreSound contents (file_if what name) (λ _. bytes)
   pub holds : this bytes
+
+-- the stop says the first fault of a file's bytes; or memory ran out, which says nothing of them
+abbrev pub SaysFault : What → List ℕ → Stop → Type 0
+SaysFault what bytes Memory = Unit {0}
+SaysFault what bytes (Unread said) = ⊥
+SaysFault what bytes (Refused said kind place) = (said ≡ what) × HasFault what bytes kind place
+
+-- a file of this kind is refused for the fault of its text; or memory ran out
+abbrev pub stop_of : What → TextFault → Stop
+stop_of what (text.Bad line kind) = Refused what kind line
+stop_of what text.Memory = Memory
+
+-- the commands are those of these bytes, no more than these are, and each is short
+pub record AreCommands (bytes : List ℕ) (commands : List Command) : Type 0 where
+  pub read : commands_of bytes ≡ Ok commands
+  pub few : length commands ≤ length bytes
+  pub short : All IsShort commands
 
 -- the rows are those of the script of this name, and none where there is no name
 abbrev pub HoldsRows : Contents → Option (List ℕ) → List Row → Type 0

@@ -4,7 +4,7 @@ ghost use Rattle.diva_cli.specs.Asked.{asked_for};
 ghost use Rattle.diva_cli.specs.Changes.{change, file_faults, sink_change};
 ghost use Rattle.diva_cli.specs.Parts.{Answers};
 
-use crate::loading::load_source;
+use crate::files::{SourceFile, load};
 use crate::stop::Failure;
 use crate::writing::write_stop;
 use diva_args::FileName;
@@ -25,7 +25,7 @@ pub(crate) fn asm<F: Files, S: Sink, C: Core>(
     ensures { Answers C.gives (asked_for (Asm source) (F.contents files.old)) (file_faults F.faults files.old files.new)
         (change _core.now _core.now) (sink_change S.contents S.faults sink.old sink.new) result }
 {
-    let image = match load_source(alloc, files, &source) {
+    let image = match load(alloc, files, &SourceFile, &source) {
         Ok(image) => image,
         Err(stop) => return write_stop(stop, sink),
     };

@@ -6,7 +6,7 @@ ghost use Rattle.diva_cli.specs.Asked.{asked_for};
 ghost use Rattle.diva_cli.specs.Changes.{change, file_faults, sink_change};
 ghost use Rattle.diva_cli.specs.Parts.{Answers};
 
-use crate::loading::load_image;
+use crate::files::{ImageFile, load};
 use crate::stop::Failure;
 use crate::writing::write_stop;
 use diva_args::FileName;
@@ -27,7 +27,7 @@ pub(crate) fn dis<F: Files, S: Sink, C: Core>(
     ensures { Answers C.gives (asked_for (Dis image) (F.contents files.old)) (file_faults F.faults files.old files.new)
         (change _core.now _core.now) (sink_change S.contents S.faults sink.old sink.new) result }
 {
-    let listed = match load_image(alloc, files, &image) {
+    let listed = match load(alloc, files, &ImageFile, &image) {
         Ok(listed) => listed,
         Err(stop) => return write_stop(stop, sink),
     };

@@ -2,7 +2,7 @@
 //!
 //! - `program`: `top`, from the words to the status; `work` has an arm for each command;
 //! - `run` (with `tape`), `debug`, `asm`, `dis`, `soak`: these commands;
-//! - `loading`: the files of a job, loaded and read one after another;
+//! - `files`: the kinds of files, and how a file of any kind is loaded and read; `loading`: the files of a job, one after another;
 //! - `driving`: the core that the command line chose, and what is done with it and a machine;
 //! - `tasks`: the things that are done with a core and a machine, under a script;
 //! - `streaming`: texts that are written cycle by cycle, as a machine is driven;
@@ -31,6 +31,7 @@ mod asm;
 mod debug;
 mod dis;
 mod driving;
+mod files;
 pub mod laws;
 mod lines;
 mod loading;

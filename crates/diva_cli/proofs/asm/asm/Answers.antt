@@ -16,13 +16,13 @@ pub returns-in_err-put : goal.returns-in_err-put
 returns-in_err-put g c =
     let h = c.in-Ok.ensures.holds in
     let p = err_from_is_err_and c.from_residual-in_err-put.result c.from_residual-in_err-put.ensures.1 in
-    rw (p.1, p.2) (wrote_part g.C.Core.gives (Asm c.args.source) (g.F.Files.contents c.args.files.now) (file_faults g.F.Files.faults c.args.files.now c.load_source.new.files) (λ _. h.bytes) c.args._core.now _ c.deref.result.now (h.sound, tt) _
+    rw (p.1, p.2) (wrote_part g.C.Core.gives (Asm c.args.source) (g.F.Files.contents c.args.files.now) (file_faults g.F.Files.faults c.args.files.now c.load.new.files) (λ _. h.bytes) c.args._core.now _ c.deref.result.now (h.sound, tt) _
     (record { image = layout c.in-Ok.image; assembled = h.holds; written = c.deref.ensures.value ∙ c.in_ok-bytes.ensures.bytes; alone = record { unasked = refl; whole = tt } })
     c.in_err-put.ensures)
 
 pub returns : goal.returns
 returns g c =
     let h = c.in-Ok.ensures.holds in
-    wrote_all g.C.Core.gives (Asm c.args.source) (g.F.Files.contents c.args.files.now) (file_faults g.F.Files.faults c.args.files.now c.load_source.new.files) (λ _. h.bytes) c.args._core.now _ c.deref.result.now (h.sound, tt)
+    wrote_all g.C.Core.gives (Asm c.args.source) (g.F.Files.contents c.args.files.now) (file_faults g.F.Files.faults c.args.files.now c.load.new.files) (λ _. h.bytes) c.args._core.now _ c.deref.result.now (h.sound, tt)
     (record { image = layout c.in-Ok.image; assembled = h.holds; written = c.deref.ensures.value ∙ c.in_ok-bytes.ensures.bytes; alone = record { unasked = refl; whole = refl } })
     c.in_ok-put.ensures

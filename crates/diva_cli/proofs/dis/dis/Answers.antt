@@ -19,13 +19,13 @@ pub returns-in_err-put_lines : goal.returns-in_err-put_lines
 returns-in_err-put_lines g c =
     let h = c.in-Ok.ensures.holds in
     let p = err_from_is_err_and c.from_residual.result c.from_residual.ensures.1 in
-    rw (p.1, p.2) (wrote_part g.C.Core.gives (Dis c.args.image) (g.F.Files.contents c.args.files.now) (file_faults g.F.Files.faults c.args.files.now c.load_image.new.files) (λ _. h.bytes) c.args._core.now _ (concat (listing_of (layout c.in-Ok.listed))) (h.sound, tt) _
+    rw (p.1, p.2) (wrote_part g.C.Core.gives (Dis c.args.image) (g.F.Files.contents c.args.files.now) (file_faults g.F.Files.faults c.args.files.now c.load.new.files) (λ _. h.bytes) c.args._core.now _ (concat (listing_of (layout c.in-Ok.listed))) (h.sound, tt) _
     (record { lines = ap (λ (i : Layout). concat (listing_of i)) (sym h.holds); alone = record { unasked = refl; whole = tt } })
     c.in_err-put_lines.ensures)
 
 pub returns : goal.returns
 returns g c =
     let h = c.in-Ok.ensures.holds in
-    wrote_all g.C.Core.gives (Dis c.args.image) (g.F.Files.contents c.args.files.now) (file_faults g.F.Files.faults c.args.files.now c.load_image.new.files) (λ _. h.bytes) c.args._core.now _ (concat (listing_of (layout c.in-Ok.listed))) (h.sound, tt)
+    wrote_all g.C.Core.gives (Dis c.args.image) (g.F.Files.contents c.args.files.now) (file_faults g.F.Files.faults c.args.files.now c.load.new.files) (λ _. h.bytes) c.args._core.now _ (concat (listing_of (layout c.in-Ok.listed))) (h.sound, tt)
     (record { lines = ap (λ (i : Layout). concat (listing_of i)) (sym h.holds); alone = record { unasked = refl; whole = refl } })
     c.in_ok-put_lines.ensures

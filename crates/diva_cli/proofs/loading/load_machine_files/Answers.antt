@@ -14,9 +14,9 @@ returns-in_err-script-clause-stopped g c =
     rw (p.1, p.2) (subst (λ (s : Setup). Stops (g.F.Files.contents c.args.files.now) (g.F.Files.faults c.args.files.now) (g.F.Files.faults c.load_script_if.new.files) (machine_files s) c.in_err-script.field-0.0) c.setup.view_is
     (at_script (g.F.Files.contents c.args.files.now) (record { image = c.setup.inside.image; core = c.setup.inside.core; script = c.setup.inside.script; config = c.setup.inside.config }) _
     c.in_ok-image.ensures.holds
-    (g.F.Files.contents c.load_image.new.files)
-    (g.F.Files.faults c.args.files.now) (g.F.Files.faults c.load_image.new.files) (g.F.Files.faults c.load_script_if.new.files) _
-    c.load_image.ensures.stays c.load_image.ensures.later c.load_image.ensures.others c.load_script_if.ensures.others
+    (g.F.Files.contents c.load.new.files)
+    (g.F.Files.faults c.args.files.now) (g.F.Files.faults c.load.new.files) (g.F.Files.faults c.load_script_if.new.files) _
+    c.load.ensures.stays c.load.ensures.later c.load.ensures.others c.load_script_if.ensures.others
     c.in_err-script.ensures.stopped))
 
 pub returns-in_err-core-clause-stopped : goal.returns-in_err-core-clause-stopped
@@ -25,9 +25,9 @@ returns-in_err-core-clause-stopped g c =
     rw (p.1, p.2) (subst (λ (s : Setup). Stops (g.F.Files.contents c.args.files.now) (g.F.Files.faults c.args.files.now) (g.F.Files.faults c.load_core.new.files) (machine_files s) c.in_err-core.field-0.0) c.setup.view_is
     (at_tape (g.F.Files.contents c.args.files.now) (record { image = c.setup.inside.image; core = c.setup.inside.core; script = c.setup.inside.script; config = c.setup.inside.config }) _
     c.in_ok-image.ensures.holds
-    (g.F.Files.contents c.load_image.new.files) (g.F.Files.contents c.load_script_if.new.files)
+    (g.F.Files.contents c.load.new.files) (g.F.Files.contents c.load_script_if.new.files)
     (g.F.Files.faults c.args.files.now) (g.F.Files.faults c.load_script_if.new.files) (g.F.Files.faults c.load_core.new.files) _ _
-    c.load_image.ensures.stays (c.load_script_if.ensures.stays ∙ c.load_image.ensures.stays)
-    (λ w. let a = c.load_image.ensures.later w in let b = c.load_script_if.ensures.later w in omega arith)
-    (c.load_script_if.ensures.others Tape (λ e. cc) ∙ c.load_image.ensures.others Tape (λ e. cc))
+    c.load.ensures.stays (c.load_script_if.ensures.stays ∙ c.load.ensures.stays)
+    (λ w. let a = c.load.ensures.later w in let b = c.load_script_if.ensures.later w in omega arith)
+    (c.load_script_if.ensures.others Tape (λ e. cc) ∙ c.load.ensures.others Tape (λ e. cc))
     c.in_ok-script.ensures.holds c.in_err-core.ensures.stopped))

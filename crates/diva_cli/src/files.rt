@@ -1,0 +1,216 @@
+// The kinds of files, each of which is read to something of its own, and how a file of any kind is loaded.
+ghost use Rattle.std.specs.Prelude.{◌≡◌, ◌≢◌, ◌≤◌, ◌∷◌, [], length, IfOk, IfErr, OnOk};
+ghost use Rattle.diva_outside.specs.Files.{Has};
+ghost use Rattle.diva_cli.specs.Wanted.{file, file_limit, IsFaultless};
+ghost use Rattle.diva_cli.specs.Parts.{Holds, SaysFault, Stops, stop_of};
+
+use crate::stop::Stop;
+use diva_args::FileName;
+use diva_asm::assemble;
+use diva_debug::{Command, commands};
+use diva_faults::Script;
+use diva_image::{HEADER_SIZE, Image, ImageFault, MOST_SIZE, read};
+use diva_outside::{Files, LoadFault, TextFault, What};
+use diva_tape::Tape;
+use std::alloc::Global;
+
+/// The most bytes that a file may have: those of the largest image.
+const FILE_LIMIT: usize = HEADER_SIZE + MOST_SIZE as usize;
+
+/// A kind of file: what a file is loaded for, and what its bytes are read to.
+pub(crate) trait FileKind {
+    ghost use Rattle.std.specs.Prelude.{List, ℕ};
+    ghost use Rattle.diva_outside.specs.declared.files.What.{What};
+
+    /// What the bytes are read to.
+    type Read: Drop;
+
+    /// What a file is loaded for.
+    ghost WHAT: { What };
+
+    const WHAT: What;
+
+    /// This is what the bytes are read to.
+    ghost reads: { List ℕ → Self.Read → Type 0 };
+
+    fn read(&self, alloc: Global, bytes: &[u8]) -> Result<Self::Read, Stop>
+        ensures read { IfOk result (reads bytes.now) }
+        ensures faultless { OnOk result (IsFaultless WHAT bytes.now) }
+        ensures fault { IfErr result (SaysFault WHAT bytes.now) };
+}
+
+/// What the file of this name is read to.
+pub(crate) fn load<F: Files, K: FileKind>(
+    alloc: Global,
+    files: &mut F,
+    kind: &K,
+    name: &FileName,
+) -> Result<K::Read, Stop>
+    ensures stays { F.contents files.new ≡ F.contents files.old }
+    ensures later { (w : What) → F.faults files.old w ≤ F.faults files.new w }
+    ensures others { (w : What) → w ≢ K.WHAT → F.faults files.new w ≡ F.faults files.old w }
+    ensures holds { IfOk result (λ read. Holds (F.contents files.old) (file K.WHAT name.now) (λ bytes. K.reads bytes read)) }
+    ensures stopped { IfErr result (λ stop. Stops (F.contents files.old) (F.faults files.old)
+        (F.faults files.new) (file K.WHAT name.now ∷ []) stop) }
+{
+    let bytes = load_bytes(alloc, files, K::WHAT, name)?;
+    kind.read(alloc, &bytes)
+}
+
+/// The bytes of a file.
+fn load_bytes<F: Files>(
+    alloc: Global,
+    files: &mut F,
+    what: What,
+    name: &FileName,
+) -> Result<Vec<u8>, Stop>
+    ensures stays { F.contents files.new ≡ F.contents files.old }
+    ensures later { (w : What) → F.faults files.old w ≤ F.faults files.new w }
+    ensures others { (w : What) → w ≢ what → F.faults files.new w ≡ F.faults files.old w }
+    ensures has { IfOk result (λ bytes. Has (F.contents files.old) name.now bytes.items) }
+    ensures short { IfOk result (λ bytes. length bytes.items ≤ file_limit) }
+    ensures stopped { IfErr result (λ stop. Stops (F.contents files.old) (F.faults files.old)
+        (F.faults files.new) (file what name.now ∷ []) stop) }
+{
+    match files.load(alloc, what, name.as_str(), FILE_LIMIT) {
+        Ok(bytes) => Ok(bytes),
+        Err(LoadFault::Failed) => Err(Stop::Unread(what)),
+        Err(LoadFault::TooLong) => Err(Stop::refused(what, 0, FILE_LIMIT as u64)),
+        Err(LoadFault::Memory) => Err(Stop::Memory),
+    }
+}
+
+/// A file that is refused for a fault of its text, or for which memory ran out.
+fn stop_of(what: What, fault: TextFault) -> Stop
+    ensures { result ≡ stop_of what fault }
+{
+    match fault {
+        TextFault::Bad { line, kind } => Stop::refused(what, kind, line),
+        TextFault::Memory => Stop::Memory,
+    }
+}
+
+/// A file that is read to an image.
+pub(crate) struct ImageFile;
+
+impl FileKind for ImageFile {
+    ghost use Rattle.diva_image.specs.Images.{image_of};
+    ghost use Rattle.diva_image.specs.ImageLayout.{layout};
+    ghost use Rattle.diva_outside.specs.declared.files.What.TheVariants as file;
+
+    type Read = Image;
+
+    ghost WHAT = { file.Image };
+
+    const WHAT: What = What::Image;
+
+    ghost reads = { λ bytes image. image_of bytes ≡ layout image };
+
+    fn read(&self, alloc: Global, bytes: &[u8]) -> Result<Image, Stop> {
+        match read(alloc, bytes) {
+            Ok(image) => Ok(image),
+            Err(ImageFault::Bad { kind, place }) => Err(Stop::refused(
+                What::Image,
+                kind,
+                place.into(),
+            )),
+            Err(ImageFault::Memory) => Err(Stop::Memory),
+        }
+    }
+}
+
+/// A source, which is assembled to an image.
+pub(crate) struct SourceFile;
+
+impl FileKind for SourceFile {
+    ghost use Rattle.std.specs.Prelude.{Ok};
+    ghost use Rattle.diva_asm.specs.Sources.{source_of};
+    ghost use Rattle.diva_image.specs.ImageLayout.{layout};
+    ghost use Rattle.diva_outside.specs.declared.files.What.TheVariants as file;
+
+    type Read = Image;
+
+    ghost WHAT = { file.Source };
+
+    const WHAT: What = What::Source;
+
+    ghost reads = { λ bytes image. source_of bytes ≡ Ok (layout image) };
+
+    fn read(&self, alloc: Global, bytes: &[u8]) -> Result<Image, Stop> {
+        match assemble(alloc, bytes) {
+            Ok(image) => Ok(image),
+            Err(fault) => Err(stop_of(What::Source, fault)),
+        }
+    }
+}
+
+/// A script.
+pub(crate) struct ScriptFile;
+
+impl FileKind for ScriptFile {
+    ghost use Rattle.std.specs.Prelude.{Ok};
+    ghost use Rattle.diva_faults.specs.Reading.{script_of};
+    ghost use Rattle.diva_outside.specs.declared.files.What.TheVariants as file;
+
+    type Read = Script;
+
+    ghost WHAT = { file.Script };
+
+    const WHAT: What = What::Script;
+
+    ghost reads = { λ bytes script. script_of bytes ≡ Ok script };
+
+    fn read(&self, alloc: Global, bytes: &[u8]) -> Result<Script, Stop> {
+        match Script::read(alloc, bytes) {
+            Ok(script) => Ok(script),
+            Err(fault) => Err(stop_of(What::Script, fault)),
+        }
+    }
+}
+
+/// A tape.
+pub(crate) struct TapeFile;
+
+impl FileKind for TapeFile {
+    ghost use Rattle.std.specs.Prelude.{Ok};
+    ghost use Rattle.diva_tape.specs.Tapes.{tape_of};
+    ghost use Rattle.diva_outside.specs.declared.files.What.TheVariants as file;
+
+    type Read = Tape;
+
+    ghost WHAT = { file.Tape };
+
+    const WHAT: What = What::Tape;
+
+    ghost reads = { λ bytes tape. tape_of bytes ≡ Ok tape };
+
+    fn read(&self, alloc: Global, bytes: &[u8]) -> Result<Tape, Stop> {
+        match Tape::read(alloc, bytes) {
+            Ok(tape) => Ok(tape),
+            Err(fault) => Err(stop_of(What::Tape, fault)),
+        }
+    }
+}
+
+/// The commands of a session.
+pub(crate) struct CommandsFile;
+
+impl FileKind for CommandsFile {
+    ghost use Rattle.diva_cli.specs.Parts.{AreCommands};
+    ghost use Rattle.diva_outside.specs.declared.files.What.TheVariants as file;
+
+    type Read = Vec<Command>;
+
+    ghost WHAT = { file.Commands };
+
+    const WHAT: What = What::Commands;
+
+    ghost reads = { λ bytes commands. AreCommands bytes commands.items };
+
+    fn read(&self, alloc: Global, bytes: &[u8]) -> Result<Vec<Command>, Stop> {
+        match commands(alloc, bytes) {
+            Ok(commands) => Ok(commands),
+            Err(fault) => Err(stop_of(What::Commands, fault)),
+        }
+    }
+}
