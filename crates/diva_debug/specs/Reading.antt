@@ -1,11 +1,10 @@
 -- The commands of a text, or its first fault. A line's words are read from the left, each by a rule that gives what the first
 -- word says, or the kind of its fault.
-use Rattle.std.specs.Prelude.{ℕ, ◌-◌, ◌^◌, min, List, [], ◌∷◌, ◌++◌, codes, Option, Some, None, Result, Ok, Err, if◌then◌else◌}
+use Rattle.std.specs.Prelude.{ℕ, ◌-◌, ◌^◌, min, List, codes, Option, None, Result, Err, if◌then◌else◌}
 use Rattle.std.specs.Str.{bytes_eq}
 use Rattle.diva_outside.specs.Items.{items_of}
 use Rattle.diva_outside.specs.Lines.{LineFault}
 use Rattle.diva_outside.specs.NextWords.{and_no_more, hex_in, number_in, with_first}
-use Rattle.diva_outside.specs.Steps.{and_then}
 use Rattle.diva_outside.specs.Text.{Text}
 use Rattle.diva_debug.specs.declared.command.Command.{Command}
 use Rattle.diva_debug.specs.declared.command.Command.TheVariants.{Step, Until, Reg, Mem, Why}

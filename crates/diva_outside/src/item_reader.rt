@@ -28,10 +28,12 @@ pub trait ItemReader {
     /// The kind of the fault of an item that is one too many behind so many, if it is.
     ghost surplus: { ℕ → Option Self.Kind };
 
+    /// Reads the item of a line, whose first word is taken already.
     fn item(&self, word: &[u8], words: &mut LineWords<'_>) -> Result<Self::Item, Self::Kind>
         ensures item { result ≡ item word.now words.old }
         ensures keeps { IfOk result keeps };
 
+    /// Whether one more item is one too many behind so many.
     fn surplus(&self, count: usize) -> Option<Self::Kind>
         ensures { result ≡ surplus count };
 }

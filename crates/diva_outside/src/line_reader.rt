@@ -1,5 +1,5 @@
 // How a text is read, line by line.
-ghost use Rattle.std.specs.Prelude.{◌≡◌, Result};
+ghost use Rattle.std.specs.Prelude.{Result};
 ghost use Rattle.diva_outside.specs.Lines.{fold_lines};
 ghost use Rattle.diva_outside.specs.Text.{Text};
 ghost use Rattle.diva_outside.specs.TextFaults.{GivesLine, GivesText};

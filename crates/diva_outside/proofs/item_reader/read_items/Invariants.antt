@@ -1,5 +1,5 @@
 -- The lines that are left make of the items so far what all lines make of none.
-use Rattle.std.proofs.Common.{◌≡◌, ◌≤◌, ◌+◌, [], length}
+use Rattle.std.proofs.Common.{◌≡◌, ◌≤◌, ◌+◌, length}
 use Rattle.std.specs.List.{All}
 use Rattle.diva_outside.specs.Items.{items_of, with_item}
 use Rattle.diva_outside.specs.Lines.{over_lines}
