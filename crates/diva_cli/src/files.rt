@@ -33,6 +33,7 @@ pub(crate) trait FileKind {
     /// This is what the bytes are read to.
     ghost reads: { List ℕ → Self.Read → Type 0 };
 
+    /// Reads the bytes of a file, or says its first fault.
     fn read(&self, alloc: Global, bytes: &[u8]) -> Result<Self::Read, Stop>
         ensures read { IfOk result (reads bytes.now) }
         ensures faultless { OnOk result (IsFaultless WHAT bytes.now) }

@@ -1,5 +1,5 @@
 // What the files of a job come to: they are loaded and read one after another.
-ghost use Rattle.std.specs.Prelude.{◌≡◌, ◌≢◌, ◌≤◌, ◌∷◌, [], length, IfOk, IfErr, Ok};
+ghost use Rattle.std.specs.Prelude.{◌≡◌, ◌≢◌, ◌≤◌, length, IfOk, IfErr, Ok};
 ghost use Rattle.std.specs.List.{All};
 ghost use Rattle.diva_image.specs.Images.{image_of};
 ghost use Rattle.diva_image.specs.ImageLayout.{layout};
