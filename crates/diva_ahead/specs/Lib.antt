@@ -1,4 +1,5 @@
 -- What the contracts of this crate and of those above it cite.
 pub mod Effects
 pub mod Ahead
-pub mod Within
+-- what only private contracts cite
+pub mod Inner

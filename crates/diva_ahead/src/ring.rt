@@ -8,36 +8,32 @@ use crate::effects::is_store;
 use circular_buffer::HeapCircularBuffer;
 use diva_core::{View, byte_in, is_apart};
 use diva_isa::{Effect, Width};
+use diva_memory::Span;
 use std::alloc::{AllocError, Global};
 use std::marker::Model;
 
 /// What the records did that were handed over, the oldest first: at most 64.
 ///
-/// Most reads of memory meet none of its stores. So the ring knows how far back the youngest of them is, and an interval of
-/// addresses in which they all lie: a read outside of that looks through no effect.
+/// Most reads of memory meet none of its stores. So the ring knows their span: a read that is apart from that looks through no
+/// effect.
 #[derive(Drop)]
 pub struct Ring {
     effects: HeapCircularBuffer<Effect>,
-    /// How many effects, from the oldest on, reach to the youngest store: none behind them is one.
-    reach: usize,
-    /// The lowest address of the interval, and the first behind it.
-    low: u32,
-    high: u64,
+    /// The span of the stores.
+    span: Span,
 }
 
 impl Model for Ring {
-    ghost use Rattle.std.specs.Prelude.{List, ◌≡◌, count_by, drop};
-    ghost use Rattle.std.specs.List.{All};
+    ghost use Rattle.std.specs.Prelude.{List, ◌≡◌};
+    ghost use Rattle.diva_memory.specs.Span.{IsSpan};
     ghost use Rattle.diva_isa.specs.declared.effect.Effect.{Effect};
-    ghost use Rattle.diva_core.specs.Cycle.{is_store};
-    ghost use Rattle.diva_ahead.specs.Within.{StoresWithin};
+    ghost use Rattle.diva_ahead.specs.Inner.{StoresAt};
 
     ghost Value = { List Effect };
 
     ghost view = { λ r. r.effects.items };
 
-    ghost invariant = { λ r.
-        (r.effects.capacity ≡ 64) × (count_by is_store (drop r.reach r.effects.items) ≡ 0) × All (StoresWithin r.low r.high) r.effects.items };
+    ghost invariant = { λ r. (r.effects.capacity ≡ 64) × IsSpan StoresAt r.span r.effects.items };
 }
 
 impl Ring {
@@ -50,9 +46,7 @@ impl Ring {
     {
         Ok(Ring {
             effects: HeapCircularBuffer::with_capacity(alloc, Self::MOST)?,
-            reach: 0,
-            low: 0,
-            high: 0,
+            span: Span::none(),
         })
     }
 
@@ -63,7 +57,7 @@ impl Ring {
     {
         let len = self.effects.len();
         if most < len {
-            self.reach = self.reach.saturating_sub(len - most);
+            self.span.drop_oldest(len - most);
             self.effects.truncate_front(most);
         }
     }
@@ -73,7 +67,7 @@ impl Ring {
         ensures { self.new ≡ [] }
     {
         self.effects.clear();
-        self.reach = 0;
+        self.span = Span::none();
     }
 
     /// Adds the youngest. There is room for it.
@@ -82,15 +76,7 @@ impl Ring {
         ensures { self.new ≡ self.old ++ effect ∷ [] }
     {
         if let Effect::Stores { width, addr, .. } = effect {
-            let end = u64::from(addr) + u64::from(width.size());
-            if self.reach == 0 {
-                self.low = addr;
-                self.high = end;
-            } else {
-                self.low = self.low.min(addr);
-                self.high = self.high.max(end);
-            }
-            self.reach = self.effects.len() + 1;
+            self.span.extend(self.effects.len(), addr, width.size());
         }
         let _ = self.effects.try_push_back(effect);
     }
@@ -176,12 +162,10 @@ impl Ring {
         Some(u32::from_le_bytes([byte0, byte1, byte2, byte3]))
     }
 
-    /// Whether the `n` bytes from an address on are outside the interval of the stores.
+    /// Whether the `n` bytes from an address on are apart from the span of the stores.
     fn is_clear(&self, addr: u32, n: u32) -> bool
         ensures { IsTrue result → list_all (λ e. is_apart e addr n) self.now ≡ true }
     {
-        self.reach == 0
-            || u64::from(addr) + u64::from(n) <= u64::from(self.low)
-            || self.high <= u64::from(addr)
+        self.span.is_apart(addr, n)
     }
 }

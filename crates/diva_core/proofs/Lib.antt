@@ -19,7 +19,6 @@ pub mod Outcomes
 pub mod Pacing
 pub mod Phases
 pub mod Progressing
-pub mod Reach
 pub mod Reaching
 pub mod Stalling
 pub mod Starting

@@ -1,5 +1,5 @@
 -- What is noted of the claims that are pending.
-use Rattle.std.specs.Prelude.{ℕ, ◌≡◌, ◌≤◌, ◌+◌, ◌==◌, Bool, true, Some, IfSome}
+use Rattle.std.specs.Prelude.{ℕ, ◌≡◌, ◌==◌, Bool, true, Some, IfSome}
 use Rattle.diva_decode.specs.Fields.{opcode}
 use Rattle.diva_decode.specs.Table.{row_of}
 use Rattle.diva_core.specs.declared.pending.Entry.{Entry}
@@ -15,6 +15,6 @@ has_store_opcode word = opcode word == 0b0100011
 abbrev pub may_store : Entry → Bool
 may_store e = has_store_opcode e.claim.word
 
--- what an entry may store lies at addresses from low on, before high
-abbrev pub MayStoreWithin : (low high : ℕ) → Entry → Type 0
-MayStoreWithin low high e = may_store e ≡ true → (low ≤ e.claim.addr) × (e.claim.addr + 4 ≤ high)
+-- an entry may store the four bytes from its claim's address on
+abbrev pub MayStore : Entry → (addr n : ℕ) → Type 0
+MayStore e addr n = (may_store e ≡ true) × (addr ≡ e.claim.addr) × (n ≡ 4)

@@ -12,6 +12,7 @@ use crate::differences::Diff;
 use circular_buffer::HeapCircularBuffer;
 use diva_decode::{Instr, decode};
 use diva_isa::{Effect, effect_by};
+use diva_memory::Span;
 use std::alloc::{AllocError, Global};
 use std::marker::Model;
 
@@ -92,16 +93,13 @@ impl Entry {
 
 /// The pending claims, the oldest first: 64 at most. It takes no memory after its making.
 ///
-/// Most reads of memory meet no store in flight. So it knows how far back the youngest claim is that may be a store,
-/// and an interval of addresses in which all of them lie: a read outside of that looks through no claim.
+/// Most reads of memory meet no store in flight. So it knows the span of the claims that may be stores: a read that is apart from
+/// that looks through no claim.
 #[derive(Drop)]
 pub struct Pending {
     entries: HeapCircularBuffer<Entry>,
-    /// How many claims, from the oldest on, reach to the youngest that may be a store: none behind them may be one.
-    reach: usize,
-    /// The lowest address of the interval, and the first behind it.
-    low: u32,
-    high: u64,
+    /// The span of those that may be stores.
+    span: Span,
 }
 
 impl Model for Pending {
@@ -110,15 +108,15 @@ impl Model for Pending {
 
     ghost Value = { Buffer Entry };
 
-    ghost use Rattle.std.specs.Prelude.{◌≡◌, ◌≤◌, count_by, drop};
+    ghost use Rattle.std.specs.Prelude.{◌≤◌};
     ghost use Rattle.std.specs.List.{All};
-    ghost use Rattle.diva_core.specs.Entries.{IsDecoded, MayStoreWithin, may_store};
+    ghost use Rattle.diva_memory.specs.Span.{IsSpan};
+    ghost use Rattle.diva_core.specs.Entries.{IsDecoded, MayStore};
 
     ghost view = { λ p. p.entries };
 
     ghost invariant = { λ p.
-        All IsDecoded p.entries.items × (p.entries.capacity ≤ 64)
-        × (count_by may_store (drop p.reach p.entries.items) ≡ 0) × All (MayStoreWithin p.low p.high) p.entries.items };
+        All IsDecoded p.entries.items × (p.entries.capacity ≤ 64) × IsSpan MayStore p.span p.entries.items };
 }
 
 impl Pending {
@@ -136,9 +134,7 @@ impl Pending {
     {
         Ok(Pending {
             entries: HeapCircularBuffer::with_capacity(alloc, q)?,
-            reach: 0,
-            low: 0,
-            high: 0,
+            span: Span::none(),
         })
     }
 
@@ -240,10 +236,7 @@ impl Pending {
             self.old.capacity }
     {
         if has_store_opcode(claim.word) {
-            let (low, high) = widened(self.reach, self.low, self.high, claim.addr);
-            self.low = low;
-            self.high = high;
-            self.reach = self.entries.len() + 1;
+            self.span.extend(self.entries.len(), claim.addr, 4);
         }
         let _ = self.entries.try_push_back(Entry {
             claim: *claim,
@@ -259,7 +252,7 @@ impl Pending {
         requires { 0 < length self.old.items }
         ensures { self.old ≡ buffer (result ∷ self.new.items) self.new.capacity }
     {
-        self.reach = self.reach.saturating_sub(1);
+        self.span.drop_oldest(1);
         self.entries.pop_front().unwrap()
     }
 
@@ -268,7 +261,7 @@ impl Pending {
         ensures { self.new ≡ buffer [] self.old.capacity }
     {
         self.entries.clear();
-        self.reach = 0;
+        self.span = Span::none();
     }
 
     /// Whether no claim can store one of the `n` bytes from an address on. Some that no claim stores are not told.
@@ -276,9 +269,7 @@ impl Pending {
     pub(crate) fn is_clear(&self, addr: u32, n: u32) -> bool
         ensures { IsTrue result → list_all (λ e. is_apart (effect_of e.claim) addr n) self.now.items ≡ true }
     {
-        self.reach == 0
-            || u64::from(addr) + u64::from(n) <= u64::from(self.low)
-            || self.high <= u64::from(addr)
+        self.span.is_apart(addr, n)
     }
 }
 
@@ -288,20 +279,4 @@ fn has_store_opcode(word: u32) -> bool
     ensures { result ≡ has_store_opcode word }
 {
     word & 0x7f == 0b0100011
-}
-
-/// The interval from `low` on, before `high`, and with it the word at an address: that word alone where no claim reaches into
-/// the interval.
-#[inline(never)]
-fn widened(reach: usize, low: u32, high: u64, addr: u32) -> (u32, u64)
-    ensures from { result.0 ≤ addr }
-    ensures to { addr + 4 ≤ result.1 }
-    ensures wider { 0 < reach → (result.0 ≤ low) × (high ≤ result.1) }
-{
-    let end = u64::from(addr) + 4;
-    if reach == 0 {
-        (addr, end)
-    } else {
-        (low.min(addr), high.max(end))
-    }
 }

@@ -1,3 +1,4 @@
 -- The lemmas of this crate.
-pub mod Writing
+pub mod Spanning
 pub mod Words
+pub mod Writing

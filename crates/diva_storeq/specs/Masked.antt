@@ -1,5 +1,5 @@
 -- What an entry of the queue writes to its word.
-use Rattle.std.specs.Prelude.{◌≡◌, ◌<◌, ◌≤◌, ℕ, ◌+◌, ◌-◌, ◌%◌, ◌^◌, ◌==◌, ◌&&◌, nat_le, nat_lt, Option, Some, None, if◌then◌else◌}
+use Rattle.std.specs.Prelude.{◌≡◌, ◌<◌, ℕ, ◌+◌, ◌-◌, ◌%◌, ◌^◌, ◌==◌, ◌&&◌, nat_le, nat_lt, Option, Some, None, if◌then◌else◌}
 use Rattle.std.specs.Int.{bit_at}
 use Rattle.diva_memory.specs.Bytes.{Bytes, IsInside, put, word_byte}
 use Rattle.diva_storeq.specs.declared.masked.Masked.{Masked}
@@ -29,7 +29,3 @@ put_lane e i m = if bit_at e.mask i == 1 then put m (e.addr + i) (word_byte e.by
 -- memory after an entry
 unfoldable pub merge : Bytes → Masked → Bytes
 merge m e = put_lane e 3 (put_lane e 2 (put_lane e 1 (put_lane e 0 m)))
-
--- its word lies at an address from low to high
-abbrev pub IsBetween : (low high : ℕ) → Masked → Type 0
-IsBetween low high e = (low ≤ e.addr) × (e.addr ≤ high)

@@ -6,7 +6,7 @@ ghost use Rattle.diva_memory.specs.Bytes.{Bytes, IsInside, byte_at, word_at};
 
 use crate::{Masked, Store};
 use circular_buffer::HeapCircularBuffer;
-use diva_memory::Memory;
+use diva_memory::{Interval, Memory};
 use std::alloc::{AllocError, Global};
 use std::marker::Model;
 
@@ -20,9 +20,7 @@ use std::marker::Model;
 #[derive(Drop)]
 pub struct StoreQueue {
     entries: HeapCircularBuffer<Masked>,
-    /// The lowest address of the interval, and the highest.
-    low: u32,
-    high: u32,
+    interval: Interval,
 }
 
 impl Model for StoreQueue {
@@ -32,11 +30,12 @@ impl Model for StoreQueue {
     ghost Value = { Buffer Masked };
 
     ghost use Rattle.std.specs.List.{All};
-    ghost use Rattle.diva_storeq.specs.Masked.{IsMasked, IsBetween};
+    ghost use Rattle.diva_memory.specs.Interval.{LiesIn};
+    ghost use Rattle.diva_storeq.specs.Masked.{IsMasked};
 
     ghost view = { λ q. q.entries };
 
-    ghost invariant = { λ q. All IsMasked q.entries.items × All (IsBetween q.low q.high) q.entries.items };
+    ghost invariant = { λ q. All IsMasked q.entries.items × All (λ e. LiesIn q.interval e.addr 4) q.entries.items };
 }
 
 impl StoreQueue {
@@ -49,8 +48,7 @@ impl StoreQueue {
     {
         Ok(StoreQueue {
             entries: HeapCircularBuffer::with_capacity(alloc, cap)?,
-            low: 0,
-            high: 0,
+            interval: Interval::empty(),
         })
     }
 
@@ -96,12 +94,9 @@ impl StoreQueue {
     {
         let entry = s.masked();
         if self.entries.is_empty() {
-            self.low = entry.addr;
-            self.high = entry.addr;
-        } else {
-            self.low = self.low.min(entry.addr);
-            self.high = self.high.max(entry.addr);
+            self.interval = Interval::empty();
         }
+        self.interval.widen(entry.addr, 4);
         let _ = self.entries.try_push_back(entry);
     }
 
@@ -128,7 +123,7 @@ impl StoreQueue {
         ensures value { result ≡ byte_at (laid memory.now self.now.items) addr }
         ensures inside { IsSome result ↔ IsInside memory.now addr 1 }
     {
-        if self.is_byte_clear(addr) {
+        if self.is_clear(addr, 1) {
             return memory.byte(addr);
         }
         let mut byte = memory.byte(addr)?;
@@ -145,26 +140,19 @@ impl StoreQueue {
         ensures value { result ≡ word_at (laid memory.now self.now.items) addr }
         ensures inside { IsSome result ↔ ((addr % 4 ≡ 0) × IsInside memory.now addr 4) }
     {
-        if self.is_clear(addr) {
+        if self.is_clear(addr, 4) {
             return memory.word(addr);
         }
         self.merged(memory, addr)
     }
 
-    /// Whether there is no store, or the word at an address is outside the interval of those that the stores go to.
+    /// Whether the `n` bytes from an address on are apart from the words that the stores go to, and so are memory's.
     #[inline(always)]
-    fn is_clear(&self, addr: u32) -> bool
-        ensures { IsTrue result → (m : Bytes) → word_at (laid m self.now.items) addr ≡ word_at m addr }
+    fn is_clear(&self, addr: u32, n: u32) -> bool
+        ensures byte { IsTrue result → 1 ≤ n → (m : Bytes) → byte_at (laid m self.now.items) addr ≡ byte_at m addr }
+        ensures word { IsTrue result → 4 ≤ n → (m : Bytes) → word_at (laid m self.now.items) addr ≡ word_at m addr }
     {
-        self.owed() == 0 || addr < self.low || self.high < addr
-    }
-
-    /// The same of the word in which a byte lies, and so of the byte.
-    #[inline(always)]
-    fn is_byte_clear(&self, addr: u32) -> bool
-        ensures { IsTrue result → (m : Bytes) → byte_at (laid m self.now.items) addr ≡ byte_at m addr }
-    {
-        self.owed() == 0 || addr < self.low || self.high < addr - addr % 4
+        self.entries.is_empty() || self.interval.is_apart(addr, n)
     }
 
     /// The word, with the entries laid over it one after the other.

@@ -1,23 +1,13 @@
-use Rattle.std.proofs.Common.{◌∙◌, sym, arith}
-use Rattle.std.proofs.lemmas.Bool.{leb-true}
-use Rattle.diva_core.proofs.Clear.{none_stored, before_apart, behind_apart}
-use Rattle.diva_core.proofs.pending.Pending.is_clear.Goals.{then-self-eq0, else-self-eq0}
+use Rattle.diva_isa.specs.Step.{effect_of}
+use Rattle.diva_memory.proofs.Spanning.{span_apart}
+use Rattle.diva_core.specs.Effects.{is_apart}
+use Rattle.diva_core.specs.Entries.{MayStore}
+use Rattle.diva_core.proofs.Clear.{claim_apart}
 use Rattle.diva_core.proofs.pending.Pending.is_clear.Goals as goal
 
-pub returns-then-from : goal.returns-then-from
-returns-then-from c =
+pub returns : goal.returns
+returns c =
     let p = c.self.inside in
-    λ t. rw (← c.self.view_is) (elim c.if-self-eq0.branch [
-      | then-self-eq0 w ↦ none_stored p.entries.items c.args.addr c.args.n (rw w.if-self-eq0.true at c.self.invariant.2)
-      | else-self-eq0 w ↦
-          before_apart p.entries.items p.low p.high c.args.addr c.args.n c.self.invariant.3 (let a = w.from.ensures in
-          let b = w.from-else-self-eq0.ensures in
-          let d = w.from-else-self-eq0-2.ensures in
-          let e = leb-true _ _ (sym w.value-is ∙ c.if-from.true) in
-          omega arith)
-    ])
-
-pub returns-else-from : goal.returns-else-from
-returns-else-from c =
-    let p = c.self.inside in
-    λ t. rw (← c.self.view_is) (behind_apart p.entries.items p.low p.high c.args.addr c.args.n c.self.invariant.3 (let a = c.from-else-from.ensures in let e = leb-true _ _ t in omega arith))
+    let a = c.args.addr in
+    let n = c.args.n in
+    λ t. rw (← c.self.view_is) (span_apart MayStore (λ e. is_apart (effect_of e.claim) a n) p.span p.entries.items a n (λ e. claim_apart e a n) c.self.invariant.2 (c.is_apart.ensures.apart t))

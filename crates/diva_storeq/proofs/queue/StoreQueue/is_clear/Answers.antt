@@ -1,19 +1,13 @@
--- Where there is no store all words are memory's, and so is one below the interval or above.
-use Rattle.std.proofs.Common.{◌∙◌, sym}
-use Rattle.std.proofs.lemmas.Bool.{ltb-true}
-use Rattle.diva_storeq.proofs.Between.{none_word, below_word, above_word}
-use Rattle.diva_storeq.proofs.queue.StoreQueue.is_clear.Goals.{then-owed-eq0, else-owed-eq0}
+-- What is apart from the interval is so from each word in it.
+use Rattle.diva_storeq.proofs.Apart.{apart_byte, apart_word}
 use Rattle.diva_storeq.proofs.queue.StoreQueue.is_clear.Goals as goal
 
-pub returns-then-addr-self : goal.returns-then-addr-self
-returns-then-addr-self c =
+pub returns-else-is_empty-clause-byte : goal.returns-else-is_empty-clause-byte
+returns-else-is_empty-clause-byte c =
     let q = c.self.inside in
-    λ t m. elim c.if-owed-eq0.branch [
-      | then-owed-eq0 w ↦ none_word m c.args.self.now.items c.args.addr (sym c.owed.ensures.value ∙ w.if-owed-eq0.true)
-      | else-owed-eq0 w ↦ rw (← c.self.view_is) (below_word m q.entries.items q.low q.high c.args.addr c.self.invariant.0 c.self.invariant.1 (ltb-true _ _ (sym w.value-is ∙ c.if-addr-self.true)))
-    ]
+    λ t some m. rw (← c.self.view_is) (apart_byte q.interval q.entries.items c.args.addr c.args.n c.self.invariant.1 (c.is_apart.ensures.apart t) some m)
 
-pub returns-else-addr-self : goal.returns-else-addr-self
-returns-else-addr-self c =
+pub returns-else-is_empty-clause-word : goal.returns-else-is_empty-clause-word
+returns-else-is_empty-clause-word c =
     let q = c.self.inside in
-    λ t m. rw (← c.self.view_is) (above_word m q.entries.items q.low q.high c.args.addr c.self.invariant.0 c.self.invariant.1 (ltb-true _ _ t))
+    λ t four m. rw (← c.self.view_is) (apart_word q.interval q.entries.items c.args.addr c.args.n c.self.invariant.1 (c.is_apart.ensures.apart t) four m)
