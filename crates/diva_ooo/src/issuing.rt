@@ -1,5 +1,5 @@
 // Waiting instructions begin to run.
-ghost use Rattle.std.specs.Prelude.{◌≡◌, ◌<◌, length, slice_get, slice_set, take, IfSome, Some, true};
+ghost use Rattle.std.specs.Prelude.{◌≡◌, ◌<◌, length, slice_get, slice_set, take, Some, true};
 ghost use Rattle.diva_decode.specs.Table.{HasRegisters, row_of};
 ghost use Rattle.diva_isa.specs.Kind.{kind};
 ghost use Rattle.diva_isa.specs.Step.{HasRegister, effect_of};
