@@ -1,9 +1,10 @@
 // The claims that wait to be judged, the oldest first.
-ghost use Rattle.std.specs.Prelude.{◌≡◌, ◌≤◌, ◌<◌, ◌+◌, [], ◌∷◌, ◌++◌, length, IfOk, IfSome, IsTrue, None, Some, slice_get, slice_set, true};
+ghost use Rattle.std.specs.Prelude.{ℕ, ◌≡◌, ◌≤◌, ◌<◌, ◌+◌, ◌^◌, [], ◌∷◌, ◌++◌, length, IfOk, IfSome, IsTrue, None, Some, slice_get, slice_set, true};
 ghost use Rattle.std.specs.List.{list_all};
 ghost use Rattle.std.specs.Option.{option_copied};
 ghost use Rattle.circular_buffer.specs.Buffer.{Buffer, buffer};
 ghost use Rattle.diva_isa.specs.Step.{effect_of};
+ghost use Rattle.diva_memory.specs.Span.{Spans};
 ghost use Rattle.diva_core.specs.Effects.{is_apart};
 ghost use Rattle.diva_core.specs.Entries.{has_store_opcode};
 
@@ -236,7 +237,7 @@ impl Pending {
             self.old.capacity }
     {
         if has_store_opcode(claim.word) {
-            self.span.extend(self.entries.len(), claim.addr, 4);
+            extend(&mut self.span, self.entries.len(), claim.addr);
         }
         let _ = self.entries.try_push_back(Entry {
             claim: *claim,
@@ -279,4 +280,15 @@ fn has_store_opcode(word: u32) -> bool
     ensures { result ≡ has_store_opcode word }
 {
     word & 0x7f == 0b0100011
+}
+
+/// Extends a span to the claim at a place, which may store in the word at an address. It stands out of line: most claims are no
+/// stores, and what accepts one is short without it.
+#[inline(never)]
+fn extend(span: &mut Span, place: usize, addr: u32)
+    requires { place + 1 < 2 ^ 64 }
+    ensures youngest { Spans span.new place addr 4 }
+    ensures older { (p a k : ℕ) → p < place → Spans span.old p a k → Spans span.new p a k }
+{
+    span.extend(place, addr, 4);
 }

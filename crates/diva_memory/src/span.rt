@@ -30,7 +30,7 @@ impl Span {
     }
 
     /// Extends it to the item at a place, the youngest of the list, which may store the `n` bytes from an address on.
-    #[inline(never)]
+    #[inline(always)]
     pub fn extend(&mut self, place: usize, addr: u32, n: u32)
         requires { place + 1 < 2 ^ 64 }
         ensures youngest { Spans self.new place addr n }

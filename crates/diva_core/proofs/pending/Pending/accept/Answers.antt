@@ -15,7 +15,7 @@ invariant_of-self c =
       | then-has_store_opcode w ↦
           let x = w.extend in
           let now : c.try_push_back.new.self ≡ buffer (p.entries.items ++ e ∷ []) p.entries.capacity = search rules in
-          rw (now, w.self-inside-is) (All-push IsDecoded p.entries.items e c.self.invariant.0 tt, c.self.invariant.1, span_push MayStore p.span x.new.self p.entries.items e c.self.invariant.2 (rw w.len.ensures.len at x.ensures.older) (λ a k may. rw (may.1, may.2, ← w.len.ensures.len) x.ensures.youngest))
+          rw (now, w.self-inside-is) (All-push IsDecoded p.entries.items e c.self.invariant.0 tt, c.self.invariant.1, span_push MayStore p.span x.new.span p.entries.items e c.self.invariant.2 (rw w.len.ensures.len at x.ensures.older) (λ a k may. rw (may.1, may.2, ← w.len.ensures.len) x.ensures.youngest))
       | else-has_store_opcode w ↦
           let now : c.try_push_back.new.self ≡ buffer (p.entries.items ++ e ∷ []) p.entries.capacity = search rules in
           let other : may_store e ≡ false = sym c.has_store_opcode.ensures ∙ w.if-has_store_opcode.false in
