@@ -1,5 +1,5 @@
 -- What the core keeps after it has handed over a record.
-use Rattle.std.proofs.Common.{◌≡◌, ◌<◌, ℕ, ◌+◌, ◌-◌, ◌^◌, ◌==◌, Bool, true, false, not, List, [], ◌∷◌, ◌++◌, length, min, refl, ap, ◌∙◌, arith, if◌then◌else◌, length-append}
+use Rattle.std.proofs.Common.{◌≡◌, ◌<◌, ℕ, ◌+◌, ◌-◌, ◌%◌, ◌^◌, ◌==◌, Bool, true, false, not, List, [], ◌∷◌, ◌++◌, length, min, refl, ap, ◌∙◌, arith, if◌then◌else◌, length-append}
 use Rattle.std.proofs.lemmas.List.{length-replicate}
 use Rattle.diva_isa.specs.State.{State}
 use Rattle.diva_isa.specs.Regs.{with_reg}
@@ -59,6 +59,7 @@ pub handed_is : (ahead : Ahead) (s : State) (r : Record) → ahead.out_len < 2 ^
       regs = regs_after ahead.regs (done_by r);
       pc = if r.end == 0 then r.next else ahead.pc;
       out_len = out_after ahead.out_len (done_by r);
+      instret = (ahead.instret + 1) % 2 ^ 64;
       ring = ahead.ring ++ done_by r ∷ [];
       stopped = not (r.end == 0);
     }
@@ -67,6 +68,7 @@ handed_is ahead s r small = λ i. record ahead {
   regs = behind_regs (r.end == 0) (seen ahead s) (effect_of r) r.next r.end i;
   pc = behind_pc (r.end == 0) (seen ahead s) (effect_of r) r.next r.end i;
   out_len = behind_out (r.end == 0) (seen ahead s) (effect_of r) r.next r.end ahead.out_len small (length-replicate ahead.out_len 0) i;
+  instret = (ahead.instret + 1) % 2 ^ 64;
   ring = ahead.ring ++ (if r.end == 0 then effect_of r else Nothing) ∷ [];
   stopped = not (r.end == 0);
 }

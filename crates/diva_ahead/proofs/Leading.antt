@@ -1,5 +1,5 @@
 -- What the core sees is the state to which its pending claims lead.
-use Rattle.std.proofs.Common.{◌≡◌, ◌≢◌, ℕ, suc, ◌+◌, ◌-◌, ◌^◌, ◌==◌, Bool, true, false, not, List, [], ◌∷◌, length, map, min, replicate, Option, Some, None, refl, ap, sym, ◌∙◌, arith, if◌then◌else◌, length-append}
+use Rattle.std.proofs.Common.{◌≡◌, ◌≢◌, ℕ, suc, ◌+◌, ◌-◌, ◌%◌, ◌^◌, ◌==◌, Bool, true, false, not, List, [], ◌∷◌, length, map, min, replicate, Option, Some, None, refl, ap, sym, ◌∙◌, arith, if◌then◌else◌, length-append}
 use Rattle.std.specs.Prelude.{nat_lt}
 use Rattle.std.proofs.lemmas.Bool.Decides.{nat_tests}
 use Rattle.std.proofs.lemmas.Bool.{true≢false}
@@ -22,43 +22,47 @@ use Rattle.diva_ahead.specs.Effects.{done_by}
 use Rattle.diva_ahead.specs.Ahead.{Ahead, with_record, seen}
 use Rattle.diva_ahead.proofs.Handing.{behind, behind_pc, behind_regs, regs_after}
 
--- ---- a record depends on no end, and of the output on its length alone, up to where it is full
+-- ---- a record depends on no end, of the output on its length alone, up to where it is full, and of the number of instructions on
+-- its low 64 bits alone
 
 abbrev pub full : ℕ → ℕ
 full n = min n output_limit
 
-abbrev pub other : State → List ℕ → ℕ → State
-other s o e = record s { output = o; end = e }
+abbrev pub low_64 : ℕ → ℕ
+low_64 n = n % 2 ^ 64
+
+abbrev pub other : State → (output : List ℕ) (instret end : ℕ) → State
+other s o n e = record s { output = o; instret = n; end = e }
 
 -- what is said of each kind, all in the same way but for a call
-source1_other : (k : Kind) (s : State) (o : List ℕ) (e : ℕ) (i : Instr) → source1 k (other s o e) i ≡ source1 k s i
-source1_other Lui s o e i = refl
-source1_other k s o e i = refl
+source1_other : (k : Kind) (s : State) (o : List ℕ) (n e : ℕ) (i : Instr) → source1 k (other s o n e) i ≡ source1 k s i
+source1_other Lui s o n e i = refl
+source1_other k s o n e i = refl
 
-source2_other : (k : Kind) (s : State) (o : List ℕ) (e : ℕ) (i : Instr) → source2 k (other s o e) i ≡ source2 k s i
-source2_other Lui s o e i = refl
-source2_other k s o e i = refl
+source2_other : (k : Kind) (s : State) (o : List ℕ) (n e : ℕ) (i : Instr) → source2 k (other s o n e) i ≡ source2 k s i
+source2_other Lui s o n e i = refl
+source2_other k s o n e i = refl
 
 same_room : (m n : ℕ) → full m ≡ full n → nat_lt m output_limit ≡ nat_lt n output_limit
 same_room m n h = grind (arith, nat_tests)
 
-outcome_other : (k : Kind) (s : State) (o : List ℕ) (e : ℕ) (i : Instr) (pc a b addr : ℕ) → full (length o) ≡ full (length s.output) → outcome k (other s o e) i pc a b addr ≡ outcome k s i pc a b addr
-outcome_other Ecall s o e i pc a b addr h = rw (same_room (length o) (length s.output) h) refl
-outcome_other k s o e i pc a b addr h = refl
+outcome_other : (k : Kind) (s : State) (o : List ℕ) (n e : ℕ) (i : Instr) (pc a b addr : ℕ) → full (length o) ≡ full (length s.output) → outcome k (other s o n e) i pc a b addr ≡ outcome k s i pc a b addr
+outcome_other Ecall s o n e i pc a b addr h = rw (same_room (length o) (length s.output) h) refl
+outcome_other k s o n e i pc a b addr h = refl
 
-said_other : (s : State) (o : List ℕ) (e : ℕ) (there : Bool) (w : ℕ) (decoded : Option Instr) → full (length o) ≡ full (length s.output) → record_by (other s o e) there w decoded ≡ record_by s there w decoded
-said_other s o e true w None h = refl
-said_other s o e false w None h = refl
-said_other s o e there w (Some i) h =
-    rw (source1_other (kind i.op) s o e i, source2_other (kind i.op) s o e i, outcome_other (kind i.op) s o e i s.pc (source1 (kind i.op) s i) (source2 (kind i.op) s i) (address_of (Some i) (source1 (kind i.op) s i)) h) refl
+said_other : (s : State) (o : List ℕ) (n e : ℕ) (there : Bool) (w : ℕ) (decoded : Option Instr) → full (length o) ≡ full (length s.output) → record_by (other s o n e) there w decoded ≡ record_by s there w decoded
+said_other s o n e true w None h = refl
+said_other s o n e false w None h = refl
+said_other s o n e there w (Some i) h =
+    rw (source1_other (kind i.op) s o n e i, source2_other (kind i.op) s o n e i, outcome_other (kind i.op) s o n e i s.pc (source1 (kind i.op) s i) (source2 (kind i.op) s i) (address_of (Some i) (source1 (kind i.op) s i)) h) refl
 
-fetched_other : (s : State) (o : List ℕ) (e : ℕ) (w : Option ℕ) → full (length o) ≡ full (length s.output) → record_fetched (other s o e) w ≡ record_fetched s w
-fetched_other s o e None h = said_other s o e false 0 None h
-fetched_other s o e (Some w) h = said_other s o e true w (row_of w) h
+fetched_other : (s : State) (o : List ℕ) (n e : ℕ) (w : Option ℕ) → full (length o) ≡ full (length s.output) → record_fetched (other s o n e) w ≡ record_fetched s w
+fetched_other s o n e None h = said_other s o n e false 0 None h
+fetched_other s o n e (Some w) h = said_other s o n e true w (row_of w) h
 
-record_of_other : (s : State) (o : List ℕ) (e : ℕ) → full (length o) ≡ full (length s.output) → record_of (other s o e) ≡ record_of s
+record_of_other : (s : State) (o : List ℕ) (n e : ℕ) → full (length o) ≡ full (length s.output) → record_of (other s o n e) ≡ record_of s
 unfolding record_of
-record_of_other s o e h = fetched_other s o e (word_of s s.pc) h
+record_of_other s o n e h = fetched_other s o n e (word_of s s.pc) h
 
 -- ---- the memory to which a record leads is what it does, laid over memory
 
@@ -111,19 +115,21 @@ pub record Shows (ahead : Ahead) (t : State) : Type 0 where
   pub regs : ahead.regs ≡ t.regs
   pub pc : ahead.pc ≡ t.pc
   pub output : full ahead.out_len ≡ full (length t.output)
+  pub instret : low_64 ahead.instret ≡ low_64 t.instret
 
 -- and it has stopped exactly where that ended
 pub record Follows (ahead : Ahead) (t : State) : Type 0 where
   pub shows : Shows ahead t
   pub stopped : ahead.stopped ≡ not (goes_on t)
 
-seen_is : (ahead : Ahead) (s t : State) → memory_of (with_effects s ahead.ring) ≡ memory_of t → Shows ahead t → seen ahead s ≡ other t (replicate ahead.out_len 0) 0
+seen_is : (ahead : Ahead) (s t : State) → memory_of (with_effects s ahead.ring) ≡ memory_of t → Shows ahead t → seen ahead s ≡ other t (replicate ahead.out_len 0) ahead.instret 0
 seen_is ahead s t memory shows = λ i. record {
   regs = shows.regs i;
   pc = shows.pc i;
   base = (memory i).base;
   bytes = (memory i).items;
   output = replicate ahead.out_len 0;
+  instret = ahead.instret;
   end = 0;
 }
 
@@ -133,7 +139,7 @@ pub seen_record : (ahead : Ahead) (s : State) (claims : List Record) → ahead.r
 seen_record ahead s claims ring due on shows =
     let t : State = steps (length claims) s in
     let memory : memory_of (with_effects s ahead.ring) ≡ memory_of t = ap (λ (effects : List Effect). memory_of (with_effects s effects)) ring ∙ effects_due claims s due on in
-    ap record_of (seen_is ahead s t memory shows) ∙ record_of_other t (replicate ahead.out_len 0) 0 (ap full (length-replicate ahead.out_len 0) ∙ shows.output)
+    ap record_of (seen_is ahead s t memory shows) ∙ record_of_other t (replicate ahead.out_len 0) ahead.instret 0 (ap full (length-replicate ahead.out_len 0) ∙ shows.output)
 
 -- ---- and behind that record the core keeps the next state
 
@@ -153,6 +159,9 @@ effect_puts t (Puts byte) = length-append t.output (byte ∷ [])
 behind_puts : (b : Bool) (t : State) (e : Effect) (next end : ℕ) → length (behind b t e next end).output ≡ length t.output + puts (if b then e else Nothing)
 behind_puts true t e next end = effect_puts t e
 behind_puts false t e next end = omega arith
+
+instret_after : (m n : ℕ) → low_64 m ≡ low_64 n → low_64 (low_64 (m + 1)) ≡ low_64 (n + 1)
+instret_after m n h = omega arith
 
 full_after : (m n more : ℕ) → full m ≡ full n → full (min (m + more) (2 ^ 32 - 1)) ≡ full (n + more)
 full_after m n more h = omega arith
@@ -184,6 +193,7 @@ handed_shows ahead s t on shows =
         regs = behind_regs b (seen ahead s) (effect_of r) r.next r.end ∙ ap (λ (rs : List ℕ). regs_after rs (if b then effect_of r else Nothing)) shows.regs ∙ sym (behind_regs b t (effect_of r) r.next r.end);
         pc = behind_pc b (seen ahead s) (effect_of r) r.next r.end ∙ ap (λ (n : ℕ). if b then r.next else n) shows.pc ∙ sym (behind_pc b t (effect_of r) r.next r.end);
         output = behind_out b (seen ahead s) t (effect_of r) r.next r.end (ap full (length-replicate ahead.out_len 0) ∙ shows.output);
+        instret = instret_after ahead.instret t.instret shows.instret;
       };
       stopped = behind_end b t (effect_of r) r.next r.end on refl;
     })

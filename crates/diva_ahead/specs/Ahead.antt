@@ -1,5 +1,5 @@
 -- What a core that runs ahead of the machine keeps: where it stands, and what it has handed over.
-use Rattle.std.specs.Prelude.{ℕ, ◌-◌, ◌^◌, ◌==◌, List, [], ◌∷◌, ◌++◌, length, drop, min, replicate, Bool, false, not, Option, Some, None, if◌then◌else◌}
+use Rattle.std.specs.Prelude.{ℕ, ◌-◌, ◌%◌, ◌^◌, ◌==◌, List, [], ◌∷◌, ◌++◌, length, drop, min, replicate, Bool, false, not, Option, Some, None, if◌then◌else◌}
 use Rattle.diva_isa.specs.State.{State}
 use Rattle.diva_isa.specs.Step.{apply}
 use Rattle.diva_isa.specs.declared.record.Record.{Record}
@@ -15,6 +15,8 @@ pub record Ahead : Type 0 where
   pub pc : ℕ
   -- how many bytes were put
   pub out_len : ℕ
+  -- how many instructions led to where it stands
+  pub instret : ℕ
   -- what the records did that it handed over and that may be pending, the oldest first
   pub ring : List Effect
   -- it has handed over a record that ends
@@ -22,14 +24,14 @@ pub record Ahead : Type 0 where
 
 -- nothing is kept yet
 abbrev pub new_ahead : Ahead
-new_ahead = record { epoch = None; regs = replicate 32 0; pc = 0; out_len = 0; ring = []; stopped = false }
+new_ahead = record { epoch = None; regs = replicate 32 0; pc = 0; out_len = 0; instret = 0; ring = []; stopped = false }
 
 -- ---- the core's own state
 
--- its registers, pc and output, of which only the length counts, over the memory of a state
+-- its registers, pc, number of instructions, and output, of which only the length counts, over the memory of a state
 abbrev pub standing : Ahead → State → State
 standing ahead s =
-    record { regs = ahead.regs; pc = ahead.pc; base = s.base; bytes = s.bytes; output = replicate ahead.out_len 0; end = 0 }
+    record { regs = ahead.regs; pc = ahead.pc; base = s.base; bytes = s.bytes; output = replicate ahead.out_len 0; instret = ahead.instret; end = 0 }
 
 -- what it sees: a byte of memory is that of the youngest store of the ring that covers it, else that of the state s
 abbrev pub seen : Ahead → State → State
@@ -41,9 +43,10 @@ abbrev pub is_epoch : Option ℕ → ℕ → Bool
 is_epoch None n = false
 is_epoch (Some e) n = e == n
 
--- it takes the machine's state
+-- it takes the machine's state, and for its number of instructions the count that it is told
 unfoldable pub taken_over : Told → State → Ahead
-taken_over told s = record { epoch = Some told.epoch; regs = s.regs; pc = s.pc; out_len = length s.output; ring = []; stopped = false }
+taken_over told s =
+    record { epoch = Some told.epoch; regs = s.regs; pc = s.pc; out_len = length s.output; instret = told.count; ring = []; stopped = false }
 
 -- it takes that state where the epoch that it is told differs from its own
 abbrev pub synced : Ahead → Told → State → Ahead
@@ -55,8 +58,8 @@ trimmed ahead told = record ahead { ring = drop (length ahead.ring - told.pendin
 
 -- ---- what it does with a record that it hands over
 
--- the record is applied to registers, pc and output length, and appended to the ring; one that ends stops the core. The
--- length stands still at the last value of its type
+-- the record is applied to registers, pc, output length and number of instructions, and appended to the ring; one that ends
+-- stops the core. The length stands still at the last value of its type, and the number goes on from 0 behind that of its
 unfoldable pub with_record : Ahead → State → Record → Ahead
 with_record ahead s r =
     let after = apply (seen ahead s) r in
@@ -64,6 +67,7 @@ with_record ahead s r =
       regs = after.regs;
       pc = after.pc;
       out_len = min (length after.output) (2 ^ 32 - 1);
+      instret = after.instret % 2 ^ 64;
       ring = ahead.ring ++ done_by r ∷ [];
       stopped = not (r.end == 0);
     }

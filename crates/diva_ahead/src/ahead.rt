@@ -11,13 +11,15 @@ use diva_isa::{Due, Effect, Record, Regs, decoded_of, due_by, fetch};
 use std::alloc::{AllocError, Global};
 use std::marker::Model;
 
-/// What a core keeps that runs ahead of the machine: its registers, pc and output length, and what it handed over.
+/// What a core keeps that runs ahead of the machine: its registers, pc, output length and number of instructions, and what it
+/// handed over.
 #[derive(Drop)]
 pub struct Ahead {
     epoch: Option<u64>,
     regs: Regs,
     pc: u32,
     out_len: u32,
+    instret: u64,
     ring: Ring,
     stopped: bool,
 }
@@ -32,6 +34,7 @@ impl Model for Ahead {
       regs = a.regs;
       pc = a.pc;
       out_len = a.out_len;
+      instret = a.instret;
       ring = a.ring;
       stopped = a.stopped;
     } };
@@ -52,6 +55,7 @@ impl Ahead {
             regs: Regs::new(),
             pc: 0,
             out_len: 0,
+            instret: 0,
             ring: Ring::new(alloc)?,
             stopped: false,
         })
@@ -89,6 +93,14 @@ impl Ahead {
         self.out_len
     }
 
+    /// How many instructions led to where the core stands: the count that it was told when it took the machine's state, and
+    /// one for each record that it handed over since.
+    pub fn instret(&self) -> u64
+        ensures { result ≡ self.now.instret }
+    {
+        self.instret
+    }
+
     /// What the records did that were handed over.
     pub fn ring(&self) -> &Ring
         ensures { result.now ≡ self.now.ring }
@@ -109,7 +121,7 @@ impl Ahead {
         ensures { self.new ≡ synced self.old told.now view.now }
     {
         if !self.is_of(told.epoch) {
-            self.begin(told.epoch, view.regs(), view.pc(), view.out_len());
+            self.begin(told.epoch, told.count, view.regs(), view.pc(), view.out_len());
         }
     }
 
@@ -118,14 +130,15 @@ impl Ahead {
     #[cold]
     #[inline(never)]
     #[tactic(auto, unfolding(crate::specs::Ahead::taken_over))]
-    fn begin(&mut self, epoch: u64, regs: &Regs, pc: u32, out_len: u32)
-        ensures { (told : Told) (s : State) → told.epoch ≡ epoch → s.regs ≡ regs.now → s.pc ≡ pc → length s.output ≡ out_len
+    fn begin(&mut self, epoch: u64, count: u64, regs: &Regs, pc: u32, out_len: u32)
+        ensures { (told : Told) (s : State) → told.epoch ≡ epoch → told.count ≡ count → s.regs ≡ regs.now → s.pc ≡ pc → length s.output ≡ out_len
             → self.new ≡ taken_over told s }
     {
         self.epoch = Some(epoch);
         self.regs = *regs;
         self.pc = pc;
         self.out_len = out_len;
+        self.instret = count;
         self.ring.clear();
         self.stopped = false;
     }
@@ -167,6 +180,7 @@ impl Ahead {
         requires register { HasRegister effect }
         ensures { (s : State) → self.new ≡ with_record self.old s r.now }
     {
+        self.instret = self.instret.wrapping_add(1);
         self.stopped = r.end != 0;
         if r.end != 0 {
             self.ring.push(Effect::Nothing);

@@ -5,7 +5,7 @@ use crate::ahead::Ahead;
 use diva_core::View;
 use diva_isa::{Look, Width};
 
-/// The core's own registers, pc and output length, over the machine's memory with what the core did laid over it.
+/// The core's own registers, pc, output length and number of instructions, over the machine's memory with what the core did laid over it.
 #[derive(Drop)]
 pub struct Stand<'a> {
     pub ahead: &'a Ahead,
@@ -38,6 +38,10 @@ impl Look for Stand<'_> {
     #[tactic(auto, using(diva_core::proofs::Laying::effects_there))]
     fn has(&self, addr: u32, width: Width) -> bool {
         self.view.has(addr, width)
+    }
+
+    fn instret(&self) -> u64 {
+        self.ahead.instret()
     }
 
     fn out_len(&self) -> u32 {

@@ -55,9 +55,9 @@ use Rattle.diva_cli.specs.Parts.{IsReady, WritesWhole, WritesPart, core_for}
 -- ---- right lists
 
 -- where each list is right nothing is flushed
-no_flush : (z : Config) (s : State) (lists : List (List Record)) (last : Timed) → IsConfig z → last ≡ run_of (new_timed z s) lists → AreRight (new_timed z s) lists → IsUnflushed last
-no_flush z s lists last ok led right =
-    let c = run_calm (new_timed z s) lists (new-machine z s ok) (new_calm z s ok) right in
+no_flush : (z : Config) (s : State) (lists : List (List Record)) (last : Timed) → IsConfig z → s.instret ≡ 0 → last ≡ run_of (new_timed z s) lists → AreRight (new_timed z s) lists → IsUnflushed last
+no_flush z s lists last ok none led right =
+    let c = run_calm (new_timed z s) lists (new-machine z s ok none) (new_calm z s ok) right in
     subst IsUnflushed (sym led) (record { flushes = c.flushes; silent = c.silent })
 
 -- lists that follow a rule follow another that gives the same
@@ -138,17 +138,18 @@ handed_for gives (Tape name) tape script m core lists last after leads h =
 pub run_from_start :
     {C : Type 0} (gives : Meaning C) (setup : Setup) (cycles : ℕ) (tape : List (List Record)) (script : List Row) (start : State) (core : C) (last : Timed) (after : C)
     → IsConfig setup.config
+    → start.instret ≡ 0
     → IsDriven gives setup.core tape script cycles (change (new_timed setup.config start) last) (change core after)
     → IsRunFrom gives setup cycles tape script start (change core after) last
-run_from_start gives setup cycles tape script start core last after ok d =
+run_from_start gives setup cycles tape script start core last after ok zero d =
     record {
       driven = d;
-      stepped = subst (λ (n : Timed). n.arch ≡ steps n.count start) (sym d.ran) (headline setup.config start d.lists ok);
-      committed = are_committed (new_timed setup.config start) d.lists (new-machine setup.config start ok);
-      rows = subst (AddsRows (new_timed setup.config start) d.lists) (sym d.ran) (run-adds d.lists (new_timed setup.config start) (new-machine setup.config start ok));
-      paced = subst (λ (n : Timed). n.cycles / (setup.config.limit + depth) ≤ n.count) (sym d.ran) (pace_of_run setup.config start d.lists ok);
-      calm = no_flush setup.config start d.lists last ok d.ran;
-      unflushed = λ is none. no_flush setup.config start d.lists last ok d.ran (right_handed gives setup.core tape script (new_timed setup.config start) core d.lists last after (new_leads setup.config start ok) is none d.handed);
+      stepped = subst (λ (n : Timed). n.arch ≡ steps n.count start) (sym d.ran) (headline setup.config start d.lists ok zero);
+      committed = are_committed (new_timed setup.config start) d.lists (new-machine setup.config start ok zero);
+      rows = subst (AddsRows (new_timed setup.config start) d.lists) (sym d.ran) (run-adds d.lists (new_timed setup.config start) (new-machine setup.config start ok zero));
+      paced = subst (λ (n : Timed). n.cycles / (setup.config.limit + depth) ≤ n.count) (sym d.ran) (pace_of_run setup.config start d.lists ok zero);
+      calm = no_flush setup.config start d.lists last ok zero d.ran;
+      unflushed = λ is none. no_flush setup.config start d.lists last ok zero d.ran (right_handed gives setup.core tape script (new_timed setup.config start) core d.lists last after (new_leads setup.config start ok zero) is none d.handed);
     }
 
 -- ---- a run over files
@@ -169,7 +170,7 @@ module _ {C : Type 0} (gives : Meaning C) (setup : Setup) (cycles : ℕ) (bytes 
 
   handed_new : AreHanded gives setup.core is.core.tape ready.script (change first last) (change core after) lists
   handed_new =
-      handed_for gives setup.core is.core.tape ready.script first core lists last after (new_leads setup.config (start_in bytes) fits)
+      handed_for gives setup.core is.core.tape ready.script first core lists last after (new_leads setup.config (start_in bytes) fits refl)
       (subst (λ (m : Timed). AreHandedBy gives (core_for setup.core is.core.tape) ready.script (change m last) (change core after) lists) is.begun
       (subst (λ (used : CoreInUse). AreHandedBy gives used ready.script (change ready.machine.timed last) (change core after) lists) is.core.is handed))
 
@@ -180,7 +181,7 @@ module _ {C : Type 0} (gives : Meaning C) (setup : Setup) (cycles : ℕ) (bytes 
         rows = is.rows;
         tape = is.core.tape;
         lists = is.core.lists;
-        run = run_from_start gives setup cycles is.core.tape ready.script (start_in bytes) core last after fits
+        run = run_from_start gives setup cycles is.core.tape ready.script (start_in bytes) core last after fits refl
             (record { lists = lists; ran = ran_new; each = (let e = each_new in omega arith); most = most; handed = handed_new });
       }
 
@@ -193,7 +194,7 @@ module _ {C : Type 0} (gives : Meaning C) (setup : Setup) (cycles : ℕ) (bytes 
       record {
         all = λ on. each_new ∙ all on;
         same = λ n ends long. subst (λ (m : Timed). (m.arch ≡ steps n (start_in bytes)) × (m.count ≡ n)) (sym ran_new)
-            (same_end setup.config (start_in bytes) lists n cycles fits (λ on. all (ap (λ (m : Timed). goes_on m.arch) ran_new ∙ on)) ends long);
+            (same_end setup.config (start_in bytes) lists n cycles fits refl (λ on. all (ap (λ (m : Timed). goes_on m.arch) ran_new ∙ on)) ends long);
       }
 
 -- ---- how it ended
@@ -238,10 +239,10 @@ trace-cycles (list ∷ rest) m inv =
     ∙ ap (λ (s : State). commits_text m.count (dues k m.arch) ++ commits_text n.count (dues j s)) (sym r.stepped))
 
 -- those of a run from a state
-trace-run : (z : Config) (s : State) (lists : List (List Record)) (last : Timed) (trace : Bool) → IsConfig z → last ≡ run_of (new_timed z s) lists → commits_if trace (new_timed z s) lists ≡ asked_trace trace s last.count
-trace-run z s lists last false ok ran = refl
-trace-run z s lists last true ok ran =
-    trace-cycles lists (new_timed z s) (new-machine z s ok)
+trace-run : (z : Config) (s : State) (lists : List (List Record)) (last : Timed) (trace : Bool) → IsConfig z → s.instret ≡ 0 → last ≡ run_of (new_timed z s) lists → commits_if trace (new_timed z s) lists ≡ asked_trace trace s last.count
+trace-run z s lists last false ok none ran = refl
+trace-run z s lists last true ok none ran =
+    trace-cycles lists (new_timed z s) (new-machine z s ok none)
     ∙ ap (λ k. commits_text 0 (dues k s)) (let e = ap (λ (m : Timed). m.count) ran in omega arith)
 
 -- where the sink failed, it did so among the commit lines
@@ -329,7 +330,7 @@ module _ {C S : Type 0} (gives : Meaning C) (options : RunOptions) (bytes : File
   puts_trace =
       subst (λ (b : Bool). Puts (asked_trace b (start_in bytes) last.count) old mid before between result) t
       (subst (λ (x : List ℕ). Puts x old mid before between result)
-      (ap (λ (m : Timed). commits_if trace m p.lists) is.begun ∙ trace-run options.setup.config (start_in bytes) p.lists last trace fits run_from_new) w.put)
+      (ap (λ (m : Timed). commits_if trace m p.lists) is.begun ∙ trace-run options.setup.config (start_in bytes) p.lists last trace fits refl run_from_new) w.put)
 
   abbrev over : IsRunOver gives options.setup options.cycles bytes (change core after) last
   over = run_over gives options.setup options.cycles bytes ready core last after fits is p.lists p.ran p.each p.handed (let m = w.most in omega arith)
@@ -390,7 +391,7 @@ module _ {C S : Type 0} (gives : Meaning C) (options : RunOptions) (bytes : File
       (subst (λ (r : Result (Unit {0}) SinkFailed). OnErr r (CutLines trace ready.machine.timed p.lists old mid)) err w.cut)
 
   lines_to : (lists : List (List Record)) (m : Timed) → m ≡ run_of start lists → cycles_text trace_lines start lists ≡ trace_of (start_in bytes) m.count
-  lines_to lists m ran = trace-run options.setup.config (start_in bytes) lists m true fits ran
+  lines_to lists m ran = trace-run options.setup.config (start_in bytes) lists m true fits refl ran
 
   pub cut_trace : (e : SinkFailed) → result ≡ Err e → WritesPart gives (Run options) bytes (change core after) (sink_change contents faults s0 s1)
   cut_trace e err =

@@ -103,7 +103,7 @@ module _ {D : Type 0} (gives : Meaning D) (options : SoakOptions) (core : D) (la
   at_end =
       let h = halts.few in
       subst (λ (m : Timed). (m.arch ≡ steps halts.after (soak_start options)) × (m.count ≡ halts.after)) (sym led)
-      (same_end default_config (soak_start options) lists halts.after (soak_cycles options.instructions) sizes_fit
+      (same_end default_config (soak_start options) lists halts.after (soak_cycles options.instructions) sizes_fit refl
       (λ on. sym each ∙ s.whole (ap (λ (m : Timed). goes_on m.arch) led ∙ on)) halts.ends (omega arith))
 
   halted : last.arch.end ≡ halt 0
@@ -118,7 +118,7 @@ soak_run :
     → AreHanded gives choice [] [] (change (soak_new options) last) (change core after) (lists its options first last final few s)
     → IsSoakRun gives options choice (change core after) last
 soak_run gives its options choice core after first last final few s handed =
-    run_from_start gives (soak_setup choice) (soak_cycles options.instructions) [] [] (soak_start options) core last after sizes_fit
+    run_from_start gives (soak_setup choice) (soak_cycles options.instructions) [] [] (soak_start options) core last after sizes_fit refl
     (record {
       lists = lists its options first last final few s;
       ran = led its options first last final few s;
@@ -150,7 +150,7 @@ scalar_run :
 scalar_run gives options core last ahead few s =
     soak_run gives IsScalarCall options Scalar core core new_scalar last ahead few s
     (handed_for gives Scalar [] [] (soak_new options) core (lists IsScalarCall options new_scalar last ahead few s) last core
-    (new_leads default_config (soak_start options) sizes_fit)
+    (new_leads default_config (soak_start options) sizes_fit refl)
     (record { final = ahead; turns = soak_turns IsScalarCall options new_scalar last ahead few s; same = refl }))
 
 -- ---- what is written of them
@@ -176,8 +176,8 @@ module _ {C S : Type 0} (gives : Meaning C) (options : SoakOptions) (bytes : Fil
     halts = (first_halts, halted gives options core second after few two);
     few = (let e = first_end.1 in let h = (table_halts options few).few in omega arith);
     same = (second_end.0 ∙ sym first_end.0, second_end.1 ∙ sym first_end.1);
-    paced = scalar_ends default_config (soak_start options) first ahead one.turns.history sizes_fit refl one.turns.good (ap (λ end. end == 0) first_halts);
-    unflushed = scalar_unflushed default_config (soak_start options) first ahead one.turns.history sizes_fit one.turns.good;
+    paced = scalar_ends default_config (soak_start options) first ahead one.turns.history sizes_fit refl refl one.turns.good (ap (λ end. end == 0) first_halts);
+    unflushed = scalar_unflushed default_config (soak_start options) first ahead one.turns.history sizes_fit refl one.turns.good;
     lines = refl;
     whole = whole;
   }

@@ -14,8 +14,9 @@ use Rattle.diva_commit.specs.declared.commits.Committed.{Committed}
 use Rattle.diva_commit.specs.declared.commits.Committed.TheVariants.{GoesOn, Halt, Trap, Held, Differs}
 
 -- the state of these parts, m being memory with the undrained stores laid over it
-abbrev pub state_of : (regs : List ℕ) (pc : ℕ) → Bytes → (output : List ℕ) (end : ℕ) → State
-state_of regs pc m output end = record { regs = regs; pc = pc; base = m.base; bytes = m.items; output = output; end = end }
+abbrev pub state_of : (regs : List ℕ) (pc : ℕ) → Bytes → (output : List ℕ) (instret end : ℕ) → State
+state_of regs pc m output instret end =
+    record { regs = regs; pc = pc; base = m.base; bytes = m.items; output = output; instret = instret; end = end }
 
 -- each of the stores lies inside memory
 abbrev pub AreInside : Bytes → List Masked → Type 0

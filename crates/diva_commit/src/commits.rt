@@ -55,8 +55,9 @@ impl From<End> for Committed {
 /// Commits a record where no verdict is against it, and where the queue has a place for its store: it does to registers,
 /// pc, queue and output what the record says, a store being put behind the others of the queue in place of memory.
 ///
-/// Without a verdict the record has to be the due one of the state that these parts show. The record is not looked at
-/// otherwise: what a verdict names is answered, also of an equal record.
+/// Without a verdict the record has to be the due one of the state that these parts show, however many instructions led to it.
+/// The record is not looked at otherwise: what a verdict names is answered, also of an equal record. Who counts the instructions
+/// counts one more where the record commits.
 pub fn commit(
     regs: &mut Regs,
     pc: &mut u32,
@@ -67,13 +68,13 @@ pub fn commit(
     verdict: Option<Diff>,
 ) -> Committed
     requires { verdict ≡ None
-        → r.now ≡ record_of (state_of regs.old pc.old (laid memory.now queue.old.items) output.old 0) }
+        → (n : ℕ) → r.now ≡ record_of (state_of regs.old pc.old (laid memory.now queue.old.items) output.old n 0) }
     ensures answer { result ≡ answer verdict r.now (length queue.old.items == queue.old.capacity) }
     ensures stays { is_committed result ≡ false
         → (regs.new ≡ regs.old) × (pc.new ≡ pc.old) × (queue.new ≡ queue.old) × (output.new ≡ output.old) }
-    ensures applied { is_committed result ≡ true
-        → state_of regs.new pc.new (laid memory.now queue.new.items) output.new r.now.end
-        ≡ apply (state_of regs.old pc.old (laid memory.now queue.old.items) output.old 0) r.now }
+    ensures applied { is_committed result ≡ true → (n : ℕ)
+        → state_of regs.new pc.new (laid memory.now queue.new.items) output.new (n + 1) r.now.end
+        ≡ apply (state_of regs.old pc.old (laid memory.now queue.old.items) output.old n 0) r.now }
     ensures queued { is_committed result ≡ true → IsQueued queue.old.items r.now queue.new.items }
     ensures capacity { queue.new.capacity ≡ queue.old.capacity }
     ensures inside { AreInside memory.now queue.old.items → AreInside memory.now queue.new.items }
@@ -96,15 +97,15 @@ pub fn commit_by(
     verdict: Option<Diff>,
 ) -> Committed
     requires due { verdict ≡ None
-        → r.now ≡ record_of (state_of regs.old pc.old (laid memory.now queue.old.items) output.old 0) }
+        → (n : ℕ) → r.now ≡ record_of (state_of regs.old pc.old (laid memory.now queue.old.items) output.old n 0) }
     requires decoded { decoded ≡ row_of r.now.word }
     requires registers { IfSome decoded HasRegisters }
     ensures answer { result ≡ answer verdict r.now (length queue.old.items == queue.old.capacity) }
     ensures stays { is_committed result ≡ false
         → (regs.new ≡ regs.old) × (pc.new ≡ pc.old) × (queue.new ≡ queue.old) × (output.new ≡ output.old) }
-    ensures applied { is_committed result ≡ true
-        → state_of regs.new pc.new (laid memory.now queue.new.items) output.new r.now.end
-        ≡ apply (state_of regs.old pc.old (laid memory.now queue.old.items) output.old 0) r.now }
+    ensures applied { is_committed result ≡ true → (n : ℕ)
+        → state_of regs.new pc.new (laid memory.now queue.new.items) output.new (n + 1) r.now.end
+        ≡ apply (state_of regs.old pc.old (laid memory.now queue.old.items) output.old n 0) r.now }
     ensures queued { is_committed result ≡ true → IsQueued queue.old.items r.now queue.new.items }
     ensures capacity { queue.new.capacity ≡ queue.old.capacity }
     ensures inside { AreInside memory.now queue.old.items → AreInside memory.now queue.new.items }
@@ -135,9 +136,9 @@ fn store(memory: &Memory, queue: &mut StoreQueue, width: Width, addr: u32, value
     requires inside { IsInside (laid memory.now queue.old.items) addr (size width) }
     requires aligned { addr % size width ≡ 0 }
     requires space { length queue.old.items < queue.old.capacity }
-    ensures laid { (regs : List ℕ) (pc : ℕ) (output : List ℕ) (end : ℕ)
-        → state_of regs pc (laid memory.now queue.new.items) output end
-        ≡ with_bytes (state_of regs pc (laid memory.now queue.old.items) output end) (size width) addr value }
+    ensures laid { (regs : List ℕ) (pc : ℕ) (output : List ℕ) (n end : ℕ)
+        → state_of regs pc (laid memory.now queue.new.items) output n end
+        ≡ with_bytes (state_of regs pc (laid memory.now queue.old.items) output n end) (size width) addr value }
     ensures queued { (r : Record) → puts_store r ≡ true → IsQueued queue.old.items r queue.new.items }
     ensures capacity { queue.new.capacity ≡ queue.old.capacity }
     ensures inside { AreInside memory.now queue.old.items → AreInside memory.now queue.new.items }

@@ -1,6 +1,7 @@
 -- The state in which a pending claim stands, one older claim at a time.
-use Rattle.std.proofs.Common.{◌≡◌, ◌≢◌, ◌<◌, ℕ, zero, suc, ◌+◌, ◌-◌, ◌*◌, ◌^◌, ◌%◌, ◌==◌, ◌&&◌, not, ◌⊎◌, inl, inr, Bool, false, List, [], ◌∷◌, length, map, slice_get, slice_index, Option, Some, None, true, if◌then◌else◌, refl, sym, ap, ◌∙◌, arith, add-one}
+use Rattle.std.proofs.Common.{◌≡◌, ◌≢◌, ◌<◌, ◌≤◌, ℕ, zero, suc, ◌+◌, ◌-◌, ◌*◌, ◌^◌, ◌%◌, ◌==◌, ◌&&◌, not, ◌⊎◌, inl, inr, Bool, false, List, [], ◌∷◌, length, map, slice_get, slice_index, Option, Some, None, true, if◌then◌else◌, refl, sym, ap, ◌∙◌, arith, add-one, length-take}
 use Rattle.std.proofs.lemmas.Option.{none-some, same_Some}
+use Rattle.std.proofs.lemmas.List.{length-map}
 use Rattle.std.proofs.lemmas.Grind.{common_steps}
 use Rattle.std.proofs.lemmas.Bool.{eqb-false, eqb-true}
 use Rattle.std.proofs.lemmas.Bool.Decides.{nat_tests}
@@ -25,7 +26,7 @@ use Rattle.diva_core.proofs.Laying.{apart_byte, effect_byte, over_none}
 
 -- ---- where the state goes on, it is what is looked at
 
-pub apply_moves : (s : State) (r : Record) → s.end ≡ 0 → r.end ≡ 0 → apply s r ≡ record (with_effect s (effect_of r)) { pc = r.next }
+pub apply_moves : (s : State) (r : Record) → s.end ≡ 0 → r.end ≡ 0 → apply s r ≡ record (with_effect s (effect_of r)) { pc = r.next; instret = s.instret + 1 }
 unfolding apply
 apply_moves s r on off = rw (on, off) refl
 
@@ -38,27 +39,36 @@ pub after_goes : (s : State) (rs : List Record) → (after s rs).end ≡ 0 → s
 after_goes s [] h = h
 after_goes s (r ∷ rs) h = (apply_goes s r (after_goes (apply s r) rs h)).0
 
--- the pc is of no matter to an effect
-effect_pc : (s : State) (q : ℕ) (e : Effect) → record (with_effect s e) { pc = q } ≡ with_effect (record s { pc = q }) e
-effect_pc s q Nothing = refl
-effect_pc s q (Writes rd value) = refl
-effect_pc s q (Stores width addr value) = refl
-effect_pc s q (Puts byte) = refl
+-- where the state stands, and how many instructions led to it, is of no matter to an effect
+abbrev at : State → (pc instret : ℕ) → State
+at s pc instret = record s { pc = pc; instret = instret }
 
-effects_pc : (s : State) (q p : ℕ) (es : List Effect) → record (with_effects s es) { pc = p } ≡ record (with_effects (record s { pc = q }) es) { pc = p }
-effects_pc s q p [] = refl
-effects_pc s q p (e ∷ es) = effects_pc (with_effect s e) q p es ∙ ap (λ (t : State). record (with_effects t es) { pc = p }) (effect_pc s q e)
+effect_at : (s : State) (q n : ℕ) (e : Effect) → at (with_effect s e) q n ≡ with_effect (at s q n) e
+effect_at s q n Nothing = refl
+effect_at s q n (Writes rd value) = refl
+effect_at s q n (Stores width addr value) = refl
+effect_at s q n (Puts byte) = refl
+
+effects_at : (s : State) (q n p k : ℕ) (es : List Effect) → at (with_effects s es) p k ≡ at (with_effects (at s q n) es) p k
+effects_at s q n p k [] = refl
+effects_at s q n p k (e ∷ es) = effects_at (with_effect s e) q n p k es ∙ ap (λ (t : State). at (with_effects t es) p k) (effect_at s q n e)
 
 after_is : (s : State) (rs : List Record) → (after s rs).end ≡ 0 → bypassed s rs ≡ after s rs
-after_is s [] h = refl
+after_is s [] h = let none : s.instret + 0 ≡ s.instret = omega arith in ap (λ (n : ℕ). record s { instret = n }) none
 after_is s (r ∷ rs) h =
     let on = apply_goes s r (after_goes (apply s r) rs h) in
-    effects_pc (with_effect s (effect_of r)) r.next (led r.next rs) (map effect_of rs)
+    let one : s.instret + suc (length rs) ≡ s.instret + 1 + length rs = omega arith in
+    ap (λ (k : ℕ). at (with_claims s (r ∷ rs)) (led r.next rs) k) one
+    ∙ effects_at (with_effect s (effect_of r)) r.next (s.instret + 1) (led r.next rs) (s.instret + 1 + length rs) (map effect_of rs)
     ∙ ap (λ (t : State). bypassed t rs) (sym (apply_moves s r on.0 on.1))
     ∙ after_is (apply s r) rs h
 
 pub before_is : (s : State) (entries : List Entry) (k : ℕ) → (before_entry s entries k).end ≡ 0 → bypassed s (older entries k) ≡ before_entry s entries k
 before_is s entries k h = after_is s (older entries k) h
+
+-- so many claims are older than the one at a place
+pub older_length : (entries : List Entry) (k : ℕ) → k ≤ length entries → length (older entries k) ≡ k
+older_length entries k h = rw (length-take, length-map) (omega arith)
 
 -- ---- one older claim more
 

@@ -9,30 +9,12 @@ use Rattle.diva_core.specs.Cycle.{cycle_of, run_of}
 use Rattle.diva_core.specs.Machine.{IsMachine, IsConfig}
 use Rattle.diva_core.specs.Headline.{Rises, EndsAfter}
 use Rattle.diva_core.proofs.Steps.{steps-add, steps-off}
-use Rattle.diva_core.proofs.Cycling.{Cycled, cycled, idled, ran, barks, differed, ended, finished, waited}
+use Rattle.diva_core.proofs.Cycling.{cycled}
+use Rattle.diva_core.proofs.Going.{each-went}
 use Rattle.diva_core.proofs.Outcomes.{rises, cycle-off}
 use Rattle.diva_core.proofs.Keeping.{stays}
 use Rattle.diva_core.proofs.Starting.{new-machine}
 use Rattle.diva_core.proofs.Reaching.{sameness}
-
--- what goes on went on before
-went-on : (n : ℕ) (s : State) → goes_on (steps n s) ≡ true → goes_on s ≡ true
-went-on n s on = elim (cases_Bool (goes_on s)) [ inl e ↦ e | inr f ↦ absurd (true≢false (sym on ∙ ap goes_on (steps-off n s f) ∙ f)) ]
-
-pub went-before : (j k : ℕ) (s : State) → j ≤ k → goes_on (steps k s) ≡ true → goes_on (steps j s) ≡ true
-went-before j k s h on =
-    let e : j + (k - j) ≡ k = omega arith in
-    went-on (k - j) (steps j s) (ap goes_on (sym (steps-add j (k - j) s) ∙ ap (λ i. steps i s) e) ∙ on)
-
--- each instruction that a cycle counts is one of a state that went on
-each-went : (b : Timed) (list : List Record) (n : Timed) → goes_on b.arch ≡ true → Cycled b list n → (j : ℕ) → j < n.count - b.count → goes_on (steps j b.arch) ≡ true
-each-went b list n on (idled r) j h = absurd (let c = r.base.counted in omega arith)
-each-went b list n on (ran r) j h = went-before j (suc r.k) b.arch (let c = r.base.counted in omega arith) (ap goes_on (sym r.base.stepped) ∙ r.on)
-each-went b list n on (barks r) j h = absurd (let c = r.base.counted in omega arith)
-each-went b list n on (differed r) j h = went-before j r.k b.arch (let c = r.base.counted in omega arith) (ap goes_on (sym r.base.stepped) ∙ r.on)
-each-went b list n on (ended r) j h = went-before j r.k b.arch (let c = r.base.counted in omega arith) r.went
-each-went b list n on (finished r) j h = went-before j 0 b.arch (let c = r.base.counted in omega arith) on
-each-went b list n on (waited r) j h = absurd (let c = r.base.counted in omega arith)
 
 -- the machine stands where the table does after the counted instructions, each of a state that went on
 pub record Follows (start : State) (m : Timed) : Type 0 where
@@ -64,8 +46,8 @@ run-follows : (start : State) (lists : List (List Record)) (m : Timed) → IsMac
 run-follows start [] m inv f = f
 run-follows start (list ∷ rest) m inv f = run-follows start rest (cycle_of m list) (stays m list inv) (Follows-cycle start m list inv f)
 
-pub follows : (z : Config) (s : State) (lists : List (List Record)) → IsConfig z → Follows s (run_of (new_timed z s) lists)
-follows z s lists ok = run-follows s lists (new_timed z s) (new-machine z s ok) (record { at = refl; went = λ j h. absurd (omega arith) })
+pub follows : (z : Config) (s : State) (lists : List (List Record)) → IsConfig z → s.instret ≡ 0 → Follows s (run_of (new_timed z s) lists)
+follows z s lists ok none = run-follows s lists (new_timed z s) (new-machine z s ok none) (record { at = refl; went = λ j h. absurd (omega arith) })
 
 -- a machine that has ended has counted exactly the instructions after which the table ends
 pub ended_exactly : (s : State) (m : Timed) (n : ℕ) → Follows s m → goes_on m.arch ≡ false → EndsAfter n s → (m.arch ≡ steps n s) × (m.count ≡ n)
@@ -79,12 +61,13 @@ ended_exactly s m n f off ends =
 pub same_end :
     (z : Config) (s : State) (lists : List (List Record)) (n budget : ℕ)
     → IsConfig z
+    → s.instret ≡ 0
     → (goes_on (run_of (new_timed z s) lists).arch ≡ true → length lists ≡ budget)
     → EndsAfter n s
     → n * (z.limit + depth) ≤ budget
     → ((run_of (new_timed z s) lists).arch ≡ steps n s) × ((run_of (new_timed z s) lists).count ≡ n)
-same_end z s lists n budget ok whole ends long =
+same_end z s lists n budget ok none whole ends long =
     elim (cases_Bool (goes_on (run_of (new_timed z s) lists).arch)) [
-      | inl on ↦ absurd (let all = whole on in true≢false (sym on ∙ ap goes_on (sameness z s lists n ok ends.ended (omega arith)) ∙ ends.ended))
-      | inr off ↦ ended_exactly s (run_of (new_timed z s) lists) n (follows z s lists ok) off ends
+      | inl on ↦ absurd (let all = whole on in true≢false (sym on ∙ ap goes_on (sameness z s lists n ok none ends.ended (omega arith)) ∙ ends.ended))
+      | inr off ↦ ended_exactly s (run_of (new_timed z s) lists) n (follows z s lists ok none) off ends
     ]

@@ -14,6 +14,7 @@ use Rattle.diva_core.specs.Machine.{IsMachine, Lives, IsSolo, ArePast}
 use Rattle.diva_core.specs.Headline.{SameLog, AddsRow}
 use Rattle.diva_core.proofs.Commits.{Commits}
 use Rattle.diva_core.proofs.Cycling.{Cycled, Base, idled, ran, barks, differed, ended, finished, waited, taken}
+use Rattle.diva_core.proofs.Going.{counted-cases}
 use Rattle.diva_core.proofs.Outcomes.{any-base, by-cases, log-cases}
 use Rattle.diva_core.proofs.Stalling.{Paces, paces, stall-cases}
 
@@ -73,10 +74,12 @@ IsMachine-from :
     → ArePast n.cycles n.pending
     → length n.pending ≤ n.config.window
     → Paces n
+    → n.arch.instret ≡ n.count
     → IsMachine n
-IsMachine-from b n k inv v log lives past window pace =
+IsMachine-from b n k inv v log lives past window pace counted =
     record {
       config = rw v.config inv.config;
+      counted = counted;
       lives = lives;
       owed = rw v.config v.owed;
       rows = rows-fit b n inv.rows log;
@@ -89,8 +92,8 @@ IsMachine-from b n k inv v log lives past window pace =
     }
 
 -- a machine in which nothing waits
-IsMachine-empty : (b n : Timed) (k : ℕ) → IsMachine b → Base b n k → SameLog b n ⊎ AddsRow b n → Lives n n.solo → n.pending ≡ [] → Paces n → IsMachine n
-IsMachine-empty b n k inv v log lives e pace = IsMachine-from b n k inv v log lives (subst (ArePast n.cycles) (sym e) tt) (rw e (omega arith)) pace
+IsMachine-empty : (b n : Timed) (k : ℕ) → IsMachine b → Base b n k → SameLog b n ⊎ AddsRow b n → Lives n n.solo → n.pending ≡ [] → Paces n → n.arch.instret ≡ n.count → IsMachine n
+IsMachine-empty b n k inv v log lives e pace counted = IsMachine-from b n k inv v log lives (subst (ArePast n.cycles) (sym e) tt) (rw e (omega arith)) pace counted
 
 limit-is : (b n : Timed) (k : ℕ) → Base b n k → n.config.limit ≡ b.config.limit
 limit-is b n k v = ap (λ z. z.limit) v.config
@@ -106,12 +109,13 @@ IsMachine-more :
     → ArePast b.cycles rest
     → length rest ≤ length b.pending
     → Paces n
+    → n.arch.instret ≡ n.count
     → IsMachine n
-IsMachine-more b n k list rest inv v log lives e past short pace =
+IsMachine-more b n k list rest inv v log lives e past short pace counted =
     IsMachine-from b n k inv v (inl log) lives
     (rw (e, v.cycles) (ArePast-append (b.cycles + 1) rest (taken b list) (ArePast-later b.cycles (b.cycles + 1) rest (omega arith) past) (ArePast-taken (b.cycles + 1) (take (room_of b) list))))
     (rw (e, length-append, v.config) (let t = taken-fits b list in let w = inv.window in omega arith))
-    pace
+    pace counted
 
 lives-none : (b n : Timed) (k : ℕ) → Base b n k → n.solo ≡ None → n.idle + 1 ≤ b.config.limit → Lives n n.solo
 lives-none b n k v none h = subst (Lives n) (sym none) (rw (limit-is b n k v) h)
@@ -122,33 +126,33 @@ lives-flushed b n k v some e h =
     let l = limit-is b n k v in
     subst (Lives n) (sym some) (record { empty = e; started = omega arith; soon = omega arith; idled = omega arith })
 
-machine-cases : (b : Timed) (list : List Record) (n : Timed) → IsMachine b → Cycled b list n → Paces n → IsMachine n
-machine-cases b list n inv (idled r) pace =
-    IsMachine-more b n 0 list b.pending inv r.base r.log (lives-none b n 0 r.base r.solo (let e = r.early in omega arith)) r.pending inv.past (omega arith) pace
-machine-cases b list n inv (ran r) pace =
+machine-cases : (b : Timed) (list : List Record) (n : Timed) → IsMachine b → Cycled b list n → Paces n → n.arch.instret ≡ n.count → IsMachine n
+machine-cases b list n inv (idled r) pace counted =
+    IsMachine-more b n 0 list b.pending inv r.base r.log (lives-none b n 0 r.base r.solo (let e = r.early in omega arith)) r.pending inv.past (omega arith) pace counted
+machine-cases b list n inv (ran r) pace counted =
     let low = inv.config.limit_low in
     let i = r.idle in
     IsMachine-more b n (suc r.k) list r.rest inv r.base r.log (lives-none b n (suc r.k) r.base r.solo (omega arith)) r.pending
     (ArePast-commits (suc r.k) b.arch (b.cycles + 1) b.cycles b.pending r.rest r.claims inv.past)
     (let l = length-commits (suc r.k) b.arch (b.cycles + 1) b.pending r.rest r.claims in omega arith)
-    pace
-machine-cases b list n inv (barks r) pace =
+    pace counted
+machine-cases b list n inv (barks r) pace counted =
     let lives : b.idle + 1 ≤ b.config.limit = subst (Lives b) r.was inv.lives in
     let i = r.idle in
-    IsMachine-empty b n 0 inv r.base (log-cases b list n inv (barks r)) (lives-flushed b n 0 r.base r.solo r.pending (omega arith)) r.pending pace
-machine-cases b list n inv (differed r) pace =
+    IsMachine-empty b n 0 inv r.base (log-cases b list n inv (barks r)) (lives-flushed b n 0 r.base r.solo r.pending (omega arith)) r.pending pace counted
+machine-cases b list n inv (differed r) pace counted =
     let lives : b.idle + 1 ≤ b.config.limit = subst (Lives b) r.was inv.lives in
     let i = r.idle in
-    IsMachine-empty b n r.k inv r.base (log-cases b list n inv (differed r)) (lives-flushed b n r.k r.base r.solo r.pending (omega arith)) r.pending pace
-machine-cases b list n inv (ended r) pace =
+    IsMachine-empty b n r.k inv r.base (log-cases b list n inv (differed r)) (lives-flushed b n r.k r.base r.solo r.pending (omega arith)) r.pending pace counted
+machine-cases b list n inv (ended r) pace counted =
     let low = inv.config.limit_low in
     let i = r.idle in
-    IsMachine-empty b n (suc r.k) inv r.base (inl r.log) (lives-none b n (suc r.k) r.base r.solo (omega arith)) r.pending pace
-machine-cases b list n inv (finished r) pace =
+    IsMachine-empty b n (suc r.k) inv r.base (inl r.log) (lives-none b n (suc r.k) r.base r.solo (omega arith)) r.pending pace counted
+machine-cases b list n inv (finished r) pace counted =
     let low = inv.config.limit_low in
     let i = r.idle in
-    IsMachine-empty b n 1 inv r.base (inl r.log) (lives-none b n 1 r.base r.solo (omega arith)) r.pending pace
-machine-cases b list n inv (waited r) pace =
+    IsMachine-empty b n 1 inv r.base (inl r.log) (lives-none b n 1 r.base r.solo (omega arith)) r.pending pace counted
+machine-cases b list n inv (waited r) pace counted =
     let a : IsSolo b r.start = subst (Lives b) r.since inv.lives in
     let c = r.base.cycles in
     let l = limit-is b n 0 r.base in
@@ -157,10 +161,10 @@ machine-cases b list n inv (waited r) pace =
     let soon = a.soon in
     let was = a.idled in
     let early : b.cycles + 1 ≢ r.start + depth = r.early in
-    IsMachine-empty b n 0 inv r.base (inl r.log) (subst (Lives n) (sym r.solo) (record { empty = r.pending; started = omega arith; soon = omega arith; idled = omega arith })) r.pending pace
+    IsMachine-empty b n 0 inv r.base (inl r.log) (subst (Lives n) (sym r.solo) (record { empty = r.pending; started = omega arith; soon = omega arith; idled = omega arith })) r.pending pace counted
 
 paces-cases : (b : Timed) (list : List Record) (n : Timed) → IsMachine b → goes_on b.arch ≡ true → Cycled b list n → Paces n
 paces-cases b list n inv on c = paces b n (any-base b list n c).k inv (any-base b list n c).base (stall-cases b list n inv on c)
 
 pub stays : (m : Timed) (list : List Record) → IsMachine m → IsMachine (cycle_of m list)
-stays m list inv = by-cases IsMachine m list inv (λ on c. machine-cases m list _ inv c (paces-cases m list _ inv on c)) (λ off. inv)
+stays m list inv = by-cases IsMachine m list inv (λ on c. machine-cases m list _ inv c (paces-cases m list _ inv on c) (counted-cases m list _ inv on c)) (λ off. inv)

@@ -8,6 +8,7 @@ pub mod Cycling
 pub mod Differing
 pub mod Ending
 pub mod Forms
+pub mod Going
 pub mod Holding
 pub mod Inside
 pub mod Judging

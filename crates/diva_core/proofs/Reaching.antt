@@ -89,9 +89,9 @@ ends-going s t n c e off more =
     ends-by (inr h) f = steps-past n c s h off
 
 -- where the table ends after n instructions, n times W + 6 cycles lead to that end, whatever is handed over
-pub sameness : (z : Config) (s : State) (lists : List (List Record)) (n : ℕ) → IsConfig z → goes_on (steps n s) ≡ false → n * (z.limit + depth) ≤ length lists → (run_of (new_timed z s) lists).arch ≡ steps n s
-sameness z s lists n ok off long =
-    ends-going s (run_of (new_timed z s) lists).arch n (run_of (new_timed z s) lists).count (headline z s lists ok) off (λ on.
-    let all = run-cycles lists (new_timed z s) (new-machine z s ok) on in
-    let h = run-pace (new_timed z s) lists (new-machine z s ok) n (omega arith) in
+pub sameness : (z : Config) (s : State) (lists : List (List Record)) (n : ℕ) → IsConfig z → s.instret ≡ 0 → goes_on (steps n s) ≡ false → n * (z.limit + depth) ≤ length lists → (run_of (new_timed z s) lists).arch ≡ steps n s
+sameness z s lists n ok none off long =
+    ends-going s (run_of (new_timed z s) lists).arch n (run_of (new_timed z s) lists).count (headline z s lists ok none) off (λ on.
+    let all = run-cycles lists (new_timed z s) (new-machine z s ok none) on in
+    let h = run-pace (new_timed z s) lists (new-machine z s ok none) n (omega arith) in
     omega arith)

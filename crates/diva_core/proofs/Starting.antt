@@ -9,16 +9,17 @@ use Rattle.diva_core.specs.Machine.{IsMachine, IsConfig}
 use Rattle.diva_core.specs.Headline.{Rises, HasPace}
 use Rattle.diva_core.proofs.Progressing.{run-stays, run-rises, run-config, has_pace}
 
-pub new-machine : (z : Config) (s : State) → IsConfig z → IsMachine (new_timed z s)
-new-machine z s ok =
-    record { config = ok; lives = (let l = ok.limit_low in omega arith); owed = omega arith; rows = omega arith; past = tt; window = omega arith; flushes = omega arith; silent = omega arith; count = omega arith; pace = omega arith }
+-- so it begins with a state to which no instruction has led
+pub new-machine : (z : Config) (s : State) → IsConfig z → s.instret ≡ 0 → IsMachine (new_timed z s)
+new-machine z s ok none =
+    record { config = ok; counted = none; lives = (let l = ok.limit_low in omega arith); owed = omega arith; rows = omega arith; past = tt; window = omega arith; flushes = omega arith; silent = omega arith; count = omega arith; pace = omega arith }
 
-pub headline : (z : Config) (s : State) (lists : List (List Record)) → IsConfig z → (run_of (new_timed z s) lists).arch ≡ steps (run_of (new_timed z s) lists).count s
-headline z s lists ok =
-    let r : Rises (new_timed z s) (run_of (new_timed z s) lists) = run-rises (new_timed z s) lists (new-machine z s ok) in
+pub headline : (z : Config) (s : State) (lists : List (List Record)) → IsConfig z → s.instret ≡ 0 → (run_of (new_timed z s) lists).arch ≡ steps (run_of (new_timed z s) lists).count s
+headline z s lists ok none =
+    let r : Rises (new_timed z s) (run_of (new_timed z s) lists) = run-rises (new_timed z s) lists (new-machine z s ok none) in
     r.stepped ∙ ap (λ k. steps k s) (omega arith)
 
-pub pace_of_run : (z : Config) (s : State) (lists : List (List Record)) → IsConfig z → (run_of (new_timed z s) lists).cycles / (z.limit + depth) ≤ (run_of (new_timed z s) lists).count
-pace_of_run z s lists ok =
-    let p : HasPace (run_of (new_timed z s) lists) = has_pace _ (run-stays (new_timed z s) lists (new-machine z s ok)) in
-    rw (run-config (new_timed z s) lists (new-machine z s ok)) at p
+pub pace_of_run : (z : Config) (s : State) (lists : List (List Record)) → IsConfig z → s.instret ≡ 0 → (run_of (new_timed z s) lists).cycles / (z.limit + depth) ≤ (run_of (new_timed z s) lists).count
+pace_of_run z s lists ok none =
+    let p : HasPace (run_of (new_timed z s) lists) = has_pace _ (run-stays (new_timed z s) lists (new-machine z s ok none)) in
+    rw (run-config (new_timed z s) lists (new-machine z s ok none)) at p

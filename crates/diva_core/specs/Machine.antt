@@ -56,6 +56,8 @@ stalled m = stalled_since m m.solo
 
 pub record IsMachine (m : Timed) : Type 0 where
   pub config : IsConfig m.config
+  -- the instructions that led to the committed state are those that were counted
+  pub counted : m.arch.instret ≡ m.count
   pub lives : Lives m m.solo
   pub owed : m.owed ≤ m.config.stores
   pub rows : length m.rows ≤ rows_kept

@@ -1,5 +1,5 @@
 -- The state in which a pending claim stands: the committed one after the claims before it, right ones and wrong ones.
-use Rattle.std.specs.Prelude.{ℕ, List, [], ◌∷◌, map, take}
+use Rattle.std.specs.Prelude.{ℕ, ◌+◌, List, [], ◌∷◌, length, map, take}
 use Rattle.diva_isa.specs.State.{State}
 use Rattle.diva_isa.specs.Step.{apply, effect_of}
 use Rattle.diva_isa.specs.declared.record.Record.{Record}
@@ -30,5 +30,6 @@ abbrev pub led : (pc : ℕ) → List Record → ℕ
 led pc [] = pc
 led pc (r ∷ rest) = led r.next rest
 
+-- each claim is one instruction
 abbrev pub bypassed : State → List Record → State
-bypassed s claims = record (with_claims s claims) { pc = led s.pc claims }
+bypassed s claims = record (with_claims s claims) { pc = led s.pc claims; instret = s.instret + length claims }

@@ -118,6 +118,13 @@ impl Look for Bypass<'_> {
     }
 
     #[inline(always)]
+    #[tactic(auto, using(crate::proofs::Bypassing::older_length))]
+    fn instret(&self) -> u64 {
+        self.pending.recall();
+        self.view.instret() + self.at as u64
+    }
+
+    #[inline(always)]
     fn out_len(&self) -> u32 {
         let len = self.view.out_len();
         if self.at == 0 {

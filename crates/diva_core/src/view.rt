@@ -1,5 +1,5 @@
 // The committed state as a core sees it.
-ghost use Rattle.std.specs.Prelude.{◌≡◌, ◌<◌, ◌≤◌, ◌%◌, length};
+ghost use Rattle.std.specs.Prelude.{◌≡◌, ◌<◌, ◌≤◌, ◌%◌, ◌^◌, length};
 ghost use Rattle.diva_isa.specs.Kind.{size};
 ghost use Rattle.diva_isa.specs.State.{State, reg_of, byte_of, word_of, number_of, output_limit};
 ghost use Rattle.diva_storeq.specs.Stores.{laid};
@@ -18,6 +18,7 @@ pub struct View<'a> {
     memory: &'a Memory,
     queue: &'a StoreQueue,
     output: &'a Output,
+    instret: u64,
 }
 
 impl<'a> Model for View<'a> {
@@ -32,25 +33,33 @@ impl<'a> Model for View<'a> {
       base = (laid v.memory.now v.queue.now.items).base;
       bytes = (laid v.memory.now v.queue.now.items).items;
       output = v.output.now;
+      instret = v.instret;
       end = 0;
     } };
+
+    ghost use Rattle.std.specs.Prelude.{◌≤◌, ◌^◌};
+
+    ghost invariant = { λ v. v.instret ≤ 2 ^ 62 };
 }
 
 impl<'a> View<'a> {
-    /// The state that these parts show, one that goes on.
+    /// The state that these parts show, one that goes on. So many instructions led to it, 2^62 at most.
     pub fn new(
         regs: &'a Regs,
         pc: u32,
         memory: &'a Memory,
         queue: &'a StoreQueue,
         output: &'a Output,
+        instret: u64,
     ) -> View<'a>
+        requires { instret ≤ 2 ^ 62 }
         ensures { result ≡ record {
           regs = regs.now;
           pc = pc;
           base = (laid memory.now queue.now.items).base;
           bytes = (laid memory.now queue.now.items).items;
           output = output.now;
+          instret = instret;
           end = 0;
         } }
     {
@@ -60,6 +69,7 @@ impl<'a> View<'a> {
             memory,
             queue,
             output,
+            instret,
         }
     }
 
@@ -74,6 +84,7 @@ impl<'a> View<'a> {
             memory: self.memory,
             queue: self.queue,
             output: self.output,
+            instret: self.instret,
         }
     }
 }
@@ -141,6 +152,15 @@ impl View<'_> {
         }
     }
 
+    /// How many instructions have committed: at most 2^62.
+    #[inline(always)]
+    pub fn instret(&self) -> u64
+        ensures value { result ≡ self.now.instret }
+        ensures most { result ≤ 2 ^ 62 }
+    {
+        self.instret
+    }
+
     /// How many bytes were put: at most 65,536.
     #[inline(always)]
     pub fn out_len(&self) -> u32
@@ -182,6 +202,11 @@ impl Look for View<'_> {
     #[inline(always)]
     fn has(&self, addr: u32, width: Width) -> bool {
         self.memory.inside(addr, width.size())
+    }
+
+    #[inline(always)]
+    fn instret(&self) -> u64 {
+        View::instret(self)
     }
 
     #[inline(always)]

@@ -1,6 +1,7 @@
 -- What follows from the definitions.
 pub mod Steps
 pub mod Parts
+pub mod Counting
 pub mod Registers
 pub mod Room
 pub mod Ends

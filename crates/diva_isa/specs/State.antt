@@ -8,6 +8,8 @@ pub record State : Type 0 where
   pub base : ℕ
   pub bytes : List ℕ
   pub output : List ℕ
+  -- how many instructions led to it
+  pub instret : ℕ
   -- 0 where the machine goes on, 1 + a trap's number, or 256 + the status of a halt (End.antt)
   pub end : ℕ
 

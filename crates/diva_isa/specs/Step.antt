@@ -241,12 +241,13 @@ with_effect s (Writes rd value) = record s { regs = with_reg s.regs rd value }
 with_effect s (Stores width addr value) = with_bytes s (size width) addr value
 with_effect s (Puts byte) = record s { output = s.output ++ byte ∷ [] }
 
--- any record, also a wrong one: an ended state stays, and a record that ends changes nothing but the end
+-- the state behind a record, but for the number of instructions: one that ends changes nothing but the end
+abbrev pub behind_record : State → Record → State
+behind_record s r = if r.end == 0 then record (with_effect s (effect_of r)) { pc = r.next } else record s { end = r.end }
+
+-- any record, also a wrong one: an ended state stays, and to another one it is one instruction more, the ending one too
 unfoldable pub apply : State → Record → State
-apply s r =
-    if goes_on s
-    then (if r.end == 0 then record (with_effect s (effect_of r)) { pc = r.next } else record s { end = r.end })
-    else s
+apply s r = if goes_on s then record (behind_record s r) { instret = s.instret + 1 } else s
 
 -- one instruction; an ended state stays
 unfoldable pub step : State → State

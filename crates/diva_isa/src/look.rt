@@ -8,7 +8,8 @@ ghost use Rattle.diva_isa.specs.State.{State, byte_of, number_of, reg_of, word_o
 use crate::kind::Width;
 use crate::record::Operands;
 
-/// A state that can be read: its pc, registers and memory, and of its output the length.
+/// A state that can be read: its pc, registers and memory, the number of instructions that led to it, and of its output the
+/// length.
 pub trait Look {
     /// The state that is seen.
     ghost shows: { Self → State };
@@ -94,6 +95,10 @@ pub trait Look {
             Width::Word => self.word(addr).is_some(),
         }
     }
+
+    /// How many instructions led to the state.
+    fn instret(&self) -> u64
+        ensures { result ≡ (shows self.now).instret };
 
     /// How many bytes the output holds.
     fn out_len(&self) -> u32

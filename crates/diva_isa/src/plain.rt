@@ -37,7 +37,7 @@ impl Model for Plain {
     ghost Value = { Plain };
 
     ghost view = { λ p. record {
-      state = record { regs = p.regs; pc = p.pc; base = p.memory.base; bytes = p.memory.items; output = p.output.items; end = p.end };
+      state = record { regs = p.regs; pc = p.pc; base = p.memory.base; bytes = p.memory.items; output = p.output.items; instret = p.count; end = p.end };
       count = p.count;
     } };
 
@@ -63,6 +63,10 @@ impl Look for Plain {
         self.memory.word(addr)
     }
 
+    fn instret(&self) -> u64 {
+        self.count
+    }
+
     fn out_len(&self) -> u32 {
         self.output.len() as u32
     }
@@ -84,7 +88,7 @@ impl Plain {
         requires range { base + size ≤ 2 ^ 32 }
         requires payload { length payload.now ≤ size }
         ensures { IfOk result (λ p. p ≡ record {
-          state = record { regs = replicate 32 0; pc = entry; base = base; bytes = payload.now ++ replicate (size - length payload.now) 0; output = []; end = 0 };
+          state = record { regs = replicate 32 0; pc = entry; base = base; bytes = payload.now ++ replicate (size - length payload.now) 0; output = []; instret = 0; end = 0 };
           count = 0;
         }) }
     {
@@ -120,7 +124,6 @@ impl Plain {
     {
         if let Some(r) = self.record() {
             self.apply(&r);
-            self.count += 1;
         }
     }
 
@@ -176,9 +179,11 @@ impl Plain {
     fn apply(&mut self, r: &Record)
         requires goes_on { GoesOn self.old.state }
         requires room { r.now.end ≡ 0 → HasRoom self.old.state (effect_of r.now) }
+        requires count { self.old.count < 2 ^ 60 }
         ensures state { self.new.state ≡ apply self.old.state r.now }
-        ensures count { self.new.count ≡ self.old.count }
+        ensures count { self.new.count ≡ self.old.count + 1 }
     {
+        self.count += 1;
         if r.end != 0 {
             self.end = r.end;
             return;

@@ -44,11 +44,12 @@ pub record Arch : Type 0 where
   pub owed : ℕ
   pub stores : ℕ
 
--- what holds of the committed state: memory ends at 2^32 at the latest, the undrained stores lie inside it, and the end is
--- one that a record can have
-pub record IsKept (m : Bytes) (stores : List Masked) (end : ℕ) : Type 0 where
+-- what holds of the committed state: memory ends at 2^32 at the latest, the undrained stores lie inside it, there are no more
+-- instructions than a view may show, and the end is one that a record can have
+pub record IsKept (m : Bytes) (stores : List Masked) (count end : ℕ) : Type 0 where
   pub range : m.base + length m.items ≤ 2 ^ 32
   pub inside : AreInside m stores
+  pub few : count ≤ 2 ^ 62
   pub ends : IsEnd end
 
 -- the flushes that came: the rows that are kept, the newest, and how many there were

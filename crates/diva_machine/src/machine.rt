@@ -73,7 +73,7 @@ impl Machine {
         let idle = self.parts.watchdog.idle();
         Told {
             cycle: self.parts.cycles + 1,
-            count: self.parts.count,
+            count: self.parts.arch.count(),
             pc: self.parts.arch.pc(),
             epoch: self.parts.log.flushes(),
             pending,
@@ -112,7 +112,7 @@ impl Machine {
     pub fn count(&self) -> u64
         ensures { result ≡ self.now.timed.count }
     {
-        self.parts.count
+        self.parts.arch.count()
     }
 
     /// How many cycles have run.

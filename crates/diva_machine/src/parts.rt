@@ -41,7 +41,6 @@ use std::marker::Model;
 pub(crate) struct Parts {
     width: u32,
     pub(crate) arch: Arch,
-    pub(crate) count: u64,
     pub(crate) cycles: u64,
     pub(crate) pending: Pending,
     /// How many of the pending claims, the oldest, are past the last stage.
@@ -68,7 +67,7 @@ impl Model for Parts {
       timed = record {
         config = record { width = m.width; window = m.pending.capacity; stores = m.arch.stores; limit = m.watchdog.limit };
         arch = m.arch.state;
-        count = m.count;
+        count = m.arch.state.instret;
         cycles = m.cycles;
         pending = map pending_claim_of m.pending.items;
         solo = solo_of m.recover;
@@ -100,7 +99,6 @@ impl Parts {
         Ok(Parts {
             width: config.width(),
             arch: Arch::new(alloc, image, config.stores() as usize)?,
-            count: 0,
             cycles: 0,
             pending: Pending::new(alloc, config.window() as usize)?,
             passed: 0,
@@ -185,7 +183,7 @@ impl Parts {
     {
         let row = FlushRow {
             cycle: self.cycles,
-            at: self.count,
+            at: self.arch.count(),
             cause,
         };
         self.pending.clear();
@@ -205,7 +203,7 @@ impl Parts {
             → e.claim ≡ record_of self.old.timed.arch }
         requires decoded { (e : Entry) → slice_get self.old.entries 0 ≡ Some e
             → e.decoded ≡ row_of e.claim.word }
-        requires count { self.old.timed.count < 2 ^ 63 }
+        requires count { self.old.timed.count < 2 ^ 62 }
         requires last { length self.old.last < 4 }
         ensures answer { (e : Entry) → slice_get self.old.entries 0 ≡ Some e
             → result ≡ answer e.verdict e.claim (self.old.timed.owed == self.old.timed.config.stores) }
@@ -219,7 +217,6 @@ impl Parts {
         let front = self.pending.at(0);
         let answer = self.arch.commit(front.decoded, &front.claim, front.verdict);
         if answer.is_committed() {
-            self.count += 1;
             self.last.push(front.claim);
         }
         answer
@@ -252,7 +249,7 @@ impl Parts {
         requires ready { 0 < self.old.passed }
         requires goes_on { GoesOn self.old.timed.arch }
         requires owed { self.old.timed.owed ≤ self.old.timed.config.stores }
-        requires count { self.old.timed.count < 2 ^ 63 }
+        requires count { self.old.timed.count < 2 ^ 62 }
         requires flushes { self.old.timed.flushes < 2 ^ 63 }
         requires silent { self.old.timed.silent < 2 ^ 63 }
         requires last { length self.old.last < 4 }
@@ -290,7 +287,7 @@ impl Parts {
         requires width { n ≤ 4 }
         requires goes_on { GoesOn self.old.timed.arch }
         requires owed { self.old.timed.owed ≤ self.old.timed.config.stores }
-        requires count { self.old.timed.count + 4 < 2 ^ 63 }
+        requires count { self.old.timed.count + 4 ≤ 2 ^ 62 }
         requires flushes { self.old.timed.flushes < 2 ^ 62 }
         requires silent { self.old.timed.silent < 2 ^ 62 }
         requires last { self.old.last ≡ [] }
@@ -325,7 +322,7 @@ impl Parts {
         requires width { self.old.timed.config.width ≤ 4 }
         requires goes_on { GoesOn self.old.timed.arch }
         requires owed { self.old.timed.owed < self.old.timed.config.stores }
-        requires count { self.old.timed.count + 4 < 2 ^ 63 }
+        requires count { self.old.timed.count + 4 ≤ 2 ^ 62 }
         requires flushes { self.old.timed.flushes < 2 ^ 62 }
         requires silent { self.old.timed.silent < 2 ^ 62 }
         requires last { self.old.last ≡ [] }
@@ -377,7 +374,7 @@ impl Parts {
         requires goes_on { GoesOn self.old.timed.arch }
         requires due { self.old.filled ≡ record_of self.old.timed.arch }
         requires owed { self.old.timed.owed < self.old.timed.config.stores }
-        requires count { self.old.timed.count < 2 ^ 63 }
+        requires count { self.old.timed.count < 2 ^ 62 }
         requires last { length self.old.last < 4 }
         ensures { self.new ≡ record self.old {
           timed = committed (record self.old.timed { solo = None }) self.old.filled;
@@ -389,7 +386,6 @@ impl Parts {
             .commit(decode(self.filled.word), &self.filled, None);
         self.future.reset(self.arch.regs());
         self.recover = Recover::Running;
-        self.count += 1;
         self.last.push(self.filled);
     }
 

@@ -17,7 +17,7 @@ ring_handed ahead s r = rw length-append refl
 -- the ring is longer by one
 pub ring_more : (ahead new : Ahead) (r : Record) → ((s : State) → new ≡ with_record ahead s r) → length new.ring ≡ length ahead.ring + 1
 ring_more ahead new r is =
-    let s : State = record { regs = []; pc = 0; base = 0; bytes = []; output = []; end = 0 } in
+    let s : State = record { regs = []; pc = 0; base = 0; bytes = []; output = []; instret = 0; end = 0 } in
     ap (λ (x : Ahead). length x.ring) (is s) ∙ ring_handed ahead s r
 
 -- a record that goes on does all that its word says

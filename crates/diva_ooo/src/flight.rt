@@ -120,6 +120,11 @@ impl Look for Flight<'_> {
         self.view.has(addr, width)
     }
 
+    // The core's own number: an instruction that reads it has no older one in the window.
+    fn instret(&self) -> u64 {
+        self.ahead.instret()
+    }
+
     fn out_len(&self) -> u32 {
         self.ahead.out_len()
     }

@@ -162,7 +162,7 @@ length_code seed n = length-append (words_after n seed) last_words ∙ ap (λ (k
 
 -- the state before the first instruction
 abbrev begins : List ℕ → State
-begins bytes = record { regs = replicate 32 0; pc = 2048; base = 0; bytes = bytes; output = []; end = 0 }
+begins bytes = record { regs = replicate 32 0; pc = 2048; base = 0; bytes = bytes; output = []; instret = 0; end = 0 }
 
 stands_first : (code zeros bytes : List ℕ) → AreWords code → length zeros ≡ 2048 → bytes ≡ zeros ++ words_as_bytes code → Stands code (begins bytes) 0
 stands_first code zeros bytes are long is =

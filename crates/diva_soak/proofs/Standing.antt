@@ -86,7 +86,7 @@ base_kept s (Stores width addr value) = refl
 base_kept s (Puts byte) = refl
 
 abbrev pub moved : State → Effect → ℕ → State
-moved s e next = record (with_effect s e) { pc = next }
+moved s e next = record (with_effect s e) { pc = next; instret = s.instret + 1 }
 
 pub stands_moved : (code : List ℕ) (s : State) (i j next : ℕ) (e : Effect) → Stands code s i → IsMild e → next ≡ 2048 + 4 * j → Stands code (moved s e next) j
 stands_moved code s i j next e st mild is =

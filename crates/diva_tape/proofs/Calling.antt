@@ -13,7 +13,7 @@ use Rattle.diva_core.specs.Told.{Told}
 use Rattle.diva_core.proofs.Calming.{AreDueFrom}
 use Rattle.diva_ahead.specs.Effects.{done_by}
 use Rattle.diva_ahead.specs.Ahead.{Ahead, taken_over, with_record, is_epoch, seen, synced, trimmed}
-use Rattle.diva_ahead.proofs.Leading.{Follows, handed_shows, seen_record}
+use Rattle.diva_ahead.proofs.Leading.{Follows, handed_shows, low_64, seen_record}
 use Rattle.diva_tape.specs.Scalar.{ScalarCall, next_call, scalar_call}
 
 -- the record that is due in a state, if it goes on
@@ -36,14 +36,14 @@ pub record Hands (epoch : ℕ) (s : State) (claims : List Record) (call : Scalar
 abbrev pub Ready : Ahead → ℕ → State → List Record → Type 0
 Ready ahead epoch s claims = Keeps ahead epoch s claims ⊎ ((is_epoch ahead.epoch epoch ≡ false) × (claims ≡ []))
 
-keeps_begun : (told : Told) (s : State) → goes_on s ≡ true → Keeps (taken_over told s) told.epoch s []
+keeps_begun : (told : Told) (s : State) → told.count ≡ s.instret → goes_on s ≡ true → Keeps (taken_over told s) told.epoch s []
 unfolding taken_over
-keeps_begun told s on =
-    record { of = eq-eqb told.epoch told.epoch refl; before = []; ring = refl; follows = record { shows = record { regs = refl; pc = refl; output = refl }; stopped = ap not (sym on) } }
+keeps_begun told s counted on =
+    record { of = eq-eqb told.epoch told.epoch refl; before = []; ring = refl; follows = record { shows = record { regs = refl; pc = refl; output = refl; instret = ap low_64 counted }; stopped = ap not (sym on) } }
 
-keeps_synced : (ahead : Ahead) (told : Told) (s : State) (claims : List Record) → goes_on s ≡ true → Ready ahead told.epoch s claims → Keeps (synced ahead told s) told.epoch s claims
-keeps_synced ahead told s claims on (inl k) = rw k.of k
-keeps_synced ahead told s claims on (inr k) = rw k.0 (subst (Keeps (taken_over told s) told.epoch s) (sym k.1) (keeps_begun told s on))
+keeps_synced : (ahead : Ahead) (told : Told) (s : State) (claims : List Record) → told.count ≡ s.instret → goes_on s ≡ true → Ready ahead told.epoch s claims → Keeps (synced ahead told s) told.epoch s claims
+keeps_synced ahead told s claims counted on (inl k) = rw k.of k
+keeps_synced ahead told s claims counted on (inr k) = rw k.0 (subst (Keeps (taken_over told s) told.epoch s) (sym k.1) (keeps_begun told s counted on))
 
 drop_before : (before xs : List Effect) (n : ℕ) → n ≡ length xs → drop (length (before ++ xs) - n) (before ++ xs) ≡ xs
 drop_before before xs n e =
@@ -62,7 +62,7 @@ trims ahead told s claims e k =
     record {
       of = k.of;
       ring = ap (λ (ring : List Effect). drop (length ring - told.pending) ring) k.ring ∙ drop_before k.before (map done_by claims) told.pending (e ∙ sym (length-map claims done_by));
-      follows = record { shows = record { regs = k.follows.shows.regs; pc = k.follows.shows.pc; output = k.follows.shows.output }; stopped = k.follows.stopped };
+      follows = record { shows = record { regs = k.follows.shows.regs; pc = k.follows.shows.pc; output = k.follows.shows.output; instret = k.follows.shows.instret }; stopped = k.follows.stopped };
     }
 
 not_off : (b : Bool) → true ≡ not b → b ≡ false
@@ -121,13 +121,13 @@ handed_by true ahead epoch s claims e due t = stays ahead epoch s claims t e
 handed_by false ahead epoch s claims e due t = goes ahead epoch s claims due t e
 
 -- where there is room a call hands over the record that is due behind the pending claims, unless one of them ends
-pub hands : (ahead : Ahead) (told : Told) (s : State) (claims : List Record) → told.room ≢ 0 → told.pending ≡ length claims → goes_on s ≡ true → AreDueFrom s claims → Ready ahead told.epoch s claims
+pub hands : (ahead : Ahead) (told : Told) (s : State) (claims : List Record) → told.room ≢ 0 → told.pending ≡ length claims → told.count ≡ s.instret → goes_on s ≡ true → AreDueFrom s claims → Ready ahead told.epoch s claims
     → Hands told.epoch s claims (scalar_call ahead told s)
 unfolding scalar_call
-hands ahead told s claims some e on due ready =
+hands ahead told s claims some e counted on due ready =
     let test : (told.room == 0) ≡ false = grind (arith, nat_tests) in
     let core : Ahead = trimmed (synced ahead told s) told in
-    rw test (handed_by core.stopped core told.epoch s claims refl due (trims (synced ahead told s) told s claims e (keeps_synced ahead told s claims on ready)))
+    rw test (handed_by core.stopped core told.epoch s claims refl due (trims (synced ahead told s) told s claims e (keeps_synced ahead told s claims counted on ready)))
 
 -- where there is none, nothing happens
 pub waits : (ahead : Ahead) (told : Told) (s : State) → told.room ≡ 0 → scalar_call ahead told s ≡ record { list = []; core = ahead }

@@ -55,10 +55,10 @@ take_one zero b r some = absurd (omega arith)
 take_one (suc n) true r some = ap (λ (xs : List Record). r ∷ xs) (take_none n)
 take_one (suc n) false r some = refl
 
-at_some : (ahead : Ahead) (m : Timed) → 0 < room_of m → goes_on m.arch ≡ true → IsCalmRunning m → Ready ahead m.flushes m.arch (waiting m) → At m (scalar_call ahead (told_of m) m.arch)
-at_some ahead m some on calm ready =
+at_some : (ahead : Ahead) (m : Timed) → 0 < room_of m → m.count ≡ m.arch.instret → goes_on m.arch ≡ true → IsCalmRunning m → Ready ahead m.flushes m.arch (waiting m) → At m (scalar_call ahead (told_of m) m.arch)
+at_some ahead m some counted on calm ready =
     let h : Hands m.flushes m.arch (waiting m) (scalar_call ahead (told_of m) m.arch) =
-    hands ahead (told_of m) m.arch (waiting m) (let s = some in omega arith) (sym (length-map m.pending claim_of)) on (due_from m.arch (waiting m) calm.claims) ready in
+    hands ahead (told_of m) m.arch (waiting m) (let s = some in omega arith) (sym (length-map m.pending claim_of)) counted on (due_from m.arch (waiting m) calm.claims) ready in
     let far : steps (length (waiting m)) m.arch ≡ steps (length m.pending) m.arch = ap (λ (k : ℕ). steps k m.arch) (length-map m.pending claim_of) in
     let all : take (room_of m) (scalar_call ahead (told_of m) m.arch).list ≡ (scalar_call ahead (told_of m) m.arch).list =
     ap (take (room_of m)) h.list ∙ take_one (room_of m) (goes_on (steps (length (waiting m)) m.arch)) (record_of (steps (length (waiting m)) m.arch)) some ∙ sym h.list in
@@ -85,7 +85,7 @@ kept ahead m inv on calm none (inr f) = absurd (let some : 1 ≤ room_of m = roo
 at : (ahead : Ahead) (m : Timed) → IsMachine m → goes_on m.arch ≡ true → IsCalmRunning m → Ready ahead m.flushes m.arch (waiting m) → At m (scalar_call ahead (told_of m) m.arch)
 at ahead m inv on calm ready =
     elim (cases_lt 0 (room_of m)) [
-      | inl some ↦ at_some ahead m some on calm ready
+      | inl some ↦ at_some ahead m some (sym inv.counted) on calm ready
       | inr few ↦
           let none : room_of m ≡ 0 = omega arith in
           subst (At m) (sym (waits ahead (told_of m) m.arch none)) (at_none ahead m none (kept ahead m inv on calm none ready))
@@ -236,8 +236,8 @@ scalar_history_right m last before after history may h =
     rule_right_by scalar_list scalar_right m (lists_of history) (scalar_history m last before after history may h)
 
 -- a new core at a new machine
-pub new_leads : (z : Config) (s : State) → IsConfig z → MayLead (new_timed z s) new_scalar
-new_leads z s ok = record { machine = new-machine z s ok; epoch = refl; rests = λ none. (new_calm z s ok, refl) }
+pub new_leads : (z : Config) (s : State) → IsConfig z → s.instret ≡ 0 → MayLead (new_timed z s) new_scalar
+new_leads z s ok none = record { machine = new-machine z s ok none; epoch = refl; rests = λ running. (new_calm z s ok, refl) }
 
 -- where a solo instruction commits
 pub leads_again : (m : Timed) (before after : Ahead) (list : List Record) (start : ℕ) → IsMachine m → goes_on m.arch ≡ true → m.solo ≡ Some start → m.cycles + 1 ≡ start + depth → is_epoch before.epoch m.flushes ≡ false → IsScalarCall before (told_of m) m.arch list after

@@ -236,30 +236,30 @@ new_paced : (z : Config) (s : State) → IsConfig z → goes_on s ≡ true → P
 new_paced z s ok on = record { calm = new_calm z s ok on; count = refl; queue = record { successive = tt; leads = inl refl } }
 
 -- a new machine under a new Scalar
-paced : (z : Config) (s : State) (last : Timed) (after : Ahead) (history : List (List Record × Ahead)) → IsConfig z → goes_on s ≡ true
+paced : (z : Config) (s : State) (last : Timed) (after : Ahead) (history : List (List Record × Ahead)) → IsConfig z → s.instret ≡ 0 → goes_on s ≡ true
     → IsHistory IsScalarCall (new_timed z s) new_scalar history last after → IsPaced last
-paced z s last after history ok on h =
+paced z s last after history ok none on h =
     let m : Timed = new_timed z s in
     subst IsPaced (sym (IsHistory-run IsScalarCall m new_scalar history last after h))
-    (run_paced (lists_of history) m (new-machine z s ok) on (new_paced z s ok on) (scalar_history m last new_scalar after history (new_leads z s ok) h))
+    (run_paced (lists_of history) m (new-machine z s ok none) on (new_paced z s ok on) (scalar_history m last new_scalar after history (new_leads z s ok none) h))
 
 -- a history that leads to a machine that goes on began at one
 began : {C : Type 0} (gives : Meaning C) (m : Timed) (core : C) (history : List (List Record × C)) (last : Timed) (final : C) → IsHistory gives m core history last final → goes_on last.arch ≡ true → goes_on m.arch ≡ true
 began gives m core [] last final h on = ap (λ (n : Timed). goes_on n.arch) (sym h.0) ∙ on
 began gives m core (turn ∷ rest) last final h on = h.0
 
-pub scalar_runs : (z : Config) (s : State) (last : Timed) (after : Ahead) (history : List (List Record × Ahead)) → IsConfig z
+pub scalar_runs : (z : Config) (s : State) (last : Timed) (after : Ahead) (history : List (List Record × Ahead)) → IsConfig z → s.instret ≡ 0
     → IsHistory IsScalarCall (new_timed z s) new_scalar history last after → goes_on last.arch ≡ true → last.count ≡ last.cycles - depth
-scalar_runs z s last after history ok h on =
-    (paced z s last after history ok (began IsScalarCall (new_timed z s) new_scalar history last after h on) h).0 on
+scalar_runs z s last after history ok none h on =
+    (paced z s last after history ok none (began IsScalarCall (new_timed z s) new_scalar history last after h on) h).0 on
 
-pub scalar_ends : (z : Config) (s : State) (last : Timed) (after : Ahead) (history : List (List Record × Ahead)) → IsConfig z → goes_on s ≡ true
+pub scalar_ends : (z : Config) (s : State) (last : Timed) (after : Ahead) (history : List (List Record × Ahead)) → IsConfig z → s.instret ≡ 0 → goes_on s ≡ true
     → IsHistory IsScalarCall (new_timed z s) new_scalar history last after → goes_on last.arch ≡ false → last.cycles ≡ last.count + depth
-scalar_ends z s last after history ok on h off = (paced z s last after history ok on h).1 off
+scalar_ends z s last after history ok none on h off = (paced z s last after history ok none on h).1 off
 
-pub scalar_unflushed : (z : Config) (s : State) (last : Timed) (after : Ahead) (history : List (List Record × Ahead)) → IsConfig z
+pub scalar_unflushed : (z : Config) (s : State) (last : Timed) (after : Ahead) (history : List (List Record × Ahead)) → IsConfig z → s.instret ≡ 0
     → IsHistory IsScalarCall (new_timed z s) new_scalar history last after → last.flushes ≡ 0
-scalar_unflushed z s last after history ok h =
+scalar_unflushed z s last after history ok none h =
     let m : Timed = new_timed z s in
     ap (λ (n : Timed). n.flushes) (IsHistory-run IsScalarCall m new_scalar history last after h)
-    ∙ (run_calm m (lists_of history) (new-machine z s ok) (new_calm z s ok) (scalar_history_right m last new_scalar after history (new_leads z s ok) h)).flushes
+    ∙ (run_calm m (lists_of history) (new-machine z s ok none) (new_calm z s ok) (scalar_history_right m last new_scalar after history (new_leads z s ok none) h)).flushes

@@ -16,7 +16,7 @@ use Rattle.diva_tape.specs.Scalar.{new_scalar, scalar_call}
 
 -- a machine at reset, with these words in memory from address 0 on
 abbrev pub filled : List ℕ → State
-filled words = record { regs = replicate 32 0; pc = 0; base = 0; bytes = flat_map (to_le_bytes w32) words; output = []; end = 0 }
+filled words = record { regs = replicate 32 0; pc = 0; base = 0; bytes = flat_map (to_le_bytes w32) words; output = []; instret = 0; end = 0 }
 
 -- a machine at reset with a memory of 64 bytes: these words, and zeros behind them
 abbrev pub loaded : List ℕ → State

@@ -24,7 +24,8 @@ pub fn lockstep_is_right()
         → IsHistory IsLockstepCall m before history last after → AreRight m (lists_of history) }
 {}
 
-/// `Scalar` is right from a machine on at which it may lead, and it may from its making on. In each of its histories from
+/// `Scalar` is right from a machine on at which it may lead, and it may from its making on, where no instruction has led to the
+/// state that the machine begins with. In each of its histories from
 /// there, a list has just the record that is due behind the pending claims, where there is room and the machine goes on
 /// behind them, and else nothing. So each list is right for the machine that it is handed to, and a calm machine that
 /// `Scalar` drives is never flushed.
@@ -34,7 +35,7 @@ pub fn scalar_is_right()
         → MayLead m before → IsHistory IsScalarCall m before history last after → FollowRule scalar_list m (lists_of history) }
     ensures right { (m last : Timed) (before after : Ahead) (history : List (List Record × Ahead))
         → MayLead m before → IsHistory IsScalarCall m before history last after → AreRight m (lists_of history) }
-    ensures new { (config : Config) (s : State) → IsConfig config → MayLead (new_timed config s) new_scalar }
+    ensures new { (config : Config) (s : State) → IsConfig config → s.instret ≡ 0 → MayLead (new_timed config s) new_scalar }
 {}
 
 /// `Scalar` may lead again after each flush, whatever the machine was handed: at once, since while an instruction runs solo
@@ -60,13 +61,13 @@ pub fn scalar_may_lead_again()
 #[tactic(auto, using(crate::proofs::Pacing::scalar_runs, crate::proofs::Pacing::scalar_ends, crate::proofs::Pacing::scalar_unflushed))]
 pub fn scalar_keeps_pace()
     ensures running { (config : Config) (s : State) (last : Timed) (after : Ahead) (history : List (List Record × Ahead))
-        → IsConfig config → IsHistory IsScalarCall (new_timed config s) new_scalar history last after
+        → IsConfig config → s.instret ≡ 0 → IsHistory IsScalarCall (new_timed config s) new_scalar history last after
         → goes_on last.arch ≡ true → last.count ≡ last.cycles - depth }
     ensures ended { (config : Config) (s : State) (last : Timed) (after : Ahead) (history : List (List Record × Ahead))
-        → IsConfig config → goes_on s ≡ true → IsHistory IsScalarCall (new_timed config s) new_scalar history last after
+        → IsConfig config → s.instret ≡ 0 → goes_on s ≡ true → IsHistory IsScalarCall (new_timed config s) new_scalar history last after
         → goes_on last.arch ≡ false → last.cycles ≡ last.count + depth }
     ensures flushes { (config : Config) (s : State) (last : Timed) (after : Ahead) (history : List (List Record × Ahead))
-        → IsConfig config → IsHistory IsScalarCall (new_timed config s) new_scalar history last after → last.flushes ≡ 0 }
+        → IsConfig config → s.instret ≡ 0 → IsHistory IsScalarCall (new_timed config s) new_scalar history last after → last.flushes ≡ 0 }
 {}
 
 /// A core that plays a tape hands over, in each of its histories, from any machine, the lists of the tape in their order,

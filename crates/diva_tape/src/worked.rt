@@ -29,16 +29,17 @@ pub fn three_instructions_step_by_step()
     ensures end { (steps 3 three_instructions).end ≡ halt 0 }
 {}
 
-/// A load that is both misaligned and outside memory: misaligned wins. A trap changes nothing else.
+/// A load that is both misaligned and outside memory: misaligned wins. A trap changes nothing else but that it is one
+/// instruction more.
 pub fn misaligned_wins_over_outside()
-    ensures step { step misaligned_load_outside ≡ record misaligned_load_outside { end = trap LoadMisaligned } }
+    ensures step { step misaligned_load_outside ≡ record misaligned_load_outside { instret = 1; end = trap LoadMisaligned } }
     ensures summary { summary_of (led_by lockstep_list 20 (new_timed default_config misaligned_load_outside))
         ≡ record { end = trap LoadMisaligned; count = 1; cycles = 7; flushes = 0; silent = 0; rows = [] } }
 {}
 
 /// A jump to an address that is not a multiple of four traps, and writes no register.
 pub fn a_jump_to_no_multiple_of_four_traps()
-    ensures step { step jump_to_six ≡ record jump_to_six { end = trap InstructionMisaligned } }
+    ensures step { step jump_to_six ≡ record jump_to_six { instret = 1; end = trap InstructionMisaligned } }
     ensures summary { summary_of (led_by lockstep_list 20 (new_timed default_config jump_to_six))
         ≡ record { end = trap InstructionMisaligned; count = 1; cycles = 7; flushes = 0; silent = 0; rows = [] } }
 {}

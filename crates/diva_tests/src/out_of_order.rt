@@ -63,7 +63,7 @@ fn claimed_in(alloc: Global, list: &Claims) -> Result<Vec<Claimed>, AllocError> 
 fn compare_calls(rt: &impl Abort, alloc: Global, row: &Row) -> Result<(), Fail> {
     let (regs, memory) = (Regs::new(), memory(alloc, row.words)?);
     let (queue, output) = (StoreQueue::new(alloc, 1)?, Output::new(alloc)?);
-    let view = View::new(&regs, 0, &memory, &queue, &output);
+    let view = View::new(&regs, 0, &memory, &queue, &output, 0);
     let mut core = Ooo::new(alloc)?;
     for (place, call) in (1..).zip(row.calls) {
         let list = handed_over(&mut core, &told(place, call), &view);

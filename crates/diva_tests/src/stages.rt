@@ -68,7 +68,7 @@ fn answer_of(alloc: Global, row: &Row) -> Result<Option<Diff>, AllocError> {
             output.push(0);
         }
     }
-    let view = View::new(&regs, 0, &memory, &queue, &output);
+    let view = View::new(&regs, 0, &memory, &queue, &output, 0);
     Ok(answer(row.stage, &pending(alloc, row.claims)?, &view))
 }
 

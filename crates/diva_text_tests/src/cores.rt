@@ -16,7 +16,7 @@ pub(crate) fn list_of<C: Core>(
     let memory = Memory::new(alloc, 0, 4, &[])?;
     let queue = StoreQueue::new(alloc, 1)?;
     let output = Output::new(alloc)?;
-    let view = View::new(&regs, 0, &memory, &queue, &output);
+    let view = View::new(&regs, 0, &memory, &queue, &output, 0);
     let mut list = Claims::new();
     core.cycle(&told(cycle, room), &view, &mut list);
     Ok(list)

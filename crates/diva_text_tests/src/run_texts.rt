@@ -88,7 +88,7 @@ fn text_of_a_run(rt: HostRuntime) -> Result<(), Fail> {
         flushes: 2,
         silent: 1,
         output: b"A\n",
-        view: &View::new(&regs, 8, &memory, &queue, &output),
+        view: &View::new(&regs, 8, &memory, &queue, &output, 0),
         dump: Some(Dump { addr: 0x3c, len: 8 }),
     };
     let mut run = MemSink::new(alloc, 2048, Vec::new(alloc))?;

@@ -10,9 +10,9 @@ push-requires-clause-range c =
     range_fits c.args.memory.now c.args.queue.now.items c.args.addr c.size-width.result (size c.args.width) c.recall.ensures c.size-width.ensures c.requires.inside
 
 pub returns-clause-laid : goal.returns-clause-laid
-returns-clause-laid c = λ regs pc output end.
-    ap (λ (m : Bytes). state_of regs pc m output end) (c.push.ensures.laid c.args.memory.now)
-    ∙ store_laid _ _ regs pc output end (size c.args.width) c.args.addr c.args.value c.size-width.ensures refl refl
+returns-clause-laid c = λ regs pc output n end.
+    ap (λ (m : Bytes). state_of regs pc m output n end) (c.push.ensures.laid c.args.memory.now)
+    ∙ store_laid _ _ regs pc output n end (size c.args.width) c.args.addr c.args.value c.size-width.ensures refl refl
 
 pub returns-clause-queued : goal.returns-clause-queued
 returns-clause-queued c = λ r h. rw c.push.ensures.entries (queued_one c.args.queue.now.items _ r h)
