@@ -8,10 +8,13 @@ use Rattle.diva_decode.specs.declared.instr.Instr.{Instr}
 use Rattle.diva_decode.specs.Table.{row_of}
 use Rattle.diva_memory.specs.Bytes.{Bytes, low_bytes, put_all}
 use Rattle.diva_isa.specs.State.{State, goes_on, memory_of, word_of, output_limit}
+use Rattle.diva_decode.specs.declared.op.Op.{Op}
+use Rattle.diva_decode.specs.declared.op.Op.TheVariants.{Rdinstret, Rdinstreth}
+use Rattle.diva_isa.specs.Alu.{half_read}
 use Rattle.diva_isa.specs.Kind.{kind, size}
-use Rattle.diva_isa.specs.Step.{apply, effect_of, record_fetched, outcome, record_of, record_by, source1, source2, address_of, step, steps, with_effect}
+use Rattle.diva_isa.specs.Step.{apply, continues, effect_of, record_fetched, outcome, record_of, record_by, source1, source2, address_of, step, steps, with_effect}
 use Rattle.diva_isa.specs.declared.kind.Kind.{Kind}
-use Rattle.diva_isa.specs.declared.kind.Kind.TheVariants.{Lui, Ecall}
+use Rattle.diva_isa.specs.declared.kind.Kind.TheVariants.{Lui, Ecall, Counter}
 use Rattle.diva_isa.specs.declared.record.Record.{Record}
 use Rattle.diva_isa.specs.declared.effect.Effect.{Effect}
 use Rattle.diva_isa.specs.declared.effect.Effect.TheVariants.{Nothing, Writes, Stores, Puts}
@@ -46,23 +49,29 @@ source2_other k s o n e i = refl
 same_room : (m n : ℕ) → full m ≡ full n → nat_lt m output_limit ≡ nat_lt n output_limit
 same_room m n h = grind (arith, nat_tests)
 
-outcome_other : (k : Kind) (s : State) (o : List ℕ) (n e : ℕ) (i : Instr) (pc a b addr : ℕ) → full (length o) ≡ full (length s.output) → outcome k (other s o n e) i pc a b addr ≡ outcome k s i pc a b addr
-outcome_other Ecall s o n e i pc a b addr h = rw (same_room (length o) (length s.output) h) refl
-outcome_other k s o n e i pc a b addr h = refl
+half_same : (op : Op) (m n : ℕ) → low_64 m ≡ low_64 n → half_read op m ≡ half_read op n
+half_same Rdinstret m n h = omega arith
+half_same Rdinstreth m n h = omega arith
+half_same op m n h = refl
 
-said_other : (s : State) (o : List ℕ) (n e : ℕ) (there : Bool) (w : ℕ) (decoded : Option Instr) → full (length o) ≡ full (length s.output) → record_by (other s o n e) there w decoded ≡ record_by s there w decoded
-said_other s o n e true w None h = refl
-said_other s o n e false w None h = refl
-said_other s o n e there w (Some i) h =
-    rw (source1_other (kind i.op) s o n e i, source2_other (kind i.op) s o n e i, outcome_other (kind i.op) s o n e i s.pc (source1 (kind i.op) s i) (source2 (kind i.op) s i) (address_of (Some i) (source1 (kind i.op) s i)) h) refl
+outcome_other : (k : Kind) (s : State) (o : List ℕ) (n e : ℕ) (i : Instr) (pc a b addr : ℕ) → full (length o) ≡ full (length s.output) → low_64 n ≡ low_64 s.instret → outcome k (other s o n e) i pc a b addr ≡ outcome k s i pc a b addr
+outcome_other Ecall s o n e i pc a b addr h g = rw (same_room (length o) (length s.output) h) refl
+outcome_other Counter s o n e i pc a b addr h g = ap (continues pc) (half_same i.op n s.instret g)
+outcome_other k s o n e i pc a b addr h g = refl
 
-fetched_other : (s : State) (o : List ℕ) (n e : ℕ) (w : Option ℕ) → full (length o) ≡ full (length s.output) → record_fetched (other s o n e) w ≡ record_fetched s w
-fetched_other s o n e None h = said_other s o n e false 0 None h
-fetched_other s o n e (Some w) h = said_other s o n e true w (row_of w) h
+said_other : (s : State) (o : List ℕ) (n e : ℕ) (there : Bool) (w : ℕ) (decoded : Option Instr) → full (length o) ≡ full (length s.output) → low_64 n ≡ low_64 s.instret → record_by (other s o n e) there w decoded ≡ record_by s there w decoded
+said_other s o n e true w None h g = refl
+said_other s o n e false w None h g = refl
+said_other s o n e there w (Some i) h g =
+    rw (source1_other (kind i.op) s o n e i, source2_other (kind i.op) s o n e i, outcome_other (kind i.op) s o n e i s.pc (source1 (kind i.op) s i) (source2 (kind i.op) s i) (address_of (Some i) (source1 (kind i.op) s i)) h g) refl
 
-record_of_other : (s : State) (o : List ℕ) (n e : ℕ) → full (length o) ≡ full (length s.output) → record_of (other s o n e) ≡ record_of s
+fetched_other : (s : State) (o : List ℕ) (n e : ℕ) (w : Option ℕ) → full (length o) ≡ full (length s.output) → low_64 n ≡ low_64 s.instret → record_fetched (other s o n e) w ≡ record_fetched s w
+fetched_other s o n e None h g = said_other s o n e false 0 None h g
+fetched_other s o n e (Some w) h g = said_other s o n e true w (row_of w) h g
+
+record_of_other : (s : State) (o : List ℕ) (n e : ℕ) → full (length o) ≡ full (length s.output) → low_64 n ≡ low_64 s.instret → record_of (other s o n e) ≡ record_of s
 unfolding record_of
-record_of_other s o n e h = fetched_other s o n e (word_of s s.pc) h
+record_of_other s o n e h g = fetched_other s o n e (word_of s s.pc) h g
 
 -- ---- the memory to which a record leads is what it does, laid over memory
 
@@ -139,7 +148,7 @@ pub seen_record : (ahead : Ahead) (s : State) (claims : List Record) → ahead.r
 seen_record ahead s claims ring due on shows =
     let t : State = steps (length claims) s in
     let memory : memory_of (with_effects s ahead.ring) ≡ memory_of t = ap (λ (effects : List Effect). memory_of (with_effects s effects)) ring ∙ effects_due claims s due on in
-    ap record_of (seen_is ahead s t memory shows) ∙ record_of_other t (replicate ahead.out_len 0) ahead.instret 0 (ap full (length-replicate ahead.out_len 0) ∙ shows.output)
+    ap record_of (seen_is ahead s t memory shows) ∙ record_of_other t (replicate ahead.out_len 0) ahead.instret 0 (ap full (length-replicate ahead.out_len 0) ∙ shows.output) shows.instret
 
 -- ---- and behind that record the core keeps the next state
 

@@ -5,6 +5,6 @@ use Rattle.diva_isa.specs.declared.record.Record.{Record}
 use Rattle.diva_isa.specs.declared.effect.Effect.{Effect}
 use Rattle.diva_isa.specs.declared.effect.Effect.TheVariants.{Nothing}
 
--- what a record does besides moving the pc; one that ends does nothing
+-- what a record does besides moving the pc and being counted; one that ends does nothing
 unfoldable pub done_by : Record → Effect
 done_by r = if r.end == 0 then effect_of r else Nothing

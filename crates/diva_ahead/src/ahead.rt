@@ -121,7 +121,13 @@ impl Ahead {
         ensures { self.new ≡ synced self.old told.now view.now }
     {
         if !self.is_of(told.epoch) {
-            self.begin(told.epoch, told.count, view.regs(), view.pc(), view.out_len());
+            self.begin(
+                told.epoch,
+                told.count,
+                view.regs(),
+                view.pc(),
+                view.out_len(),
+            );
         }
     }
 

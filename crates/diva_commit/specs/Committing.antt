@@ -3,7 +3,10 @@ use Rattle.std.specs.Prelude.{ℕ, ◌≡◌, ◌&&◌, Bool, true, false, List,
 use Rattle.diva_memory.specs.Bytes.{Bytes}
 use Rattle.diva_storeq.specs.declared.masked.Masked.{Masked}
 use Rattle.diva_storeq.specs.Masked.{WritesInside}
+use Rattle.diva_decode.specs.Table.{row_of}
 use Rattle.diva_isa.specs.State.{State}
+use Rattle.diva_isa.specs.Kind.{reads_instret_by}
+use Rattle.diva_isa.specs.Step.{record_of}
 use Rattle.diva_isa.specs.End.{end_of}
 use Rattle.diva_isa.specs.declared.end.End.{End}
 use Rattle.diva_isa.specs.declared.end.End.TheVariants.{GoesOn as Running, Halt as Halted, Trap as Trapped}
@@ -17,6 +20,11 @@ use Rattle.diva_commit.specs.declared.commits.Committed.TheVariants.{GoesOn, Hal
 abbrev pub state_of : (regs : List ℕ) (pc : ℕ) → Bytes → (output : List ℕ) (instret end : ℕ) → State
 state_of regs pc m output instret end =
     record { regs = regs; pc = pc; base = m.base; bytes = m.items; output = output; instret = instret; end = end }
+
+-- r is the due record of s, but that the value of an instruction that reads `instret` may be any
+abbrev pub IsDueButInstret : State → Record → Type 0
+IsDueButInstret s r =
+    r ≡ (if reads_instret_by (row_of (record_of s).word) then record (record_of s) { value = r.value } else record_of s)
 
 -- each of the stores lies inside memory
 abbrev pub AreInside : Bytes → List Masked → Type 0

@@ -4,10 +4,10 @@ ghost use Rattle.diva_decode.specs.Table.{row_of, HasRegisters};
 ghost use Rattle.diva_storeq.specs.Stores.{laid};
 ghost use Rattle.diva_memory.specs.Bytes.{IsInside};
 ghost use Rattle.diva_isa.specs.Kind.{size};
-ghost use Rattle.diva_isa.specs.Step.{apply, record_of, with_bytes};
+ghost use Rattle.diva_isa.specs.Step.{apply, with_bytes};
 ghost use Rattle.diva_isa.specs.declared.record.Record.{Record};
 ghost use Rattle.diva_core.specs.Cycle.{puts_store};
-ghost use Rattle.diva_commit.specs.Committing.{state_of, answer, ending, is_committed, AreInside, IsQueued};
+ghost use Rattle.diva_commit.specs.Committing.{state_of, answer, ending, is_committed, AreInside, IsDueButInstret, IsQueued};
 
 use diva_core::{Diff, Output};
 use diva_decode::{Instr, decode};
@@ -55,9 +55,10 @@ impl From<End> for Committed {
 /// Commits a record where no verdict is against it, and where the queue has a place for its store: it does to registers,
 /// pc, queue and output what the record says, a store being put behind the others of the queue in place of memory.
 ///
-/// Without a verdict the record has to be the due one of the state that these parts show, however many instructions led to it.
-/// The record is not looked at otherwise: what a verdict names is answered, also of an equal record. Who counts the instructions
-/// counts one more where the record commits.
+/// Without a verdict the record has to be the due one of the state that these parts show. How many instructions led to that is not
+/// among them, so the value of an instruction that reads their number may be any: who counts them has seen that it is due, and
+/// counts one more where the record commits. The record is not looked at otherwise: what a verdict names is answered, also of an
+/// equal record.
 pub fn commit(
     regs: &mut Regs,
     pc: &mut u32,
@@ -68,7 +69,7 @@ pub fn commit(
     verdict: Option<Diff>,
 ) -> Committed
     requires { verdict ≡ None
-        → (n : ℕ) → r.now ≡ record_of (state_of regs.old pc.old (laid memory.now queue.old.items) output.old n 0) }
+        → IsDueButInstret (state_of regs.old pc.old (laid memory.now queue.old.items) output.old 0 0) r.now }
     ensures answer { result ≡ answer verdict r.now (length queue.old.items == queue.old.capacity) }
     ensures stays { is_committed result ≡ false
         → (regs.new ≡ regs.old) × (pc.new ≡ pc.old) × (queue.new ≡ queue.old) × (output.new ≡ output.old) }
@@ -97,7 +98,7 @@ pub fn commit_by(
     verdict: Option<Diff>,
 ) -> Committed
     requires due { verdict ≡ None
-        → (n : ℕ) → r.now ≡ record_of (state_of regs.old pc.old (laid memory.now queue.old.items) output.old n 0) }
+        → IsDueButInstret (state_of regs.old pc.old (laid memory.now queue.old.items) output.old 0 0) r.now }
     requires decoded { decoded ≡ row_of r.now.word }
     requires registers { IfSome decoded HasRegisters }
     ensures answer { result ≡ answer verdict r.now (length queue.old.items == queue.old.capacity) }

@@ -10,7 +10,7 @@ use Rattle.diva_isa.specs.State.{State, byte_of, memory_of, number_of, reg_of, w
 use Rattle.diva_isa.specs.Regs.{with_reg}
 use Rattle.diva_isa.specs.Kind.{kind}
 use Rattle.diva_isa.specs.declared.kind.Kind.{Kind}
-use Rattle.diva_isa.specs.declared.kind.Kind.TheVariants.{Lui, Auipc, Jal, Jalr, Branch, Load, Store, OpImm, OpReg, Fence, Ecall, Ebreak}
+use Rattle.diva_isa.specs.declared.kind.Kind.TheVariants.{Lui, Auipc, Jal, Jalr, Branch, Load, Store, OpImm, OpReg, Fence, Ecall, Ebreak, Counter}
 use Rattle.diva_decode.specs.Table.{row_of}
 use Rattle.diva_decode.specs.declared.instr.Instr.{Instr}
 use Rattle.diva_isa.specs.Step.{apply, effect, effect_of, with_effect}
@@ -115,6 +115,7 @@ other_register OpReg i r s n h d = other_written s i.rd r.value n h d
 other_register Fence i r s n h d = refl
 other_register Ecall i r s n h d = other_put (r.src1 == 1) r s n
 other_register Ebreak i r s n h d = refl
+other_register Counter i r s n h d = other_written s i.rd r.value n h d
 
 -- a claim whose instruction names the register d for its result, 0 where it has none, or is none
 pub target_reads : (s : State) (i : Instr) (r : Record) (n : ℕ) → row_of r.word ≡ Some i → n < length s.regs

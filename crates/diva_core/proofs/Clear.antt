@@ -14,7 +14,7 @@ use Rattle.diva_isa.specs.Step.{effect, effect_by, effect_of}
 use Rattle.diva_isa.specs.declared.effect.Effect.{Effect}
 use Rattle.diva_isa.specs.declared.effect.Effect.TheVariants.{Nothing, Writes, Stores, Puts}
 use Rattle.diva_isa.specs.declared.kind.Kind.{Kind}
-use Rattle.diva_isa.specs.declared.kind.Kind.TheVariants.{Lui, Auipc, Jal, Jalr, Branch, Load, Store, OpImm, OpReg, Fence, Ecall, Ebreak}
+use Rattle.diva_isa.specs.declared.kind.Kind.TheVariants.{Lui, Auipc, Jal, Jalr, Branch, Load, Store, OpImm, OpReg, Fence, Ecall, Ebreak, Counter}
 use Rattle.diva_isa.specs.declared.record.Record.{Record}
 use Rattle.diva_core.specs.declared.pending.Entry.{Entry}
 use Rattle.diva_core.specs.Cycle.{is_store}
@@ -62,6 +62,7 @@ effect_lies OpReg i r a n k = refl
 effect_lies Fence i r a n k = refl
 effect_lies Ecall i r a n k = put_lies (r.src1 == 1) (r.value % 2 ^ 8) r.addr a n k
 effect_lies Ebreak i r a n k = refl
+effect_lies Counter i r a n k = refl
 
 claim_lies : (decoded : Option Instr) (r : Record) → LiesAt r.addr (effect_by decoded r)
 claim_lies None r a n k = refl

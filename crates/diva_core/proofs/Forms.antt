@@ -5,11 +5,11 @@ use Rattle.diva_decode.specs.Fields.{opcode}
 use Rattle.diva_decode.specs.Table.{fits, instr_of, row_of, format}
 use Rattle.diva_decode.specs.declared.instr.Instr.{Instr}
 use Rattle.diva_decode.specs.declared.op.Op.{Op}
-use Rattle.diva_decode.specs.declared.op.Op.TheVariants.{Lui, Auipc, Jal, Jalr, Beq, Bne, Blt, Bge, Bltu, Bgeu, Lb, Lh, Lw, Lbu, Lhu, Sb, Sh, Sw, Addi, Slti, Sltiu, Xori, Ori, Andi, Slli, Srli, Srai, Add, Sub, Sll, Slt, Sltu, Xor, Srl, Sra, Or, And, Fence, Ecall, Ebreak, Mul, Mulh, Mulhsu, Mulhu, Div, Divu, Rem, Remu}
+use Rattle.diva_decode.specs.declared.op.Op.TheVariants.{Lui, Auipc, Jal, Jalr, Beq, Bne, Blt, Bge, Bltu, Bgeu, Lb, Lh, Lw, Lbu, Lhu, Sb, Sh, Sw, Addi, Slti, Sltiu, Xori, Ori, Andi, Slli, Srli, Srai, Add, Sub, Sll, Slt, Sltu, Xor, Srl, Sra, Or, And, Fence, Ecall, Ebreak, Rdinstret, Rdinstreth, Mul, Mulh, Mulhsu, Mulhu, Div, Divu, Rem, Remu}
 use Rattle.diva_decode.proofs.Unique.{row_parts}
 use Rattle.diva_isa.specs.Kind.{kind}
 use Rattle.diva_isa.specs.declared.kind.Kind.{Kind}
-use Rattle.diva_isa.specs.declared.kind.Kind.TheVariants.{Lui, Auipc, Jal, Jalr, Branch, Load, Store, OpImm, OpReg, Fence, Ecall, Ebreak}
+use Rattle.diva_isa.specs.declared.kind.Kind.TheVariants.{Lui, Auipc, Jal, Jalr, Branch, Load, Store, OpImm, OpReg, Fence, Ecall, Ebreak, Counter}
 use Rattle.diva_isa.specs.Step.{effect, effect_by, effect_of}
 use Rattle.diva_isa.specs.declared.effect.Effect.TheVariants.{Nothing, Writes, Puts}
 use Rattle.diva_isa.specs.declared.record.Record.{Record}
@@ -30,6 +30,7 @@ Tells OpReg rd w = Unit {0}
 Tells Fence rd w = rd ≡ 0
 Tells Ecall rd w = rd ≡ 0
 Tells Ebreak rd w = rd ≡ 0
+Tells Counter rd w = Unit {0}
 
 both_first : (b c : Bool) → (b && c) ≡ true → b ≡ true
 both_first true c h = refl
@@ -76,6 +77,8 @@ by_operation And w h = tt
 by_operation Fence w h = refl
 by_operation Ecall w h = refl
 by_operation Ebreak w h = refl
+by_operation Rdinstret w h = tt
+by_operation Rdinstreth w h = tt
 by_operation Mul w h = tt
 by_operation Mulh w h = tt
 by_operation Mulhsu w h = tt
@@ -107,6 +110,7 @@ quiet OpReg i r t n = refl
 quiet Fence i r t n = refl
 quiet Ecall i r t n = call_stores_none (r.src1 == 1) r
 quiet Ebreak i r t n = refl
+quiet Counter i r t n = refl
 
 by_decoded : (decoded : Option Instr) (r : Record) → row_of r.word ≡ decoded → has_store_opcode r.word ≢ true → is_store (effect_by decoded r) ≡ false
 by_decoded None r e n = refl
@@ -130,6 +134,7 @@ target_by OpReg i r t n = refl
 target_by Fence i r t n = absurd (n t)
 target_by Ecall i r t n = absurd (n t)
 target_by Ebreak i r t n = absurd (n t)
+target_by Counter i r t n = refl
 
 -- a claim of an instruction that names a register other than x0 for its result writes it there
 pub writes_target : (r : Record) (i : Instr) → row_of r.word ≡ Some i → i.rd ≢ 0 → effect_of r ≡ Writes i.rd r.value

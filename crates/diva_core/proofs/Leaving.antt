@@ -10,7 +10,7 @@ use Rattle.diva_isa.specs.Regs.{with_reg}
 use Rattle.diva_isa.specs.Kind.{kind}
 use Rattle.diva_isa.specs.Step.{apply, effect, effect_by, effect_of, with_effect}
 use Rattle.diva_isa.specs.declared.kind.Kind.{Kind}
-use Rattle.diva_isa.specs.declared.kind.Kind.TheVariants.{Lui, Auipc, Jal, Jalr, Branch, Load, Store, OpImm, OpReg, Fence, Ecall, Ebreak}
+use Rattle.diva_isa.specs.declared.kind.Kind.TheVariants.{Lui, Auipc, Jal, Jalr, Branch, Load, Store, OpImm, OpReg, Fence, Ecall, Ebreak, Counter}
 use Rattle.diva_isa.specs.declared.effect.Effect.{Effect}
 use Rattle.diva_isa.specs.declared.effect.Effect.TheVariants.{Nothing, Puts}
 use Rattle.diva_isa.specs.declared.record.Record.{Record}
@@ -43,6 +43,7 @@ none_by OpReg i r s e = none_written s.regs i.rd r.value e
 none_by Fence i r s e = refl
 none_by Ecall i r s e = put_regs (r.src1 == 1) s (r.value % 2 ^ 8)
 none_by Ebreak i r s e = refl
+none_by Counter i r s e = none_written s.regs i.rd r.value e
 
 by_row : (o : Option Instr) (s : State) (r : Record) → row_of r.word ≡ o → (with_effect s (effect_by o r)).regs ≡ with_reg s.regs (target_by o) r.value
 by_row None s r e = refl

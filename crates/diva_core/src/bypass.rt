@@ -9,8 +9,9 @@ use diva_isa::{Look, Operands, Width};
 /// The state in which the claim at a place stands: the committed one after the older claims, right ones and wrong ones, as if
 /// none of them ended the machine.
 ///
-/// It is never built. What the older claims say that they wrote, stored and put bypasses the committed state: each part is
-/// looked for in them, in one walk, and there is no walk where there are none.
+/// It is never built. What the older claims say that they wrote, stored and put bypasses the committed state: each of these is
+/// looked for in them, in one walk, and there is no walk where there are none. How many they are is added to how many have
+/// committed.
 #[derive(Drop)]
 pub struct Bypass<'a> {
     pending: &'a Pending,

@@ -82,7 +82,7 @@ impl Entry {
         }
     }
 
-    /// What the claim does besides moving the pc, as if it went on.
+    /// What the claim does besides moving the pc and being counted, as if it went on.
     #[inline(always)]
     pub(crate) fn effect(&self) -> Effect
         requires { IsDecoded self.now }

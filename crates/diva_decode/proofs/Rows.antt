@@ -1,11 +1,11 @@
 -- What `row_of` is at each opcode.
-use Rattle.std.proofs.Common.{◌≡◌, ◌≢◌, ◌⊎◌, inl, inr, ℕ, Bool, true, false, cond, eqb, Option, Some, None, refl, arith, ◌∙◌}
+use Rattle.std.proofs.Common.{◌≡◌, ◌≢◌, ◌⊎◌, inl, inr, ℕ, Bool, ◌&&◌, true, false, cond, eqb, Option, Some, None, refl, arith, ◌∙◌}
 use Rattle.std.specs.Option.{option_map}
 use Rattle.std.proofs.lemmas.Bool.Decides.{nat_tests}
-use Rattle.diva_decode.specs.Fields.{opcode, funct3, funct7}
-use Rattle.diva_decode.specs.Table.{row_of, format, instr_of, U, J, I, Shift, B, S, R, Open, Exact}
+use Rattle.diva_decode.specs.Fields.{opcode, funct3, funct7, rs1, csr}
+use Rattle.diva_decode.specs.Table.{row_of, format, instr_of, U, J, I, Shift, B, S, R, Open, Exact, Csr}
 use Rattle.diva_decode.specs.Inner.{op_at}
-use Rattle.diva_decode.specs.declared.op.Op.TheVariants.{Lui, Auipc, Jal, Ecall, Ebreak}
+use Rattle.diva_decode.specs.declared.op.Op.TheVariants.{Lui, Auipc, Jal, Ecall, Ebreak, Rdinstret, Rdinstreth}
 
 -- two words with different opcodes are different
 not_word : (w v k : ℕ) → opcode w ≡ k → eqb (opcode v) k ≡ false → eqb w v ≡ false
@@ -31,13 +31,14 @@ module _ (w : ℕ) where
   unfolding row_of
   row_jal e = rw e refl
 
-  -- what is no exact word is looked up by its codes
+  -- what is no word of opcode SYSTEM is looked up by its codes
   row_coded : (o : ℕ) → opcode w ≡ o → eqb (opcode 0x73) o ≡ false → row_of w ≡ option_map (λ op. instr_of (format op) op w) (op_at o (funct3 w) (funct7 w))
   unfolding row_of
   row_coded o e other =
       let p : eqb w 0x73 ≡ false = not_word w 0x73 o e other in
       let q : eqb w 0x100073 ≡ false = not_word w 0x100073 o e other in
-      rw (e, p, q) refl
+      let r : eqb o 0x73 ≡ false = grind (arith, nat_tests) in
+      rw (e, p, q, r) refl
 
   -- the operations of these opcodes have one format
   pub row_jalr : opcode w ≡ 0x67 → row_of w ≡ option_map (λ op. instr_of (I 0 0x67) op w) (op_at 0x67 (funct3 w) 0)
@@ -69,9 +70,21 @@ module _ (w : ℕ) where
   row_shift e (inl one) = row_coded 0x13 e refl ∙ rw one (simp option_map-cond)
   row_shift e (inr five) = row_coded 0x13 e refl ∙ rw five (simp option_map-cond)
 
-  pub row_system : opcode w ≡ 0x73 → row_of w ≡ cond (eqb w 0x73) (Some (instr_of (Exact 0) Ecall w)) (cond (eqb w 0x100073) (Some (instr_of (Exact 0) Ebreak w)) None)
+  pub row_ecall : w ≡ 0x73 → row_of w ≡ Some (instr_of (Exact 0) Ecall w)
   unfolding row_of
-  row_system e = rw e (simp option_map-cond)
+  row_ecall e = rw e refl
+
+  pub row_ebreak : w ≡ 0x100073 → row_of w ≡ Some (instr_of (Exact 0) Ebreak w)
+  unfolding row_of
+  row_ebreak e = rw e refl
+
+  -- a read of a register, by its number
+  pub row_read : opcode w ≡ 0x73 → w ≢ 0x73 → w ≢ 0x100073 → row_of w ≡ cond (eqb (funct3 w) 2 && eqb (rs1 w) 0 && eqb (csr w) 0xc02) (Some (instr_of (Csr 0 0 0) Rdinstret w)) (cond (eqb (funct3 w) 2 && eqb (rs1 w) 0 && eqb (csr w) 0xc82) (Some (instr_of (Csr 0 0 0) Rdinstreth w)) None)
+  unfolding row_of
+  row_read e d1 d2 =
+      let p : eqb w 0x73 ≡ false = unequal w 0x73 d1 in
+      let q : eqb w 0x100073 ≡ false = unequal w 0x100073 d2 in
+      rw (e, p, q) (simp option_map-cond)
 
   pub row_none : opcode w ≢ 0x37 → opcode w ≢ 0x17 → opcode w ≢ 0x6f → opcode w ≢ 0x67 → opcode w ≢ 0x63 → opcode w ≢ 0x03 → opcode w ≢ 0x23 → opcode w ≢ 0x13 → opcode w ≢ 0x33 → opcode w ≢ 0x0f → opcode w ≢ 0x73 → row_of w ≡ None
   unfolding row_of

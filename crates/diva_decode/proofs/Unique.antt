@@ -4,8 +4,8 @@ use Rattle.std.specs.List.{find}
 use Rattle.std.specs.Option.{option_map, IfSome}
 use Rattle.std.proofs.lemmas.Bool.Decides.{nat_tests}
 use Rattle.std.proofs.lemmas.Int.{ints}
-use Rattle.diva_decode.specs.Fields.{opcode, funct3, funct7, rd, rs1, rs2, field, imm_i, imm_s, imm_b, imm_u, imm_j}
-use Rattle.diva_decode.specs.Table.{row_of, encoding_of, word_in, op_of, table, format, Format, fits, instr_of, U, J, I, Shift, B, S, R, Open, Exact, FitsFormat, IsValid, HasRegisters}
+use Rattle.diva_decode.specs.Fields.{opcode, funct3, funct7, csr, rd, rs1, rs2, field, imm_i, imm_s, imm_b, imm_u, imm_j}
+use Rattle.diva_decode.specs.Table.{row_of, encoding_of, word_in, op_of, table, format, Format, fits, instr_of, U, J, I, Shift, B, S, R, Open, Exact, Csr, FitsFormat, IsValid, HasRegisters}
 use Rattle.diva_decode.specs.declared.op.Op.{Op}
 use Rattle.diva_decode.specs.declared.op.Op.TheVariants.{Fence}
 use Rattle.diva_decode.specs.declared.instr.Instr.{Instr}
@@ -51,6 +51,9 @@ two_codes w f3 o e = grind (arith, nat_tests)
 three_codes : (w f7 f3 o : ℕ) → fits w (R f7 f3 o) ≡ true → (opcode w ≡ o) × (funct3 w ≡ f3) × (funct7 w ≡ f7)
 three_codes w f7 f3 o e = grind (arith, nat_tests)
 
+read_codes : (w number f3 o : ℕ) → fits w (Csr number f3 o) ≡ true → (opcode w ≡ o) × (funct3 w ≡ f3) × (rs1 w ≡ 0) × (csr w ≡ number)
+read_codes w number f3 o e = grind (arith, nat_tests)
+
 module _ (op : Op) (v w : ℕ) (hv : v < 2 ^ 32) (hw : w < 2 ^ 32) where
   same_words : (s : Format) → IsClosed s → fits v s ≡ true → fits w s ≡ true → instr_of s op v ≡ instr_of s op w → v ≡ w
   same_words (U o) c p q e =
@@ -94,6 +97,9 @@ module _ (op : Op) (v w : ℕ) (hv : v < 2 ^ 32) (hw : w < 2 ^ 32) where
       omega (arith, three_codes v f7 f3 o p, three_codes w f7 f3 o q, word-parts v hv, word-parts w hw)
   same_words (Open f3 o) c p q e = absurd c
   same_words (Exact x) c p q e = grind (arith, nat_tests)
+  same_words (Csr number f3 o) c p q e =
+      let d : rd v ≡ rd w = ap (λ i. i.rd) e in
+      omega (arith, read_codes v number f3 o p, read_codes w number f3 o q)
 
 closed : (op : Op) → op ≢ Fence → IsClosed (format op)
 closed Fence d = absurd (d refl)
@@ -111,6 +117,7 @@ valid_by : (s : Format) (op : Op) (w : ℕ) → w < 2 ^ 32 → FitsFormat s (ins
 valid_by (R f7 f3 o) op w h = (omega arith, omega arith, omega arith, refl)
 valid_by (Open f3 o) op w h = (refl, refl, refl, refl)
 valid_by (Exact x) op w h = (refl, refl, refl, refl)
+valid_by (Csr number f3 o) op w h = (omega arith, refl, refl, refl)
 valid_by s op w h = grind (arith, ints, nat_tests)
 
 pub row_valid : (w : ℕ) (i : Instr) → w < 2 ^ 32 → row_of w ≡ Some i → IsValid i

@@ -3,13 +3,13 @@ use Rattle.std.proofs.Common.{◌≡◌, ◌≢◌, ◌⊎◌, inl, inr, ℕ, �
 use Rattle.std.specs.Int.{cast_unsigned, w32}
 use Rattle.std.proofs.lemmas.Int.{ints}
 use Rattle.std.proofs.lemmas.Bool.Decides.{nat_tests}
-use Rattle.diva_decode.specs.Fields.{opcode, funct3, funct7, rd, rs1, rs2, field, signed, imm_i, imm_s, imm_b, imm_u, imm_j}
-use Rattle.diva_decode.specs.Table.{row_of, encoding_of, word_in, format, FitsBits, FitsFormat, IsValid, instr_of, R, B, I, S, J, U, Shift, Exact}
+use Rattle.diva_decode.specs.Fields.{opcode, funct3, funct7, csr, rd, rs1, rs2, field, signed, imm_i, imm_s, imm_b, imm_u, imm_j}
+use Rattle.diva_decode.specs.Table.{row_of, encoding_of, word_in, format, FitsBits, FitsFormat, IsValid, instr_of, R, B, I, S, J, U, Shift, Exact, Csr}
 use Rattle.diva_decode.specs.Inner.{op_at}
 use Rattle.diva_decode.specs.declared.instr.Instr.{Instr}
 use Rattle.diva_decode.specs.declared.op.Op.{Op}
-use Rattle.diva_decode.specs.declared.op.Op.TheVariants.{Lui, Auipc, Jal, Jalr, Beq, Bne, Blt, Bge, Bltu, Bgeu, Lb, Lh, Lw, Lbu, Lhu, Sb, Sh, Sw, Addi, Slti, Sltiu, Xori, Ori, Andi, Slli, Srli, Srai, Add, Sub, Sll, Slt, Sltu, Xor, Srl, Sra, Or, And, Fence, Ecall, Ebreak, Mul, Mulh, Mulhsu, Mulhu, Div, Divu, Rem, Remu}
-use Rattle.diva_decode.proofs.Rows.{row_register, row_branch, row_load, row_store, row_jalr, row_immediate, row_shift, row_lui, row_auipc, row_jal}
+use Rattle.diva_decode.specs.declared.op.Op.TheVariants.{Lui, Auipc, Jal, Jalr, Beq, Bne, Blt, Bge, Bltu, Bgeu, Lb, Lh, Lw, Lbu, Lhu, Sb, Sh, Sw, Addi, Slti, Sltiu, Xori, Ori, Andi, Slli, Srli, Srai, Add, Sub, Sll, Slt, Sltu, Xor, Srl, Sra, Or, And, Fence, Ecall, Ebreak, Rdinstret, Rdinstreth, Mul, Mulh, Mulhsu, Mulhu, Div, Divu, Rem, Remu}
+use Rattle.diva_decode.proofs.Rows.{row_register, row_branch, row_load, row_store, row_jalr, row_immediate, row_shift, row_lui, row_auipc, row_jal, row_read}
 
 -- a word from its parts
 abbrev pub word : ℕ → ℕ → ℕ → ℕ → ℕ → ℕ → ℕ
@@ -129,6 +129,17 @@ module _ (w : ℕ) (i : Instr) where
   bare_says : row_of w ≡ Some (instr_of (Exact w) i.op w) → FitsFormat (Exact w) i → row_of w ≡ Some i
   bare_says e h = e ∙ same_instr i 0 0 0 (pos 0) (sym h.0) (sym h.1) (sym h.2) (sym h.3)
 
+  read_says : (number : ℕ) → w ≡ word_in (Csr number 2 0x73) i → number < 2 ^ 12 → FitsFormat (Csr number 2 0x73) i → (opcode w ≡ 0x73 → w ≢ 0x73 → w ≢ 0x100073 → funct3 w ≡ 2 → rs1 w ≡ 0 → csr w ≡ number → row_of w ≡ Some (instr_of (Csr number 2 0x73) i.op w)) → row_of w ≡ Some i
+  read_says number e small h at =
+      let o : opcode w ≡ 0x73 = omega arith in
+      let n3 : funct3 w ≡ 2 = omega arith in
+      let a : rs1 w ≡ 0 = omega arith in
+      let n : csr w ≡ number = omega arith in
+      let d : rd w ≡ i.rd = omega arith in
+      let d1 : w ≢ 0x73 = omega arith in
+      let d2 : w ≢ 0x100073 = omega arith in
+      at o d1 d2 n3 a n ∙ same_instr i (rd w) 0 0 (pos 0) d (sym h.1) (sym h.2) (sym h.3)
+
 -- the word of a valid instruction, by its operation, says the instruction
 says : (op : Op) (i : Instr) → i.op ≡ op → FitsFormat (format op) i → row_of (word_in (format op) i) ≡ Some i
 unfolding row_of
@@ -172,6 +183,8 @@ says And i e h = register_says (word_in (R 0x00 7 0x33) i) i 7 0x00 refl (omega 
 says Fence i e h = bare_says 0x0ff0000f i (rw e refl) h
 says Ecall i e h = bare_says 0x00000073 i (rw e refl) h
 says Ebreak i e h = bare_says 0x00100073 i (rw e refl) h
+says Rdinstret i e h = read_says (word_in (Csr 0xc02 2 0x73) i) i 0xc02 refl (omega arith) h (λ o d1 d2 n3 a n. rw (row_read (word_in (Csr 0xc02 2 0x73) i) o d1 d2, n3, a, n, e) refl)
+says Rdinstreth i e h = read_says (word_in (Csr 0xc82 2 0x73) i) i 0xc82 refl (omega arith) h (λ o d1 d2 n3 a n. rw (row_read (word_in (Csr 0xc82 2 0x73) i) o d1 d2, n3, a, n, e) refl)
 says Mul i e h = register_says (word_in (R 0x01 0 0x33) i) i 0 0x01 refl (omega arith) (omega arith) h (rw e refl)
 says Mulh i e h = register_says (word_in (R 0x01 1 0x33) i) i 1 0x01 refl (omega arith) (omega arith) h (rw e refl)
 says Mulhsu i e h = register_says (word_in (R 0x01 2 0x33) i) i 2 0x01 refl (omega arith) (omega arith) h (rw e refl)

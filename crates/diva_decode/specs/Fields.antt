@@ -25,6 +25,10 @@ rs2 = field 20 5
 abbrev pub funct7 : ℕ → ℕ
 funct7 = field 25 7
 
+-- the number of a control and status register
+abbrev pub csr : ℕ → ℕ
+csr = field 20 12
+
 -- n bits read as two's complement
 abbrev pub signed : ℕ → ℕ → ℤ
 signed n bits = if nat_lt bits (2 ^ (n - 1)) then pos bits else pos bits -ℤ pos (2 ^ n)

@@ -1,10 +1,12 @@
--- The 48 instructions of RV32IM as rows, what a word of a row says, the word of an instruction, and which instructions
--- have one. (RISC-V Unprivileged ISA, chapter "RV32/64G Instruction Set Listings": RV32I 2.1 and M 2.0.)
+-- The 50 instructions as rows, those of RV32IM and the two reads of Zicntr's `instret`; what a word of a row
+-- says, the word of an instruction, and which instructions have one. (RISC-V Unprivileged ISA, chapter "RV32/64G
+-- Instruction Set Listings": RV32I 2.1 and M 2.0; chapters "Zicsr" and "Zicntr", where RDINSTRET and RDINSTRETH are
+-- CSRRS of instret and instreth with x0.)
 use Rattle.std.specs.Prelude.{◌≡◌, ℕ, ◌+◌, ◌-◌, ◌*◌, ◌%◌, ◌^◌, ◌<◌, ◌==◌, ◌&&◌, Bool, false, List, [], ◌∷◌, Option, Some, ℤ, pos, neg_ℤ, ◌≤ℤ◌, ◌<ℤ◌, find, option_map}
 use Rattle.std.specs.Int.{cast_unsigned, w32}
-use Rattle.diva_decode.specs.Fields.{opcode, rd, funct3, rs1, rs2, funct7, imm_i, imm_s, imm_b, imm_u, imm_j, imm_bits}
+use Rattle.diva_decode.specs.Fields.{opcode, rd, funct3, rs1, rs2, funct7, csr, imm_i, imm_s, imm_b, imm_u, imm_j, imm_bits}
 use Rattle.diva_decode.specs.declared.op.Op.{Op}
-use Rattle.diva_decode.specs.declared.op.Op.TheVariants.{Lui, Auipc, Jal, Jalr, Beq, Bne, Blt, Bge, Bltu, Bgeu, Lb, Lh, Lw, Lbu, Lhu, Sb, Sh, Sw, Addi, Slti, Sltiu, Xori, Ori, Andi, Slli, Srli, Srai, Add, Sub, Sll, Slt, Sltu, Xor, Srl, Sra, Or, And, Fence, Ecall, Ebreak, Mul, Mulh, Mulhsu, Mulhu, Div, Divu, Rem, Remu}
+use Rattle.diva_decode.specs.declared.op.Op.TheVariants.{Lui, Auipc, Jal, Jalr, Beq, Bne, Blt, Bge, Bltu, Bgeu, Lb, Lh, Lw, Lbu, Lhu, Sb, Sh, Sw, Addi, Slti, Sltiu, Xori, Ori, Andi, Slli, Srli, Srai, Add, Sub, Sll, Slt, Sltu, Xor, Srl, Sra, Or, And, Fence, Ecall, Ebreak, Rdinstret, Rdinstreth, Mul, Mulh, Mulhsu, Mulhu, Div, Divu, Rem, Remu}
 use Rattle.diva_decode.specs.declared.instr.Instr.{Instr}
 
 -- ---- the rows
@@ -24,6 +26,9 @@ pub data Format : Type 0 where
   Open : ℕ → ℕ → Format
   -- ECALL and EBREAK: this one word
   Exact : ℕ → Format
+  -- a read of a control and status register: its number, which stands in the place of the immediate, funct3 and the
+  -- opcode; x0 stands in the place of rs1
+  Csr : ℕ → ℕ → ℕ → Format
 
 abbrev pub format : Op → Format
 -- RV32I 2.1
@@ -73,6 +78,9 @@ format And = R 0b0000000 0b111 0b0110011
 format Fence = Open 0b000 0b0001111
 format Ecall = Exact 0x00000073
 format Ebreak = Exact 0x00100073
+-- the number of instructions: instret and instreth
+format Rdinstret = Csr 0xc02 0b010 0b1110011
+format Rdinstreth = Csr 0xc82 0b010 0b1110011
 -- M 2.0
 format Mul = R 0b0000001 0b000 0b0110011
 format Mulh = R 0b0000001 0b001 0b0110011
@@ -93,11 +101,12 @@ table =
     Addi ∷ Slti ∷ Sltiu ∷ Xori ∷ Ori ∷ Andi ∷ Slli ∷ Srli ∷ Srai ∷
     Add ∷ Sub ∷ Sll ∷ Slt ∷ Sltu ∷ Xor ∷ Srl ∷ Sra ∷ Or ∷ And ∷
     Fence ∷ Ecall ∷ Ebreak ∷
+    Rdinstret ∷ Rdinstreth ∷
     Mul ∷ Mulh ∷ Mulhsu ∷ Mulhu ∷ Div ∷ Divu ∷ Rem ∷ Remu ∷ []
 
 -- ---- what a word says
 
--- the three codes are those of the format; no codes are enough for one exact word
+-- the three codes are those of the format; no codes are enough for one exact word, nor for a read of a register
 abbrev pub has_codes : Format → ℕ → ℕ → ℕ → Bool
 has_codes (U o) opcode funct3 funct7 = opcode == o
 has_codes (J o) opcode funct3 funct7 = opcode == o
@@ -108,10 +117,12 @@ has_codes (R f7 f3 o) opcode funct3 funct7 = (opcode == o) && (funct3 == f3) && 
 has_codes (Shift f7 f3 o) opcode funct3 funct7 = (opcode == o) && (funct3 == f3) && (funct7 == f7)
 has_codes (Open f3 o) opcode funct3 funct7 = (opcode == o) && (funct3 == f3)
 has_codes (Exact word) opcode funct3 funct7 = false
+has_codes (Csr number f3 o) opcode funct3 funct7 = false
 
 -- w is a word of the format
 abbrev pub fits : ℕ → Format → Bool
 fits w (Exact word) = w == word
+fits w (Csr number f3 o) = (opcode w == o) && (funct3 w == f3) && (rs1 w == 0) && (csr w == number)
 fits w s = has_codes s (opcode w) (funct3 w) (funct7 w)
 
 -- what a word of the format says; a field that the format lacks is 0
@@ -125,6 +136,7 @@ instr_of (R f7 f3 o) op w = record { op = op; rd = rd w; rs1 = rs1 w; rs2 = rs2 
 instr_of (Shift f7 f3 o) op w = record { op = op; rd = rd w; rs1 = rs1 w; rs2 = 0; imm = pos (rs2 w) }
 instr_of (Open f3 o) op w = record { op = op; rd = 0; rs1 = 0; rs2 = 0; imm = pos 0 }
 instr_of (Exact word) op w = record { op = op; rd = 0; rs1 = 0; rs2 = 0; imm = pos 0 }
+instr_of (Csr number f3 o) op w = record { op = op; rd = rd w; rs1 = 0; rs2 = 0; imm = pos 0 }
 
 -- the operation that w is a word of
 abbrev pub op_of : ℕ → Option Op
@@ -164,6 +176,8 @@ word_in (Shift f7 f3 o) i = f7 * 2 ^ 25 + imm_bits 0 5 i.imm * 2 ^ 20 + i.rs1 * 
 -- fm pred succ rs1 funct3 rd opcode, with pred and succ all ones: the FENCE that orders all accesses
 word_in (Open f3 o) i = 0xff * 2 ^ 20 + f3 * 2 ^ 12 + o
 word_in (Exact word) i = word
+-- csr rs1 funct3 rd opcode, with x0 for rs1
+word_in (Csr number f3 o) i = number * 2 ^ 20 + f3 * 2 ^ 12 + i.rd * 2 ^ 7 + o
 
 -- the word of an instruction that has one
 unfoldable pub encoding_of : Instr → ℕ
@@ -190,6 +204,7 @@ FitsFormat (R f7 f3 o) i = (i.rd < 32) × (i.rs1 < 32) × (i.rs2 < 32) × (i.imm
 FitsFormat (Shift f7 f3 o) i = (i.rd < 32) × (i.rs1 < 32) × (i.rs2 ≡ 0) × (pos 0 ≤ℤ i.imm) × (i.imm <ℤ pos 32)
 FitsFormat (Open f3 o) i = (i.rd ≡ 0) × (i.rs1 ≡ 0) × (i.rs2 ≡ 0) × (i.imm ≡ pos 0)
 FitsFormat (Exact word) i = (i.rd ≡ 0) × (i.rs1 ≡ 0) × (i.rs2 ≡ 0) × (i.imm ≡ pos 0)
+FitsFormat (Csr number f3 o) i = (i.rd < 32) × (i.rs1 ≡ 0) × (i.rs2 ≡ 0) × (i.imm ≡ pos 0)
 
 -- the instruction has a word
 abbrev pub IsValid : Instr → Type 0

@@ -6,7 +6,7 @@ ghost use Rattle.std.specs.Prelude.{IfSome, Some, pos, ◌≡◌, ◌≢◌, ◌
 ghost use Rattle.diva_decode.specs.Fields.{opcode, funct3, rd, rs1, imm_i, imm_u};
 ghost use Rattle.diva_decode.specs.Table.{row_of, encoding_of, IsValid, HasRegisters};
 
-use crate::fields::{funct3, funct7, opcode, rd, rs1, rs2};
+use crate::fields::{csr, funct3, funct7, opcode, rd, rs1, rs2};
 use crate::immediates::{imm_b, imm_i, imm_j, imm_s, imm_u};
 use crate::instr::Instr;
 use crate::op::Op;
@@ -14,7 +14,7 @@ use crate::opcodes::{AUIPC, BRANCH, JAL, JALR, LOAD, LUI, MISC_MEM, OP, OP_IMM, 
 use operations::{branch_op, immediate_op, load_op, register_op, shift_op, store_op};
 
 /// The instruction that a word is, `None` exactly where the word stands outside the table. (RISC-V Unprivileged ISA,
-/// chapter "RV32/64G Instruction Set Listings": RV32I 2.1 and M 2.0.)
+/// chapter "RV32/64G Instruction Set Listings": RV32I 2.1 and M 2.0; chapter "Zicntr".)
 ///
 /// What comes out is valid, so [`encode`](crate::encode) may be asked for its word: that is this word again, unless the
 /// instruction is FENCE, which has several words.
@@ -183,7 +183,7 @@ fn fence(word: u32) -> Option<Instr>
     Some(bare(Op::Fence))
 }
 
-#[tactic(auto, using(crate::proofs::Rows::row_system))]
+#[tactic(auto, using(crate::proofs::Rows::row_ecall, crate::proofs::Rows::row_ebreak))]
 fn system(word: u32) -> Option<Instr>
     requires { opcode word ≡ SYSTEM }
     ensures { result ≡ row_of word }
@@ -191,8 +191,32 @@ fn system(word: u32) -> Option<Instr>
     match word {
         0x0000_0073 => Some(bare(Op::Ecall)),
         0x0010_0073 => Some(bare(Op::Ebreak)),
-        _ => None,
+        _ => read(word),
     }
+}
+
+/// A read of a control and status register: CSRRS with x0. The table has those of instret and instreth.
+#[tactic(auto, using(crate::proofs::Rows::row_read))]
+fn read(word: u32) -> Option<Instr>
+    requires code { opcode word ≡ SYSTEM }
+    requires not_exact { (word ≢ 0x0000_0073) × (word ≢ 0x0010_0073) }
+    ensures { result ≡ row_of word }
+{
+    if funct3(word) != 2 || rs1(word) != 0 {
+        return None;
+    }
+    let op = match csr(word) {
+        0xc02 => Op::Rdinstret,
+        0xc82 => Op::Rdinstreth,
+        _ => return None,
+    };
+    Some(Instr {
+        op,
+        rd: rd(word),
+        rs1: 0,
+        rs2: 0,
+        imm: 0,
+    })
 }
 
 // ---- the instruction of a format

@@ -2,12 +2,12 @@
 
 ghost use Rattle.std.specs.Prelude.{IsTrue, Some, ◌≡◌, ◌≢◌, ◌+◌, ◌*◌, ◌^◌, ◌<◌};
 ghost use Rattle.diva_decode.specs.Fields.{field};
-ghost use Rattle.diva_decode.specs.Table.{row_of, encoding_of, word_in, IsOnlyWordOf, IsValid, FitsFormat, format, U, J, I, B, S, R, Shift};
-ghost use Rattle.diva_decode.specs.Inner.{is_r};
+ghost use Rattle.diva_decode.specs.Table.{row_of, encoding_of, word_in, IsOnlyWordOf, IsValid, FitsFormat, format, U, J, I, B, S, R, Shift, Csr};
+ghost use Rattle.diva_decode.specs.Inner.{is_r, is_system};
 
 use crate::instr::Instr;
 use crate::op::Op;
-use crate::opcodes::{AUIPC, BRANCH, JAL, JALR, LOAD, LUI, OP, OP_IMM, STORE};
+use crate::opcodes::{AUIPC, BRANCH, JAL, JALR, LOAD, LUI, OP, OP_IMM, STORE, SYSTEM};
 
 /// The word of a valid instruction, in which each field stands in the place that its format has for it. (RISC-V
 /// Unprivileged ISA, RV32I 2.1, "Base Instruction Formats" and "Immediate Encoding Variants".)
@@ -64,9 +64,24 @@ fn by_operation(i: &Instr) -> u32
         Op::Srli => shift_word(i, 5, 0x00),
         Op::Srai => shift_word(i, 5, 0x20),
         Op::Fence => 0x0ff0_000f,
+        Op::Ecall | Op::Ebreak | Op::Rdinstret | Op::Rdinstreth => system_word(i),
+        _ => two_register_word(i),
+    }
+}
+
+/// The word of an operation of opcode SYSTEM.
+#[tactic(auto, unfolding(crate::specs::Table::encoding_of))]
+fn system_word(i: &Instr) -> u32
+    requires system { IsTrue (is_system (format i.now.op)) }
+    requires valid { IsValid i.now }
+    ensures { result ≡ encoding_of i.now }
+{
+    match i.op {
         Op::Ecall => 0x0000_0073,
         Op::Ebreak => 0x0010_0073,
-        _ => two_register_word(i),
+        Op::Rdinstret => read_word(i, 0xc02),
+        Op::Rdinstreth => read_word(i, 0xc82),
+        _ => unreachable!(),
     }
 }
 
@@ -201,6 +216,15 @@ fn immediate_word(i: &Instr, opcode: u32, funct3: u32) -> u32
         u32::from(i.rd),
         opcode,
     )
+}
+
+/// The word of a read of the control and status register with this number: CSRRS with x0.
+fn read_word(i: &Instr, csr: u32) -> u32
+    requires valid { FitsFormat (Csr csr 2 SYSTEM) i.now }
+    requires fields { csr < 2 ^ 12 }
+    ensures { result ≡ word_in (Csr csr 2 SYSTEM) i.now }
+{
+    pack(csr >> 5, csr & 0x1f, 0, 2, u32::from(i.rd), SYSTEM)
 }
 
 /// A word of the formats U and J from its three fields.

@@ -1,7 +1,7 @@
 // The fields of a word that stand in one place in all formats.
 
 ghost use Rattle.std.specs.Prelude.{◌≡◌};
-ghost use Rattle.diva_decode.specs.Fields.{opcode, rd, funct3, rs1, rs2, funct7};
+ghost use Rattle.diva_decode.specs.Fields.{opcode, rd, funct3, rs1, rs2, funct7, csr};
 
 pub(crate) fn opcode(word: u32) -> u32
     ensures { result ≡ opcode word }
@@ -37,4 +37,11 @@ pub(crate) fn funct7(word: u32) -> u32
     ensures { result ≡ funct7 word }
 {
     word >> 25
+}
+
+/// The number of a control and status register.
+pub(crate) fn csr(word: u32) -> u32
+    ensures { result ≡ csr word }
+{
+    word >> 20
 }

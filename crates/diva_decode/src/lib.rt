@@ -1,6 +1,7 @@
-//! The instruction table of RV32IM, both ways: from a word of 32 bits to the instruction that it is, and back.
+//! The instruction table, RV32IM and the two reads of `instret`, both ways: from a word of 32 bits to the
+//! instruction that it is, and back.
 //!
-//! - `op`: [`Op`], the 48 operations.
+//! - `op`: [`Op`], the 50 operations.
 //! - `instr`: [`Instr`], an operation with its registers and its immediate.
 //! - `validity`: [`valid`], which instructions have a word.
 //! - `decoding`: [`decode`], from a word to its instruction, one function for each opcode.
@@ -10,10 +11,10 @@
 //! - `opcodes`: the opcodes by their names.
 //! - `tests`: words that an assembler made.
 //!
-//! What [`decode`] gives is the definition `row_of` of `specs/Table.antt`: the table as 48 lines in the order of the
+//! What [`decode`] gives is the definition `row_of` of `specs/Table.antt`: the table as 50 lines in the order of the
 //! manual's listing. What [`encode`] gives is `encoding_of` of the same file: the fields of each format in their places.
 //! Each undoes the other, but that FENCE has many words and [`encode`] gives one of them. (RISC-V Unprivileged ISA,
-//! chapter "RV32/64G Instruction Set Listings": RV32I 2.1 and M 2.0.)
+//! chapter "RV32/64G Instruction Set Listings": RV32I 2.1 and M 2.0; chapter "Zicntr".)
 #![tactic(auto)]
 
 mod decoding;

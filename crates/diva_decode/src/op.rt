@@ -1,9 +1,10 @@
 // The operations of the table.
 
-/// What an instruction does: the 48 operations of RV32IM, in the order of the manual's listing.
+/// What an instruction does: the 50 operations, those of RV32IM in the order of the manual's listing, with the two reads
+/// of `instret` behind RV32I.
 ///
 /// Here `rs1`, `rs2` and `rd` are what those registers hold, `pc` is where the instruction stands,
-/// and all numbers have 32 bits. (RISC-V Unprivileged ISA, chapters RV32I 2.1 and M 2.0.)
+/// and all numbers have 32 bits. (RISC-V Unprivileged ISA, chapters RV32I 2.1, M 2.0 and "Zicntr".)
 #[derive(Clone, Copy, Debug, PartialEq, Eq)]
 pub enum Op {
     // RV32I 2.1
@@ -87,6 +88,11 @@ pub enum Op {
     Ecall,
     /// Hands over to a debugger.
     Ebreak,
+    // the number of instructions
+    /// `rd` = the low 32 bits of `instret`.
+    Rdinstret,
+    /// `rd` = the high 32 bits of `instret`.
+    Rdinstreth,
     // M 2.0
     /// `rd` = the low 32 bits of `rs1 * rs2`.
     Mul,

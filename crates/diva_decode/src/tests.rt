@@ -1,15 +1,16 @@
-// Words both ways: those that an assembler made, FENCE, and two outside the table.
+// Words both ways: those that an assembler made, FENCE, and some outside the table.
 
 mod encodings;
 
 use super::*;
-use encodings::{ENCODINGS, Encoding};
+use encodings::{ENCODINGS, Encoding, OUTSIDE};
 use std::test::Fail;
 
 #[test]
 fn words_outside_the_table_and_fence(rt: HostRuntime) -> Result<(), Fail> {
-    assert_eq!(rt; decode(0), None);
-    assert_eq!(rt; decode(0x0000_100f), None);
+    for &word in &OUTSIDE {
+        assert_eq!(rt; decode(word), None, "at {word:08x}");
+    }
 
     let fence = Instr {
         op: Op::Fence,

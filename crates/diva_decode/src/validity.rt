@@ -33,6 +33,7 @@ pub fn valid(i: &Instr) -> bool
         Op::Sb | Op::Sh | Op::Sw => has(i, false, true, true) && is_within(i.imm, 1 << 11),
         Op::Slli | Op::Srli | Op::Srai => { has(i, true, true, false) && 0 <= i.imm && i.imm < 32 }
         Op::Fence | Op::Ecall | Op::Ebreak => has(i, false, false, false) && i.imm == 0,
+        Op::Rdinstret | Op::Rdinstreth => has(i, true, false, false) && i.imm == 0,
         // the 18 operations on two registers
         _ => has(i, true, true, true) && i.imm == 0,
     }

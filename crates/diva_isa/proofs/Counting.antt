@@ -1,39 +1,42 @@
--- What the due record has to do with the number of instructions that led to a state.
-use Rattle.std.proofs.Common.{◌≡◌, ℕ, Bool, true, false, Option, Some, None, refl}
+-- What the due record has to do with the number of instructions that led to a state: where it is of an instruction that reads it,
+-- the value, and else nothing.
+use Rattle.std.proofs.Common.{◌≡◌, ℕ, Bool, true, false, Option, Some, None, refl, ap, ◌∙◌, if◌then◌else◌}
 use Rattle.diva_decode.specs.declared.instr.Instr.{Instr}
 use Rattle.diva_decode.specs.Table.{row_of}
 use Rattle.diva_isa.specs.State.{State, word_of}
-use Rattle.diva_isa.specs.Kind.{kind}
-use Rattle.diva_isa.specs.Step.{address, record_by, record_fetched, record_of, outcome, source1, source2}
+use Rattle.diva_isa.specs.Kind.{kind, reads_instret, reads_instret_by}
+use Rattle.diva_isa.specs.Step.{address, outcome, record_by, record_fetched, record_of, record_with, source1, source2}
 use Rattle.diva_isa.specs.declared.kind.Kind.{Kind}
-use Rattle.diva_isa.specs.declared.kind.Kind.TheVariants.{Lui, Ecall}
+use Rattle.diva_isa.specs.declared.kind.Kind.TheVariants.{Lui, Counter}
+use Rattle.diva_isa.specs.declared.record.Record.{Record}
+use Rattle.diva_isa.proofs.Parts.{row_of_zero}
 
 -- the state, had another number of instructions led to it
 abbrev pub numbered : State → ℕ → State
 numbered s n = record s { instret = n }
 
-source1_numbered : (k : Kind) (s : State) (n : ℕ) (i : Instr) → source1 k (numbered s n) i ≡ source1 k s i
-source1_numbered Lui s n i = refl
-source1_numbered k s n i = refl
+-- the record x, with the value of r if it reads `instret`
+abbrev pub with_value : (reads : Bool) → Record → Record → Record
+with_value reads x r = if reads then record x { value = r.value } else x
 
-source2_numbered : (k : Kind) (s : State) (n : ℕ) (i : Instr) → source2 k (numbered s n) i ≡ source2 k s i
-source2_numbered Lui s n i = refl
-source2_numbered k s n i = refl
+abbrev said : Kind → State → Instr → (w : ℕ) → Record
+said k s i w =
+    let a = source1 k s i in let b = source2 k s i in let addr = address k i a in
+    record_with s.pc w a b addr (outcome k s i s.pc a b addr)
 
-outcome_numbered : (k : Kind) (s : State) (n : ℕ) (i : Instr) (pc a b addr : ℕ) → outcome k (numbered s n) i pc a b addr ≡ outcome k s i pc a b addr
-outcome_numbered Lui s n i pc a b addr = refl
-outcome_numbered k s n i pc a b addr = refl
+kind_counted : (k : Kind) (s : State) (n : ℕ) (i : Instr) (w : ℕ) → said k s i w ≡ with_value (reads_instret k) (said k (numbered s n) i w) (said k s i w)
+kind_counted Lui s n i w = refl
+kind_counted k s n i w = refl
 
-said_numbered : (s : State) (n : ℕ) (there : Bool) (w : ℕ) (decoded : Option Instr) → record_by (numbered s n) there w decoded ≡ record_by s there w decoded
-said_numbered s n true w None = refl
-said_numbered s n false w None = refl
-said_numbered s n there w (Some i) =
-    rw (source1_numbered (kind i.op) s n i, source2_numbered (kind i.op) s n i, outcome_numbered (kind i.op) s n i s.pc (source1 (kind i.op) s i) (source2 (kind i.op) s i) (address (kind i.op) i (source1 (kind i.op) s i))) refl
+said_counted : (s : State) (n w : ℕ) (o : Option Instr) → record_by s true w o ≡ with_value (reads_instret_by o) (record_by (numbered s n) true w o) (record_by s true w o)
+said_counted s n w None = refl
+said_counted s n w (Some i) = kind_counted (kind i.op) s n i w
 
-fetched_numbered : (s : State) (n : ℕ) (w : Option ℕ) → record_fetched (numbered s n) w ≡ record_fetched s w
-fetched_numbered s n None = said_numbered s n false 0 None
-fetched_numbered s n (Some w) = said_numbered s n true w (row_of w)
+fetched_counted : (s : State) (n : ℕ) (o : Option ℕ)
+    → record_fetched s o ≡ with_value (reads_instret_by (row_of (record_fetched (numbered s n) o).word)) (record_fetched (numbered s n) o) (record_fetched s o)
+fetched_counted s n None = rw row_of_zero refl
+fetched_counted s n (Some w) = said_counted s n w (row_of w)
 
-pub record_numbered : (s : State) (n : ℕ) → record_of (numbered s n) ≡ record_of s
+pub record_counted : (s : State) (n : ℕ) → record_of s ≡ with_value (reads_instret_by (row_of (record_of (numbered s n)).word)) (record_of (numbered s n)) (record_of s)
 unfolding record_of
-record_numbered s n = fetched_numbered s n (word_of s s.pc)
+record_counted s n = fetched_counted s n (word_of s s.pc)

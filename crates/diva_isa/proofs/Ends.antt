@@ -10,7 +10,7 @@ use Rattle.diva_isa.specs.State.{State, number_of, word_of, output_limit}
 use Rattle.diva_isa.specs.End.{IsEnd, halt, trap}
 use Rattle.diva_isa.specs.Step.{address_of, call, ended, record_fetched, continues, imm, loaded, outcome, outcome_of, record_of, source1_of, source2_of, stored, jumps_to}
 use Rattle.diva_isa.specs.declared.kind.Kind.{Kind}
-use Rattle.diva_isa.specs.declared.kind.Kind.TheVariants.{Lui, Auipc, Jal, Jalr, Branch, Load, Store, OpImm, OpReg, Fence, Ecall, Ebreak}
+use Rattle.diva_isa.specs.declared.kind.Kind.TheVariants.{Lui, Auipc, Jal, Jalr, Branch, Load, Store, OpImm, OpReg, Fence, Ecall, Ebreak, Counter}
 use Rattle.diva_isa.specs.declared.record.Outcome.{Outcome}
 
 small : (n : ℕ) → n ≤ 10 → IsEnd n
@@ -58,6 +58,7 @@ end_outcome OpReg s i pc a b addr = small 0 (omega arith)
 end_outcome Fence s i pc a b addr = small 0 (omega arith)
 end_outcome Ecall s i pc a b addr = end_call s pc a b
 end_outcome Ebreak s i pc a b addr = small 4 (omega arith)
+end_outcome Counter s i pc a b addr = small 0 (omega arith)
 
 -- whatever a word says, and where there is none
 pub end_outcome_of : (there : Bool) (decoded : Option Instr) (s : State) (pc a b addr : ℕ) → IsEnd (outcome_of there decoded s pc a b addr).end

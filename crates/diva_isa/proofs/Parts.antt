@@ -17,7 +17,7 @@ pub record Parts (x : Record) (s : State) (o : Option ℕ) (decoded : Option Ins
   pub outcome : x ≡ record_with x.pc x.word x.src1 x.src2 x.addr (outcome_of (is_some o) decoded s x.pc x.src1 x.src2 x.addr)
 
 -- the word 0, which a record has where there is no word, says nothing
-row_of_zero : row_of 0 ≡ None
+pub row_of_zero : row_of 0 ≡ None
 unfolding row_of
 row_of_zero = refl
 

@@ -11,7 +11,7 @@ use Rattle.diva_isa.specs.declared.trap.Trap.TheVariants.{StoreMisaligned}
 use Rattle.diva_isa.specs.State.{State, memory_of, number_of, word_of, output_limit}
 use Rattle.diva_isa.specs.Kind.{kind, size}
 use Rattle.diva_isa.specs.declared.kind.Kind.{Kind}
-use Rattle.diva_isa.specs.declared.kind.Kind.TheVariants.{Lui, Auipc, Jal, Jalr, Branch, Load, Store, OpImm, OpReg, Fence, Ecall, Ebreak}
+use Rattle.diva_isa.specs.declared.kind.Kind.TheVariants.{Lui, Auipc, Jal, Jalr, Branch, Load, Store, OpImm, OpReg, Fence, Ecall, Ebreak, Counter}
 use Rattle.diva_isa.specs.declared.kind.Width.{Width}
 use Rattle.diva_isa.specs.declared.kind.Width.TheVariants.{Byte, Half, Word}
 use Rattle.diva_isa.specs.declared.effect.Effect.{Effect}
@@ -65,6 +65,7 @@ kind_has_room OpReg s i pc w a b addr e = tt
 kind_has_room Fence s i pc w a b addr e = tt
 kind_has_room Ecall s i pc w a b addr e = put_has_room (a == 1) s ((call s pc a b).value % 2 ^ 8) (λ one. call_has_room s pc a b e one)
 kind_has_room Ebreak s i pc w a b addr e = tt
+kind_has_room Counter s i pc w a b addr e = tt
 
 said_has_room : (s : State) (w : ℕ) (o : Option Instr) → (record_by s true w o).end ≡ 0 → HasRoom s (effect_by o (record_by s true w o))
 said_has_room s w None e = absurd (omega arith)
@@ -113,6 +114,7 @@ kind_is_aligned OpReg s i pc w a b addr e = tt
 kind_is_aligned Fence s i pc w a b addr e = tt
 kind_is_aligned Ecall s i pc w a b addr e = put_is_aligned (a == 1) ((call s pc a b).value % 2 ^ 8)
 kind_is_aligned Ebreak s i pc w a b addr e = tt
+kind_is_aligned Counter s i pc w a b addr e = tt
 
 said_is_aligned : (s : State) (w : ℕ) (o : Option Instr) → (record_by s true w o).end ≡ 0 → IsAligned (effect_by o (record_by s true w o))
 said_is_aligned s w None e = tt

@@ -3,7 +3,7 @@
 use Rattle.std.specs.Prelude.{ℕ, ◌+◌, ◌-◌, ◌*◌, ◌/◌, ◌%◌, ◌^◌, ◌==◌, Bool, false, not, ℤ, pos, ◌*ℤ◌, if◌then◌else◌, nat_lt, nat_le, int_lt, int_le, int_div, int_rem, bit_and, bit_or, bit_xor}
 use Rattle.std.specs.Int.{cast_unsigned, cast_signed, int_shr, w8, w16, w32, w64}
 use Rattle.diva_decode.specs.declared.op.Op.{Op}
-use Rattle.diva_decode.specs.declared.op.Op.TheVariants.{Lui, Auipc, Jal, Jalr, Beq, Bne, Blt, Bge, Bltu, Bgeu, Lb, Lh, Lw, Lbu, Lhu, Sb, Sh, Sw, Addi, Slti, Sltiu, Xori, Ori, Andi, Slli, Srli, Srai, Add, Sub, Sll, Slt, Sltu, Xor, Srl, Sra, Or, And, Fence, Ecall, Ebreak, Mul, Mulh, Mulhsu, Mulhu, Div, Divu, Rem, Remu}
+use Rattle.diva_decode.specs.declared.op.Op.TheVariants.{Lui, Auipc, Jal, Jalr, Beq, Bne, Blt, Bge, Bltu, Bgeu, Lb, Lh, Lw, Lbu, Lhu, Sb, Sh, Sw, Addi, Slti, Sltiu, Xori, Ori, Andi, Slli, Srli, Srai, Add, Sub, Sll, Slt, Sltu, Xor, Srl, Sra, Or, And, Fence, Ecall, Ebreak, Rdinstret, Rdinstreth, Mul, Mulh, Mulhsu, Mulhu, Div, Divu, Rem, Remu}
 
 -- w read as two's complement
 abbrev pub s : ℕ → ℤ
@@ -70,6 +70,8 @@ alu Sw a b = 0
 alu Fence a b = 0
 alu Ecall a b = 0
 alu Ebreak a b = 0
+alu Rdinstret a b = 0
+alu Rdinstreth a b = 0
 
 -- whether a branch on a and b is taken; the six branches, and never another operation
 abbrev pub is_taken : Op → ℕ → ℕ → Bool
@@ -89,3 +91,9 @@ extended Lw bytes = bytes
 extended Lbu bytes = bytes % 2 ^ 8
 extended Lhu bytes = bytes % 2 ^ 16
 extended op bytes = 0
+
+-- the word that is read of a number of 64 bits, its low one or its high one; the two reads, and 0 of another operation
+abbrev pub half_read : Op → ℕ → ℕ
+half_read Rdinstret n = n % 2 ^ 32
+half_read Rdinstreth n = n / 2 ^ 32 % 2 ^ 32
+half_read op n = 0

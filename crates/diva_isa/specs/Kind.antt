@@ -1,11 +1,12 @@
 -- The kind of each operation: what its record has in common with others.
-use Rattle.std.specs.Prelude.{ℕ, Bool, true, false}
+use Rattle.std.specs.Prelude.{ℕ, Bool, true, false, Option, Some, None}
+use Rattle.diva_decode.specs.declared.instr.Instr.{Instr}
 use Rattle.diva_decode.specs.declared.op.Op.{Op}
-use Rattle.diva_decode.specs.declared.op.Op.TheVariants.{Lui as LuiOp, Auipc as AuipcOp, Jal as JalOp, Jalr as JalrOp, Beq, Bne, Blt, Bge, Bltu, Bgeu, Lb, Lh, Lw, Lbu, Lhu, Sb, Sh, Sw, Addi, Slti, Sltiu, Xori, Ori, Andi, Slli, Srli, Srai, Add, Sub, Sll, Slt, Sltu, Xor, Srl, Sra, Or, And, Fence as FenceOp, Ecall as EcallOp, Ebreak as EbreakOp, Mul, Mulh, Mulhsu, Mulhu, Div, Divu, Rem, Remu}
+use Rattle.diva_decode.specs.declared.op.Op.TheVariants.{Lui as LuiOp, Auipc as AuipcOp, Jal as JalOp, Jalr as JalrOp, Beq, Bne, Blt, Bge, Bltu, Bgeu, Lb, Lh, Lw, Lbu, Lhu, Sb, Sh, Sw, Addi, Slti, Sltiu, Xori, Ori, Andi, Slli, Srli, Srai, Add, Sub, Sll, Slt, Sltu, Xor, Srl, Sra, Or, And, Fence as FenceOp, Ecall as EcallOp, Ebreak as EbreakOp, Rdinstret, Rdinstreth, Mul, Mulh, Mulhsu, Mulhu, Div, Divu, Rem, Remu}
 use Rattle.diva_isa.specs.declared.kind.Width.{Width}
 use Rattle.diva_isa.specs.declared.kind.Width.TheVariants.{Byte, Half, Word}
 use Rattle.diva_isa.specs.declared.kind.Kind.{Kind}
-use Rattle.diva_isa.specs.declared.kind.Kind.TheVariants.{Lui, Auipc, Jal, Jalr, Branch, Load, Store, OpImm, OpReg, Fence, Ecall, Ebreak}
+use Rattle.diva_isa.specs.declared.kind.Kind.TheVariants.{Lui, Auipc, Jal, Jalr, Branch, Load, Store, OpImm, OpReg, Fence, Ecall, Ebreak, Counter}
 
 abbrev pub kind : Op → Kind
 kind LuiOp = Lui
@@ -48,6 +49,8 @@ kind And = OpReg
 kind FenceOp = Fence
 kind EcallOp = Ecall
 kind EbreakOp = Ebreak
+kind Rdinstret = Counter
+kind Rdinstreth = Counter
 kind Mul = OpReg
 kind Mulh = OpReg
 kind Mulhsu = OpReg
@@ -77,3 +80,14 @@ moves_memory OpReg = false
 moves_memory Fence = false
 moves_memory Ecall = false
 moves_memory Ebreak = false
+moves_memory Counter = false
+
+-- an operation of the kind reads `instret`
+abbrev pub reads_instret : Kind → Bool
+reads_instret Counter = true
+reads_instret other = false
+
+-- so does what a word says
+abbrev pub reads_instret_by : Option Instr → Bool
+reads_instret_by None = false
+reads_instret_by (Some i) = reads_instret (kind i.op)

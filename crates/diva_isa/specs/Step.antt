@@ -1,9 +1,11 @@
 -- The record of the next instruction of a state, and what applying a record does. (RISC-V Unprivileged ISA, chapters
--- RV32I 2.1 and M 2.0. Traps, the services of ECALL and how the machine ends are what the manual leaves to choose.)
+-- RV32I 2.1 and M 2.0, and the two reads of `instret` of Zicntr. Traps, the services of ECALL and how the
+-- machine ends are what the manual leaves to choose.)
 --
 -- The record, kind by kind. a and b are src1 and src2, imm is the immediate as a word, op is the operation, n is the width
 -- of the load or the store in bytes, number is what the n bytes from addr on are, the lowest first, and sums are modulo
--- 2 ^ 32. What alu, is_taken and extended compute is in Alu.antt.
+-- 2 ^ 32. instret is how many instructions led to the state, so the one that reads it isn't among them. What alu, is_taken,
+-- extended and half_read compute is in Alu.antt.
 --
 -- kind    instructions               src1  src2  addr     value                   next               trap
 -- Lui     LUI                        0     0     0        imm                     pc + 4
@@ -29,6 +31,7 @@
 --           where a is 93                                 0                       pc                 halts
 --           elsewhere                                     0                       pc                 CallNotServed, always
 -- Ebreak  EBREAK                     0     0     0        0                       pc                 Breakpoint, always
+-- Counter RDINSTRET RDINSTRETH       0     0     0        half_read op instret    pc + 4
 --
 -- An instruction that goes on has end 0. One that traps has value 0, next pc and end 1 + the trap's number, and keeps
 -- src1, src2 and addr of its row. The call that halts has end 256 + b % 2 ^ 8.
@@ -48,12 +51,12 @@ use Rattle.diva_decode.specs.declared.instr.Instr.{Instr}
 use Rattle.diva_decode.specs.Table.{row_of}
 use Rattle.diva_memory.specs.Bytes.{put_all, low_bytes}
 use Rattle.diva_isa.specs.State.{State, reg_of, memory_of, number_of, word_of, goes_on, output_limit}
-use Rattle.diva_isa.specs.Alu.{alu, is_taken, extended}
+use Rattle.diva_isa.specs.Alu.{alu, is_taken, extended, half_read}
 use Rattle.diva_isa.specs.Kind.{kind, size}
 use Rattle.diva_isa.specs.Regs.{with_reg}
 use Rattle.diva_isa.specs.End.{halt, trap}
 use Rattle.diva_isa.specs.declared.kind.Kind.{Kind}
-use Rattle.diva_isa.specs.declared.kind.Kind.TheVariants.{Lui, Auipc, Jal, Jalr, Branch, Load, Store, OpImm, OpReg, Fence, Ecall, Ebreak}
+use Rattle.diva_isa.specs.declared.kind.Kind.TheVariants.{Lui, Auipc, Jal, Jalr, Branch, Load, Store, OpImm, OpReg, Fence, Ecall, Ebreak, Counter}
 use Rattle.diva_isa.specs.declared.trap.Trap.TheVariants.{InstructionMisaligned, InstructionAccessFault, IllegalInstruction, Breakpoint, LoadMisaligned, LoadAccessFault, StoreMisaligned, StoreAccessFault, CallNotServed, OutputFull}
 use Rattle.diva_isa.specs.declared.record.Record.{Record}
 use Rattle.diva_isa.specs.declared.record.Outcome.{Outcome}
@@ -80,6 +83,7 @@ source1 OpReg s i = reg_of s i.rs1
 source1 Fence s i = 0
 source1 Ecall s i = reg_of s 17
 source1 Ebreak s i = 0
+source1 Counter s i = 0
 
 abbrev pub source2 : Kind → State → Instr → ℕ
 source2 Lui s i = 0
@@ -94,6 +98,7 @@ source2 OpReg s i = reg_of s i.rs2
 source2 Fence s i = 0
 source2 Ecall s i = reg_of s 10
 source2 Ebreak s i = 0
+source2 Counter s i = 0
 
 -- the address of a load or a store, where a is rs1; 0 elsewhere
 abbrev pub address : Kind → Instr → ℕ → ℕ
@@ -109,6 +114,7 @@ address OpReg i a = 0
 address Fence i a = 0
 address Ecall i a = 0
 address Ebreak i a = 0
+address Counter i a = 0
 
 -- ---- what an instruction comes to: its value, where it leads, and how it ends
 
@@ -163,6 +169,7 @@ outcome OpReg s i pc a b addr = continues pc (alu i.op a b)
 outcome Fence s i pc a b addr = continues pc 0
 outcome Ecall s i pc a b addr = call s pc a b
 outcome Ebreak s i pc a b addr = ended pc (trap Breakpoint)
+outcome Counter s i pc a b addr = continues pc (half_read i.op s.instret)
 
 -- ---- the parts of a record, by what its word says: `None` where there is no word, or one that is not of the table
 
@@ -208,7 +215,7 @@ record_of s = record_fetched s (word_of s s.pc)
 
 -- ---- what applying a record does
 
--- what r does besides moving pc, r's word being an instruction i of this kind
+-- what r does besides moving pc and being counted, r's word being an instruction i of this kind
 abbrev pub effect : Kind → Instr → Record → Effect
 effect Lui i r = Writes i.rd r.value
 effect Auipc i r = Writes i.rd r.value
@@ -222,6 +229,7 @@ effect OpReg i r = Writes i.rd r.value
 effect Fence i r = Nothing
 effect Ecall i r = if r.src1 == 1 then Puts (r.value % 2 ^ 8) else Nothing
 effect Ebreak i r = Nothing
+effect Counter i r = Writes i.rd r.value
 
 -- the same by what r's word says; a word that is not one of the table does nothing
 abbrev pub effect_by : Option Instr → Record → Effect

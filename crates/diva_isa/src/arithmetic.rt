@@ -1,7 +1,7 @@
-// What the operations compute, whether a branch is taken, and what a load makes of its bytes.
+// What the operations compute, whether a branch is taken, what a load makes of its bytes, and which word is read of `instret`.
 
 ghost use Rattle.std.specs.Prelude.{◌≡◌, ◌%◌, ◌^◌};
-ghost use Rattle.diva_isa.specs.Alu.{alu, is_taken, extended};
+ghost use Rattle.diva_isa.specs.Alu.{alu, is_taken, extended, half_read};
 
 use diva_decode::Op;
 
@@ -115,4 +115,16 @@ fn low_half(word: u32) -> u16
     ensures { result ≡ word % 2 ^ 16 }
 {
     (word & 0xffff) as u16
+}
+
+/// The word that an instruction reads of `instret`: RDINSTRET the low one, RDINSTRETH the high one; 0 of another
+/// operation. (RISC-V Unprivileged ISA, chapter "Zicntr and Zihpm".)
+pub(crate) fn instret_word(op: Op, instret: u64) -> u32
+    ensures { result ≡ half_read op instret }
+{
+    match op {
+        Op::Rdinstret => (instret & 0xffff_ffff) as u32,
+        Op::Rdinstreth => (instret >> 32) as u32,
+        _ => 0,
+    }
 }

@@ -4,12 +4,13 @@ ghost use Rattle.std.specs.Prelude.{◌≡◌, ◌≢◌, false, ℕ, ◌*◌, �
 ghost use Rattle.std.specs.Option.{option_and_then};
 ghost use Rattle.diva_decode.specs.Table.{HasRegisters, IsValid, row_of};
 ghost use Rattle.diva_isa.specs.State.{State, word_of};
+ghost use Rattle.diva_isa.specs.Alu.{half_read};
 ghost use Rattle.diva_isa.specs.Kind.{kind, moves_memory, size};
 ghost use Rattle.diva_isa.specs.End.{halt, trap};
 ghost use Rattle.diva_isa.specs.Step.{HasRegister, address, call, continues, effect, effect_by, effect_of, ended, load, outcome, outcome_of, record_fetched, record_of, source1, source2, source1_of, source2_of, address_of, store, jumps_to, record_with};
 ghost use Rattle.diva_isa.specs.Trap.{trap_number};
 
-use crate::arithmetic::{alu, branch_taken, load_value};
+use crate::arithmetic::{alu, branch_taken, instret_word, load_value};
 use crate::effect::{Effect, PUT, effect_as};
 use crate::kind::{Kind, Width, kind_of};
 use crate::look::Look;
@@ -21,7 +22,7 @@ use diva_decode::{Instr, Op, decode};
 /// The service that halts the machine, as ECALL asks for it by x17.
 const HALT: u32 = 93;
 
-/// A record, and what it does besides moving the pc.
+/// A record, and what it does besides moving the pc and being counted.
 #[derive(Clone, Copy, Debug, PartialEq, Eq)]
 pub struct Due {
     /// The record.
@@ -135,12 +136,13 @@ fn due_looked_at<L: Look>(state: &L, word: u32, i: &Instr, kind: Kind) -> Due
     completed(r, i, come_to(state, i, &r, kind), kind)
 }
 
-/// The same of a kind that looks at no memory and does not call the environment.
+/// The same of a kind that looks at no memory, does not call the environment and does not read `instret`.
 #[inline(always)]
 fn due_computed<L: Look>(state: &L, word: u32, i: &Instr, kind: Kind) -> Due
     requires registers { HasRegisters i.now }
     requires memory { moves_memory kind ≡ false }
     requires call { kind ≢ Kind.Ecall }
+    requires counter { kind ≢ Kind.Counter }
     ensures record { let s = L.shows state.now in let a = source1 kind s i.now in let b = source2 kind s i.now in
         let addr = address kind i.now a in
         result.record ≡ record_with s.pc word a b addr (outcome kind s i.now s.pc a b addr) }
@@ -280,10 +282,12 @@ fn reads<L: Look>(state: &L, i: &Instr, kind: Kind) -> Operands
         result ≡ record { first = source1 kind s i.now; second = source2 kind s i.now } }
 {
     match kind {
-        Kind::Lui | Kind::Auipc | Kind::Jal | Kind::Fence | Kind::Ebreak => Operands {
-            first: 0,
-            second: 0,
-        },
+        Kind::Lui | Kind::Auipc | Kind::Jal | Kind::Fence | Kind::Ebreak | Kind::Counter => {
+            Operands {
+                first: 0,
+                second: 0,
+            }
+        }
         Kind::Jalr | Kind::Load(_) | Kind::OpImm => Operands {
             first: state.reg(i.rs1),
             second: 0,
@@ -411,6 +415,13 @@ fn call<L: Look>(state: &L, r: &Record) -> Outcome
     }
 }
 
+#[inline(always)]
+fn read_count<L: Look>(state: &L, op: Op, r: &Record) -> Outcome
+    ensures { result ≡ continues r.now.pc (half_read op (L.shows state.now).instret) }
+{
+    continues(r.pc, instret_word(op, state.instret()))
+}
+
 /// What an instruction comes to, by the first five fields of its record, by whether its word is there, and by `decoded`,
 /// what the word says.
 #[inline(always)]
@@ -442,6 +453,7 @@ fn come_to<L: Look>(state: &L, i: &Instr, r: &Record, kind: Kind) -> Outcome
         Kind::Load(width) => load(state, r, i.op, width),
         Kind::Store(width) => store(state, r, width),
         Kind::Ecall => call(state, r),
+        Kind::Counter => read_instret(state, i.op, r),
         kind => compute(kind, i, r),
     }
 }
@@ -454,14 +466,15 @@ pub fn execute<L: Look>(state: &L, i: &Instr, r: &Record) -> Outcome
 {
     match kind_of(i.op) {
         Kind::Ecall => call(state, r),
+        Kind::Counter => read_instret(state, i.op, r),
         kind => compute(kind, i, r),
     }
 }
 
-/// The same of an instruction that does not call the environment either: no state is looked at.
+/// The same of an instruction that neither calls the environment nor reads `instret`: no state is looked at.
 #[inline(always)]
 fn compute(kind: Kind, i: &Instr, r: &Record) -> Outcome
-    ensures { (s : State) → moves_memory kind ≡ false → kind ≢ Kind.Ecall
+    ensures { (s : State) → moves_memory kind ≡ false → kind ≢ Kind.Ecall → kind ≢ Kind.Counter
         → result ≡ outcome kind s i.now r.now.pc r.now.src1 r.now.src2 r.now.addr }
 {
     let imm = i.imm.cast_unsigned();
@@ -476,8 +489,7 @@ fn compute(kind: Kind, i: &Instr, r: &Record) -> Outcome
         Kind::OpImm => continues(r.pc, alu(i.op, r.src1, imm)),
         Kind::OpReg => continues(r.pc, alu(i.op, r.src1, r.src2)),
         Kind::Ebreak => trapped(r.pc, Trap::Breakpoint),
-        Kind::Branch | Kind::Fence | Kind::Load(_) | Kind::Store(_) | Kind::Ecall => continues(
-            r.pc, 0,
-        ),
+        Kind::Branch | Kind::Fence | Kind::Load(_) | Kind::Store(_) | Kind::Ecall | Kind::Counter =>
+            continues(r.pc, 0),
     }
 }

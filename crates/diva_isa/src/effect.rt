@@ -1,4 +1,4 @@
-// What a record does besides moving the pc.
+// What a record does besides moving the pc and being counted.
 
 ghost use Rattle.std.specs.Prelude.{◌≡◌, IfSome};
 ghost use Rattle.diva_decode.specs.Table.{HasRegisters};
@@ -11,10 +11,10 @@ use diva_decode::{Instr, decode};
 /// The service that puts a byte, as ECALL asks for it by x17.
 pub(crate) const PUT: u32 = 1;
 
-/// What a record does to a state besides moving its pc.
+/// What a record does to a state besides moving its pc and being counted.
 #[derive(Clone, Copy, Debug, PartialEq, Eq)]
 pub enum Effect {
-    /// Only the pc moves.
+    /// Nothing else.
     Nothing,
     /// Puts a word into a register; x0 ignores it.
     Writes {
@@ -36,8 +36,9 @@ pub enum Effect {
     Puts(u8),
 }
 
-/// What a record does besides moving the pc, whether the record is right or wrong, by the instruction that its word says;
-/// `Nothing` where the word says none. It is done only where the record goes on: one that ends only ends the machine.
+/// What a record does besides moving the pc and being counted, whether the record is right or wrong, by the instruction that its
+/// word says; `Nothing` where the word says none. It is done only where the record goes on: one that ends is counted, and only
+/// ends the machine.
 /// (RISC-V Unprivileged ISA, chapters RV32I 2.1 and M 2.0.)
 pub fn effect_of(r: &Record) -> Effect
     ensures effect { result ≡ effect_of r.now }
@@ -46,8 +47,8 @@ pub fn effect_of(r: &Record) -> Effect
     effect_by(decode(r.word), r)
 }
 
-/// What a record does besides moving the pc, as [`effect_of`] has it, but decodes nothing: `decoded` is what the record's word
-/// says, and where that is `None` the effect is `Nothing`.
+/// What a record does besides moving the pc and being counted, as [`effect_of`] has it, but decodes nothing: `decoded` is what the
+/// record's word says, and where that is `None` the effect is `Nothing`.
 #[inline]
 pub fn effect_by(decoded: Option<Instr>, r: &Record) -> Effect
     ensures effect { result ≡ effect_by decoded r.now }
@@ -72,7 +73,8 @@ pub(crate) fn effect_as(i: &Instr, r: &Record, kind: Kind) -> Effect
         | Kind::Jalr
         | Kind::Load(_)
         | Kind::OpImm
-        | Kind::OpReg => Effect::Writes {
+        | Kind::OpReg
+        | Kind::Counter => Effect::Writes {
             rd: i.rd,
             value: r.value,
         },

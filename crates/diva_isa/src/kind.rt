@@ -56,6 +56,8 @@ pub enum Kind {
     Ecall,
     /// EBREAK.
     Ebreak,
+    /// A read of `instret`: RDINSTRET, RDINSTRETH.
+    Counter,
 }
 
 impl Kind {
@@ -100,6 +102,7 @@ pub fn kind_of(op: Op) -> Kind
         Op::Fence => Kind::Fence,
         Op::Ecall => Kind::Ecall,
         Op::Ebreak => Kind::Ebreak,
+        Op::Rdinstret | Op::Rdinstreth => Kind::Counter,
         _ => Kind::OpReg,
     }
 }

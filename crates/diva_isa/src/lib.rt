@@ -7,7 +7,7 @@
 //! - `trap`: the traps by number.
 //! - `end`: how a state has ended, as a word and as a number.
 //! - `due`: the record of a state's next instruction, and each part of it by itself.
-//! - `effect`: what a record does besides moving the pc.
+//! - `effect`: what a record does besides moving the pc and being counted.
 //! - `regs`: the 32 registers.
 //! - `plain`: the machine that does one instruction after another.
 //!

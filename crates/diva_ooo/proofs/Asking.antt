@@ -8,7 +8,7 @@ use Rattle.diva_ooo.specs.Entry.{Entry, profile_of}
 use Rattle.diva_ooo.specs.declared.board.Board.{Board}
 use Rattle.diva_ooo.specs.declared.mark_set.MarkSet.{MarkSet}
 use Rattle.diva_ooo.specs.declared.profile.Class.{Class}
-use Rattle.diva_ooo.specs.declared.profile.Class.TheVariants.{Plain, Loads, Stores, Calls}
+use Rattle.diva_ooo.specs.declared.profile.Class.TheVariants.{Plain, Loads, Stores, Oldest}
 use Rattle.diva_ooo.specs.Board.{IsBoard, IsLastOf, IsNextOf, IsWrittenBetween, can_at, could_at, has_result, is_load, is_loading, is_open_store, no_mark, reads, writes}
 use Rattle.diva_ooo.specs.Issue.{are_stored, can_begin, is_available, is_awaited, is_done, is_free, is_ready, is_storing, is_waiting}
 use Rattle.diva_ooo.specs.MarkSets.{AreThose, IsLast, IsNext, has, holds_at}
@@ -325,7 +325,7 @@ unfolding is_ready
 stalled e older Plain is load open' = absurd (cc)
 stalled e older Loads is load open' = rw (is, open') (stalled_by (is_waiting e.stage) (is_available older (profile_of e).rs1 && is_available older (profile_of e).rs2))
 stalled e older Stores is load open' = absurd (cc)
-stalled e older Calls is load open' = absurd (cc)
+stalled e older Oldest is load open' = absurd (cc)
 
 abbrev could : List Entry → Entry → Bool
 could older e = is_waiting e.stage && (is_available older (profile_of e).rs1 && is_available older (profile_of e).rs2)
@@ -358,7 +358,7 @@ apart_by : (c : Class) → is_loading c ≡ true → is_storing c ≡ false
 apart_by Plain h = refl
 apart_by Loads h = refl
 apart_by Stores h = absurd (cc)
-apart_by Calls h = refl
+apart_by Oldest h = refl
 
 load_open : (w : List Entry) (i : ℕ) → holds_at is_load w i ≡ true → holds_at is_open_store w i ≡ true → ⊥
 load_open [] i load open' = absurd (cc)

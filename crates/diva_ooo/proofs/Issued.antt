@@ -8,7 +8,7 @@ use Rattle.diva_isa.specs.State.{State}
 use Rattle.diva_ahead.specs.Ahead.{Ahead}
 use Rattle.diva_ooo.specs.Entry.{Entry, profile_of}
 use Rattle.diva_ooo.specs.declared.profile.Class.{Class}
-use Rattle.diva_ooo.specs.declared.profile.Class.TheVariants.{Plain, Loads, Stores, Calls}
+use Rattle.diva_ooo.specs.declared.profile.Class.TheVariants.{Plain, Loads, Stores, Oldest}
 use Rattle.diva_ooo.specs.declared.profile.Profile.{Profile}
 use Rattle.diva_ooo.specs.Board.{can_at, is_load}
 use Rattle.diva_ooo.specs.Issue.{are_stored, begins, can_begin, is_available, is_done, is_free, is_ready, is_storing, is_waiting, issued_from, started}
@@ -138,7 +138,7 @@ free_like : (c : Class) (o1 o2 : List Entry) → AreLike o1 o2 → is_free c o1 
 free_like Plain o1 o2 like = refl
 free_like Loads o1 o2 like = like.stored
 free_like Stores o1 o2 like = refl
-free_like Calls o1 o2 like = ap (λ (n : ℕ). n == 0) like.long
+free_like Oldest o1 o2 like = ap (λ (n : ℕ). n == 0) like.long
 
 can_like : (o1 o2 w : List Entry) (i : ℕ) → AreLike o1 o2 → can_at o1 w i ≡ can_at o2 w i
 unfolding is_ready

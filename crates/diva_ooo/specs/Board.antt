@@ -6,7 +6,7 @@ use Rattle.diva_ooo.specs.Entry.{Entry, profile_of}
 use Rattle.diva_ooo.specs.declared.board.Board.{Board}
 use Rattle.diva_ooo.specs.declared.mark_set.MarkSet.{MarkSet}
 use Rattle.diva_ooo.specs.declared.profile.Class.{Class}
-use Rattle.diva_ooo.specs.declared.profile.Class.TheVariants.{Plain, Loads, Stores, Calls}
+use Rattle.diva_ooo.specs.declared.profile.Class.TheVariants.{Plain, Loads, Stores, Oldest}
 use Rattle.diva_ooo.specs.Finish.{is_running}
 use Rattle.diva_ooo.specs.Issue.{can_begin, is_available, is_done, is_storing, is_waiting}
 use Rattle.diva_ahead.specs.Effects.{done_by}
@@ -29,7 +29,7 @@ abbrev pub is_loading : Class → Bool
 is_loading Plain = false
 is_loading Loads = true
 is_loading Stores = false
-is_loading Calls = false
+is_loading Oldest = false
 
 abbrev pub is_load : Entry → Bool
 is_load e = is_loading (profile_of e).class

@@ -11,7 +11,7 @@ use Rattle.diva_ooo.specs.Entry.{Entry, profile_of}
 use Rattle.diva_ooo.specs.declared.entry.Progress.{Progress}
 use Rattle.diva_ooo.specs.declared.entry.Progress.TheVariants.{Waiting, Running, Done}
 use Rattle.diva_ooo.specs.declared.profile.Class.{Class}
-use Rattle.diva_ooo.specs.declared.profile.Class.TheVariants.{Plain, Loads, Stores, Calls}
+use Rattle.diva_ooo.specs.declared.profile.Class.TheVariants.{Plain, Loads, Stores, Oldest}
 
 abbrev pub is_waiting : Progress → Bool
 is_waiting Waiting = true
@@ -27,7 +27,7 @@ abbrev pub is_storing : Class → Bool
 is_storing Plain = false
 is_storing Loads = false
 is_storing Stores = true
-is_storing Calls = false
+is_storing Oldest = false
 
 -- ---- who begins
 
@@ -44,12 +44,12 @@ is_available older n = (n == 0) || not (is_awaited false older n)
 abbrev pub are_stored : List Entry → Bool
 are_stored older = list_all (λ e. is_done e.stage || not (is_storing (profile_of e).class)) older
 
--- a load waits for each older store, and a call until it is the oldest
+-- a load waits for each older store, and a call, or a read of `instret`, until it is the oldest
 abbrev pub is_free : Class → List Entry → Bool
 is_free Plain older = true
 is_free Loads older = are_stored older
 is_free Stores older = true
-is_free Calls older = length older == 0
+is_free Oldest older = length older == 0
 
 unfoldable pub is_ready : List Entry → Entry → Bool
 is_ready older e = is_available older (profile_of e).rs1 && is_available older (profile_of e).rs2 && is_free (profile_of e).class older

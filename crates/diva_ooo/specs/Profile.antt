@@ -6,10 +6,10 @@ use Rattle.diva_decode.specs.declared.op.Op.TheVariants.{Lb, Lh, Lw, Lbu, Lhu, M
 use Rattle.diva_isa.specs.Kind.{kind}
 use Rattle.diva_isa.specs.Step.{imm}
 use Rattle.diva_isa.specs.declared.kind.Kind.{Kind}
-use Rattle.diva_isa.specs.declared.kind.Kind.TheVariants.{Lui, Auipc, Jal, Jalr, Branch, Load, Store, OpImm, OpReg, Fence, Ecall, Ebreak}
+use Rattle.diva_isa.specs.declared.kind.Kind.TheVariants.{Lui, Auipc, Jal, Jalr, Branch, Load, Store, OpImm, OpReg, Fence, Ecall, Ebreak, Counter}
 use Rattle.diva_ooo.specs.declared.profile.Profile.{Profile}
 use Rattle.diva_ooo.specs.declared.profile.Class.{Class}
-use Rattle.diva_ooo.specs.declared.profile.Class.TheVariants.{Plain, Loads, Stores, Calls}
+use Rattle.diva_ooo.specs.declared.profile.Class.TheVariants.{Plain, Loads, Stores, Oldest}
 
 -- the cycles that an operation runs
 abbrev pub cycles_of : Op → ℕ
@@ -32,7 +32,8 @@ cycles_of op = 1
 abbrev pub class_of : Kind → Class
 class_of (Load width) = Loads
 class_of (Store width) = Stores
-class_of Ecall = Calls
+class_of Ecall = Oldest
+class_of Counter = Oldest
 class_of other = Plain
 
 abbrev pub profiled : (rs1 rs2 rd : ℕ) → Class → (cycles : ℕ) → Profile
@@ -51,8 +52,9 @@ profile (Store width) i = profiled i.rs1 i.rs2 0 Stores (cycles_of i.op)
 profile OpImm i = profiled i.rs1 0 i.rd Plain (cycles_of i.op)
 profile OpReg i = profiled i.rs1 i.rs2 i.rd Plain (cycles_of i.op)
 profile Fence i = profiled 0 0 0 Plain (cycles_of i.op)
-profile Ecall i = profiled 0 0 0 Calls (cycles_of i.op)
+profile Ecall i = profiled 0 0 0 Oldest (cycles_of i.op)
 profile Ebreak i = profiled 0 0 0 Plain (cycles_of i.op)
+profile Counter i = profiled 0 0 i.rd Oldest (cycles_of i.op)
 
 -- the same of what a word says; one that says nothing, and no word, run one cycle
 abbrev pub profile_by : Option Instr → Profile
@@ -75,6 +77,7 @@ is_taken_by OpReg i = false
 is_taken_by Fence i = false
 is_taken_by Ecall i = false
 is_taken_by Ebreak i = false
+is_taken_by Counter i = false
 
 abbrev pub target_or_next : (pc target : ℕ) → ℕ
 target_or_next pc target = if target % 4 == 0 then target else (pc + 4) % 2 ^ 32

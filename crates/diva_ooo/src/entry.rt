@@ -44,7 +44,7 @@ pub struct Entry {
     pub stage: Progress,
     /// Its record, once it has begun; until then all zeros.
     pub result: Record,
-    /// What that does besides moving the pc: nothing where it ends, or where it has not begun.
+    /// What that does besides moving the pc and being counted: nothing where it ends, or where it has not begun.
     pub effect: Effect,
 }
 

@@ -105,7 +105,7 @@ fn begin_any(window: &mut Window, at: usize, ahead: &Ahead, view: &View<'_>)
     window.begin(at, due.record, done(&due));
 }
 
-/// What a record does besides moving the pc where it goes on; one that ends does nothing.
+/// What a record does besides moving the pc and being counted where it goes on; one that ends does nothing.
 #[inline(always)]
 #[tactic(auto, unfolding(diva_ahead::specs::Effects::done_by))]
 fn done(due: &Due) -> Effect

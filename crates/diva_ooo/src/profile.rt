@@ -20,8 +20,8 @@ pub enum Class {
     Loads,
     /// A store: nothing, but younger loads wait for it.
     Stores,
-    /// A call: it has to be the oldest.
-    Calls,
+    /// A call, or a read of `instret`: it has to be the oldest.
+    Oldest,
 }
 
 impl Class {
@@ -46,7 +46,7 @@ impl Class {
     {
         match self {
             Class::Plain | Class::Loads | Class::Stores => true,
-            Class::Calls => at == 0,
+            Class::Oldest => at == 0,
         }
     }
 }
@@ -116,7 +116,7 @@ fn needs_of(op: Op) -> (Class, u8)
         Op::Sb | Op::Sh | Op::Sw => (Class::Stores, 1),
         Op::Mul | Op::Mulh | Op::Mulhsu | Op::Mulhu => (Class::Plain, 3),
         Op::Div | Op::Divu | Op::Rem | Op::Remu => (Class::Plain, 8),
-        Op::Ecall => (Class::Calls, 1),
+        Op::Ecall | Op::Rdinstret | Op::Rdinstreth => (Class::Oldest, 1),
         _ => (Class::Plain, 1),
     }
 }

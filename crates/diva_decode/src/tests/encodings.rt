@@ -1,5 +1,6 @@
-// Words as the GNU assembler (binutils, for rv32im) encodes them, each format at the edges of its registers and
-// immediates. Beside each row stands the statement that was assembled, a branch or a jump by its offset from pc.
+// Words as the GNU assembler (binutils, for RISC-V of 32 bits) encodes them, each format at the edges of its registers
+// and immediates, and some that stand outside the table. Beside each row stands the statement that was assembled, a
+// branch or a jump by its offset from pc.
 
 use crate::Op;
 
@@ -13,7 +14,7 @@ pub(super) struct Encoding(
     pub(super) i32,
 );
 
-pub(super) static ENCODINGS: [Encoding; 201] = [
+pub(super) static ENCODINGS: [Encoding; 209] = [
     Encoding(0x0000_0033, Op::Add, 0, 0, 0, 0), // add x0, x0, x0
     Encoding(0x01ff_8fb3, Op::Add, 31, 31, 31, 0), // add x31, x31, x31
     Encoding(0x002e_0f33, Op::Add, 30, 28, 2, 0), // add x30, x28, x2
@@ -172,6 +173,14 @@ pub(super) static ENCODINGS: [Encoding; 201] = [
     Encoding(0x0000_0073, Op::Ecall, 0, 0, 0, 0), // ecall
     Encoding(0x0010_0073, Op::Ebreak, 0, 0, 0, 0), // ebreak
     Encoding(0x0ff0_000f, Op::Fence, 0, 0, 0, 0), // fence
+    Encoding(0xc020_20f3, Op::Rdinstret, 1, 0, 0, 0), // rdinstret x1
+    Encoding(0xc020_2073, Op::Rdinstret, 0, 0, 0, 0), // rdinstret x0
+    Encoding(0xc020_2ff3, Op::Rdinstret, 31, 0, 0, 0), // rdinstret x31
+    Encoding(0xc020_2573, Op::Rdinstret, 10, 0, 0, 0), // rdinstret x10
+    Encoding(0xc820_20f3, Op::Rdinstreth, 1, 0, 0, 0), // rdinstreth x1
+    Encoding(0xc820_2173, Op::Rdinstreth, 2, 0, 0, 0), // rdinstreth x2
+    Encoding(0xc820_2073, Op::Rdinstreth, 0, 0, 0, 0), // rdinstreth x0
+    Encoding(0xc820_2ff3, Op::Rdinstreth, 31, 0, 0, 0), // rdinstreth x31
     Encoding(0x01ba_8063, Op::Beq, 0, 21, 27, 0), // beq x21, x27, pc+0
     Encoding(0xffc4_0ee3, Op::Beq, 0, 8, 28, -4), // beq x8, x28, pc-4
     Encoding(0x7ea0_8fe3, Op::Beq, 0, 1, 10, 4_094), // beq x1, x10, pc+4094
@@ -215,4 +224,18 @@ pub(super) static ENCODINGS: [Encoding; 201] = [
     Encoding(0x0010_0bef, Op::Jal, 23, 0, 0, 2_048), // jal x23, pc+2048
     Encoding(0x7fe0_02ef, Op::Jal, 5, 0, 0, 2_046), // jal x5, pc+2046
     Encoding(0x0000_1cef, Op::Jal, 25, 0, 0, 4_096), // jal x25, pc+4096
+];
+
+/// Words that are none of the table: of no instruction, and of instructions that the table lacks.
+pub(super) static OUTSIDE: [u32; 10] = [
+    0x0000_0000,
+    0x0000_100f, // fence.i
+    0xc000_20f3, // rdcycle x1
+    0xc010_20f3, // rdtime x1
+    0xc800_20f3, // rdcycleh x1
+    0xc020_a0f3, // csrrs x1, instret, x1
+    0xc020_10f3, // csrrw x1, instret, x0
+    0xc020_60f3, // csrrsi x1, instret, 0
+    0xc020_30f3, // csrrc x1, instret, x0
+    0xb020_20f3, // csrr x1, minstret
 ];

@@ -1,7 +1,8 @@
-// Statements with their words, and programs with the bytes that they lay, as the GNU assembler (binutils, for rv32im) made them.
+// Statements with their words, and programs with the bytes that they lay, as the GNU assembler (binutils, for RISC-V of 32
+// bits) made them.
 
 /// A statement of each instruction, one that goes to an offset behind the label `pc`.
-pub(super) static STATEMENTS: [(&str, u32); 48] = [
+pub(super) static STATEMENTS: [(&str, u32); 50] = [
     ("add x31, x31, x31", 0x01ff_8fb3),
     ("sub x31, x31, x31", 0x41ff_8fb3),
     ("sll x31, x31, x31", 0x01ff_9fb3),
@@ -43,6 +44,8 @@ pub(super) static STATEMENTS: [(&str, u32); 48] = [
     ("ecall", 0x0000_0073),
     ("ebreak", 0x0010_0073),
     ("fence", 0x0ff0_000f),
+    ("rdinstret x31", 0xc020_2ff3),
+    ("rdinstreth x31", 0xc820_2ff3),
     ("pc: beq x8, x28, pc-4", 0xffc4_0ee3),
     ("pc: bne x21, x27, pc-4", 0xffba_9ee3),
     ("pc: blt x22, x20, pc-4", 0xff4b_4ee3),

@@ -1,7 +1,7 @@
 // Sources that were worked out by hand from the manual's formats, with what they become.
 
 /// Each form of operands at its bounds, statements that stand for others, and labels, with the words that they lay from base on.
-pub(super) static WORDS: [(&str, &[u32]); 68] = [
+pub(super) static WORDS: [(&str, &[u32]); 70] = [
     ("", &[]),
     // three registers, by both names
     ("add x1, x2, x3", &[0x0031_00b3]),
@@ -40,6 +40,9 @@ pub(super) static WORDS: [(&str, &[u32]); 68] = [
     ("lui x1, 1048575", &[0xffff_f0b7]),
     ("lui x0, 0x80000", &[0x8000_0037]),
     ("auipc x2, 0", &[0x0000_0117]),
+    // one register
+    ("rdinstret a0", &[0xc020_2573]),
+    ("rdinstreth zero", &[0xc820_2073]),
     // none
     ("fence", &[0x0ff0_000f]),
     ("ecall", &[0x0000_0073]),
@@ -147,7 +150,7 @@ pub(super) static IMAGES: [(&str, u32, u32, u32, &[u8]); 12] = [
 ];
 
 /// Sources with their first fault: line and kind. Those with two show which comes first.
-pub(super) static FAULTS: [(&str, u64, u8); 100] = [
+pub(super) static FAULTS: [(&str, u64, u8); 103] = [
     // 1: no mnemonic or directive; it ends before a blank or a comma
     ("foo", 1, 1),
     ("\nADDI x1, x0, 1", 2, 1),
@@ -169,11 +172,14 @@ pub(super) static FAULTS: [(&str, u64, u8); 100] = [
     ("lw x1, 4((x2))", 1, 2),
     ("lw x1, 4(x2) 5", 1, 2),
     (".word", 1, 2),
+    ("rdinstret", 1, 2),
+    ("rdinstreth x1, x0", 1, 2),
     // 3: no register
     ("mv x32, x0", 1, 3),
     ("mv x01, x0", 1, 3),
     ("mv X1, x0", 1, 3),
     ("mv x1, 5", 1, 3),
+    ("rdinstret x32", 1, 3),
     ("lw x1, 4()", 1, 3),
     // 4: a number out of range
     ("addi x1, x0, 2048", 1, 4),
@@ -265,7 +271,7 @@ pub(super) static FAULTS: [(&str, u64, u8); 100] = [
 ];
 
 /// Words at addresses, with the line that lists them.
-pub(super) static LISTED: [(u32, u32, &str); 16] = [
+pub(super) static LISTED: [(u32, u32, &str); 26] = [
     (0, 0x0050_0093, "00000000 00500093 addi x1, x0, 5\n"),
     (4, 0xfe00_9ee3, "00000004 fe009ee3 bne x1, x0, 0x00000000\n"),
     (
@@ -276,8 +282,18 @@ pub(super) static LISTED: [(u32, u32, &str); 16] = [
     (8, 0x0000_0073, "00000008 00000073 ecall\n"),
     (8, 0x0010_0073, "00000008 00100073 ebreak\n"),
     (8, 0x0000_000f, "00000008 0000000f fence\n"),
+    (8, 0xc020_20f3, "00000008 c02020f3 rdinstret x1\n"),
+    (8, 0xc820_2173, "00000008 c8202173 rdinstreth x2\n"),
     (0x1_0000, 0, "00010000 00000000 .word 0x00000000\n"),
     (0, 0xabcd_ef00, "00000000 abcdef00 .word 0xabcdef00\n"),
+    (0, 0xc000_20f3, "00000000 c00020f3 .word 0xc00020f3\n"), // rdcycle x1
+    (0, 0xc010_20f3, "00000000 c01020f3 .word 0xc01020f3\n"), // rdtime x1
+    (0, 0xc800_20f3, "00000000 c80020f3 .word 0xc80020f3\n"), // rdcycleh x1
+    (0, 0xc020_a0f3, "00000000 c020a0f3 .word 0xc020a0f3\n"), // csrrs x1, instret, x1
+    (0, 0xc020_10f3, "00000000 c02010f3 .word 0xc02010f3\n"), // csrrw x1, instret, x0
+    (0, 0xc020_60f3, "00000000 c02060f3 .word 0xc02060f3\n"), // csrrsi x1, instret, 0
+    (0, 0xc020_30f3, "00000000 c02030f3 .word 0xc02030f3\n"), // csrrc x1, instret, x0
+    (0, 0xb020_20f3, "00000000 b02020f3 .word 0xb02020f3\n"), // csrr x1, minstret
     (0, 0xffff_f0b7, "00000000 fffff0b7 lui x1, 0xfffff\n"),
     (0, 0x0000_0097, "00000000 00000097 auipc x1, 0x0\n"),
     (0, 0x0001_f0b7, "00000000 0001f0b7 lui x1, 0x1f\n"),

@@ -11,17 +11,17 @@ use Rattle.diva_commit.proofs.commits.commit_by.Goals.{in-Nothing, in-Writes, in
 pub store-requires-clause-inside : goal.store-requires-clause-inside
 store-requires-clause-inside c =
     let s = state_of c.args.regs.now c.args.pc.now (laid c.args.memory.now c.args.queue.now.items) c.args.output.now 0 0 in
-    subst (HasRoom s) (sym c.effect_by.ensures.effect ∙ c.in-Stores.is) (room_by s c.args.r.now c.args.decoded (c.requires.due c.in_default.is 0) c.requires.decoded (omega arith))
+    subst (HasRoom s) (sym c.effect_by.ensures.effect ∙ c.in-Stores.is) (room_by s c.args.r.now c.args.decoded (c.requires.due c.in_default.is) c.requires.decoded (omega arith))
 
 pub store-requires-clause-aligned : goal.store-requires-clause-aligned
 store-requires-clause-aligned c =
     let s = state_of c.args.regs.now c.args.pc.now (laid c.args.memory.now c.args.queue.now.items) c.args.output.now 0 0 in
-    subst IsAligned (sym c.effect_by.ensures.effect ∙ c.in-Stores.is) (aligned_by s c.args.r.now c.args.decoded (c.requires.due c.in_default.is 0) c.requires.decoded (omega arith))
+    subst IsAligned (sym c.effect_by.ensures.effect ∙ c.in-Stores.is) (aligned_by s c.args.r.now c.args.decoded (c.requires.due c.in_default.is) c.requires.decoded (omega arith))
 
 pub push-requires : goal.push-requires
 push-requires c =
     let s = state_of c.args.regs.now c.args.pc.now (laid c.args.memory.now c.args.queue.now.items) c.args.output.now 0 0 in
-    subst (HasRoom s) (sym c.effect_by.ensures.effect ∙ c.in-Puts.is) (room_by s c.args.r.now c.args.decoded (c.requires.due c.in_default.is 0) c.requires.decoded (omega arith))
+    subst (HasRoom s) (sym c.effect_by.ensures.effect ∙ c.in-Puts.is) (room_by s c.args.r.now c.args.decoded (c.requires.due c.in_default.is) c.requires.decoded (omega arith))
 
 pub returns-clause-applied : goal.returns-clause-applied
 returns-clause-applied c = λ yes n.
