@@ -12,7 +12,7 @@
 //!   `runs/soaks` images of seeds, `runs/refusals` what is not run, `runs/failing` the order of loads and puts, which
 //!   also fail in turn, `runs/noting` notes them, and `runs/texts` writes the text that is due;
 //! - `images`: an image that is read and written, faults of it, and images of seeds;
-//! - `calls`: calls of a machine's parts, and of a machine that is driven;
+//! - `calls`: calls of a machine's parts, of a machine that is driven, and of what needs no machine;
 //! - `lists`: several claims in a cycle, right and wrong ones, and what each cycle commits:
 //!   `lists/tables` has the lists;
 //! - `out_of_order`: what the out-of-order core hands over, call by call: `out_of_order/tables` has the

@@ -15,7 +15,7 @@ use tables::{Call, Claimed, ROWS, Row};
 fn told(cycle: u64, call: &Call) -> Told {
     Told {
         cycle,
-        count: 0,
+        count: call.count,
         pc: 0,
         epoch: call.epoch,
         pending: call.pending.min(60),

@@ -63,6 +63,25 @@ pub(crate) const HALTS: Record = Record {
     ..NOTHING
 };
 
+/// `rdinstret x1`, `rdinstret x2`, and the halt: no instruction is before the first read, and one before the second.
+pub(crate) const TWO_READS: Program = Program {
+    size: 64,
+    words: &[0xc020_20f3, 0xc020_2173, 0x05d0_0893, 0x0000_0073],
+};
+
+/// `addi x1, x0, -1`, `rdinstreth x1`, which reads 0, `rdinstret x0` of 2 instructions, `rdinstret x2` of 3, and the halt.
+pub(crate) const THREE_READS: Program = Program {
+    size: 64,
+    words: &[
+        0xfff0_0093,
+        0xc820_20f3,
+        0xc020_2073,
+        0xc020_2173,
+        0x05d0_0893,
+        0x0000_0073,
+    ],
+};
+
 /// `jal x0, 0`, which goes on for ever.
 pub(crate) const LOOP: Program = Program {
     size: 64,

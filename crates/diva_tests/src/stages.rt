@@ -1,23 +1,21 @@
-// What each stage of the checker answers of a claim behind older ones, at reset.
+// What each stage of the checker answers of a claim behind older ones, at reset but for how many bytes were put and how many
+// instructions have committed.
 mod tables;
 
+use crate::programs::NOTHING;
 use diva_core::{Diff, FutureFile, Output, Pending, View};
 use diva_isa::{OUTPUT_LIMIT, Record, Regs};
 use diva_memory::Memory;
 use diva_storeq::StoreQueue;
 use std::alloc::{AllocError, Global};
 use std::test::Fail;
-use tables::{ROWS, Row, Stage};
+use tables::{COUNT, READS, ROWS, Stage};
 
-/// 64 bytes of memory, 0 but for the word 44332211 at 32.
-fn memory(alloc: Global) -> Result<Memory, AllocError> {
-    let mut bytes = [0; 64];
-    bytes[32] = 0x11;
-    bytes[33] = 0x22;
-    bytes[34] = 0x33;
-    bytes[35] = 0x44;
-    Memory::new(alloc, 0, 64, &bytes)
-}
+/// What memory begins with: zeros up to 32, then the word 44332211, and the words of `rdinstret x1` and `rdinstreth x1`.
+static BYTES: [u8; 44] = [
+    0, 0, 0, 0, 0, 0, 0, 0, 0, 0, 0, 0, 0, 0, 0, 0, 0, 0, 0, 0, 0, 0, 0, 0, 0, 0, 0, 0, 0, 0, 0, 0,
+    0x11, 0x22, 0x33, 0x44, 0xf3, 0x20, 0x20, 0xc0, 0xf3, 0x20, 0x20, 0xc8,
+];
 
 /// The claims, all accepted in the first cycle.
 fn pending(alloc: Global, claims: &[Record]) -> Result<Pending, AllocError> {
@@ -59,23 +57,47 @@ fn answer_in(pending: &Pending) -> Option<Diff> {
     diva_opchk::check_in(pending.at(youngest), future.regs())
 }
 
-/// The answer of a row, where the output holds so many bytes.
-fn answer_of(alloc: Global, row: &Row) -> Result<Option<Diff>, AllocError> {
-    let (regs, memory, queue) = (Regs::new(), memory(alloc)?, StoreQueue::new(alloc, 1)?);
+/// What a stage answers of the youngest claim, where so many bytes were put and so many instructions have committed.
+fn answer_at(
+    alloc: Global,
+    stage: Stage,
+    put: u32,
+    count: u32,
+    claims: &[Record],
+) -> Result<Option<Diff>, AllocError> {
+    let (regs, queue) = (Regs::new(), StoreQueue::new(alloc, 1)?);
+    let memory = Memory::new(alloc, 0, 64, &BYTES)?;
     let mut output = Output::new(alloc)?;
-    for _ in 0..row.put {
+    for _ in 0..put {
         if output.len() < OUTPUT_LIMIT {
             output.push(0);
         }
     }
-    let view = View::new(&regs, 0, &memory, &queue, &output, 0);
-    Ok(answer(row.stage, &pending(alloc, row.claims)?, &view))
+    let view = View::new(&regs, 0, &memory, &queue, &output, u64::from(count));
+    Ok(answer(stage, &pending(alloc, claims)?, &view))
 }
 
 #[test]
 fn answers_behind_older_claims(rt: HostRuntime) -> Result<(), Fail> {
     for row in &ROWS {
-        assert_eq!(rt; answer_of(rt.alloc(), row)?, row.answer, "{}", row.name);
+        let answer = answer_at(rt.alloc(), row.stage, row.put, 0, row.claims)?;
+        assert_eq!(rt; answer, row.answer, "{}", row.name);
+    }
+    Ok(())
+}
+
+/// Reads of `instret` behind 63 claims, as many as there can be, that lead to them.
+#[test]
+fn reads_behind_older_claims(rt: HostRuntime) -> Result<(), Fail> {
+    for (read, due) in &READS {
+        let older = Record {
+            next: read.pc,
+            ..NOTHING
+        };
+        let mut claims = Vec::from_slice(rt.alloc(), &[older; 63])?;
+        claims.push(*read)?;
+        let answer = answer_at(rt.alloc(), Stage::Execute, 0, COUNT, &claims)?;
+        assert_eq!(rt; answer, *due, "{read:?}");
     }
     Ok(())
 }

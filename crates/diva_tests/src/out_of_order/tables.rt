@@ -8,6 +8,7 @@
 #[derive(Clone, Copy)]
 pub(super) struct Call {
     pub epoch: u64,
+    pub count: u64,
     pub pending: u32,
     pub room: u32,
     pub list: &'static [Claimed],
@@ -33,15 +34,22 @@ pub(super) struct Row {
 /// A call of the first epoch with room for two, where nothing is handed over.
 const NONE: Call = Call {
     epoch: 0,
+    count: 0,
     pending: 0,
     room: 2,
     list: &[],
 };
 
+/// The same where 2^32 + 5 instructions have committed.
+const FAR: Call = Call {
+    count: 0x1_0000_0005,
+    ..NONE
+};
+
 /// `addi x0, x0, 0`.
 const NOP: u32 = 0x0000_0013;
 
-pub(super) static ROWS: [Row; 10] = [
+pub(super) static ROWS: [Row; 11] = [
     // addi x1, x0, 1 and addi x2, x0, 2. The epoch is new in call 4, but there is no room before call 6. So the core does
     // nothing in the calls 4 and 5, takes the machine's state in call 6, and begins anew: call 8 hands over the first two again.
     Row {
@@ -465,6 +473,85 @@ pub(super) static ROWS: [Row; 10] = [
                     },
                 ],
                 ..NONE
+            },
+        ],
+    },
+    // div x1, x0, x0; addi x0, x0, 0; rdinstret x2; rdinstreth x3; and others. The core takes the machine's state in call 1, behind
+    // 2^32 + 5 instructions. The division is done in call 10, and handed over with the addition behind it: the next instruction has
+    // 2^32 + 7 before it. Only then is the first read the oldest. It begins in call 10 and is done in call 11, in which the second one
+    // is the oldest: that is done in call 12, and handed over with the addition behind it.
+    Row {
+        name: "reads of instret, each of which waits to be the oldest",
+        words: &[
+            0x0200_40b3,
+            NOP,
+            0xc020_2173,
+            0xc820_21f3,
+            NOP,
+            NOP,
+            NOP,
+            NOP,
+            NOP,
+            NOP,
+            NOP,
+            NOP,
+            NOP,
+            NOP,
+            NOP,
+            NOP,
+        ],
+        calls: &[
+            FAR,
+            FAR,
+            FAR,
+            FAR,
+            FAR,
+            FAR,
+            FAR,
+            FAR,
+            FAR,
+            Call {
+                list: &[
+                    Claimed {
+                        pc: 0,
+                        value: 0xffffffff,
+                        next: 4,
+                        end: 0,
+                    },
+                    Claimed {
+                        pc: 4,
+                        value: 0,
+                        next: 8,
+                        end: 0,
+                    },
+                ],
+                ..FAR
+            },
+            Call {
+                list: &[Claimed {
+                    pc: 8,
+                    value: 7,
+                    next: 12,
+                    end: 0,
+                }],
+                ..FAR
+            },
+            Call {
+                list: &[
+                    Claimed {
+                        pc: 12,
+                        value: 1,
+                        next: 16,
+                        end: 0,
+                    },
+                    Claimed {
+                        pc: 16,
+                        value: 0,
+                        next: 20,
+                        end: 0,
+                    },
+                ],
+                ..FAR
             },
         ],
     },

@@ -2,7 +2,7 @@
 use super::tables::{ONE_BY_ONE, Row};
 use super::texts::registers_text;
 use super::{Outside, compare_rows, run_program};
-use crate::programs::{FIVE, Program, image_file};
+use crate::programs::{FIVE, Program, THREE_READS, image_file};
 use diva_ooo::Ooo;
 use diva_outside::What;
 use std::alloc::Global;
@@ -85,7 +85,7 @@ struct Outcome {
     pc: u32,
 }
 
-static OUTCOMES: [Outcome; 4] = [
+static OUTCOMES: [Outcome; 5] = [
     Outcome {
         program: FIVE,
         count: 3,
@@ -121,6 +121,13 @@ static OUTCOMES: [Outcome; 4] = [
         count: 4,
         registers: &[(1, 7), (3, 0xffff_ffff), (17, 0x5d)],
         pc: 0xc,
+    },
+    // Three reads in a row, of which one reads the high word and one writes x0.
+    Outcome {
+        program: THREE_READS,
+        count: 6,
+        registers: &[(2, 3), (17, 0x5d)],
+        pc: 0x14,
     },
     // lui x1, 0x80000; addi x2, x0, -1; div x3, x1, x2; rem x4, x1, x2; the halt
     Outcome {

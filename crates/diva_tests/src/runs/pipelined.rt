@@ -2,7 +2,7 @@
 // out-of-order core, which the program is handed, as many as are done.
 use super::tables::{ONE_BY_ONE, Row};
 use super::{compare_row, compare_rows};
-use crate::programs::{LOOP, Program};
+use crate::programs::{LOOP, Program, TWO_READS};
 use diva_ooo::Ooo;
 use std::test::Fail;
 
@@ -26,8 +26,63 @@ const OVERWRITES: Row = Row {
     ..IN_LINE
 };
 
-static ROWS: [Row; 6] = [
+/// Four claims, of the cycles 1 to 4, which commit in 7 to 10. While the second read is claimed the first one is pending, and
+/// counts.
+const READS: Row = Row {
+    program: TWO_READS,
+    counts: "end halt 0\ncount 4\ncycles 10\nflushes 0 silent 0\noutput 0\n",
+    registers: &[(2, 1), (17, 0x5d)],
+    rest: "pc 0000000c\n",
+    ..IN_LINE
+};
+
+/// addi x17, x0, 1; ecall, which puts the byte 0, and counts as any other; rdinstret x1; the halt. The claims are of the cycles
+/// 1 to 5.
+const READS_BEHIND_A_PUT: Row = Row {
+    program: Program {
+        size: 64,
+        words: &[
+            0x0010_0893,
+            0x0000_0073,
+            0xc020_20f3,
+            0x05d0_0893,
+            0x0000_0073,
+        ],
+    },
+    counts: "end halt 0\ncount 5\ncycles 11\nflushes 0 silent 0\noutput 1\nout 00\n",
+    registers: &[(1, 2), (17, 0x5d)],
+    rest: "pc 00000010\n",
+    ..IN_LINE
+};
+
+/// addi x1, x0, 5, whose claim of cycle 1 is made wrong; rdinstret x2; the halt. Cycle 7 flushes, and drops the claim of the read.
+/// The checker's own addition commits in cycle 13, so one instruction has committed when the read is claimed anew, in cycle 14; the
+/// claims of the cycles 14 to 16 commit in 20 to 22.
+const READS_BEHIND_A_FLUSH: Row = Row {
+    line: "run a.diva --core scalar --script a.script",
+    script: b"at 1 lane 0 flip value 0",
+    program: Program {
+        size: 64,
+        words: &[0x0050_0093, 0xc020_2173, 0x05d0_0893, 0x0000_0073],
+    },
+    counts: "\
+flush 7 at 0 value claimed 00000004 due 00000005
+end halt 0
+count 4
+cycles 22
+flushes 1 silent 0
+output 0
+",
+    registers: &[(1, 5), (2, 1), (17, 0x5d)],
+    rest: "pc 0000000c\n",
+    ..IN_LINE
+};
+
+static ROWS: [Row; 9] = [
     IN_LINE,
+    READS,
+    READS_BEHIND_A_PUT,
+    READS_BEHIND_A_FLUSH,
     // The claim of cycle 2 comes twice: cycle 8 commits the first copy and judges the second, and the
     // checker's own instruction commits in cycle 14.
     Row {
@@ -104,7 +159,7 @@ fn programs_in_the_pipeline(rt: HostRuntime) -> Result<(), Fail> {
     compare_rows(&rt, rt.alloc(), &ROWS)
 }
 
-static OUT_OF_ORDER: [Row; 2] = [
+static OUT_OF_ORDER: [Row; 5] = [
     // Two words are fetched in each cycle. Those of cycle 1 begin in cycle 2 and are claimed in cycle 3, where the ECALL, of
     // cycle 2, is the oldest and begins; it is claimed in cycle 4. So the first two commit in cycle 9, the third in cycle 10.
     Row {
@@ -125,6 +180,36 @@ flushes 1 silent 0
 output 0
 ",
         ..OVERWRITES
+    },
+    // A read begins where it is the oldest: the first one in cycle 2, the second one in cycle 3, in which the first is claimed, and
+    // so it is claimed in cycle 4, with the addition behind it. The ECALL begins then, and is claimed in cycle 5. The claims of the
+    // cycles 3 to 5 commit in 9 to 11.
+    Row {
+        line: "run a.diva",
+        counts: "end halt 0\ncount 4\ncycles 11\nflushes 0 silent 0\noutput 0\n",
+        ..READS
+    },
+    // The put is the oldest in cycle 3, the read in 4, and the halt, behind the addition, in 5: they are claimed in the cycles 4, 5
+    // and 6. The halt commits in cycle 12.
+    Row {
+        line: "run a.diva",
+        counts: "end halt 0\ncount 5\ncycles 12\nflushes 0 silent 0\noutput 1\nout 00\n",
+        ..READS_BEHIND_A_PUT
+    },
+    // The first claim is of cycle 3, and is judged in 9; the checker's own addition commits in cycle 15. The core takes the
+    // machine's state in cycle 16, claims the read and the addition behind it in 18, and the ECALL in 19.
+    Row {
+        line: "run a.diva --script a.script",
+        script: b"at 3 lane 0 flip value 0",
+        counts: "\
+flush 9 at 0 value claimed 00000004 due 00000005
+end halt 0
+count 4
+cycles 25
+flushes 1 silent 0
+output 0
+",
+        ..READS_BEHIND_A_FLUSH
     },
 ];
 

@@ -1,5 +1,5 @@
 // Programs that are run, and the text that is due.
-use crate::programs::{ADDS, FIVE, LOOP, Program};
+use crate::programs::{ADDS, FIVE, LOOP, Program, TWO_READS};
 use diva_isa::Record;
 
 /// A run of one program.
@@ -50,7 +50,7 @@ const ONE_FLUSH: Row = Row {
 };
 
 /// Runs of programs that don't trap, but for one that runs past its memory.
-pub(super) static ROWS: [Row; 24] = [
+pub(super) static ROWS: [Row; 25] = [
     ONE_BY_ONE,
     ONE_FLUSH,
     // The first claim is made wrong: the flush of cycle 7, the checker's own instruction in cycle 13, and
@@ -125,6 +125,26 @@ cycles 66
 flushes 3 silent 3
 output 0
 ",
+        ..ONE_BY_ONE
+    },
+    // Each instruction is the checker's own, so each of both reads is done alone, and the second behind one that was: what
+    // has committed is 0 and 1.
+    Row {
+        line: "run a.diva --core silent",
+        program: TWO_READS,
+        counts: "\
+flush 64 at 0 silent 64
+flush 134 at 1 silent 64
+flush 204 at 2 silent 64
+flush 274 at 3 silent 64
+end halt 0
+count 4
+cycles 280
+flushes 4 silent 4
+output 0
+",
+        registers: &[(2, 1), (17, 0x5d)],
+        rest: "pc 0000000c\n",
         ..ONE_BY_ONE
     },
     Row {
@@ -379,9 +399,10 @@ pub(super) static DIFFERING: [(&str, Record, &str); 8] = [
 ];
 
 /// The number of a trap, and the word of the one instruction of a program that ends by it.
-pub(super) static TRAPS: [(u8, &[u32]); 8] = [
+pub(super) static TRAPS: [(u8, &[u32]); 9] = [
     (0, &[0x0060_00e7]), // jalr x1, 6(x0)
     (2, &[0x0000_100f]), // FENCE.I, which is outside the table
+    (2, &[0xc020_a0f3]), // csrrs x1, instret, x1, which would set bits
     (3, &[0x0010_0073]), // ebreak
     (4, &[0x0410_2103]), // lw x2, 65(x0), misaligned and outside
     (5, &[0x0400_2103]), // lw x2, 64(x0), the first byte outside

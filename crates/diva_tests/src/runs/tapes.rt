@@ -2,7 +2,7 @@
 use super::tables::{ONE_BY_ONE, Row};
 use super::{Outside, compare, compare_rows, run_program};
 use crate::cores::Flipped;
-use crate::programs::{FIVE_FILE, LOOP, Program, image_file};
+use crate::programs::{FIVE_FILE, LOOP, Program, THREE_READS, image_file};
 use std::test::Fail;
 
 /// Two stores, to 32 and to 36, and the halt: two claims in each of the first two cycles.
@@ -22,7 +22,7 @@ const STORES: Row = Row {
     ..ONE_BY_ONE
 };
 
-static ROWS: [Row; 5] = [
+static ROWS: [Row; 7] = [
     STORES,
     // With one place in the store queue, cycle 7 commits the first store only, and 8 the second and the
     // third instruction.
@@ -65,6 +65,42 @@ output 0
         script: b"at 1 lane 0 set value 5",
         tape: b"0 500093 0 0 0 4 4 0\n4 5d00893 0 0 0 5d 8 0\n8 73 5d 0 0 0 8 100\n",
         counts: "end halt 0\ncount 3\ncycles 9\nflushes 0 silent 0\noutput 0\n",
+        ..ONE_BY_ONE
+    },
+    // The read of x2 has 3 instructions before it, and is claimed to have 4. Cycle 7 commits two claims; cycle 8 commits the read to
+    // x0 and judges that one. The checker's own commits in cycle 14, and the claims of cycle 15 in 21.
+    Row {
+        line: "run a.diva --core tape --tape a.tape",
+        tape: b"\
+0 fff00093 0 0 0 ffffffff 4 0 ; 4 c82020f3 0 0 0 0 8 0
+8 c0202073 0 0 0 2 c 0 ; c c0202173 0 0 0 4 10 0\n\n\n\n\n\n\n\n\n\n\n\n\n\
+10 5d00893 0 0 0 5d 14 0 ; 14 73 5d 0 0 0 14 100
+",
+        program: THREE_READS,
+        counts: "\
+flush 8 at 3 value claimed 00000004 due 00000003
+end halt 0
+count 6
+cycles 21
+flushes 1 silent 0
+output 0
+",
+        registers: &[(2, 3), (17, 0x5d)],
+        rest: "pc 00000014\n",
+        ..ONE_BY_ONE
+    },
+    // addi x17, x0, 93; the halt; rdinstret x1. The read is claimed behind the halt, as if that went on: it is dropped with the
+    // end, and is no instruction of the machine.
+    Row {
+        line: "run a.diva --core tape --tape a.tape",
+        tape: b"0 5d00893 0 0 0 5d 4 0 ; 4 73 5d 0 0 0 4 100\n8 c02020f3 0 0 0 2 c 0",
+        program: Program {
+            size: 64,
+            words: &[0x05d0_0893, 0x0000_0073, 0xc020_20f3],
+        },
+        counts: "end halt 0\ncount 2\ncycles 7\nflushes 0 silent 0\noutput 0\n",
+        registers: &[(17, 0x5d)],
+        rest: "pc 00000004\n",
         ..ONE_BY_ONE
     },
 ];

@@ -253,3 +253,50 @@ pub const ROWS: [Row; 9] = [
         }),
     },
 ];
+
+/// How many instructions have committed where a read is pending: 2^32 - 10.
+pub const COUNT: u32 = 0xffff_fff6;
+
+/// `rdinstret x1` behind 63 claims: 2^32 + 53 instructions are before it.
+const LOW: Record = Record {
+    pc: 36,
+    word: 0xc020_20f3,
+    value: 53,
+    next: 40,
+    ..FIRST
+};
+
+/// `rdinstreth x1` behind as many.
+const HIGH: Record = Record {
+    pc: 40,
+    word: 0xc820_20f3,
+    value: 1,
+    next: 44,
+    ..FIRST
+};
+
+/// Reads behind 63 claims, and what the stage of execution answers. The wrong values are the words of 2^32 - 10, which leaves the
+/// older claims out.
+pub const READS: [(Record, Option<Diff>); 4] = [
+    (LOW, None),
+    (
+        Record {
+            value: COUNT,
+            ..LOW
+        },
+        Some(Diff {
+            field: Field::Value,
+            claimed: 0xffff_fff6,
+            due: 53,
+        }),
+    ),
+    (HIGH, None),
+    (
+        Record { value: 0, ..HIGH },
+        Some(Diff {
+            field: Field::Value,
+            claimed: 0,
+            due: 1,
+        }),
+    ),
+];
