@@ -416,7 +416,7 @@ fn call<L: Look>(state: &L, r: &Record) -> Outcome
 }
 
 #[inline(always)]
-fn read_count<L: Look>(state: &L, op: Op, r: &Record) -> Outcome
+fn read_instret<L: Look>(state: &L, op: Op, r: &Record) -> Outcome
     ensures { result ≡ continues r.now.pc (half_read op (L.shows state.now).instret) }
 {
     continues(r.pc, instret_word(op, state.instret()))
