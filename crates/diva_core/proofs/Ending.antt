@@ -1,5 +1,5 @@
 -- Every counted instruction was one of a state that went on, so a machine that has ended stands where the table ends.
-use Rattle.std.proofs.Common.{◌≡◌, ℕ, suc, ◌+◌, ◌-◌, ◌*◌, ◌<◌, ◌≤◌, true, false, List, [], ◌∷◌, length, refl, ap, sym, ◌∙◌, arith, inl, inr}
+use Rattle.std.proofs.Common.{◌≡◌, ℕ, ◌+◌, ◌-◌, ◌*◌, ◌<◌, ◌≤◌, true, false, List, [], ◌∷◌, length, refl, ap, sym, ◌∙◌, arith, inl, inr}
 use Rattle.std.proofs.lemmas.Bool.{cases_Bool, cases_lt, true≢false}
 use Rattle.diva_isa.specs.State.{State, goes_on}
 use Rattle.diva_isa.specs.declared.record.Record.{Record}
@@ -8,7 +8,7 @@ use Rattle.diva_core.specs.Timed.{Timed, Config, new_timed, depth}
 use Rattle.diva_core.specs.Cycle.{cycle_of, run_of}
 use Rattle.diva_core.specs.Machine.{IsMachine, IsConfig}
 use Rattle.diva_core.specs.Headline.{Rises, EndsAfter}
-use Rattle.diva_core.proofs.Steps.{steps-add, steps-off}
+use Rattle.diva_core.proofs.Steps.{steps-add}
 use Rattle.diva_core.proofs.Cycling.{cycled}
 use Rattle.diva_core.proofs.Going.{each-went}
 use Rattle.diva_core.proofs.Outcomes.{rises, cycle-off}

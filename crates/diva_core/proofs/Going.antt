@@ -1,5 +1,5 @@
 -- Every counted instruction was one of a state that went on, so the state's own number of instructions is the count.
-use Rattle.std.proofs.Common.{◌≡◌, ℕ, zero, suc, ◌+◌, ◌-◌, ◌<◌, ◌≤◌, true, false, List, refl, ap, sym, ◌∙◌, arith, inl, inr}
+use Rattle.std.proofs.Common.{◌≡◌, ℕ, zero, suc, ◌+◌, ◌-◌, ◌<◌, ◌≤◌, true, List, refl, ap, sym, ◌∙◌, arith, inl, inr}
 use Rattle.std.proofs.lemmas.Bool.{cases_Bool, true≢false}
 use Rattle.diva_isa.specs.State.{State, goes_on}
 use Rattle.diva_isa.specs.declared.record.Record.{Record}
@@ -7,7 +7,7 @@ use Rattle.diva_isa.specs.Step.{record_of, apply, step, steps}
 use Rattle.diva_core.specs.Timed.{Timed}
 use Rattle.diva_core.specs.Machine.{IsMachine}
 use Rattle.diva_core.proofs.Steps.{steps-add, steps-off, step-on}
-use Rattle.diva_core.proofs.Cycling.{Cycled, Base, idled, ran, barks, differed, ended, finished, waited}
+use Rattle.diva_core.proofs.Cycling.{Cycled, idled, ran, barks, differed, ended, finished, waited}
 use Rattle.diva_core.proofs.Outcomes.{AnyBase, any-base}
 
 -- what goes on went on before

@@ -1,13 +1,13 @@
 -- What the due record has to do with the number of instructions that led to a state: where it is of an instruction that reads it,
 -- the value, and else nothing.
-use Rattle.std.proofs.Common.{◌≡◌, ℕ, Bool, true, false, Option, Some, None, refl, ap, ◌∙◌, if◌then◌else◌}
+use Rattle.std.proofs.Common.{◌≡◌, ℕ, Bool, true, Option, Some, None, refl, if◌then◌else◌}
 use Rattle.diva_decode.specs.declared.instr.Instr.{Instr}
 use Rattle.diva_decode.specs.Table.{row_of}
 use Rattle.diva_isa.specs.State.{State, word_of}
 use Rattle.diva_isa.specs.Kind.{kind, reads_instret, reads_instret_by}
 use Rattle.diva_isa.specs.Step.{address, outcome, record_by, record_fetched, record_of, record_with, source1, source2}
 use Rattle.diva_isa.specs.declared.kind.Kind.{Kind}
-use Rattle.diva_isa.specs.declared.kind.Kind.TheVariants.{Lui, Counter}
+use Rattle.diva_isa.specs.declared.kind.Kind.TheVariants.{Lui}
 use Rattle.diva_isa.specs.declared.record.Record.{Record}
 use Rattle.diva_isa.proofs.Parts.{row_of_zero}
 

@@ -76,6 +76,7 @@ fn rem(a: u32, b: u32) -> u32
 
 /// Whether a branch on two words is taken; `false` of another operation. (RISC-V Unprivileged ISA, RV32I 2.1, "Control
 /// Transfer Instructions".)
+#[inline(always)]
 pub fn branch_taken(op: Op, a: u32, b: u32) -> bool
     ensures { result ≡ is_taken op a b }
 {
@@ -92,6 +93,7 @@ pub fn branch_taken(op: Op, a: u32, b: u32) -> bool
 
 /// What a load makes of its 1, 2 or 4 bytes, which are the low ones of `bytes`; 0 of another operation. (RISC-V
 /// Unprivileged ISA, RV32I 2.1, "Load and Store Instructions".)
+#[inline(always)]
 pub fn load_value(op: Op, bytes: u32) -> u32
     ensures { result ≡ extended op bytes }
 {

@@ -415,11 +415,13 @@ fn call<L: Look>(state: &L, r: &Record) -> Outcome
     }
 }
 
-#[inline(always)]
-fn read_instret<L: Look>(state: &L, op: Op, r: &Record) -> Outcome
-    ensures { result ≡ continues r.now.pc (half_read op (L.shows state.now).instret) }
+/// What a read of `instret` comes to. Few instructions are one, so it stands out of line.
+#[cold]
+#[inline(never)]
+fn read_instret(pc: u32, op: Op, instret: u64) -> Outcome
+    ensures { result ≡ continues pc (half_read op instret) }
 {
-    continues(r.pc, instret_word(op, state.instret()))
+    continues(pc, instret_word(op, instret))
 }
 
 /// What an instruction comes to, by the first five fields of its record, by whether its word is there, and by `decoded`,
@@ -453,7 +455,7 @@ fn come_to<L: Look>(state: &L, i: &Instr, r: &Record, kind: Kind) -> Outcome
         Kind::Load(width) => load(state, r, i.op, width),
         Kind::Store(width) => store(state, r, width),
         Kind::Ecall => call(state, r),
-        Kind::Counter => read_instret(state, i.op, r),
+        Kind::Counter => read_instret(r.pc, i.op, state.instret()),
         kind => compute(kind, i, r),
     }
 }
@@ -466,7 +468,7 @@ pub fn execute<L: Look>(state: &L, i: &Instr, r: &Record) -> Outcome
 {
     match kind_of(i.op) {
         Kind::Ecall => call(state, r),
-        Kind::Counter => read_instret(state, i.op, r),
+        Kind::Counter => read_instret(r.pc, i.op, state.instret()),
         kind => compute(kind, i, r),
     }
 }
