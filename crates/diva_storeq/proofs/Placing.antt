@@ -3,7 +3,7 @@ use Rattle.std.proofs.Common.{◌≡◌, ◌≤◌, ◌<◌, ℕ, zero, suc, ◌
 use Rattle.std.proofs.lemmas.Bool.Decides.{nat_tests}
 use Rattle.std.proofs.lemmas.Bool.{cases_lt}
 use Rattle.std.proofs.lemmas.Nat.Bits.{bit_at_mask_below, bit_at_mask_above}
-use Rattle.std.specs.Int.{bit_at}
+use Rattle.std.specs.Int.{bit_at, to_le_bytes, w32}
 use Rattle.diva_memory.specs.Bytes.{Bytes, IsInside, low_bytes, put, put_all, word_byte}
 use Rattle.diva_storeq.specs.declared.masked.Masked.{Masked}
 use Rattle.diva_storeq.specs.declared.store.Store.{Store}
@@ -103,6 +103,25 @@ within_masked m s h = λ i lt set.
     let from = h.from in let to = h.to in
     let place = set_inside s.width (s.addr % 4) i set in
     let low = place.0 in let high = place.1 in
+    record { from = omega arith; to = omega arith }
+
+-- ---- an entry that writes all four bytes
+
+pub whole_word : (m : Bytes) (e : Masked) → e.mask ≡ 15 → put_all m e.addr (to_le_bytes w32 e.bytes) ≡ merge m e
+unfolding merge
+whole_word m e full =
+    let b0 : word_byte e.bytes 0 ≡ e.bytes % 256 = omega arith in
+    let a0 : e.addr + 0 ≡ e.addr = omega arith in
+    let a2 : e.addr + 2 ≡ e.addr + 1 + 1 = omega arith in
+    let a3 : e.addr + 3 ≡ e.addr + 1 + 1 + 1 = omega arith in
+    rw (full, b0, a0, a2, a3) refl
+
+pub whole_inside : (m : Bytes) (e : Masked) → e.mask ≡ 15 → WritesInside m e → IsInside m e.addr 4
+whole_inside m e full h =
+    let low = h 0 (omega arith) (rw full refl) in
+    let high = h 3 (omega arith) (rw full refl) in
+    let from = low.from in
+    let to = high.to in
     record { from = omega arith; to = omega arith }
 
 -- ---- the bytes that it does not write are 0

@@ -6,6 +6,9 @@ ghost use Rattle.diva_memory.specs.Bytes.{word_byte};
 
 use diva_memory::Memory;
 
+/// The mask of an entry that writes all four bytes of its word.
+const WHOLE_WORD: u8 = 0xf;
+
 /// What a store writes to one word of memory: some of its four bytes.
 #[derive(Clone, Copy, Debug, PartialEq, Eq)]
 pub struct Masked {
@@ -48,12 +51,16 @@ impl Masked {
     }
 
     /// Writes its bytes to memory, where all of them are inside.
-    #[tactic(auto, using(crate::proofs::Merging::lane_within), unfolding(crate::specs::Masked::merge))]
+    #[tactic(auto, using(crate::proofs::Merging::lane_within, crate::proofs::Placing::whole_word, crate::proofs::Placing::whole_inside), unfolding(crate::specs::Masked::merge))]
     pub(crate) fn put_to(&self, memory: &mut Memory)
         requires masked { IsMasked self.now }
         requires within { WritesInside memory.old self.now }
         ensures { memory.new ≡ merge memory.old self.now }
     {
+        if self.mask == WHOLE_WORD {
+            memory.put_all(self.addr, &self.bytes.to_le_bytes());
+            return;
+        }
         self.put_lane(memory, 0);
         self.put_lane(memory, 1);
         self.put_lane(memory, 2);
