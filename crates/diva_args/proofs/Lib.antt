@@ -2,6 +2,7 @@
 pub mod CommandLemmas
 pub mod ReadLemmas
 pub mod ValueLemmas
+pub mod ConfigLemmas
 pub mod PlainSteps
 pub mod PlainFlags
 pub mod PlainOptions

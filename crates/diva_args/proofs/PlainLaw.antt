@@ -61,12 +61,13 @@ run_same f g s =
     let window = s.value (codes "window") refl in
     let stores = s.value (codes "stores") refl in
     let watchdog = s.value (codes "watchdog") refl in
+    let port = s.value (codes "port") refl in
     let cycles = s.value (codes "cycles") refl in
     let dump = s.value (codes "dump") refl in
     let trace = s.flag (codes "trace") in
     λ i. run_with
     (setup_with (image i) (core_of (core i) (tape i)) (script i)
-    (config_with (number_or default_config.width (width i)) (number_or default_config.window (window i)) (number_or default_config.stores (stores i)) (number_or default_config.limit (watchdog i))))
+    (config_with (number_or default_config.width (width i)) (number_or default_config.window (window i)) (number_or default_config.stores (stores i)) (number_or default_config.limit (watchdog i)) (number_or default_config.port (port i))))
     (ranged_or 1 most_cycles default_cycles (cycles i)) (trace i) (dump_of (dump i))
 
 run_sound : IsSound run

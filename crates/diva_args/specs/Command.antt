@@ -18,7 +18,7 @@ abbrev pub core_options : List Text
 core_options = codes "core" ∷ codes "script" ∷ codes "tape" ∷ []
 
 abbrev pub machine_options : List Text
-machine_options = codes "window" ∷ codes "stores" ∷ codes "watchdog" ∷ []
+machine_options = codes "window" ∷ codes "stores" ∷ codes "watchdog" ∷ codes "port" ∷ []
 
 abbrev pub setup_options : List Text
 setup_options = core_options ++ codes "width" ∷ machine_options

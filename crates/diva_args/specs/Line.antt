@@ -26,14 +26,15 @@ taken words = unless (fault_of diva words) (subcommand_of diva words)
 
 -- ---- jobs, by the value of each positional, option and flag
 
-abbrev pub config_with : (width window stores watchdog : Option ℕ) → Option Config
-config_with width window stores watchdog =
-    option_and_then (λ n. option_and_then (λ q. option_and_then (λ s. option_and_then (λ w. config_in_range (record {
+abbrev pub config_with : (width window stores watchdog port : Option ℕ) → Option Config
+config_with width window stores watchdog port =
+    option_and_then (λ n. option_and_then (λ q. option_and_then (λ s. option_and_then (λ w. option_and_then (λ p. config_in_range (record {
       width = n;
       window = q;
       stores = s;
       limit = w;
-    })) watchdog) stores) window) width
+      port = p;
+    })) port) watchdog) stores) window) width
 
 -- the numbers of a machine of this width, where they are in their ranges
 unfoldable pub config_from : (width : Option ℕ) → (Text → Option Text) → Option Config
@@ -42,6 +43,7 @@ config_from width value = config_with
     (number_or default_config.window (value (codes "window")))
     (number_or default_config.stores (value (codes "stores")))
     (number_or default_config.limit (value (codes "watchdog")))
+    (number_or default_config.port (value (codes "port")))
 
 abbrev pub setup_with : Option Text → Option CoreChoice → (script : Option Text) → Option Config → Option Setup
 setup_with image core script config = option_and_then (λ i. option_and_then (λ c. option_map (λ z. record {

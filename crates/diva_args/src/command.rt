@@ -24,7 +24,8 @@ static LEAVES: [Leaf; 6] = [
         name: "run",
         positionals: &["IMAGE"],
         options: &[
-            "core", "script", "tape", "width", "window", "stores", "watchdog", "cycles", "dump",
+            "core", "script", "tape", "width", "window", "stores", "watchdog", "port", "cycles",
+            "dump",
         ],
         flags: &["trace"],
     },
@@ -32,14 +33,16 @@ static LEAVES: [Leaf; 6] = [
         name: "tape",
         positionals: &["IMAGE"],
         options: &[
-            "core", "script", "tape", "width", "window", "stores", "watchdog", "cycles",
+            "core", "script", "tape", "width", "window", "stores", "watchdog", "port", "cycles",
         ],
         flags: &[],
     },
     Leaf {
         name: "debug",
         positionals: &["IMAGE", "COMMANDS"],
-        options: &["core", "script", "tape", "window", "stores", "watchdog"],
+        options: &[
+            "core", "script", "tape", "window", "stores", "watchdog", "port",
+        ],
         flags: &[],
     },
     Leaf {

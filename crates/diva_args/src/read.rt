@@ -189,7 +189,7 @@ fn setup(alloc: Global, found: &ArgMatches<'_>, width: Option<u32>) -> Result<Se
 }
 
 /// The numbers of a machine of this width, where they are in their ranges.
-#[tactic(auto, unfolding(crate::specs::Line::config_from))]
+#[tactic(auto, using(crate::proofs::ConfigLemmas::no_config), unfolding(crate::specs::Line::config_from))]
 fn config(found: &ArgMatches<'_>, width: Option<u32>) -> Option<Config>
     ensures value { result ≡ config_from width (values_of (rows_of (found_of found.now))) }
     ensures fits { IfSome result IsConfig }
@@ -201,7 +201,8 @@ fn config(found: &ArgMatches<'_>, width: Option<u32>) -> Option<Config>
         number_or(found, "window", usual.window())?,
         number_or(found, "stores", usual.stores())?,
         number_or(found, "watchdog", usual.limit())?,
-    )
+    )?
+    .with_port(number_or(found, "port", usual.port())?)
 }
 
 /// The width that the words ask for.

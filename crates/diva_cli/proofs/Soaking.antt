@@ -47,6 +47,8 @@ sizes_fit = record {
   stores_high = omega arith;
   limit_low = omega arith;
   limit_high = omega arith;
+  port_low = omega arith;
+  port_high = omega arith;
 }
 
 -- the machine with which both runs begin
@@ -176,7 +178,7 @@ module _ {C S : Type 0} (gives : Meaning C) (options : SoakOptions) (bytes : Fil
     halts = (first_halts, halted gives options core second after few two);
     few = (let e = first_end.1 in let h = (table_halts options few).few in omega arith);
     same = (second_end.0 ∙ sym first_end.0, second_end.1 ∙ sym first_end.1);
-    paced = scalar_ends default_config (soak_start options) first ahead one.turns.history sizes_fit refl refl one.turns.good (ap (λ end. end == 0) first_halts);
+    paced = scalar_ends default_config (soak_start options) first ahead one.turns.history sizes_fit refl refl refl one.turns.good (ap (λ end. end == 0) first_halts);
     unflushed = scalar_unflushed default_config (soak_start options) first ahead one.turns.history sizes_fit refl one.turns.good;
     lines = refl;
     whole = whole;

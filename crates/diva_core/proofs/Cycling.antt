@@ -1,7 +1,6 @@
 -- The ways in which a cycle can go.
-use Rattle.std.proofs.Common.{◌≡◌, ℕ, zero, suc, ◌+◌, ◌-◌, ◌<◌, ◌≤◌, ◌==◌, Bool, true, false, ◌&&◌, List, [], ◌∷◌, ◌++◌, map, take, Some, None, refl, ap, sym, ◌∙◌, arith, if◌then◌else◌, ◌⊎◌, inl, inr, subst}
-use Rattle.std.specs.Prelude.{nat_le}
-use Rattle.std.proofs.lemmas.Bool.{cond_both, leb-false, eq-eqb, ne_eqb, and_left, and_right, true≢false}
+use Rattle.std.proofs.Common.{◌≡◌, ℕ, zero, suc, ◌+◌, ◌<◌, ◌≤◌, ◌==◌, Bool, true, false, ◌&&◌, List, [], ◌∷◌, ◌++◌, map, take, Some, None, refl, ap, sym, ◌∙◌, arith, if◌then◌else◌, inl, inr, subst}
+use Rattle.std.proofs.lemmas.Bool.{cond_both, eq-eqb, ne_eqb, and_left, and_right, true≢false}
 use Rattle.std.proofs.lemmas.Option.{none-some}
 use Rattle.diva_isa.specs.declared.record.Record.{Record}
 use Rattle.diva_isa.specs.Step.{record_of, steps}
@@ -11,374 +10,362 @@ use Rattle.diva_core.specs.declared.flushes.Cause.TheVariants.{Differs, Silent}
 use Rattle.diva_core.specs.Difference.{first_difference}
 use Rattle.diva_isa.specs.State.{goes_on}
 use Rattle.diva_core.specs.Timed.{Timed, PendingClaim, room_of, depth}
-use Rattle.diva_core.specs.Cycle.{commits, judged, by_solo, flushed, drained, begun, accepts, accepted, accepted_in, barked, counted, watched, cycle_of}
+use Rattle.diva_core.specs.Cycle.{Rule, accepted, accepted_in, accepts, barked, begun, commits_under, counted, cycle_of, cycle_under, drained, flushed, port_opens, stores_wait, watched}
 use Rattle.diva_core.specs.Machine.{IsMachine, Lives, IsSolo}
 use Rattle.diva_core.specs.Headline.{SameLog, HasRow}
 use Rattle.diva_core.proofs.Commits.{Commits}
-use Rattle.diva_core.proofs.Judging.{Moved, Outcome, front-judged, Still, Flushing, Ending, still, flushing, ending}
+use Rattle.diva_core.proofs.Judging.{Moved, Outcome, Still, Flushing, Ending, still, flushing, ending}
+use Rattle.diva_core.proofs.Passing.{AlonePasses, Keeps, Passed, alone_stores, owed_after, stores_keep}
 use Rattle.diva_core.proofs.Phases.{Second, Alone, Waits, judging, alone, waits, second, bark, bark-quiet}
-
--- what each way has in common, after k commits
-pub record Base (b n : Timed) (k : ℕ) : Type 0 where
-  pub config : n.config ≡ b.config
-  pub cycles : n.cycles ≡ b.cycles + 1
-  pub counted : n.count ≡ b.count + k
-  pub stepped : n.arch ≡ steps k b.arch
-  pub owed : n.owed ≤ b.config.stores
-  pub few : k ≤ b.config.width
-
--- the front claim is not ready in the coming cycle
-abbrev pub IsYoung : Timed → Type 0
-IsYoung b = (p : PendingClaim) (rest : List PendingClaim) → b.pending ≡ p ∷ rest → b.cycles + 1 < p.cycle + depth
 
 abbrev pub taken : Timed → List Record → List PendingClaim
 taken b list = map (accepted_in (b.cycles + 1)) (take (room_of b) list)
 
--- nothing commits, and the watchdog is silent
-pub record Idled (b : Timed) (list : List Record) (n : Timed) : Type 0 where
-  pub base : Base b n 0
-  pub log : SameLog b n
-  pub was : b.solo ≡ None
-  pub solo : n.solo ≡ None
-  pub idle : n.idle ≡ b.idle + 1
-  pub early : n.idle < b.config.limit
-  pub young : IsYoung b
-  pub pending : n.pending ≡ b.pending ++ taken b list
-
--- claims commit, and the machine goes on
-pub record Ran (b : Timed) (list : List Record) (n : Timed) : Type 0 where
-  pub k : ℕ
-  pub base : Base b n (suc k)
-  pub log : SameLog b n
-  pub was : b.solo ≡ None
-  pub solo : n.solo ≡ None
-  pub idle : n.idle ≡ 0
-  pub rest : List PendingClaim
-  pub claims : Commits (suc k) b.arch (b.cycles + 1) b.pending rest
-  pub pending : n.pending ≡ rest ++ taken b list
-  pub on : goes_on n.arch ≡ true
-
--- nothing commits, and the watchdog flushes
-pub record Barked (b n : Timed) : Type 0 where
-  pub base : Base b n 0
-  pub log : HasRow b n (record { cycle = b.cycles + 1; at = n.count; cause = Silent b.config.limit })
-  pub was : b.solo ≡ None
-  pub solo : n.solo ≡ Some (b.cycles + 1)
-  pub idle : n.idle ≡ b.idle + 1
-  pub late : b.config.limit ≤ n.idle
-  pub young : IsYoung b
-  pub pending : n.pending ≡ []
-
--- a claim differs
-pub record Differed (b n : Timed) : Type 0 where
-  pub k : ℕ
-  pub base : Base b n k
-  pub p : PendingClaim
-  pub rest : List PendingClaim
-  pub d : Diff
-  pub log : HasRow b n (record { cycle = b.cycles + 1; at = n.count; cause = Differs d })
-  pub first : first_difference p.claim (record_of n.arch) ≡ Some d
-  pub ready : p.cycle + depth ≤ b.cycles + 1
-  pub claims : Commits k b.arch (b.cycles + 1) b.pending (p ∷ rest)
-  pub was : b.solo ≡ None
-  pub solo : n.solo ≡ Some (b.cycles + 1)
-  pub idle : n.idle ≤ b.idle + 1
-  pub pending : n.pending ≡ []
-  pub on : goes_on n.arch ≡ true
-
--- a claim commits that ends the machine
-pub record Ended (b n : Timed) : Type 0 where
-  pub k : ℕ
-  pub base : Base b n (suc k)
-  pub log : SameLog b n
-  pub rest : List PendingClaim
-  pub claims : Commits (suc k) b.arch (b.cycles + 1) b.pending rest
-  pub was : b.solo ≡ None
-  pub solo : n.solo ≡ None
-  pub idle : n.idle ≡ 0
-  pub pending : n.pending ≡ []
-  pub went : goes_on (steps k b.arch) ≡ true
-  pub off : goes_on n.arch ≡ false
-
--- the instruction that ran solo commits
-pub record Finished (b n : Timed) : Type 0 where
-  pub start : ℕ
-  pub since : b.solo ≡ Some start
-  pub sixth : b.cycles + 1 ≡ start + depth
-  pub base : Base b n 1
-  pub log : SameLog b n
-  pub solo : n.solo ≡ None
-  pub idle : n.idle ≡ 0
-  pub pending : n.pending ≡ []
-
--- an instruction runs on solo
-pub record Waited (b n : Timed) : Type 0 where
-  pub start : ℕ
-  pub since : b.solo ≡ Some start
-  pub early : b.cycles + 1 ≡ start + depth → ⊥
-  pub base : Base b n 0
-  pub log : SameLog b n
-  pub solo : n.solo ≡ Some start
-  pub idle : n.idle ≡ b.idle + 1
-  pub pending : n.pending ≡ []
-
-pub data Cycled (b : Timed) (list : List Record) (n : Timed) : Type 0 where
-  idled : Idled b list n → Cycled b list n
-  ran : Ran b list n → Cycled b list n
-  barks : Barked b n → Cycled b list n
-  differed : Differed b n → Cycled b list n
-  ended : Ended b n → Cycled b list n
-  finished : Finished b n → Cycled b list n
-  waited : Waited b n → Cycled b list n
-
--- the machine before the watchdog
-abbrev mid : Timed → List Record → Timed
-mid b list = counted b (accepts b list (commits (drained (begun b))))
-
-zero-idle : (c d : ℕ) (k : ℕ) (idle : ℕ) → c ≡ d + suc k → (if c == d then idle + 1 else 0) ≡ 0
-zero-idle c d k idle e = rw (ne_eqb c d (λ f. omega arith)) refl
-
-more-idle : (c d : ℕ) (idle : ℕ) → c ≡ d + 0 → (if c == d then idle + 1 else 0) ≡ idle + 1
-more-idle c d idle e = rw (eq-eqb c d (omega arith)) refl
-
-some-idle : (b : Bool) (idle : ℕ) → (if b then idle + 1 else 0) ≤ idle + 1
-some-idle true idle = omega arith
-some-idle false idle = omega arith
-
--- what was accepted in a cycle that went on
-all-accepted : (b m : Timed) (list : List Record) → goes_on m.arch ≡ true → m.flushes ≡ b.flushes → m.cycles ≡ b.cycles + 1 → accepted b list m ≡ m.pending ++ taken b list
-all-accepted b m list on same c = rw (on, eq-eqb m.flushes b.flushes same, c) refl
-
-base-mid : (b : Timed) (list : List Record) (k : ℕ) → Moved (drained (begun b)) (commits (drained (begun b))) k → Base b (mid b list) k
-unfolding drained accepts
-base-mid b list k v = record { config = v.config; cycles = v.cycles; counted = v.counted; stepped = v.stepped; owed = v.owed; few = v.few }
-
-log-mid : (b : Timed) (list : List Record) → SameLog (drained (begun b)) (commits (drained (begun b))) → SameLog b (mid b list)
-unfolding drained accepts
-log-mid b list v = record { rows = v.rows; newest = v.newest; flushes = v.flushes; silent = v.silent }
-
--- a flush after a log that stayed
-HasRow-flushed : (b m : Timed) (c : ℕ) (cause : Cause) → SameLog b m → m.cycles ≡ c → HasRow b (flushed m cause) (record { cycle = c; at = m.count; cause = cause })
-unfolding flushed
-HasRow-flushed b m c cause log e = record { rows = rw (log.rows, e) refl; newest = rw e refl; flushes = rw log.flushes refl; silent = rw log.silent refl }
-
-Barked-mid :
-    (b : Timed) (list : List Record)
-    → b.solo ≡ None
-    → Base b (mid b list) 0
-    → SameLog b (mid b list)
-    → (mid b list).idle ≡ b.idle + 1
-    → b.config.limit ≤ (mid b list).idle
-    → IsYoung b
-    → Barked b (flushed (mid b list) (Silent b.config.limit))
-unfolding flushed
-Barked-mid b list was v log i late young =
-    let h = HasRow-flushed b (mid b list) (b.cycles + 1) (Silent b.config.limit) log v.cycles in
-    record {
-      base = record { config = v.config; cycles = v.cycles; counted = v.counted; stepped = v.stepped; owed = v.owed; few = v.few };
-      log = record { rows = h.rows; newest = h.newest; flushes = h.flushes; silent = h.silent };
-      was = was;
-      solo = ap Some v.cycles;
-      idle = i;
-      late = late;
-      young = young;
-      pending = refl;
-    }
-
--- after phase 1 a store is never held up at the front
-pub owed-drained : (b : Timed) → IsMachine b → (drained (begun b)).owed < b.config.stores
+-- phase 1 adds nothing to what is owed
+pub drained-fits : (b : Timed) → b.owed ≤ b.config.stores → (drained (begun b)).owed ≤ b.config.stores
 unfolding drained
-owed-drained b inv = let o = inv.owed in let low = inv.config.stores_low in omega arith
+drained-fits b h = cond_both (port_opens (begun b)) _ _ (λ n. n ≤ b.config.stores) (λ t. omega arith) (λ f. h)
 
--- where nothing is judged, the front claim is not ready
-young : (b : Timed) → IsMachine b → b.solo ≡ None → (commits (drained (begun b))).count ≡ b.count + 0 → (commits (drained (begun b))).flushes ≡ b.flushes → IsYoung b
-unfolding commits drained
-young b inv none c f p rest e =
-    let one : b.config.width ≡ suc (b.config.width - 1) = (let low = inv.config.width_low in omega arith) in
-    let o : b.owed - 1 < b.config.stores = owed-drained b inv in
-    let same : commits (drained (begun b)) ≡ judged (suc (b.config.width - 1)) (drained (begun b)) = ap (by_solo (drained (begun b))) none ∙ ap (λ n. judged n (drained (begun b))) one in
-    young-by (nat_le (p.cycle + depth) (b.cycles + 1)) refl
-    (λ t. front-judged (b.config.width - 1) (drained (begun b)) p rest e t o)
-    (ap (λ z. z.count) (sym same) ∙ c)
-    (ap (λ z. z.flushes) (sym same) ∙ f)
-  where
-    young-by :
-        (t : Bool)
-        → nat_le (p.cycle + depth) (b.cycles + 1) ≡ t
-        → (nat_le (p.cycle + depth) (b.cycles + 1) ≡ true → (b.count < (judged (suc (b.config.width - 1)) (drained (begun b))).count) ⊎ (b.flushes < (judged (suc (b.config.width - 1)) (drained (begun b))).flushes))
-        → (judged (suc (b.config.width - 1)) (drained (begun b))).count ≡ b.count + 0
-        → (judged (suc (b.config.width - 1)) (drained (begun b))).flushes ≡ b.flushes
-        → b.cycles + 1 < p.cycle + depth
-    young-by false is rises c2 f2 = leb-false _ _ is
-    young-by true is rises c2 f2 = absurd (elim (rises is) [ inl h ↦ omega arith | inr h ↦ omega arith ])
+module _ (rule : Rule) where
+  -- what each way has in common, after k commits
+  pub record Base (b n : Timed) (k : ℕ) : Type 0 where
+    pub config : n.config ≡ b.config
+    pub cycles : n.cycles ≡ b.cycles + 1
+    pub counted : n.count ≡ b.count + k
+    pub stepped : n.arch ≡ steps k b.arch
+    pub owes : n.owed ≡ owed_after k b.arch (drained (begun b)).owed
+    pub passed : Passed rule b.config.stores k b.arch (drained (begun b)).owed
+    pub owed : n.owed ≤ b.config.stores
+    pub few : k ≤ b.config.width
 
-Cycled-idle :
-    (b : Timed) (list : List Record)
-    → IsMachine b
-    → b.solo ≡ None
-    → (r : Still (drained (begun b)) (commits (drained (begun b))))
-    → r.k ≡ 0
-    → Cycled b list (barked (mid b list))
-unfolding drained accepts
-Cycled-idle b list inv was r none =
-    let v : Base b (mid b list) 0 = base-mid b list 0 (subst (Moved (drained (begun b)) (commits (drained (begun b)))) none r.moved) in
-    let i : (mid b list).idle ≡ b.idle + 1 = more-idle _ b.count _ v.counted ∙ ap (λ z. z + 1) r.moved.idle in
-    let limit : (mid b list).config.limit ≡ b.config.limit = ap (λ z. z.limit) v.config in
-    let y : IsYoung b = young b inv was v.counted r.log.flushes in
-    elim (bark (mid b list)) [
-      | inl q ↦ subst (Cycled b list) (sym q.same) (idled (record {
+  -- the commit phase neither counts nor flushes
+  pub record Unjudged (b : Timed) : Type 0 where
+    pub count : (commits_under rule (drained (begun b))).count ≡ b.count
+    pub flushes : (commits_under rule (drained (begun b))).flushes ≡ b.flushes
+
+  -- nothing commits, and the watchdog is silent
+  pub record Idled (b : Timed) (list : List Record) (n : Timed) : Type 0 where
+    pub base : Base b n 0
+    pub log : SameLog b n
+    pub was : b.solo ≡ None
+    pub solo : n.solo ≡ None
+    pub idle : n.idle ≡ b.idle + 1
+    pub early : n.idle < b.config.limit
+    pub unjudged : Unjudged b
+    pub pending : n.pending ≡ b.pending ++ taken b list
+
+  -- claims commit, and the machine goes on
+  pub record Ran (b : Timed) (list : List Record) (n : Timed) : Type 0 where
+    pub k : ℕ
+    pub base : Base b n (suc k)
+    pub log : SameLog b n
+    pub was : b.solo ≡ None
+    pub solo : n.solo ≡ None
+    pub idle : n.idle ≡ 0
+    pub rest : List PendingClaim
+    pub claims : Commits (suc k) b.arch (b.cycles + 1) b.pending rest
+    pub pending : n.pending ≡ rest ++ taken b list
+    pub on : goes_on n.arch ≡ true
+
+  -- nothing commits, and the watchdog flushes
+  pub record Barked (b n : Timed) : Type 0 where
+    pub base : Base b n 0
+    pub log : HasRow b n (record { cycle = b.cycles + 1; at = n.count; cause = Silent b.config.limit })
+    pub was : b.solo ≡ None
+    pub solo : n.solo ≡ Some (b.cycles + 1)
+    pub idle : n.idle ≡ b.idle + 1
+    pub late : b.config.limit ≤ n.idle
+    pub unjudged : Unjudged b
+    pub pending : n.pending ≡ []
+
+  -- a claim differs
+  pub record Differed (b n : Timed) : Type 0 where
+    pub k : ℕ
+    pub base : Base b n k
+    pub p : PendingClaim
+    pub rest : List PendingClaim
+    pub d : Diff
+    pub log : HasRow b n (record { cycle = b.cycles + 1; at = n.count; cause = Differs d })
+    pub first : first_difference p.claim (record_of n.arch) ≡ Some d
+    pub ready : p.cycle + depth ≤ b.cycles + 1
+    pub claims : Commits k b.arch (b.cycles + 1) b.pending (p ∷ rest)
+    pub was : b.solo ≡ None
+    pub solo : n.solo ≡ Some (b.cycles + 1)
+    pub idle : n.idle ≤ b.idle + 1
+    pub pending : n.pending ≡ []
+    pub on : goes_on n.arch ≡ true
+
+  -- a claim commits that ends the machine
+  pub record Ended (b n : Timed) : Type 0 where
+    pub k : ℕ
+    pub base : Base b n (suc k)
+    pub log : SameLog b n
+    pub rest : List PendingClaim
+    pub claims : Commits (suc k) b.arch (b.cycles + 1) b.pending rest
+    pub was : b.solo ≡ None
+    pub solo : n.solo ≡ None
+    pub idle : n.idle ≡ 0
+    pub pending : n.pending ≡ []
+    pub went : goes_on (steps k b.arch) ≡ true
+    pub off : goes_on n.arch ≡ false
+
+  -- the instruction that ran solo commits
+  pub record Finished (b n : Timed) : Type 0 where
+    pub start : ℕ
+    pub since : b.solo ≡ Some start
+    pub sixth : b.cycles + 1 ≡ start + depth
+    pub base : Base b n 1
+    pub log : SameLog b n
+    pub solo : n.solo ≡ None
+    pub idle : n.idle ≡ 0
+    pub pending : n.pending ≡ []
+
+  -- an instruction runs on solo
+  pub record Waited (b n : Timed) : Type 0 where
+    pub start : ℕ
+    pub since : b.solo ≡ Some start
+    pub early : b.cycles + 1 ≡ start + depth → ⊥
+    pub base : Base b n 0
+    pub log : SameLog b n
+    pub solo : n.solo ≡ Some start
+    pub idle : n.idle ≡ b.idle + 1
+    pub pending : n.pending ≡ []
+
+  pub data Cycled (b : Timed) (list : List Record) (n : Timed) : Type 0 where
+    idled : Idled b list n → Cycled b list n
+    ran : Ran b list n → Cycled b list n
+    barks : Barked b n → Cycled b list n
+    differed : Differed b n → Cycled b list n
+    ended : Ended b n → Cycled b list n
+    finished : Finished b n → Cycled b list n
+    waited : Waited b n → Cycled b list n
+
+module _ {rule : Rule} (keeps : Keeps rule) where
+  -- the machine before the watchdog
+  abbrev mid : Timed → List Record → Timed
+  mid b list = counted b (accepts b list (commits_under rule (drained (begun b))))
+
+  zero-idle : (c d : ℕ) (k : ℕ) (idle : ℕ) → c ≡ d + suc k → (if c == d then idle + 1 else 0) ≡ 0
+  zero-idle c d k idle e = rw (ne_eqb c d (λ f. omega arith)) refl
+
+  more-idle : (c d : ℕ) (idle : ℕ) → c ≡ d + 0 → (if c == d then idle + 1 else 0) ≡ idle + 1
+  more-idle c d idle e = rw (eq-eqb c d (omega arith)) refl
+
+  some-idle : (b : Bool) (idle : ℕ) → (if b then idle + 1 else 0) ≤ idle + 1
+  some-idle true idle = omega arith
+  some-idle false idle = omega arith
+
+  -- what was accepted in a cycle that went on
+  all-accepted : (b m : Timed) (list : List Record) → goes_on m.arch ≡ true → m.flushes ≡ b.flushes → m.cycles ≡ b.cycles + 1 → accepted b list m ≡ m.pending ++ taken b list
+  all-accepted b m list on same c = rw (on, eq-eqb m.flushes b.flushes same, c) refl
+
+  base-mid : (b : Timed) (list : List Record) (k : ℕ) → Moved rule (drained (begun b)) (commits_under rule (drained (begun b))) k → Base rule b (mid b list) k
+  unfolding drained accepts
+  base-mid b list k v = record { config = v.config; cycles = v.cycles; counted = v.counted; stepped = v.stepped; owes = v.owes; passed = v.passed; owed = v.owed; few = v.few }
+
+  log-mid : (b : Timed) (list : List Record) → SameLog (drained (begun b)) (commits_under rule (drained (begun b))) → SameLog b (mid b list)
+  unfolding drained accepts
+  log-mid b list v = record { rows = v.rows; newest = v.newest; flushes = v.flushes; silent = v.silent }
+
+  -- a flush after a log that stayed
+  HasRow-flushed : (b m : Timed) (c : ℕ) (cause : Cause) → SameLog b m → m.cycles ≡ c → HasRow b (flushed m cause) (record { cycle = c; at = m.count; cause = cause })
+  unfolding flushed
+  HasRow-flushed b m c cause log e = record { rows = rw (log.rows, e) refl; newest = rw e refl; flushes = rw log.flushes refl; silent = rw log.silent refl }
+
+  Barked-mid :
+      (b : Timed) (list : List Record)
+      → b.solo ≡ None
+      → Base rule b (mid b list) 0
+      → SameLog b (mid b list)
+      → (mid b list).idle ≡ b.idle + 1
+      → b.config.limit ≤ (mid b list).idle
+      → Unjudged rule b
+      → Barked rule b (flushed (mid b list) (Silent b.config.limit))
+  unfolding flushed
+  Barked-mid b list was v log i late unjudged =
+      let h = HasRow-flushed b (mid b list) (b.cycles + 1) (Silent b.config.limit) log v.cycles in
+      record {
+        base = record { config = v.config; cycles = v.cycles; counted = v.counted; stepped = v.stepped; owes = v.owes; passed = v.passed; owed = v.owed; few = v.few };
+        log = record { rows = h.rows; newest = h.newest; flushes = h.flushes; silent = h.silent };
+        was = was;
+        solo = ap Some v.cycles;
+        idle = i;
+        late = late;
+        unjudged = unjudged;
+        pending = refl;
+      }
+
+  Cycled-idle :
+      (b : Timed) (list : List Record)
+      → IsMachine b
+      → b.solo ≡ None
+      → (r : Still rule (drained (begun b)) (commits_under rule (drained (begun b))))
+      → r.k ≡ 0
+      → Cycled rule b list (barked (mid b list))
+  unfolding drained accepts
+  Cycled-idle b list inv was r none =
+      let v : Base rule b (mid b list) 0 = base-mid b list 0 (subst (Moved rule (drained (begun b)) (commits_under rule (drained (begun b)))) none r.moved) in
+      let i : (mid b list).idle ≡ b.idle + 1 = more-idle _ b.count _ v.counted ∙ ap (λ z. z + 1) r.moved.idle in
+      let limit : (mid b list).config.limit ≡ b.config.limit = ap (λ z. z.limit) v.config in
+      let y : Unjudged rule b = record { count = (let c = v.counted in omega arith); flushes = r.log.flushes } in
+      elim (bark (mid b list)) [
+        | inl q ↦ subst (Cycled rule b list) (sym q.same) (idled (record {
+          base = v;
+          log = log-mid b list r.log;
+          was = was;
+          solo = r.solo;
+          idle = i;
+          early = rw limit at (q.early r.solo r.on);
+          unjudged = y;
+          pending = all-accepted b (commits_under rule (drained (begun b))) list r.on r.log.flushes r.moved.cycles ∙ ap (λ z. z ++ taken b list) (rw none at r.claims);
+        }))
+        | inr w ↦ subst (Cycled rule b list) (sym w.flushes) (rw limit (barks (Barked-mid b list was v (log-mid b list r.log) i (rw limit at w.late) y)))
+      ]
+
+  Cycled-ran :
+      (b : Timed) (list : List Record) (k : ℕ)
+      → IsMachine b
+      → b.solo ≡ None
+      → (r : Still rule (drained (begun b)) (commits_under rule (drained (begun b))))
+      → r.k ≡ suc k
+      → Cycled rule b list (barked (mid b list))
+  unfolding drained accepts
+  Cycled-ran b list k inv was r more =
+      let v : Base rule b (mid b list) (suc k) = base-mid b list (suc k) (subst (Moved rule (drained (begun b)) (commits_under rule (drained (begun b)))) more r.moved) in
+      let i : (mid b list).idle ≡ 0 = zero-idle _ b.count k _ v.counted in
+      let low : 16 ≤ b.config.limit = inv.config.limit_low in
+      let limit : (mid b list).config.limit ≡ b.config.limit = ap (λ z. z.limit) v.config in
+      subst (Cycled rule b list) (sym (bark-quiet (mid b list) (λ none on. rw (limit, i) (omega arith)))) (ran (record {
+        k = k;
         base = v;
         log = log-mid b list r.log;
         was = was;
         solo = r.solo;
         idle = i;
-        early = rw limit at (q.early r.solo r.on);
-        young = y;
-        pending = all-accepted b (commits (drained (begun b))) list r.on r.log.flushes r.moved.cycles ∙ ap (λ z. z ++ taken b list) (rw none at r.claims);
+        rest = (commits_under rule (drained (begun b))).pending;
+        claims = rw more at r.claims;
+        pending = all-accepted b (commits_under rule (drained (begun b))) list r.on r.log.flushes r.moved.cycles;
+        on = r.on;
       }))
-      | inr w ↦ subst (Cycled b list) (sym w.flushes) (rw limit (barks (Barked-mid b list was v (log-mid b list r.log) i (rw limit at w.late) y)))
-    ]
 
-Cycled-ran :
-    (b : Timed) (list : List Record) (k : ℕ)
-    → IsMachine b
-    → b.solo ≡ None
-    → (r : Still (drained (begun b)) (commits (drained (begun b))))
-    → r.k ≡ suc k
-    → Cycled b list (barked (mid b list))
-unfolding drained accepts
-Cycled-ran b list k inv was r more =
-    let v : Base b (mid b list) (suc k) = base-mid b list (suc k) (subst (Moved (drained (begun b)) (commits (drained (begun b)))) more r.moved) in
-    let i : (mid b list).idle ≡ 0 = zero-idle _ b.count k _ v.counted in
-    let low : 16 ≤ b.config.limit = inv.config.limit_low in
-    let limit : (mid b list).config.limit ≡ b.config.limit = ap (λ z. z.limit) v.config in
-    subst (Cycled b list) (sym (bark-quiet (mid b list) (λ none on. rw (limit, i) (omega arith)))) (ran (record {
-      k = k;
-      base = v;
-      log = log-mid b list r.log;
-      was = was;
-      solo = r.solo;
-      idle = i;
-      rest = (commits (drained (begun b))).pending;
-      claims = rw more at r.claims;
-      pending = all-accepted b (commits (drained (begun b))) list r.on r.log.flushes r.moved.cycles;
-      on = r.on;
-    }))
+  Cycled-still : (b : Timed) (list : List Record) → IsMachine b → b.solo ≡ None → (r : Still rule (drained (begun b)) (commits_under rule (drained (begun b)))) → (k : ℕ) → r.k ≡ k → Cycled rule b list (barked (mid b list))
+  Cycled-still b list inv was r zero e = Cycled-idle b list inv was r e
+  Cycled-still b list inv was r (suc k) e = Cycled-ran b list k inv was r e
 
-Cycled-still : (b : Timed) (list : List Record) → IsMachine b → b.solo ≡ None → (r : Still (drained (begun b)) (commits (drained (begun b)))) → (k : ℕ) → r.k ≡ k → Cycled b list (barked (mid b list))
-Cycled-still b list inv was r zero e = Cycled-idle b list inv was r e
-Cycled-still b list inv was r (suc k) e = Cycled-ran b list k inv was r e
+  -- nothing is accepted after a flush or an end
+  none-accepted : (b m : Timed) (list : List Record) → (goes_on m.arch && (m.flushes == b.flushes)) ≡ false → m.pending ≡ [] → accepted b list m ≡ []
+  none-accepted b m list off e = rw off e
 
--- nothing is accepted after a flush or an end
-none-accepted : (b m : Timed) (list : List Record) → (goes_on m.arch && (m.flushes == b.flushes)) ≡ false → m.pending ≡ [] → accepted b list m ≡ []
-none-accepted b m list off e = rw off e
+  Cycled-flushing : (b : Timed) (list : List Record) → b.solo ≡ None → Flushing rule (drained (begun b)) (commits_under rule (drained (begun b))) → Cycled rule b list (barked (mid b list))
+  unfolding drained accepts
+  Cycled-flushing b list was r =
+      let v : Base rule b (mid b list) r.k = base-mid b list r.k r.moved in
+      let i : (mid b list).idle ≤ b.idle + 1 = subst (λ z. (mid b list).idle ≤ z + 1) r.moved.idle (some-idle ((commits_under rule (drained (begun b))).count == b.count) (commits_under rule (drained (begun b))).idle) in
+      let m : Timed = commits_under rule (drained (begun b)) in
+      subst (Cycled rule b list) (sym (bark-quiet (mid b list) (λ none on. absurd (none-some _ (sym none ∙ r.solo))))) (differed (record {
+        k = r.k;
+        base = v;
+        p = r.p;
+        rest = r.rest;
+        d = r.d;
+        log = record { rows = r.log.rows; newest = r.log.newest; flushes = r.log.flushes; silent = r.log.silent };
+        first = r.first;
+        ready = r.ready;
+        claims = r.claims;
+        was = was;
+        solo = r.solo;
+        idle = i;
+        pending = none-accepted b m list (and_right (goes_on m.arch) _ (ne_eqb m.flushes b.flushes (λ e. let f : m.flushes ≡ b.flushes + 1 = r.log.flushes in omega arith))) r.pending;
+        on = r.on;
+      }))
 
-Cycled-flushing : (b : Timed) (list : List Record) → b.solo ≡ None → Flushing (drained (begun b)) (commits (drained (begun b))) → Cycled b list (barked (mid b list))
-unfolding drained accepts
-Cycled-flushing b list was r =
-    let v : Base b (mid b list) r.k = base-mid b list r.k r.moved in
-    let i : (mid b list).idle ≤ b.idle + 1 = subst (λ z. (mid b list).idle ≤ z + 1) r.moved.idle (some-idle ((commits (drained (begun b))).count == b.count) (commits (drained (begun b))).idle) in
-    let m : Timed = commits (drained (begun b)) in
-    subst (Cycled b list) (sym (bark-quiet (mid b list) (λ none on. absurd (none-some _ (sym none ∙ r.solo))))) (differed (record {
-      k = r.k;
-      base = v;
-      p = r.p;
-      rest = r.rest;
-      d = r.d;
-      log = record { rows = r.log.rows; newest = r.log.newest; flushes = r.log.flushes; silent = r.log.silent };
-      first = r.first;
-      ready = r.ready;
-      claims = r.claims;
-      was = was;
-      solo = r.solo;
-      idle = i;
-      pending = none-accepted b m list (and_right (goes_on m.arch) _ (ne_eqb m.flushes b.flushes (λ e. let f : m.flushes ≡ b.flushes + 1 = r.log.flushes in omega arith))) r.pending;
-      on = r.on;
-    }))
+  Cycled-ending : (b : Timed) (list : List Record) → b.solo ≡ None → Ending rule (drained (begun b)) (commits_under rule (drained (begun b))) → Cycled rule b list (barked (mid b list))
+  unfolding drained accepts
+  Cycled-ending b list was r =
+      let v : Base rule b (mid b list) (suc r.k) = base-mid b list (suc r.k) r.moved in
+      let m : Timed = commits_under rule (drained (begun b)) in
+      subst (Cycled rule b list) (sym (bark-quiet (mid b list) (λ none on. absurd (true≢false (sym on ∙ r.off))))) (ended (record {
+        k = r.k;
+        base = v;
+        log = log-mid b list r.log;
+        rest = r.rest;
+        claims = r.claims;
+        was = was;
+        solo = r.solo;
+        idle = zero-idle _ b.count r.k _ v.counted;
+        pending = none-accepted b m list (and_left (goes_on m.arch) _ r.off) r.pending;
+        went = r.went;
+        off = r.off;
+      }))
 
-Cycled-ending : (b : Timed) (list : List Record) → b.solo ≡ None → Ending (drained (begun b)) (commits (drained (begun b))) → Cycled b list (barked (mid b list))
-unfolding drained accepts
-Cycled-ending b list was r =
-    let v : Base b (mid b list) (suc r.k) = base-mid b list (suc r.k) r.moved in
-    let m : Timed = commits (drained (begun b)) in
-    subst (Cycled b list) (sym (bark-quiet (mid b list) (λ none on. absurd (true≢false (sym on ∙ r.off))))) (ended (record {
-      k = r.k;
-      base = v;
-      log = log-mid b list r.log;
-      rest = r.rest;
-      claims = r.claims;
-      was = was;
-      solo = r.solo;
-      idle = zero-idle _ b.count r.k _ v.counted;
-      pending = none-accepted b m list (and_left (goes_on m.arch) _ r.off) r.pending;
-      went = r.went;
-      off = r.off;
-    }))
+  no-room : (b : Timed) (start : ℕ) → b.solo ≡ Some start → room_of b ≡ 0
+  no-room b start e = rw e refl
 
-no-room : (b : Timed) (start : ℕ) → b.solo ≡ Some start → room_of b ≡ 0
-no-room b start e = rw e refl
+  -- nothing is accepted where there is no room
+  none-taken : (b m : Timed) (list : List Record) → room_of b ≡ 0 → m.pending ≡ [] → accepted b list m ≡ []
+  none-taken b m list r e = rw (e, r) (cond_both {A = List PendingClaim} (goes_on m.arch && (m.flushes == b.flushes)) _ _ (λ x. x ≡ []) (λ t. refl) (λ f. refl))
 
--- nothing is accepted where there is no room
-none-taken : (b m : Timed) (list : List Record) → room_of b ≡ 0 → m.pending ≡ [] → accepted b list m ≡ []
-none-taken b m list r e = rw (e, r) (cond_both {A = List PendingClaim} (goes_on m.arch && (m.flushes == b.flushes)) _ _ (λ x. x ≡ []) (λ t. refl) (λ f. refl))
+  alone-lives : (b : Timed) (start : ℕ) → IsMachine b → b.solo ≡ Some start → IsSolo b start
+  alone-lives b start inv e = subst (Lives b) e inv.lives
 
-alone-lives : (b : Timed) (start : ℕ) → IsMachine b → b.solo ≡ Some start → IsSolo b start
-alone-lives b start inv e = subst (Lives b) e inv.lives
+  Cycled-alone : (b : Timed) (list : List Record) → IsMachine b → Alone rule (drained (begun b)) (commits_under rule (drained (begun b))) → Cycled rule b list (barked (mid b list))
+  unfolding drained accepts
+  Cycled-alone b list inv r =
+      let v : Base rule b (mid b list) 1 = base-mid b list 1 r.moved in
+      let m : Timed = commits_under rule (drained (begun b)) in
+      let i : (mid b list).idle ≡ 0 = zero-idle _ b.count 0 _ v.counted in
+      let low : 16 ≤ b.config.limit = inv.config.limit_low in
+      let limit : (mid b list).config.limit ≡ b.config.limit = ap (λ z. z.limit) v.config in
+      subst (Cycled rule b list) (sym (bark-quiet (mid b list) (λ none on. rw (limit, i) (omega arith)))) (finished (record {
+        start = r.start;
+        since = r.since;
+        sixth = r.sixth;
+        base = v;
+        log = log-mid b list r.log;
+        solo = r.solo;
+        idle = i;
+        pending = none-taken b m list (no-room b r.start r.since) (r.pending ∙ (alone-lives b r.start inv r.since).empty);
+      }))
 
-Cycled-alone : (b : Timed) (list : List Record) → IsMachine b → Alone (drained (begun b)) (commits (drained (begun b))) → Cycled b list (barked (mid b list))
-unfolding drained accepts
-Cycled-alone b list inv r =
-    let v : Base b (mid b list) 1 = base-mid b list 1 r.moved in
-    let m : Timed = commits (drained (begun b)) in
-    let i : (mid b list).idle ≡ 0 = zero-idle _ b.count 0 _ v.counted in
-    let low : 16 ≤ b.config.limit = inv.config.limit_low in
-    let limit : (mid b list).config.limit ≡ b.config.limit = ap (λ z. z.limit) v.config in
-    subst (Cycled b list) (sym (bark-quiet (mid b list) (λ none on. rw (limit, i) (omega arith)))) (finished (record {
-      start = r.start;
-      since = r.since;
-      sixth = r.sixth;
-      base = v;
-      log = log-mid b list r.log;
-      solo = r.solo;
-      idle = i;
-      pending = none-taken b m list (no-room b r.start r.since) (r.pending ∙ (alone-lives b r.start inv r.since).empty);
-    }))
+  Moved-same : (e m : Timed) → m ≡ e → e.owed ≤ e.config.stores → Moved rule e m 0
+  Moved-same e m same owed = subst (λ z. Moved rule e z 0) (sym same) (record { config = refl; cycles = refl; idle = refl; counted = omega arith; stepped = refl; owes = refl; passed = tt; owed = owed; few = omega arith })
 
-Moved-same : (e m : Timed) → m ≡ e → e.owed ≤ e.config.stores → Moved e m 0
-Moved-same e m same owed = subst (λ z. Moved e z 0) (sym same) (record { config = refl; cycles = refl; idle = refl; counted = omega arith; stepped = refl; owed = owed; few = omega arith })
+  SameLog-same : (e m : Timed) → m ≡ e → SameLog e m
+  SameLog-same e m same = subst (SameLog e) (sym same) (record { rows = refl; newest = refl; flushes = refl; silent = refl })
 
-SameLog-same : (e m : Timed) → m ≡ e → SameLog e m
-SameLog-same e m same = subst (SameLog e) (sym same) (record { rows = refl; newest = refl; flushes = refl; silent = refl })
+  Cycled-waits : (b : Timed) (list : List Record) → IsMachine b → Waits rule (drained (begun b)) (commits_under rule (drained (begun b))) → Cycled rule b list (barked (mid b list))
+  unfolding drained accepts
+  Cycled-waits b list inv r =
+      let m : Timed = commits_under rule (drained (begun b)) in
+      let w : Moved rule (drained (begun b)) m 0 = Moved-same (drained (begun b)) m r.same (drained-fits b inv.owed) in
+      let v : Base rule b (mid b list) 0 = base-mid b list 0 w in
+      let alone : m.solo ≡ Some r.start = ap (λ z. z.solo) r.same ∙ r.since in
+      subst (Cycled rule b list) (sym (bark-quiet (mid b list) (λ none on. absurd (none-some _ (sym none ∙ alone))))) (waited (record {
+        start = r.start;
+        since = r.since;
+        early = r.early;
+        base = v;
+        log = log-mid b list (SameLog-same (drained (begun b)) m r.same);
+        solo = alone;
+        idle = more-idle _ b.count _ v.counted ∙ ap (λ z. z + 1) w.idle;
+        pending = none-taken b m list (no-room b r.start r.since) (ap (λ z. z.pending) r.same ∙ (alone-lives b r.start inv r.since).empty);
+      }))
 
-Cycled-waits : (b : Timed) (list : List Record) → IsMachine b → Waits (drained (begun b)) (commits (drained (begun b))) → Cycled b list (barked (mid b list))
-unfolding drained accepts
-Cycled-waits b list inv r =
-    let m : Timed = commits (drained (begun b)) in
-    let w : Moved (drained (begun b)) m 0 = Moved-same (drained (begun b)) m r.same (let o = inv.owed in omega arith) in
-    let v : Base b (mid b list) 0 = base-mid b list 0 w in
-    let alone : m.solo ≡ Some r.start = ap (λ z. z.solo) r.same ∙ r.since in
-    subst (Cycled b list) (sym (bark-quiet (mid b list) (λ none on. absurd (none-some _ (sym none ∙ alone))))) (waited (record {
-      start = r.start;
-      since = r.since;
-      early = r.early;
-      base = v;
-      log = log-mid b list (SameLog-same (drained (begun b)) m r.same);
-      solo = alone;
-      idle = more-idle _ b.count _ v.counted ∙ ap (λ z. z + 1) w.idle;
-      pending = none-taken b m list (no-room b r.start r.since) (ap (λ z. z.pending) r.same ∙ (alone-lives b r.start inv r.since).empty);
-    }))
+  Cycled-outcome : (b : Timed) (list : List Record) → IsMachine b → b.solo ≡ None → Outcome rule (drained (begun b)) (commits_under rule (drained (begun b))) → Cycled rule b list (barked (mid b list))
+  Cycled-outcome b list inv was (still r) = Cycled-still b list inv was r r.k refl
+  Cycled-outcome b list inv was (flushing r) = Cycled-flushing b list was r
+  Cycled-outcome b list inv was (ending r) = Cycled-ending b list was r
 
-Cycled-outcome : (b : Timed) (list : List Record) → IsMachine b → b.solo ≡ None → Outcome (drained (begun b)) (commits (drained (begun b))) → Cycled b list (barked (mid b list))
-Cycled-outcome b list inv was (still r) = Cycled-still b list inv was r r.k refl
-Cycled-outcome b list inv was (flushing r) = Cycled-flushing b list was r
-Cycled-outcome b list inv was (ending r) = Cycled-ending b list was r
+  Cycled-second : (b : Timed) (list : List Record) → IsMachine b → Second rule (drained (begun b)) (commits_under rule (drained (begun b))) → Cycled rule b list (barked (mid b list))
+  unfolding drained
+  Cycled-second b list inv (judging was o) = Cycled-outcome b list inv was o
+  Cycled-second b list inv (alone r) = Cycled-alone b list inv r
+  Cycled-second b list inv (waits r) = Cycled-waits b list inv r
 
-Cycled-second : (b : Timed) (list : List Record) → IsMachine b → Second (drained (begun b)) (commits (drained (begun b))) → Cycled b list (barked (mid b list))
-unfolding drained
-Cycled-second b list inv (judging was o) = Cycled-outcome b list inv was o
-Cycled-second b list inv (alone r) = Cycled-alone b list inv r
-Cycled-second b list inv (waits r) = Cycled-waits b list inv r
+  pub cycled_under : (b : Timed) (list : List Record) → IsMachine b → goes_on b.arch ≡ true → AlonePasses rule b → Cycled rule b list (cycle_under rule b list)
+  unfolding cycle_under watched drained
+  cycled_under b list inv on passes = rw on (Cycled-second b list inv (second keeps (drained (begun b)) passes on (drained-fits b inv.owed) inv.config.width_low))
 
-pub cycled : (b : Timed) (list : List Record) → IsMachine b → goes_on b.arch ≡ true → Cycled b list (cycle_of b list)
-unfolding cycle_of watched drained
-cycled b list inv on = rw on (Cycled-second b list inv (second (drained (begun b)) on (owed-drained b inv) inv.config.width_low))
+-- the machine's own cycle
+pub cycled : (b : Timed) (list : List Record) → IsMachine b → goes_on b.arch ≡ true → Cycled stores_wait b list (cycle_of b list)
+cycled b list inv on = cycled_under stores_keep b list inv on (alone_stores b inv)

@@ -4,6 +4,7 @@ use Rattle.std.proofs.lemmas.Bool.{cases_Bool, true≢false}
 use Rattle.diva_isa.specs.State.{State, goes_on}
 use Rattle.diva_isa.specs.declared.record.Record.{Record}
 use Rattle.diva_isa.specs.Step.{record_of, apply, step, steps}
+use Rattle.diva_core.specs.Cycle.{Rule}
 use Rattle.diva_core.specs.Timed.{Timed}
 use Rattle.diva_core.specs.Machine.{IsMachine}
 use Rattle.diva_core.proofs.Steps.{steps-add, steps-off, step-on}
@@ -20,7 +21,7 @@ went-before j k s h on =
     went-on (k - j) (steps j s) (ap goes_on (sym (steps-add j (k - j) s) ∙ ap (λ i. steps i s) e) ∙ on)
 
 -- each instruction that a cycle counts is one of a state that went on
-pub each-went : (b : Timed) (list : List Record) (n : Timed) → goes_on b.arch ≡ true → Cycled b list n → (j : ℕ) → j < n.count - b.count → goes_on (steps j b.arch) ≡ true
+pub each-went : {rule : Rule} (b : Timed) (list : List Record) (n : Timed) → goes_on b.arch ≡ true → Cycled rule b list n → (j : ℕ) → j < n.count - b.count → goes_on (steps j b.arch) ≡ true
 each-went b list n on (idled r) j h = absurd (let c = r.base.counted in omega arith)
 each-went b list n on (ran r) j h = went-before j (suc r.k) b.arch (let c = r.base.counted in omega arith) (ap goes_on (sym r.base.stepped) ∙ r.on)
 each-went b list n on (barks r) j h = absurd (let c = r.base.counted in omega arith)
@@ -43,9 +44,9 @@ steps_instret (suc k) s went =
     omega arith
 
 -- after a cycle they are those that were counted
-pub counted-cases : (b : Timed) (list : List Record) (n : Timed) → IsMachine b → goes_on b.arch ≡ true → Cycled b list n → n.arch.instret ≡ n.count
-counted-cases b list n inv on c =
-    let a : AnyBase b n = any-base b list n c in
+pub counted-cases : {rule : Rule} (b : Timed) (list : List Record) (n : Timed) → IsMachine b → goes_on b.arch ≡ true → Cycled rule b list n → n.arch.instret ≡ n.count
+counted-cases {rule} b list n inv on c =
+    let a : AnyBase rule b n = any-base b list n c in
     let more : n.count ≡ b.count + a.k = a.base.counted in
     let before : b.arch.instret ≡ b.count = inv.counted in
     let led : (steps a.k b.arch).instret ≡ b.arch.instret + a.k = steps_instret a.k b.arch (λ j h. each-went b list n on c j (omega arith)) in

@@ -1,129 +1,143 @@
 -- What phase 2 does.
-use Rattle.std.proofs.Common.{◌≡◌, ℕ, zero, suc, ◌+◌, ◌<◌, ◌≤◌, ◌==◌, Bool, true, false, ◌&&◌, List, [], ◌∷◌, Option, Some, None, refl, ap, sym, ◌∙◌, arith, get_or, drop, subst, ◌⊎◌, inl, inr}
+use Rattle.std.proofs.Common.{◌≡◌, ℕ, zero, suc, ◌+◌, ◌<◌, ◌≤◌, ◌==◌, Bool, true, false, ◌&&◌, List, [], ◌∷◌, Option, Some, None, refl, ap, sym, ◌∙◌, arith, get_or, drop, subst, inl, inr}
 use Rattle.std.specs.Prelude.{nat_le, if◌then◌else◌}
-use Rattle.std.proofs.lemmas.Bool.{cases_Bool, cond_both, leb-true, eqb-false, ne_eqb, and_right}
+use Rattle.std.proofs.lemmas.Bool.{cases_Bool, cond_both, leb-true, eqb-false}
 use Rattle.diva_isa.specs.State.{State, goes_on}
 use Rattle.diva_isa.specs.Step.{record_of, step, steps}
 use Rattle.diva_core.specs.declared.differences.Diff.{Diff}
 use Rattle.diva_core.specs.declared.flushes.Cause.TheVariants.{Differs}
 use Rattle.diva_core.specs.Difference.{first_difference}
 use Rattle.diva_core.specs.Timed.{Timed, PendingClaim, depth}
-use Rattle.diva_core.specs.Cycle.{Judgement, judged, by_front, by_difference, by_judgement, judgement_of, past_front, committed, flushed, puts_store, number}
+use Rattle.diva_core.specs.Cycle.{Judgement, Rule, by_difference, by_front, by_judgement, committed, flushed, judged_under, number, past_front, puts_store}
 use Rattle.diva_core.specs.Headline.{SameLog, HasRow}
 use Rattle.diva_core.proofs.Commits.{Commits}
+use Rattle.diva_core.proofs.Passing.{Keeps, Passed, Passed-more, owed_after, owed_after-more}
 use Rattle.diva_core.proofs.Steps.{steps-shift, step-on}
 use Rattle.diva_core.proofs.Differing.{difference-none}
-
--- R holds while at most so many claims more are judged, and Q where the judging stops
-pub record Judges (R : ℕ → Timed → Type 0) (Q : Timed → Type 0) : Type 0 where
-  pub stop : (n : ℕ) (m : Timed) → R n m → Q m
-  pub flush : (n : ℕ) (m : Timed) (p : PendingClaim) (rest : List PendingClaim) (d : Diff) → m.pending ≡ p ∷ rest → nat_le (p.cycle + depth) m.cycles ≡ true → first_difference p.claim (record_of m.arch) ≡ Some d → R n m → Q (flushed m (Differs d))
-  pub commit :
-      (n : ℕ) (m : Timed) (p : PendingClaim) (rest : List PendingClaim)
-      → m.pending ≡ p ∷ rest
-      → nat_le (p.cycle + depth) m.cycles ≡ true
-      → first_difference p.claim (record_of m.arch) ≡ None
-      → (puts_store (record_of m.arch) && (m.owed == m.config.stores)) ≡ false
-      → R (suc n) m
-      → (goes_on (past_front m).arch ≡ true → R n (past_front m)) × (goes_on (past_front m).arch ≡ false → Q (past_front m))
-
--- where nothing is pending, nothing is judged
-pub judged-none : (n : ℕ) (m : Timed) → m.pending ≡ [] → judged n m ≡ m
-judged-none zero m none = refl
-judged-none (suc n) m none = ap (λ ps. by_judgement m (judged n (past_front m)) (by_front m ps)) none
 
 pub past-off : (m : Timed) → goes_on (past_front m).arch ≡ false → (past_front m).pending ≡ []
 past-off m off = ap (λ (b : Bool). if b then drop 1 m.pending else []) off
 
-Judges-first_difference :
-    (R : ℕ → Timed → Type 0) (Q : Timed → Type 0) (j : Judges R Q) (n : ℕ)
-    → ((m : Timed) → R n m → Q (judged n m))
-    → (m : Timed) (p : PendingClaim) (rest : List PendingClaim) (o : Option Diff)
-    → first_difference p.claim (record_of m.arch) ≡ o
-    → m.pending ≡ p ∷ rest
-    → nat_le (p.cycle + depth) m.cycles ≡ true
-    → R (suc n) m
-    → Q (by_judgement m (judged n (past_front m)) (by_difference m o))
-Judges-first_difference R Q j n ih m p rest (Some d) same e ready r = j.flush (suc n) m p rest d e ready same r
-Judges-first_difference R Q j n ih m p rest None same e ready r =
-    cond_both (puts_store (record_of m.arch) && (m.owed == m.config.stores)) _ _ (λ (w : Judgement). Q (by_judgement m (judged n (past_front m)) w))
-    (λ held. j.stop (suc n) m r)
-    (λ free.
-    let both = j.commit n m p rest e ready same free r in
-    elim (cases_Bool (goes_on (past_front m).arch)) [
-      | inl on ↦ ih (past_front m) (both.0 on)
-      | inr off ↦ subst Q (sym (judged-none n (past_front m) (past-off m off))) (both.1 off)
-    ])
+module _ (rule : Rule) where
+  -- R holds while at most so many claims more are judged, and Q where the judging stops
+  pub record Judges (R : ℕ → Timed → Type 0) (Q : Timed → Type 0) : Type 0 where
+    pub stop : (n : ℕ) (m : Timed) → R n m → Q m
+    pub flush : (n : ℕ) (m : Timed) (p : PendingClaim) (rest : List PendingClaim) (d : Diff) → m.pending ≡ p ∷ rest → nat_le (p.cycle + depth) m.cycles ≡ true → first_difference p.claim (record_of m.arch) ≡ Some d → R n m → Q (flushed m (Differs d))
+    pub commit :
+        (n : ℕ) (m : Timed) (p : PendingClaim) (rest : List PendingClaim)
+        → m.pending ≡ p ∷ rest
+        → nat_le (p.cycle + depth) m.cycles ≡ true
+        → first_difference p.claim (record_of m.arch) ≡ None
+        → rule m.config.stores m.owed (record_of m.arch) ≡ false
+        → R (suc n) m
+        → (goes_on (past_front m).arch ≡ true → R n (past_front m)) × (goes_on (past_front m).arch ≡ false → Q (past_front m))
 
-Judges-front :
-    (R : ℕ → Timed → Type 0) (Q : Timed → Type 0) (j : Judges R Q) (n : ℕ)
-    → ((m : Timed) → R n m → Q (judged n m))
-    → (m : Timed) (pending : List PendingClaim)
-    → m.pending ≡ pending
-    → R (suc n) m
-    → Q (by_judgement m (judged n (past_front m)) (by_front m pending))
-Judges-front R Q j n ih m [] e r = j.stop (suc n) m r
-Judges-front R Q j n ih m (p ∷ rest) e r =
-    cond_both (nat_le (p.cycle + depth) m.cycles) _ _ (λ (w : Judgement). Q (by_judgement m (judged n (past_front m)) w))
-    (λ ready. Judges-first_difference R Q j n ih m p rest (first_difference p.claim (record_of m.arch)) refl e ready r)
-    (λ young. j.stop (suc n) m r)
+  -- what every part of phase 2 does, after k commits
+  pub record Moved (b m : Timed) (k : ℕ) : Type 0 where
+    pub config : m.config ≡ b.config
+    pub cycles : m.cycles ≡ b.cycles
+    pub idle : m.idle ≡ b.idle
+    pub counted : m.count ≡ b.count + k
+    pub stepped : m.arch ≡ steps k b.arch
+    -- what is owed, and that each of the instructions passed the rule
+    pub owes : m.owed ≡ owed_after k b.arch b.owed
+    pub passed : Passed rule b.config.stores k b.arch b.owed
+    pub owed : m.owed ≤ b.config.stores
+    pub few : k ≤ b.config.width
 
-pub Judges-judged : (R : ℕ → Timed → Type 0) (Q : Timed → Type 0) → Judges R Q → (n : ℕ) (m : Timed) → R n m → Q (judged n m)
-Judges-judged R Q j zero m r = j.stop zero m r
-Judges-judged R Q j (suc n) m r = Judges-front R Q j n (Judges-judged R Q j n) m m.pending refl r
+  pub record Still (b m : Timed) : Type 0 where
+    pub k : ℕ
+    pub moved : Moved b m k
+    pub log : SameLog b m
+    pub solo : m.solo ≡ None
+    pub claims : Commits k b.arch b.cycles b.pending m.pending
+    pub on : goes_on m.arch ≡ true
 
--- what every part of phase 2 does, after k commits
-pub record Moved (b m : Timed) (k : ℕ) : Type 0 where
-  pub config : m.config ≡ b.config
-  pub cycles : m.cycles ≡ b.cycles
-  pub idle : m.idle ≡ b.idle
-  pub counted : m.count ≡ b.count + k
-  pub stepped : m.arch ≡ steps k b.arch
-  pub owed : m.owed ≤ b.config.stores
-  pub few : k ≤ b.config.width
+  -- at most n claims more are judged
+  pub record Judging (b : Timed) (n : ℕ) (m : Timed) : Type 0 where
+    pub now : Still b m
+    pub few : now.k + n ≤ b.config.width
 
-pub record Still (b m : Timed) : Type 0 where
-  pub k : ℕ
-  pub moved : Moved b m k
-  pub log : SameLog b m
-  pub solo : m.solo ≡ None
-  pub claims : Commits k b.arch b.cycles b.pending m.pending
-  pub on : goes_on m.arch ≡ true
+  pub record Flushing (b m : Timed) : Type 0 where
+    pub k : ℕ
+    pub moved : Moved b m k
+    pub p : PendingClaim
+    pub rest : List PendingClaim
+    pub d : Diff
+    pub log : HasRow b m (record { cycle = b.cycles; at = m.count; cause = Differs d })
+    pub first : first_difference p.claim (record_of m.arch) ≡ Some d
+    pub ready : p.cycle + depth ≤ b.cycles
+    pub claims : Commits k b.arch b.cycles b.pending (p ∷ rest)
+    pub solo : m.solo ≡ Some b.cycles
+    pub pending : m.pending ≡ []
+    pub on : goes_on m.arch ≡ true
 
--- at most n claims more are judged
-pub record Judging (b : Timed) (n : ℕ) (m : Timed) : Type 0 where
-  pub now : Still b m
-  pub few : now.k + n ≤ b.config.width
+  pub record Ending (b m : Timed) : Type 0 where
+    pub k : ℕ
+    pub moved : Moved b m (suc k)
+    pub log : SameLog b m
+    pub rest : List PendingClaim
+    pub claims : Commits (suc k) b.arch b.cycles b.pending rest
+    pub solo : m.solo ≡ None
+    pub pending : m.pending ≡ []
+    pub went : goes_on (steps k b.arch) ≡ true
+    pub off : goes_on m.arch ≡ false
 
-pub record Flushing (b m : Timed) : Type 0 where
-  pub k : ℕ
-  pub moved : Moved b m k
-  pub p : PendingClaim
-  pub rest : List PendingClaim
-  pub d : Diff
-  pub log : HasRow b m (record { cycle = b.cycles; at = m.count; cause = Differs d })
-  pub first : first_difference p.claim (record_of m.arch) ≡ Some d
-  pub ready : p.cycle + depth ≤ b.cycles
-  pub claims : Commits k b.arch b.cycles b.pending (p ∷ rest)
-  pub solo : m.solo ≡ Some b.cycles
-  pub pending : m.pending ≡ []
-  pub on : goes_on m.arch ≡ true
+  pub data Outcome (b m : Timed) : Type 0 where
+    still : Still b m → Outcome b m
+    flushing : Flushing b m → Outcome b m
+    ending : Ending b m → Outcome b m
 
-pub record Ending (b m : Timed) : Type 0 where
-  pub k : ℕ
-  pub moved : Moved b m (suc k)
-  pub log : SameLog b m
-  pub rest : List PendingClaim
-  pub claims : Commits (suc k) b.arch b.cycles b.pending rest
-  pub solo : m.solo ≡ None
-  pub pending : m.pending ≡ []
-  pub went : goes_on (steps k b.arch) ≡ true
-  pub off : goes_on m.arch ≡ false
+  -- where nothing is pending, nothing is judged
+  pub judged-none : (n : ℕ) (m : Timed) → m.pending ≡ [] → judged_under rule n m ≡ m
+  judged-none zero m none = refl
+  judged-none (suc n) m none = ap (λ ps. by_judgement m (judged_under rule n (past_front m)) (by_front rule m ps)) none
 
-pub data Outcome (b m : Timed) : Type 0 where
-  still : Still b m → Outcome b m
-  flushing : Flushing b m → Outcome b m
-  ending : Ending b m → Outcome b m
+  Judges-first_difference :
+      (R : ℕ → Timed → Type 0) (Q : Timed → Type 0) (j : Judges R Q) (n : ℕ)
+      → ((m : Timed) → R n m → Q (judged_under rule n m))
+      → (m : Timed) (p : PendingClaim) (rest : List PendingClaim) (o : Option Diff)
+      → first_difference p.claim (record_of m.arch) ≡ o
+      → m.pending ≡ p ∷ rest
+      → nat_le (p.cycle + depth) m.cycles ≡ true
+      → R (suc n) m
+      → Q (by_judgement m (judged_under rule n (past_front m)) (by_difference rule m o))
+  Judges-first_difference R Q j n ih m p rest (Some d) same e ready r = j.flush (suc n) m p rest d e ready same r
+  Judges-first_difference R Q j n ih m p rest None same e ready r =
+      cond_both (rule m.config.stores m.owed (record_of m.arch)) _ _ (λ (w : Judgement). Q (by_judgement m (judged_under rule n (past_front m)) w))
+      (λ held. j.stop (suc n) m r)
+      (λ free.
+      let both = j.commit n m p rest e ready same free r in
+      elim (cases_Bool (goes_on (past_front m).arch)) [
+        | inl on ↦ ih (past_front m) (both.0 on)
+        | inr off ↦ subst Q (sym (judged-none n (past_front m) (past-off m off))) (both.1 off)
+      ])
+
+  Judges-front :
+      (R : ℕ → Timed → Type 0) (Q : Timed → Type 0) (j : Judges R Q) (n : ℕ)
+      → ((m : Timed) → R n m → Q (judged_under rule n m))
+      → (m : Timed) (pending : List PendingClaim)
+      → m.pending ≡ pending
+      → R (suc n) m
+      → Q (by_judgement m (judged_under rule n (past_front m)) (by_front rule m pending))
+  Judges-front R Q j n ih m [] e r = j.stop (suc n) m r
+  Judges-front R Q j n ih m (p ∷ rest) e r =
+      cond_both (nat_le (p.cycle + depth) m.cycles) _ _ (λ (w : Judgement). Q (by_judgement m (judged_under rule n (past_front m)) w))
+      (λ ready. Judges-first_difference R Q j n ih m p rest (first_difference p.claim (record_of m.arch)) refl e ready r)
+      (λ young. j.stop (suc n) m r)
+
+  pub Judges-judged : (R : ℕ → Timed → Type 0) (Q : Timed → Type 0) → Judges R Q → (n : ℕ) (m : Timed) → R n m → Q (judged_under rule n m)
+  Judges-judged R Q j zero m r = j.stop zero m r
+  Judges-judged R Q j (suc n) m r = Judges-front R Q j n (Judges-judged R Q j n) m m.pending refl r
+
+  counts : (c : ℕ) → Judges (λ n x. c < x.count) (λ x. c < x.count)
+  unfolding committed flushed
+  counts c = record { stop = λ n m r. r; flush = λ n m p rest d e ready differs r. r; commit = λ n m p rest e ready same free r. (λ on. omega arith, λ off. omega arith) }
+
+  -- what commits is counted
+  pub past-counts : (n : ℕ) (m : Timed) → m.count < (judged_under rule n (past_front m)).count
+  unfolding committed
+  past-counts n m = Judges-judged (λ n x. m.count < x.count) (λ x. m.count < x.count) (counts m.count) n (past_front m) (omega arith)
 
 Commits-more : (k : ℕ) (s : State) (c : ℕ) (waiting : List PendingClaim) (p : PendingClaim) (rest : List PendingClaim) → Commits k s c waiting (p ∷ rest) → p.claim ≡ record_of (steps k s) → p.cycle + depth ≤ c → Commits (suc k) s c waiting rest
 Commits-more zero s c [] p rest h e ready = absurd (grind arith)
@@ -133,147 +147,124 @@ Commits-more zero s c (q ∷ waiting) p rest h e ready =
 Commits-more (suc k) s c [] p rest h e ready = h
 Commits-more (suc k) s c (q ∷ waiting) p rest h e ready = (h.0, h.1, Commits-more k (step s) c waiting p rest h.2 (e ∙ ap record_of (sym (steps-shift k s))) ready)
 
-owed-fits : (b : Bool) (owed stores : ℕ) → (b && (owed == stores)) ≡ false → owed ≤ stores → owed + number b ≤ stores
+pub owed-fits : (b : Bool) (owed stores : ℕ) → (b && (owed == stores)) ≡ false → owed ≤ stores → owed + number b ≤ stores
 owed-fits true owed stores e h = let n = eqb-false owed stores e in omega arith
 owed-fits false owed stores e h = omega arith
-
-Moved-commit :
-    (b m : Timed) (k : ℕ)
-    → Moved b m k
-    → (puts_store (record_of m.arch) && (m.owed == m.config.stores)) ≡ false
-    → goes_on m.arch ≡ true
-    → suc k ≤ b.config.width
-    → Moved b (past_front m) (suc k)
-unfolding committed
-Moved-commit b m k v free on few =
-    record {
-      config = v.config;
-      cycles = v.cycles;
-      idle = v.idle;
-      counted = let e = v.counted in omega arith;
-      stepped = sym (step-on m.arch) ∙ ap step v.stepped;
-      owed = rw (ap (λ z. z.stores) (sym v.config)) (owed-fits (puts_store (record_of m.arch)) m.owed m.config.stores free (rw (ap (λ z. z.stores) v.config) v.owed));
-      few = few;
-    }
-
-Still-start : (b : Timed) → b.solo ≡ None → goes_on b.arch ≡ true → b.owed ≤ b.config.stores → Still b b
-Still-start b none on owed =
-    record {
-      k = 0;
-      moved = record { config = refl; cycles = refl; idle = refl; counted = omega arith; stepped = refl; owed = owed; few = omega arith };
-      log = record { rows = refl; newest = refl; flushes = refl; silent = refl };
-      solo = none;
-      claims = refl;
-      on = on;
-    }
-
-Flushing-from : (b m : Timed) (p : PendingClaim) (rest : List PendingClaim) (d : Diff) → m.pending ≡ p ∷ rest → nat_le (p.cycle + depth) m.cycles ≡ true → first_difference p.claim (record_of m.arch) ≡ Some d → Still b m → Flushing b (flushed m (Differs d))
-unfolding flushed
-Flushing-from b m p rest d e ready differs r =
-    record {
-      k = r.k;
-      moved = record { config = r.moved.config; cycles = r.moved.cycles; idle = r.moved.idle; counted = r.moved.counted; stepped = r.moved.stepped; owed = r.moved.owed; few = r.moved.few };
-      p = p;
-      rest = rest;
-      d = d;
-      log = record {
-        rows = rw (r.log.rows, r.moved.cycles) refl;
-        newest = rw r.moved.cycles refl;
-        flushes = rw r.log.flushes refl;
-        silent = rw r.log.silent refl;
-      };
-      first = differs;
-      ready = rw r.moved.cycles at (leb-true _ _ ready);
-      claims = rw e at r.claims;
-      solo = ap Some r.moved.cycles;
-      pending = refl;
-      on = r.on;
-    }
-
-claims-commit : (b m : Timed) (p : PendingClaim) (rest : List PendingClaim) → m.pending ≡ p ∷ rest → nat_le (p.cycle + depth) m.cycles ≡ true → first_difference p.claim (record_of m.arch) ≡ None → (r : Still b m) → Commits (suc r.k) b.arch b.cycles b.pending rest
-claims-commit b m p rest e ready same r =
-    Commits-more r.k b.arch b.cycles b.pending p rest
-    (rw e at r.claims)
-    (difference-none p.claim (record_of m.arch) same ∙ ap record_of r.moved.stepped)
-    (rw r.moved.cycles at (leb-true _ _ ready))
 
 past-on : (m : Timed) (p : PendingClaim) (rest : List PendingClaim) → m.pending ≡ p ∷ rest → goes_on (past_front m).arch ≡ true → (past_front m).pending ≡ rest
 past-on m p rest e on = ap (λ (b : Bool). if b then drop 1 m.pending else []) on ∙ ap (drop 1) e
 
--- the front claim commits, and the machine goes on or has ended
-module _ (b m : Timed) (p : PendingClaim) (rest : List PendingClaim) (e : m.pending ≡ p ∷ rest) (ready : nat_le (p.cycle + depth) m.cycles ≡ true)
-    (same : first_difference p.claim (record_of m.arch) ≡ None) (free : (puts_store (record_of m.arch) && (m.owed == m.config.stores)) ≡ false)
-    (r : Still b m) (few : suc r.k ≤ b.config.width) where
-  Still-commit : goes_on (past_front m).arch ≡ true → Still b (past_front m)
+module _ {rule : Rule} (keeps : Keeps rule) where
+  Moved-commit :
+      (b m : Timed) (k : ℕ)
+      → Moved rule b m k
+      → rule m.config.stores m.owed (record_of m.arch) ≡ false
+      → goes_on m.arch ≡ true
+      → suc k ≤ b.config.width
+      → Moved rule b (past_front m) (suc k)
   unfolding committed
-  Still-commit on =
+  Moved-commit b m k v free on few =
       record {
-        k = suc r.k;
-        moved = Moved-commit b m r.k r.moved free r.on few;
-        log = record { rows = r.log.rows; newest = r.log.newest; flushes = r.log.flushes; silent = r.log.silent };
-        solo = r.solo;
-        claims = subst (Commits (suc r.k) b.arch b.cycles b.pending) (sym (past-on m p rest e on)) (claims-commit b m p rest e ready same r);
+        config = v.config;
+        cycles = v.cycles;
+        idle = v.idle;
+        counted = let e = v.counted in omega arith;
+        stepped = sym (step-on m.arch) ∙ ap step v.stepped;
+        owes = ap (λ z. z + number (puts_store (record_of m.arch))) v.owes ∙ ap (λ (s : State). owed_after k b.arch b.owed + number (puts_store (record_of s))) v.stepped ∙ sym (owed_after-more k b.arch b.owed);
+        passed = Passed-more rule b.config.stores k b.arch b.owed v.passed
+            (ap goes_on (sym v.stepped) ∙ on)
+            (ap (λ n. rule b.config.stores n (record_of (steps k b.arch))) (sym v.owes)
+            ∙ ap (λ (s : State). rule b.config.stores m.owed (record_of s)) (sym v.stepped)
+            ∙ ap (λ z. rule z.stores m.owed (record_of m.arch)) (sym v.config) ∙ free);
+        owed = rw (ap (λ z. z.stores) (sym v.config)) (owed-fits (puts_store (record_of m.arch)) m.owed m.config.stores (keeps.room m.config.stores m.owed (record_of m.arch) free) (rw (ap (λ z. z.stores) v.config) v.owed));
+        few = few;
+      }
+
+  Still-start : (b : Timed) → b.solo ≡ None → goes_on b.arch ≡ true → b.owed ≤ b.config.stores → Still rule b b
+  Still-start b none on owed =
+      record {
+        k = 0;
+        moved = record { config = refl; cycles = refl; idle = refl; counted = omega arith; stepped = refl; owes = refl; passed = tt; owed = owed; few = omega arith };
+        log = record { rows = refl; newest = refl; flushes = refl; silent = refl };
+        solo = none;
+        claims = refl;
         on = on;
       }
 
-  Ending-commit : goes_on (past_front m).arch ≡ false → Ending b (past_front m)
-  unfolding committed
-  Ending-commit off =
-      let v = Moved-commit b m r.k r.moved free r.on few in
+  Flushing-from : (b m : Timed) (p : PendingClaim) (rest : List PendingClaim) (d : Diff) → m.pending ≡ p ∷ rest → nat_le (p.cycle + depth) m.cycles ≡ true → first_difference p.claim (record_of m.arch) ≡ Some d → Still rule b m → Flushing rule b (flushed m (Differs d))
+  unfolding flushed
+  Flushing-from b m p rest d e ready differs r =
       record {
         k = r.k;
-        moved = record { config = v.config; cycles = v.cycles; idle = v.idle; counted = v.counted; stepped = v.stepped; owed = v.owed; few = v.few };
-        log = record { rows = r.log.rows; newest = r.log.newest; flushes = r.log.flushes; silent = r.log.silent };
+        moved = record { config = r.moved.config; cycles = r.moved.cycles; idle = r.moved.idle; counted = r.moved.counted; stepped = r.moved.stepped; owes = r.moved.owes; passed = r.moved.passed; owed = r.moved.owed; few = r.moved.few };
+        p = p;
         rest = rest;
-        claims = claims-commit b m p rest e ready same r;
-        solo = r.solo;
-        pending = past-off m off;
-        went = ap goes_on (sym r.moved.stepped) ∙ r.on;
-        off = off;
+        d = d;
+        log = record {
+          rows = rw (r.log.rows, r.moved.cycles) refl;
+          newest = rw r.moved.cycles refl;
+          flushes = rw r.log.flushes refl;
+          silent = rw r.log.silent refl;
+        };
+        first = differs;
+        ready = rw r.moved.cycles at (leb-true _ _ ready);
+        claims = rw e at r.claims;
+        solo = ap Some r.moved.cycles;
+        pending = refl;
+        on = r.on;
       }
 
-judges : (b : Timed) → Judges (Judging b) (Outcome b)
-unfolding Still-commit
-judges b =
-    record {
-      stop = λ n m r. still r.now;
-      flush = λ n m p rest d e ready differs r. flushing (Flushing-from b m p rest d e ready differs r.now);
-      commit = λ n m p rest e ready same free r.
-          let few : suc r.now.k ≤ b.config.width = (let f = r.few in omega arith) in
-          (λ on. record { now = Still-commit b m p rest e ready same free r.now few on; few = (let f = r.few in omega arith) }, λ off. ending (Ending-commit b m p rest e ready same free r.now few off));
-    }
+  claims-commit : (b m : Timed) (p : PendingClaim) (rest : List PendingClaim) → m.pending ≡ p ∷ rest → nat_le (p.cycle + depth) m.cycles ≡ true → first_difference p.claim (record_of m.arch) ≡ None → (r : Still rule b m) → Commits (suc r.k) b.arch b.cycles b.pending rest
+  claims-commit b m p rest e ready same r =
+      Commits-more r.k b.arch b.cycles b.pending p rest
+      (rw e at r.claims)
+      (difference-none p.claim (record_of m.arch) same ∙ ap record_of r.moved.stepped)
+      (rw r.moved.cycles at (leb-true _ _ ready))
 
--- what judging leads to
-pub judged-outcome : (b : Timed) → b.solo ≡ None → goes_on b.arch ≡ true → b.owed ≤ b.config.stores → Outcome b (judged b.config.width b)
-unfolding Still-start
-judged-outcome b none on owed = Judges-judged (Judging b) (Outcome b) (judges b) b.config.width b (record { now = Still-start b none on owed; few = omega arith })
+  -- the front claim commits, and the machine goes on or has ended
+  module _ (b m : Timed) (p : PendingClaim) (rest : List PendingClaim) (e : m.pending ≡ p ∷ rest) (ready : nat_le (p.cycle + depth) m.cycles ≡ true)
+      (same : first_difference p.claim (record_of m.arch) ≡ None) (free : rule m.config.stores m.owed (record_of m.arch) ≡ false)
+      (r : Still rule b m) (few : suc r.k ≤ b.config.width) where
+    Still-commit : goes_on (past_front m).arch ≡ true → Still rule b (past_front m)
+    unfolding committed
+    Still-commit on =
+        record {
+          k = suc r.k;
+          moved = Moved-commit b m r.k r.moved free r.on few;
+          log = record { rows = r.log.rows; newest = r.log.newest; flushes = r.log.flushes; silent = r.log.silent };
+          solo = r.solo;
+          claims = subst (Commits (suc r.k) b.arch b.cycles b.pending) (sym (past-on m p rest e on)) (claims-commit b m p rest e ready same r);
+          on = on;
+        }
 
-counts : (c : ℕ) → Judges (λ n x. c < x.count) (λ x. c < x.count)
-unfolding committed flushed
-counts c = record { stop = λ n m r. r; flush = λ n m p rest d e ready differs r. r; commit = λ n m p rest e ready same free r. (λ on. omega arith, λ off. omega arith) }
+    Ending-commit : goes_on (past_front m).arch ≡ false → Ending rule b (past_front m)
+    unfolding committed
+    Ending-commit off =
+        let v = Moved-commit b m r.k r.moved free r.on few in
+        record {
+          k = r.k;
+          moved = record { config = v.config; cycles = v.cycles; idle = v.idle; counted = v.counted; stepped = v.stepped; owes = v.owes; passed = v.passed; owed = v.owed; few = v.few };
+          log = record { rows = r.log.rows; newest = r.log.newest; flushes = r.log.flushes; silent = r.log.silent };
+          rest = rest;
+          claims = claims-commit b m p rest e ready same r;
+          solo = r.solo;
+          pending = past-off m off;
+          went = ap goes_on (sym r.moved.stepped) ∙ r.on;
+          off = off;
+        }
 
--- what commits is counted
-past-counts : (n : ℕ) (m : Timed) → m.count < (judged n (past_front m)).count
-unfolding committed
-past-counts n m = Judges-judged (λ n x. m.count < x.count) (λ x. m.count < x.count) (counts m.count) n (past_front m) (omega arith)
+  judges : (b : Timed) → Judges rule (Judging rule b) (Outcome rule b)
+  unfolding Still-commit
+  judges b =
+      record {
+        stop = λ n m r. still r.now;
+        flush = λ n m p rest d e ready differs r. flushing (Flushing-from b m p rest d e ready differs r.now);
+        commit = λ n m p rest e ready same free r.
+            let few : suc r.now.k ≤ b.config.width = (let f = r.few in omega arith) in
+            (λ on. record { now = Still-commit b m p rest e ready same free r.now few on; few = (let f = r.few in omega arith) }, λ off. ending (Ending-commit b m p rest e ready same free r.now few off));
+      }
 
--- a ready front claim is judged, where a store is not held up
-by_difference-judged :
-    (n : ℕ) (m : Timed) (o : Option Diff)
-    → m.owed < m.config.stores
-    → (let next = by_judgement m (judged n (past_front m)) (by_difference m o) in (m.count < next.count) ⊎ (m.flushes < next.flushes))
-unfolding flushed
-by_difference-judged n m (Some d) free = inr (omega arith)
-by_difference-judged n m None free =
-    let open_ : (puts_store (record_of m.arch) && (m.owed == m.config.stores)) ≡ false = and_right (puts_store (record_of m.arch)) _ (ne_eqb m.owed m.config.stores (λ e. omega arith)) in
-    rw open_ (inl (past-counts n m))
-
-pub front-judged :
-    (n : ℕ) (m : Timed) (p : PendingClaim) (rest : List PendingClaim)
-    → m.pending ≡ p ∷ rest
-    → nat_le (p.cycle + depth) m.cycles ≡ true
-    → m.owed < m.config.stores
-    → (m.count < (judged (suc n) m).count) ⊎ (m.flushes < (judged (suc n) m).flushes)
-front-judged n m p rest e ready free =
-    let is : judgement_of m ≡ by_difference m (first_difference p.claim (record_of m.arch)) = ap (by_front m) e ∙ rw ready refl in
-    rw is (by_difference-judged n m (first_difference p.claim (record_of m.arch)) free)
+  -- what judging leads to
+  pub judged-outcome : (b : Timed) → b.solo ≡ None → goes_on b.arch ≡ true → b.owed ≤ b.config.stores → Outcome rule b (judged_under rule b.config.width b)
+  unfolding Still-start
+  judged-outcome b none on owed = Judges-judged rule (Judging rule b) (Outcome rule b) (judges b) b.config.width b (record { now = Still-start b none on owed; few = omega arith })

@@ -1,5 +1,5 @@
 -- What holds of a machine holds of it after a cycle.
-use Rattle.std.proofs.Common.{◌≡◌, ◌≢◌, ℕ, zero, suc, ◌+◌, ◌-◌, ◌*◌, ◌≤◌, ◌&&◌, true, List, [], ◌∷◌, ◌++◌, map, take, length, Some, None, ap, sym, arith, ◌⊎◌, inl, inr, subst, length-append, length-take}
+use Rattle.std.proofs.Common.{◌≡◌, ◌≢◌, ℕ, zero, suc, ◌+◌, ◌-◌, ◌*◌, ◌/◌, ◌≤◌, ◌&&◌, true, List, [], ◌∷◌, ◌++◌, map, take, length, Some, None, ap, sym, arith, ◌⊎◌, inl, inr, subst, length-append, length-take}
 use Rattle.std.proofs.lemmas.List.{length-map}
 use Rattle.std.specs.Prelude.{nat_lt, is_none}
 use Rattle.std.proofs.lemmas.Bool.{cond_both, ltb-true}
@@ -8,14 +8,16 @@ use Rattle.diva_isa.specs.declared.record.Record.{Record}
 use Rattle.diva_isa.specs.Step.{step}
 use Rattle.diva_core.specs.declared.flushes.FlushRow.{FlushRow}
 use Rattle.diva_core.specs.Timed.{Timed, PendingClaim, room_of, depth, rows_kept}
-use Rattle.diva_core.specs.Cycle.{cycle_of, kept, accepted_in, is_silent}
+use Rattle.diva_core.specs.Cycle.{Rule, accepted_in, cycle_of, cycle_under, drained, is_silent, kept}
 use Rattle.diva_core.proofs.Phases.{number-least}
 use Rattle.diva_core.specs.Machine.{IsMachine, Lives, IsSolo, ArePast}
 use Rattle.diva_core.specs.Headline.{SameLog, AddsRow}
 use Rattle.diva_core.proofs.Commits.{Commits}
 use Rattle.diva_core.proofs.Cycling.{Cycled, Base, idled, ran, barks, differed, ended, finished, waited, taken}
 use Rattle.diva_core.proofs.Going.{counted-cases}
-use Rattle.diva_core.proofs.Outcomes.{any-base, by-cases, log-cases}
+use Rattle.diva_core.proofs.Opening.{owed_since}
+use Rattle.diva_core.proofs.Outcomes.{any-base, by_cases_under, log-cases}
+use Rattle.diva_core.proofs.Passing.{AlonePasses, Keeps, alone_stores, stores_keep}
 use Rattle.diva_core.proofs.Stalling.{Paces, paces, stall-cases}
 
 pub ArePast-later : (c d : ℕ) (xs : List PendingClaim) → c ≤ d → ArePast c xs → ArePast d xs
@@ -62,109 +64,124 @@ silent-fits : (b n : Timed) → b.silent ≤ b.flushes → SameLog b n ⊎ AddsR
 silent-fits b n h (inl s) = let f = s.flushes in let x = s.silent in omega arith
 silent-fits b n h (inr a) = let f = a.is.has.flushes in let x = a.is.has.silent in let one = number-least (is_silent a.row.cause) in omega arith
 
-count-fits : (b n : Timed) (k : ℕ) → b.count ≤ b.config.width * b.cycles → Base b n k → n.count ≤ n.config.width * n.cycles
-count-fits b n k h v = rw (v.config, v.cycles, v.counted) (let f = v.few in omega arith)
+module _ {rule : Rule} where
+  count-fits : (b n : Timed) (k : ℕ) → b.count ≤ b.config.width * b.cycles → Base rule b n k → n.count ≤ n.config.width * n.cycles
+  count-fits b n k h v = rw (v.config, v.cycles, v.counted) (let f = v.few in omega arith)
 
-IsMachine-from :
-    (b n : Timed) (k : ℕ)
-    → IsMachine b
-    → Base b n k
-    → SameLog b n ⊎ AddsRow b n
-    → Lives n n.solo
-    → ArePast n.cycles n.pending
-    → length n.pending ≤ n.config.window
-    → Paces n
-    → n.arch.instret ≡ n.count
-    → IsMachine n
-IsMachine-from b n k inv v log lives past window pace counted =
-    record {
-      config = rw v.config inv.config;
-      counted = counted;
-      lives = lives;
-      owed = rw v.config v.owed;
-      rows = rows-fit b n inv.rows log;
-      past = past;
-      window = window;
-      flushes = flushes-fit b n inv.flushes v.cycles log;
-      silent = silent-fits b n inv.silent log;
-      count = count-fits b n k inv.count v;
-      pace = pace;
-    }
+  IsMachine-from :
+      (b n : Timed) (k : ℕ)
+      → IsMachine b
+      → Base rule b n k
+      → SameLog b n ⊎ AddsRow b n
+      → Lives n n.solo
+      → ArePast n.cycles n.pending
+      → length n.pending ≤ n.config.window
+      → Paces n
+      → n.arch.instret ≡ n.count
+      → IsMachine n
+  IsMachine-from b n k inv v log lives past window pace counted =
+      record {
+        config = rw v.config inv.config;
+        counted = counted;
+        lives = lives;
+        owed = rw v.config v.owed;
+        rows = rows-fit b n inv.rows log;
+        past = past;
+        window = window;
+        flushes = flushes-fit b n inv.flushes v.cycles log;
+        silent = silent-fits b n inv.silent log;
+        count = count-fits b n k inv.count v;
+        pace = pace;
+      }
 
--- a machine in which nothing waits
-IsMachine-empty : (b n : Timed) (k : ℕ) → IsMachine b → Base b n k → SameLog b n ⊎ AddsRow b n → Lives n n.solo → n.pending ≡ [] → Paces n → n.arch.instret ≡ n.count → IsMachine n
-IsMachine-empty b n k inv v log lives e pace counted = IsMachine-from b n k inv v log lives (subst (ArePast n.cycles) (sym e) tt) (rw e (omega arith)) pace counted
+  -- a machine in which nothing waits
+  IsMachine-empty : (b n : Timed) (k : ℕ) → IsMachine b → Base rule b n k → SameLog b n ⊎ AddsRow b n → Lives n n.solo → n.pending ≡ [] → Paces n → n.arch.instret ≡ n.count → IsMachine n
+  IsMachine-empty b n k inv v log lives e pace counted = IsMachine-from b n k inv v log lives (subst (ArePast n.cycles) (sym e) tt) (rw e (omega arith)) pace counted
 
-limit-is : (b n : Timed) (k : ℕ) → Base b n k → n.config.limit ≡ b.config.limit
-limit-is b n k v = ap (λ z. z.limit) v.config
+  limit-is : (b n : Timed) (k : ℕ) → Base rule b n k → n.config.limit ≡ b.config.limit
+  limit-is b n k v = ap (λ z. z.limit) v.config
 
--- a machine that goes on with the rest and what was accepted
-IsMachine-more :
-    (b n : Timed) (k : ℕ) (list : List Record) (rest : List PendingClaim)
-    → IsMachine b
-    → Base b n k
-    → SameLog b n
-    → Lives n n.solo
-    → n.pending ≡ rest ++ taken b list
-    → ArePast b.cycles rest
-    → length rest ≤ length b.pending
-    → Paces n
-    → n.arch.instret ≡ n.count
-    → IsMachine n
-IsMachine-more b n k list rest inv v log lives e past short pace counted =
-    IsMachine-from b n k inv v (inl log) lives
-    (rw (e, v.cycles) (ArePast-append (b.cycles + 1) rest (taken b list) (ArePast-later b.cycles (b.cycles + 1) rest (omega arith) past) (ArePast-taken (b.cycles + 1) (take (room_of b) list))))
-    (rw (e, length-append, v.config) (let t = taken-fits b list in let w = inv.window in omega arith))
-    pace counted
+  -- a machine that goes on with the rest and what was accepted
+  IsMachine-more :
+      (b n : Timed) (k : ℕ) (list : List Record) (rest : List PendingClaim)
+      → IsMachine b
+      → Base rule b n k
+      → SameLog b n
+      → Lives n n.solo
+      → n.pending ≡ rest ++ taken b list
+      → ArePast b.cycles rest
+      → length rest ≤ length b.pending
+      → Paces n
+      → n.arch.instret ≡ n.count
+      → IsMachine n
+  IsMachine-more b n k list rest inv v log lives e past short pace counted =
+      IsMachine-from b n k inv v (inl log) lives
+      (rw (e, v.cycles) (ArePast-append (b.cycles + 1) rest (taken b list) (ArePast-later b.cycles (b.cycles + 1) rest (omega arith) past) (ArePast-taken (b.cycles + 1) (take (room_of b) list))))
+      (rw (e, length-append, v.config) (let t = taken-fits b list in let w = inv.window in omega arith))
+      pace counted
 
-lives-none : (b n : Timed) (k : ℕ) → Base b n k → n.solo ≡ None → n.idle + 1 ≤ b.config.limit → Lives n n.solo
-lives-none b n k v none h = subst (Lives n) (sym none) (rw (limit-is b n k v) h)
+  lives-none : (b n : Timed) (k : ℕ) → Base rule b n k → n.solo ≡ None → n.idle + 1 ≤ b.config.limit → Lives n n.solo
+  lives-none b n k v none h = subst (Lives n) (sym none) (rw (limit-is b n k v) h)
 
-lives-flushed : (b n : Timed) (k : ℕ) → Base b n k → n.solo ≡ Some (b.cycles + 1) → n.pending ≡ [] → n.idle ≤ b.config.limit → Lives n n.solo
-lives-flushed b n k v some e h =
-    let c = v.cycles in
-    let l = limit-is b n k v in
-    subst (Lives n) (sym some) (record { empty = e; started = omega arith; soon = omega arith; idled = omega arith })
+  lives-flushed : (b n : Timed) (k : ℕ) → Base rule b n k → n.solo ≡ Some (b.cycles + 1) → n.pending ≡ [] → n.idle ≤ b.config.limit → Lives n n.solo
+  lives-flushed b n k v some e h =
+      let c = v.cycles in
+      let l = limit-is b n k v in
+      let p : n.config.port ≡ b.config.port = ap (λ z. z.port) v.config in
+      let o : n.owed ≤ n.config.stores = rw v.config v.owed in
+      let none : n.cycles / n.config.port - (b.cycles + 1) / n.config.port ≡ 0 = rw c (omega arith) in
+      subst (Lives n) (sym some) (record { empty = e; started = omega arith; soon = omega arith; idled = omega arith; drained = rw none (omega (arith, o)) })
 
-machine-cases : (b : Timed) (list : List Record) (n : Timed) → IsMachine b → Cycled b list n → Paces n → n.arch.instret ≡ n.count → IsMachine n
-machine-cases b list n inv (idled r) pace counted =
-    IsMachine-more b n 0 list b.pending inv r.base r.log (lives-none b n 0 r.base r.solo (let e = r.early in omega arith)) r.pending inv.past (omega arith) pace counted
-machine-cases b list n inv (ran r) pace counted =
-    let low = inv.config.limit_low in
-    let i = r.idle in
-    IsMachine-more b n (suc r.k) list r.rest inv r.base r.log (lives-none b n (suc r.k) r.base r.solo (omega arith)) r.pending
-    (ArePast-commits (suc r.k) b.arch (b.cycles + 1) b.cycles b.pending r.rest r.claims inv.past)
-    (let l = length-commits (suc r.k) b.arch (b.cycles + 1) b.pending r.rest r.claims in omega arith)
-    pace counted
-machine-cases b list n inv (barks r) pace counted =
-    let lives : b.idle + 1 ≤ b.config.limit = subst (Lives b) r.was inv.lives in
-    let i = r.idle in
-    IsMachine-empty b n 0 inv r.base (log-cases b list n inv (barks r)) (lives-flushed b n 0 r.base r.solo r.pending (omega arith)) r.pending pace counted
-machine-cases b list n inv (differed r) pace counted =
-    let lives : b.idle + 1 ≤ b.config.limit = subst (Lives b) r.was inv.lives in
-    let i = r.idle in
-    IsMachine-empty b n r.k inv r.base (log-cases b list n inv (differed r)) (lives-flushed b n r.k r.base r.solo r.pending (omega arith)) r.pending pace counted
-machine-cases b list n inv (ended r) pace counted =
-    let low = inv.config.limit_low in
-    let i = r.idle in
-    IsMachine-empty b n (suc r.k) inv r.base (inl r.log) (lives-none b n (suc r.k) r.base r.solo (omega arith)) r.pending pace counted
-machine-cases b list n inv (finished r) pace counted =
-    let low = inv.config.limit_low in
-    let i = r.idle in
-    IsMachine-empty b n 1 inv r.base (inl r.log) (lives-none b n 1 r.base r.solo (omega arith)) r.pending pace counted
-machine-cases b list n inv (waited r) pace counted =
-    let a : IsSolo b r.start = subst (Lives b) r.since inv.lives in
-    let c = r.base.cycles in
-    let l = limit-is b n 0 r.base in
-    let i = r.idle in
-    let started = a.started in
-    let soon = a.soon in
-    let was = a.idled in
-    let early : b.cycles + 1 ≢ r.start + depth = r.early in
-    IsMachine-empty b n 0 inv r.base (inl r.log) (subst (Lives n) (sym r.solo) (record { empty = r.pending; started = omega arith; soon = omega arith; idled = omega arith })) r.pending pace counted
+  -- what is owed while an instruction runs solo
+  drains : (b n : Timed) (start : ℕ) → IsMachine b → Base rule b n 0 → b.owed ≤ b.config.stores - (b.cycles / b.config.port - start / b.config.port) → n.owed ≤ n.config.stores - (n.cycles / n.config.port - start / n.config.port)
+  unfolding drained
+  drains b n start inv v h = rw (v.owes, v.config, v.cycles) (owed_since b.config.port b.cycles start b.owed b.config.stores inv.config.port_low inv.config.port_high h)
 
-paces-cases : (b : Timed) (list : List Record) (n : Timed) → IsMachine b → goes_on b.arch ≡ true → Cycled b list n → Paces n
-paces-cases b list n inv on c = paces b n (any-base b list n c).k inv (any-base b list n c).base (stall-cases b list n inv on c)
+  machine-cases : (b : Timed) (list : List Record) (n : Timed) → IsMachine b → Cycled rule b list n → Paces n → n.arch.instret ≡ n.count → IsMachine n
+  machine-cases b list n inv (idled r) pace counted =
+      IsMachine-more b n 0 list b.pending inv r.base r.log (lives-none b n 0 r.base r.solo (let e = r.early in omega arith)) r.pending inv.past (omega arith) pace counted
+  machine-cases b list n inv (ran r) pace counted =
+      let low = inv.config.limit_low in
+      let i = r.idle in
+      IsMachine-more b n (suc r.k) list r.rest inv r.base r.log (lives-none b n (suc r.k) r.base r.solo (omega arith)) r.pending
+      (ArePast-commits (suc r.k) b.arch (b.cycles + 1) b.cycles b.pending r.rest r.claims inv.past)
+      (let l = length-commits (suc r.k) b.arch (b.cycles + 1) b.pending r.rest r.claims in omega arith)
+      pace counted
+  machine-cases b list n inv (barks r) pace counted =
+      let lives : b.idle + 1 ≤ b.config.limit = subst (Lives b) r.was inv.lives in
+      let i = r.idle in
+      IsMachine-empty b n 0 inv r.base (log-cases b list n inv (barks r)) (lives-flushed b n 0 r.base r.solo r.pending (omega arith)) r.pending pace counted
+  machine-cases b list n inv (differed r) pace counted =
+      let lives : b.idle + 1 ≤ b.config.limit = subst (Lives b) r.was inv.lives in
+      let i = r.idle in
+      IsMachine-empty b n r.k inv r.base (log-cases b list n inv (differed r)) (lives-flushed b n r.k r.base r.solo r.pending (omega arith)) r.pending pace counted
+  machine-cases b list n inv (ended r) pace counted =
+      let low = inv.config.limit_low in
+      let i = r.idle in
+      IsMachine-empty b n (suc r.k) inv r.base (inl r.log) (lives-none b n (suc r.k) r.base r.solo (omega arith)) r.pending pace counted
+  machine-cases b list n inv (finished r) pace counted =
+      let low = inv.config.limit_low in
+      let i = r.idle in
+      IsMachine-empty b n 1 inv r.base (inl r.log) (lives-none b n 1 r.base r.solo (omega arith)) r.pending pace counted
+  machine-cases b list n inv (waited r) pace counted =
+      let a : IsSolo b r.start = subst (Lives b) r.since inv.lives in
+      let c = r.base.cycles in
+      let l = limit-is b n 0 r.base in
+      let i = r.idle in
+      let started = a.started in
+      let soon = a.soon in
+      let was = a.idled in
+      let early : b.cycles + 1 ≢ r.start + depth = r.early in
+      IsMachine-empty b n 0 inv r.base (inl r.log)
+      (subst (Lives n) (sym r.solo) (record { empty = r.pending; started = omega arith; soon = omega arith; idled = omega arith; drained = drains b n r.start inv r.base a.drained }))
+      r.pending pace counted
+
+  paces-cases : (b : Timed) (list : List Record) (n : Timed) → IsMachine b → goes_on b.arch ≡ true → Cycled rule b list n → Paces n
+  paces-cases b list n inv on c = paces b n (any-base b list n c).k inv (any-base b list n c).base (stall-cases b list n inv on c)
+
+pub stays_under : {rule : Rule} (keeps : Keeps rule) (m : Timed) (list : List Record) → IsMachine m → AlonePasses rule m → IsMachine (cycle_under rule m list)
+stays_under keeps m list inv passes =
+    by_cases_under keeps IsMachine m list inv passes (λ on c. machine-cases m list _ inv c (paces-cases m list _ inv on c) (counted-cases m list _ inv on c)) (λ off. inv)
 
 pub stays : (m : Timed) (list : List Record) → IsMachine m → IsMachine (cycle_of m list)
-stays m list inv = by-cases IsMachine m list inv (λ on c. machine-cases m list _ inv c (paces-cases m list _ inv on c) (counted-cases m list _ inv on c)) (λ off. inv)
+stays m list inv = stays_under stores_keep m list inv (alone_stores m inv)

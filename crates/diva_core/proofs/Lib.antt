@@ -16,8 +16,11 @@ pub mod Keeping
 pub mod Laying
 pub mod Leaving
 pub mod Listing
+pub mod Opened
+pub mod Opening
 pub mod Outcomes
 pub mod Pacing
+pub mod Passing
 pub mod Phases
 pub mod Progressing
 pub mod Reaching

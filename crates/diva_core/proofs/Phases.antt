@@ -6,60 +6,85 @@ use Rattle.diva_isa.specs.Step.{record_of}
 use Rattle.diva_core.specs.declared.flushes.Cause.TheVariants.{Silent}
 use Rattle.diva_isa.specs.State.{goes_on}
 use Rattle.diva_core.specs.Timed.{Timed, depth}
-use Rattle.diva_core.specs.Cycle.{committed, flushed, puts_store, number, commits, by_solo, barked}
+use Rattle.diva_core.specs.Cycle.{Rule, barked, by_solo, committed, commits_under, flushed, number, puts_store}
 use Rattle.diva_core.specs.Headline.{SameLog}
 use Rattle.diva_core.proofs.Steps.{step-on}
-use Rattle.diva_core.proofs.Judging.{Moved, Outcome, judged-outcome}
-
--- the instruction that ran solo commits
-pub record Alone (b m : Timed) : Type 0 where
-  pub start : ℕ
-  pub since : b.solo ≡ Some start
-  pub sixth : b.cycles ≡ start + depth
-  pub moved : Moved b m 1
-  pub log : SameLog b m
-  pub solo : m.solo ≡ None
-  pub pending : m.pending ≡ b.pending
-
--- it runs on
-pub record Waits (b m : Timed) : Type 0 where
-  pub start : ℕ
-  pub since : b.solo ≡ Some start
-  pub early : b.cycles ≡ start + depth → ⊥
-  pub same : m ≡ b
-
-pub data Second (b m : Timed) : Type 0 where
-  judging : b.solo ≡ None → Outcome b m → Second b m
-  alone : Alone b m → Second b m
-  waits : Waits b m → Second b m
+use Rattle.diva_core.proofs.Judging.{Moved, Outcome, judged-outcome, owed-fits}
+use Rattle.diva_core.proofs.Passing.{Keeps}
 
 pub number-least : (b : Bool) → number b ≤ 1
 number-least true = omega arith
 number-least false = omega arith
 
-Alone-commit : (b : Timed) (start : ℕ) → b.solo ≡ Some start → b.cycles ≡ start + depth → goes_on b.arch ≡ true → b.owed < b.config.stores → 1 ≤ b.config.width → Alone b (committed (record b { solo = None }) (record_of b.arch))
-unfolding committed
-Alone-commit b start since sixth on free few =
-    record {
-      start = start;
-      since = since;
-      sixth = sixth;
-      moved = record { config = refl; cycles = refl; idle = refl; counted = refl; stepped = sym (step-on b.arch); owed = omega (arith, number-least (puts_store (record_of b.arch))); few = few };
-      log = record { rows = refl; newest = refl; flushes = refl; silent = refl };
-      solo = refl;
-      pending = refl;
-    }
+module _ (rule : Rule) where
+  -- the instruction that ran solo commits
+  pub record Alone (b m : Timed) : Type 0 where
+    pub start : ℕ
+    pub since : b.solo ≡ Some start
+    pub sixth : b.cycles ≡ start + depth
+    pub moved : Moved rule b m 1
+    pub log : SameLog b m
+    pub solo : m.solo ≡ None
+    pub pending : m.pending ≡ b.pending
 
-by_solo-second : (b : Timed) (o : Option ℕ) → b.solo ≡ o → goes_on b.arch ≡ true → b.owed < b.config.stores → 1 ≤ b.config.width → Second b (by_solo b o)
-by_solo-second b None e on free few = judging e (judged-outcome b e on (omega arith))
-by_solo-second b (Some start) e on free few =
-    cond_both (b.cycles == start + depth) _ _ (Second b)
-    (λ t. alone (Alone-commit b start e (eqb-true _ _ t) on free few))
-    (λ f. waits (record { start = start; since = e; early = eqb-false _ _ f; same = refl }))
+  -- it runs on
+  pub record Waits (b m : Timed) : Type 0 where
+    pub start : ℕ
+    pub since : b.solo ≡ Some start
+    pub early : b.cycles ≡ start + depth → ⊥
+    pub same : m ≡ b
 
-pub second : (b : Timed) → goes_on b.arch ≡ true → b.owed < b.config.stores → 1 ≤ b.config.width → Second b (commits b)
-unfolding commits
-second b on free few = by_solo-second b b.solo refl on free few
+  pub data Second (b m : Timed) : Type 0 where
+    judging : b.solo ≡ None → Outcome rule b m → Second b m
+    alone : Alone b m → Second b m
+    waits : Waits b m → Second b m
+
+module _ {rule : Rule} (keeps : Keeps rule) where
+  Alone-commit :
+      (b : Timed) (start : ℕ)
+      → b.solo ≡ Some start
+      → b.cycles ≡ start + depth
+      → goes_on b.arch ≡ true
+      → b.owed ≤ b.config.stores
+      → 1 ≤ b.config.width
+      → rule b.config.stores b.owed (record_of b.arch) ≡ false
+      → Alone rule b (committed (record b { solo = None }) (record_of b.arch))
+  unfolding committed
+  Alone-commit b start since sixth on owed few passes =
+      record {
+        start = start;
+        since = since;
+        sixth = sixth;
+        moved = record {
+          config = refl;
+          cycles = refl;
+          idle = refl;
+          counted = refl;
+          stepped = sym (step-on b.arch);
+          owes = refl;
+          passed = (on, passes, tt);
+          owed = owed-fits (puts_store (record_of b.arch)) b.owed b.config.stores (keeps.room b.config.stores b.owed (record_of b.arch) passes) owed;
+          few = few;
+        };
+        log = record { rows = refl; newest = refl; flushes = refl; silent = refl };
+        solo = refl;
+        pending = refl;
+      }
+
+  -- where a solo instruction commits in this cycle, it passes the rule
+  abbrev Passes : Timed → Type 0
+  Passes b = (start : ℕ) → b.solo ≡ Some start → b.cycles ≡ start + depth → rule b.config.stores b.owed (record_of b.arch) ≡ false
+
+  by_solo-second : (b : Timed) (o : Option ℕ) → b.solo ≡ o → Passes b → goes_on b.arch ≡ true → b.owed ≤ b.config.stores → 1 ≤ b.config.width → Second rule b (by_solo rule b o)
+  by_solo-second b None e passes on owed few = judging e (judged-outcome keeps b e on owed)
+  by_solo-second b (Some start) e passes on owed few =
+      cond_both (b.cycles == start + depth) _ _ (Second rule b)
+      (λ t. alone (Alone-commit b start e (eqb-true _ _ t) on owed few (passes start e (eqb-true _ _ t))))
+      (λ f. waits (record { start = start; since = e; early = eqb-false _ _ f; same = refl }))
+
+  pub second : (b : Timed) → Passes b → goes_on b.arch ≡ true → b.owed ≤ b.config.stores → 1 ≤ b.config.width → Second rule b (commits_under rule b)
+  unfolding commits_under
+  second b passes on owed few = by_solo-second b b.solo refl passes on owed few
 
 -- the watchdog is silent, or it fires
 pub record Quiet (m n : Timed) : Type 0 where

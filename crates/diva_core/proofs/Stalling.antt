@@ -4,9 +4,10 @@ use Rattle.std.proofs.Math.Nat.{mul-le-mul_right}
 use Rattle.diva_isa.specs.declared.record.Record.{Record}
 use Rattle.diva_isa.specs.State.{goes_on}
 use Rattle.diva_core.specs.Timed.{Timed, depth}
-use Rattle.diva_core.specs.Cycle.{cycle_of}
+use Rattle.diva_core.specs.Cycle.{Rule, cycle_of, cycle_under}
 use Rattle.diva_core.specs.Machine.{IsMachine, Lives, IsSolo, stalled, stalled_since}
-use Rattle.diva_core.proofs.Cycling.{Cycled, cycled, Base, idled, ran, barks, differed, ended, finished, waited}
+use Rattle.diva_core.proofs.Passing.{AlonePasses, Keeps, alone_stores, stores_keep}
+use Rattle.diva_core.proofs.Cycling.{Cycled, cycled_under, Base, idled, ran, barks, differed, ended, finished, waited}
 
 stalled-none : (m : Timed) → m.solo ≡ None → stalled m ≡ m.idle
 stalled-none m e = ap (stalled_since m) e
@@ -24,7 +25,7 @@ pub record Stalls (b n : Timed) : Type 0 where
   pub on : goes_on n.arch ≡ true
   pub longer : stalled b < stalled n
 
-Stalls-base : (b n : Timed) → goes_on b.arch ≡ true → Base b n 0 → stalled b < stalled n → Stalls b n
+Stalls-base : {rule : Rule} (b n : Timed) → goes_on b.arch ≡ true → Base rule b n 0 → stalled b < stalled n → Stalls b n
 Stalls-base b n on v h = record { same = (let c = v.counted in omega arith); on = ap goes_on v.stepped ∙ on; longer = h }
 
 flushed-longer : (b n : Timed) → IsMachine b → n.config ≡ b.config → b.solo ≡ None → n.solo ≡ Some (b.cycles + 1) → stalled b < stalled n
@@ -33,11 +34,11 @@ flushed-longer b n inv z was some =
     let l : n.config.limit ≡ b.config.limit = ap (λ x. x.limit) z in
     rw (stalled-none b was, stalled-some n (b.cycles + 1) some) (omega arith)
 
-differed-stalls : (b n : Timed) (k : ℕ) → IsMachine b → goes_on b.arch ≡ true → Base b n k → b.solo ≡ None → n.solo ≡ Some (b.cycles + 1) → (b.count < n.count) ⊎ Stalls b n
+differed-stalls : {rule : Rule} (b n : Timed) (k : ℕ) → IsMachine b → goes_on b.arch ≡ true → Base rule b n k → b.solo ≡ None → n.solo ≡ Some (b.cycles + 1) → (b.count < n.count) ⊎ Stalls b n
 differed-stalls b n zero inv on v was some = inr (Stalls-base b n on v (flushed-longer b n inv v.config was some))
 differed-stalls b n (suc k) inv on v was some = inl (let c = v.counted in omega arith)
 
-pub stall-cases : (b : Timed) (list : List Record) (n : Timed) → IsMachine b → goes_on b.arch ≡ true → Cycled b list n → (b.count < n.count) ⊎ Stalls b n
+pub stall-cases : {rule : Rule} (b : Timed) (list : List Record) (n : Timed) → IsMachine b → goes_on b.arch ≡ true → Cycled rule b list n → (b.count < n.count) ⊎ Stalls b n
 stall-cases b list n inv on (idled r) = inr (Stalls-base b n on r.base (rw (stalled-none b r.was, stalled-none n r.solo) (let i = r.idle in omega arith)))
 stall-cases b list n inv on (ran r) = inl (let c = r.base.counted in omega arith)
 stall-cases b list n inv on (barks r) = inr (Stalls-base b n on r.base (flushed-longer b n inv r.base.config r.was r.solo))
@@ -51,8 +52,12 @@ stall-cases b list n inv on (waited r) =
     let l : n.config.limit ≡ b.config.limit = ap (λ x. x.limit) r.base.config in
     inr (Stalls-base b n on r.base (rw (stalled-some b r.start r.since, stalled-some n r.start r.solo) (omega arith)))
 
+pub stalls_under : {rule : Rule} (keeps : Keeps rule) (m : Timed) (list : List Record) → IsMachine m → AlonePasses rule m → goes_on m.arch ≡ true
+    → (m.count < (cycle_under rule m list).count) ⊎ Stalls m (cycle_under rule m list)
+stalls_under keeps m list inv passes on = stall-cases m list _ inv on (cycled_under keeps m list inv on passes)
+
 pub stalls : (m : Timed) (list : List Record) → IsMachine m → goes_on m.arch ≡ true → (m.count < (cycle_of m list).count) ⊎ Stalls m (cycle_of m list)
-stalls m list inv on = stall-cases m list _ inv on (cycled m list inv on)
+stalls m list inv = stalls_under stores_keep m list inv (alone_stores m inv)
 
 pub most : (m : Timed) → IsMachine m → stalled m < m.config.limit + depth
 most m inv = stalled-most m m.solo inv.lives inv.config.limit_low
@@ -75,6 +80,6 @@ pace_numbers cycles count limit stalled cycles' count' limit' stalled' l c n s h
 pace-stall : (b n : Timed) → n.config ≡ b.config → n.cycles ≡ b.cycles + 1 → Stalls b n → Paces b → Paces n
 pace-stall b n z c s h = pace_numbers b.cycles b.count b.config.limit (stalled b) n.cycles n.count n.config.limit (stalled n) (ap (λ x. x.limit) z) c s.same s.longer h
 
-pub paces : (b n : Timed) (k : ℕ) → IsMachine b → Base b n k → (b.count < n.count) ⊎ Stalls b n → Paces n
+pub paces : {rule : Rule} (b n : Timed) (k : ℕ) → IsMachine b → Base rule b n k → (b.count < n.count) ⊎ Stalls b n → Paces n
 paces b n k inv v (inl rise) = pace-rise b n inv v.config v.cycles rise inv.pace
 paces b n k inv v (inr s) = pace-stall b n v.config v.cycles s inv.pace

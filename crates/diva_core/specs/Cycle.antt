@@ -1,6 +1,6 @@
 -- One cycle of the timed machine, a definition for each phase. The cycle's number is raised first, so that each phase
 -- knows it.
-use Rattle.std.specs.Prelude.{ℕ, zero, suc, ◌+◌, ◌-◌, ◌==◌, List, [], ◌∷◌, ◌++◌, length, take, drop, map, Bool, true, false, ◌&&◌, Option, Some, None, is_none, nat_le, nat_lt, if◌then◌else◌}
+use Rattle.std.specs.Prelude.{ℕ, zero, suc, ◌+◌, ◌-◌, ◌%◌, ◌==◌, List, [], ◌∷◌, ◌++◌, length, take, drop, map, Bool, true, false, ◌&&◌, Option, Some, None, is_none, nat_le, nat_lt, if◌then◌else◌}
 use Rattle.diva_isa.specs.declared.effect.Effect.{Effect}
 use Rattle.diva_isa.specs.declared.effect.Effect.TheVariants.{Nothing, Writes, Stores, Puts}
 use Rattle.diva_isa.specs.declared.record.Record.{Record}
@@ -61,28 +61,41 @@ committed m r = record m { arch = apply m.arch r; count = m.count + 1; owed = m.
 abbrev pub begun : Timed → Timed
 begun m = record m { cycles = m.cycles + 1 }
 
--- phase 1, drain: the oldest undrained store goes to memory
-unfoldable pub drained : Timed → Timed
-drained m = record m { owed = m.owed - 1 }
+-- memory's port takes a store in each cycle whose number the port divides
+abbrev pub port_opens : Timed → Bool
+port_opens m = m.cycles % m.config.port == 0
 
--- phase 2, commit. What becomes of the front claim: it commits, or it flushes by its difference, or it waits
+-- phase 1, drain: where the port opens, the oldest undrained store goes to memory
+unfoldable pub drained : Timed → Timed
+drained m = record m { owed = if port_opens m then m.owed - 1 else m.owed }
+
+-- phase 2, commit. A rule says for what an equal claim waits: by the stores that may be owed, by those that are, and by its
+-- record
+abbrev pub Rule : Type 0
+Rule = (stores owed : ℕ) → Record → Bool
+
+-- the machine's rule: a store waits where all are owed
+abbrev pub stores_wait : Rule
+stores_wait stores owed r = puts_store r && (owed == stores)
+
+-- what becomes of the front claim: it commits, or it flushes by its difference, or it waits
 pub data Judgement : Type 0 where
   Commit : Judgement
   Flush : Diff → Judgement
   Wait : Judgement
 
--- a claim that differs flushes; an equal one commits, unless it is a store and all stores are owed
-abbrev pub by_difference : Timed → Option Diff → Judgement
-by_difference m (Some d) = Flush d
-by_difference m None = if puts_store (record_of m.arch) && (m.owed == m.config.stores) then Wait else Commit
+-- a claim that differs flushes; an equal one commits, unless it waits by the rule
+abbrev pub by_difference : Rule → Timed → Option Diff → Judgement
+by_difference rule m (Some d) = Flush d
+by_difference rule m None = if rule m.config.stores m.owed (record_of m.arch) then Wait else Commit
 
 -- the front claim is judged once it has passed through the checker's stages
-abbrev pub by_front : Timed → List PendingClaim → Judgement
-by_front m [] = Wait
-by_front m (p ∷ rest) = if nat_le (p.cycle + depth) m.cycles then by_difference m (first_difference p.claim (record_of m.arch)) else Wait
+abbrev pub by_front : Rule → Timed → List PendingClaim → Judgement
+by_front rule m [] = Wait
+by_front rule m (p ∷ rest) = if nat_le (p.cycle + depth) m.cycles then by_difference rule m (first_difference p.claim (record_of m.arch)) else Wait
 
-abbrev pub judgement_of : Timed → Judgement
-judgement_of m = by_front m m.pending
+abbrev pub judgement_under : Rule → Timed → Judgement
+judgement_under rule m = by_front rule m m.pending
 
 -- the front claim has committed; an end drops the others too
 abbrev pub past_front : Timed → Timed
@@ -97,17 +110,17 @@ by_judgement m further (Flush d) = flushed m (Differs d)
 by_judgement m further Wait = m
 
 -- at most n ready claims are judged, oldest first
-abbrev pub judged : ℕ → Timed → Timed
-judged zero m = m
-judged (suc n) m = by_judgement m (judged n (past_front m)) (judgement_of m)
+abbrev pub judged_under : Rule → ℕ → Timed → Timed
+judged_under rule zero m = m
+judged_under rule (suc n) m = by_judgement m (judged_under rule n (past_front m)) (judgement_under rule m)
 
 -- an instruction that runs solo commits once it has passed through the stages; else the claims are judged
-abbrev pub by_solo : Timed → Option ℕ → Timed
-by_solo m None = judged m.config.width m
-by_solo m (Some start) = if m.cycles == start + depth then committed (record m { solo = None }) (record_of m.arch) else m
+abbrev pub by_solo : Rule → Timed → Option ℕ → Timed
+by_solo rule m None = judged_under rule m.config.width m
+by_solo rule m (Some start) = if m.cycles == start + depth then committed (record m { solo = None }) (record_of m.arch) else m
 
-unfoldable pub commits : Timed → Timed
-commits m = by_solo m m.solo
+unfoldable pub commits_under : Rule → Timed → Timed
+commits_under rule m = by_solo rule m m.solo
 
 -- phase 3, advance, changes nothing that is seen here
 
@@ -133,9 +146,13 @@ barked m = if nat_le m.config.limit m.idle && is_none m.solo && goes_on m.arch t
 unfoldable pub watched : Timed → Timed → Timed
 watched before m = barked (counted before m)
 
--- the whole cycle; an ended machine stays
-unfoldable pub cycle_of : Timed → List Record → Timed
-cycle_of m list = if goes_on m.arch then watched m (accepts m list (commits (drained (begun m)))) else m
+-- the whole cycle under a rule; an ended machine stays
+unfoldable pub cycle_under : Rule → Timed → List Record → Timed
+cycle_under rule m list = if goes_on m.arch then watched m (accepts m list (commits_under rule (drained (begun m)))) else m
+
+-- the machine's cycle
+abbrev pub cycle_of : Timed → List Record → Timed
+cycle_of = cycle_under stores_wait
 
 -- the machine after these lists
 abbrev pub run_of : Timed → List (List Record) → Timed

@@ -1,5 +1,5 @@
 -- What a cycle, a turn and a run promise, whatever is handed over.
-use Rattle.std.specs.Prelude.{ℕ, zero, suc, ◌≡◌, ◌≢◌, ◌≤◌, ◌<◌, ◌+◌, ◌-◌, ◌*◌, ◌/◌, List, [], ◌∷◌, ◌++◌, ◌⊎◌, length, take, slice_get, count_by, Option, Some, Bool, true, false}
+use Rattle.std.specs.Prelude.{ℕ, zero, suc, ◌≡◌, ◌≢◌, ◌≤◌, ◌<◌, ◌+◌, ◌-◌, ◌*◌, ◌/◌, ◌%◌, List, [], ◌∷◌, ◌++◌, ◌⊎◌, length, take, slice_get, count_by, Option, Some, None, Bool, true, false}
 use Rattle.std.specs.List.{All}
 use Rattle.diva_isa.specs.State.{State, goes_on}
 use Rattle.diva_isa.specs.declared.record.Record.{Record}
@@ -10,7 +10,7 @@ use Rattle.diva_core.specs.declared.flushes.Cause.TheVariants.{Differs, Silent}
 use Rattle.diva_core.specs.declared.differences.Diff.{Diff}
 use Rattle.diva_core.specs.Difference.{field_of, first_difference}
 use Rattle.diva_core.specs.Timed.{Timed, PendingClaim, depth, rows_kept}
-use Rattle.diva_core.specs.Cycle.{cycle_of, kept, number, is_silent, run_of}
+use Rattle.diva_core.specs.Cycle.{begun, cycle_of, kept, number, is_silent, port_opens, puts_store, run_of}
 
 -- ---- counted: the count rises, and the state has moved by as many steps
 pub record Rises (m last : Timed) : Type 0 where
@@ -64,11 +64,27 @@ abbrev pub last_committed : (before : List Record) → Timed → List (List Reco
 last_committed before m [] = before
 last_committed before m (list ∷ rest) = last_committed (committed_in m list) (cycle_of m list) rest
 
--- the front claim p is judged: an equal one commits, another flushes
+-- the front claim is held up in a cycle, where it equals the due record: that is a store, all stores are owed, and the port
+-- does not open in this cycle
+pub record IsHeld (m : Timed) : Type 0 where
+  pub store : puts_store (record_of m.arch) ≡ true
+  pub full : m.owed ≡ m.config.stores
+  pub closed : port_opens (begun m) ≡ false
+
+-- the front claim p is judged: an equal one commits, unless it is held up; another flushes
 pub record IsJudged (m last : Timed) (p : PendingClaim) : Type 0 where
-  pub equal : p.claim ≡ record_of m.arch → m.count < last.count
+  pub equal : p.claim ≡ record_of m.arch → (m.count < last.count) ⊎ IsHeld m
   pub unequal : p.claim ≢ record_of m.arch
       → (last.count ≡ m.count) × (last.flushes ≡ m.flushes + 1) × (last.silent ≡ m.silent)
+
+-- it is held up no longer than until the port opens, whatever is handed over: in the first cycle in which the claim is ready
+-- and the port opens, or before, a claim commits or the machine flushes
+abbrev pub WillJudge : Timed → Type 0
+WillJudge m =
+    goes_on m.arch ≡ true → m.solo ≡ None → (p : PendingClaim) (rest : List PendingClaim) → m.pending ≡ p ∷ rest
+    → (list : List Record) (lists : List (List Record))
+    → p.cycle + depth ≤ m.cycles + length (list ∷ lists) → (m.cycles + length (list ∷ lists)) % m.config.port ≡ 0
+    → (m.count < (run_of m (list ∷ lists)).count) ⊎ (m.flushes < (run_of m (list ∷ lists)).flushes)
 
 -- ---- flushes come only where a claim differs or the watchdog barks
 

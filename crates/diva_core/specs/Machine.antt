@@ -1,14 +1,14 @@
 -- What holds of a machine between two cycles.
-use Rattle.std.specs.Prelude.{ℕ, ◌≡◌, ◌≤◌, ◌+◌, ◌-◌, ◌*◌, List, [], ◌∷◌, length, Option, Some, None, ⊤}
+use Rattle.std.specs.Prelude.{ℕ, ◌≡◌, ◌≤◌, ◌+◌, ◌-◌, ◌*◌, ◌/◌, List, [], ◌∷◌, length, Option, Some, None, ⊤}
 use Rattle.std.specs.Prelude.{Bool, ◌&&◌, nat_le, if◌then◌else◌}
 use Rattle.diva_core.specs.Timed.{Timed, Config, PendingClaim, depth, rows_kept}
 
 -- the least that each of a machine's numbers may be, and the most
 abbrev pub least_config : Config
-least_config = record { width = 1; window = 8; stores = 1; limit = 16 }
+least_config = record { width = 1; window = 8; stores = 1; limit = 16; port = 1 }
 
 abbrev pub most_config : Config
-most_config = record { width = 4; window = 64; stores = 6; limit = 1024 }
+most_config = record { width = 4; window = 64; stores = 6; limit = 1024; port = 6 }
 
 -- each of the numbers is in its range
 pub record IsConfig (z : Config) : Type 0 where
@@ -20,10 +20,13 @@ pub record IsConfig (z : Config) : Type 0 where
   pub stores_high : z.stores ≤ most_config.stores
   pub limit_low : least_config.limit ≤ z.limit
   pub limit_high : z.limit ≤ most_config.limit
+  pub port_low : least_config.port ≤ z.port
+  pub port_high : z.port ≤ most_config.port
 
 -- the same as a test: no number is greater than the other's
 abbrev pub config_le : Config → Config → Bool
-config_le a b = nat_le a.width b.width && nat_le a.window b.window && nat_le a.stores b.stores && nat_le a.limit b.limit
+config_le a b =
+    nat_le a.width b.width && nat_le a.window b.window && nat_le a.stores b.stores && nat_le a.limit b.limit && nat_le a.port b.port
 
 -- the numbers, where each is in its range
 unfoldable pub config_in_range : Config → Option Config
@@ -35,6 +38,8 @@ pub record IsSolo (m : Timed) (start : ℕ) : Type 0 where
   pub started : start ≤ m.cycles
   pub soon : m.cycles + 1 ≤ start + depth
   pub idled : m.idle ≤ m.config.limit + (m.cycles - start)
+  -- the port has taken a store each time since, while one was owed; it did so once at least before the sixth cycle's commit
+  pub drained : m.owed ≤ m.config.stores - (m.cycles / m.config.port - start / m.config.port)
 
 -- how long the machine can have been without a commit
 abbrev pub Lives : Timed → Option ℕ → Type 0

@@ -1,5 +1,6 @@
 -- Right lists, and calm machines: those in which no right list leads to a flush.
 use Rattle.std.specs.Prelude.{ℕ, ◌≡◌, ◌≢◌, ◌<◌, ◌≤◌, ◌+◌, ◌-◌, List, [], ◌∷◌, length, take, map, true, Some, None, max, slice_get}
+use Rattle.std.specs.Int.{next_multiple_of}
 use Rattle.diva_isa.specs.State.{State, goes_on}
 use Rattle.diva_isa.specs.declared.record.Record.{Record}
 use Rattle.diva_isa.specs.Step.{record_of, steps}
@@ -23,11 +24,13 @@ abbrev pub AreRight : Timed → List (List Record) → Type 0
 AreRight m [] = Unit {0}
 AreRight m (list ∷ rest) = IsRight m list × AreRight (cycle_of m list) rest
 
--- how many cycles it takes at most until a claim can commit: those until the oldest pending claim is ready, one at least;
--- where nothing is pending a claim is accepted in the next cycle, and is ready six cycles later
+-- how many cycles it takes at most until a claim can commit, also a store while all stores are owed: those until the port
+-- opens, from the cycle on in which the oldest pending claim is ready, which is the coming one at the earliest; where nothing
+-- is pending a claim is accepted in the coming cycle, is ready six cycles later, and the port opens within the cycles from one
+-- store that it takes to the next
 abbrev pub wait_by : Timed → List PendingClaim → ℕ
-wait_by m [] = depth + 1
-wait_by m (p ∷ rest) = max 1 ((p.cycle + depth) - m.cycles)
+wait_by m [] = depth + m.config.port
+wait_by m (p ∷ rest) = next_multiple_of (max (m.cycles + 1) (p.cycle + depth)) m.config.port - m.cycles
 
 abbrev pub wait_of : Timed → ℕ
 wait_of m = wait_by m m.pending

@@ -14,16 +14,17 @@ abbrev pub rows_kept : ℕ
 rows_kept = 1024
 
 -- the claims that are accepted and judged in a cycle at most, those that are pending at most, the stores that are owed at
--- most, and the watchdog's limit in cycles
+-- most, the watchdog's limit in cycles, and how many cycles there are from one store that memory's port takes to the next
 pub record Config : Type 0 where
   pub width : ℕ
   pub window : ℕ
   pub stores : ℕ
   pub limit : ℕ
+  pub port : ℕ
 
 -- the numbers of a machine for which no others are asked
 abbrev pub default_config : Config
-default_config = record { width = 2; window = 16; stores = 4; limit = 64 }
+default_config = record { width = 2; window = 16; stores = 4; limit = 64; port = 1 }
 
 -- a pending claim, and the cycle in which it was accepted
 pub record PendingClaim : Type 0 where
@@ -58,9 +59,9 @@ room_of m = if is_none m.solo && goes_on m.arch then min m.config.width (m.confi
 abbrev pub is_empty : {A : Type 0} → List A → Bool
 is_empty xs = length xs == 0
 
--- a claim has to be handed over in the coming cycle, or the watchdog will bark
+-- a claim has to be handed over in the coming cycle, or the watchdog may bark before it can commit
 abbrev pub is_due : Timed → Bool
-is_due m = is_empty m.pending && nat_lt 0 (room_of m) && nat_le m.config.limit (m.idle + (depth + 1))
+is_due m = is_empty m.pending && nat_lt 0 (room_of m) && nat_le m.config.limit (m.idle + (depth + m.config.port))
 
 -- the machine that begins with a state
 abbrev pub new_timed : Config → State → Timed

@@ -16,7 +16,7 @@ pub record Told : Type 0 where
   pub room : ℕ
   -- the cycles since the last commit
   pub idle : ℕ
-  -- a claim has to be handed over now, or the watchdog will bark
+  -- a claim has to be handed over now, or the watchdog may bark before it can commit
   pub due : Bool
   pub ended : Bool
 

@@ -18,7 +18,7 @@ pub struct Told {
     pub room: u32,
     /// The cycles run since the last commit.
     pub idle: u32,
-    /// Whether a claim has to be handed over in this call, or the watchdog will bark before it can commit.
+    /// Whether a claim has to be handed over in this call, or the watchdog may bark before it can commit.
     pub due: bool,
     /// Whether the machine has ended.
     pub ended: bool,

@@ -11,7 +11,7 @@ use Rattle.diva_isa.specs.End.{IsEnd}
 use Rattle.diva_memory.specs.Bytes.{Bytes}
 use Rattle.diva_storeq.specs.declared.masked.Masked.{Masked}
 use Rattle.diva_commit.specs.Committing.{AreInside}
-use Rattle.diva_core.specs.Cycle.{Judgement, Commit, Flush, Wait}
+use Rattle.diva_core.specs.Cycle.{Judgement, Commit, Flush, Wait, judged_under, judgement_under, stores_wait}
 use Rattle.diva_core.specs.declared.flushes.FlushRow.{FlushRow}
 use Rattle.diva_watchdog.specs.declared.recover.Recover.{Recover}
 use Rattle.diva_watchdog.specs.declared.recover.Recover.TheVariants.{Running, Solo}
@@ -68,6 +68,13 @@ pub record KeepsBounds (m last : Timed) : Type 0 where
   pub pending : length last.pending ≤ length m.pending
   pub flushes : last.flushes ≤ m.flushes + 1
   pub silent : last.silent ≤ m.silent + 1
+
+-- what becomes of the front claim by the machine's rule, and the machine where at most n ready claims are judged by it
+abbrev pub judgement_of : Timed → Judgement
+judgement_of = judgement_under stores_wait
+
+abbrev pub judged : ℕ → Timed → Timed
+judged = judged_under stores_wait
 
 -- what became of a front claim, by its judgement and by whether the machine goes on then
 abbrev pub judged_by : Judgement → (goes : Bool) → Judged

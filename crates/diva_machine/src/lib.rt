@@ -4,6 +4,7 @@
 //! - `log`: the flushes, as rows and as counts;
 //! - `stages`: what a pending claim passes through at each age;
 //! - `parts`: the parts of the machine, and the phases of a cycle over them;
+//! - `port`: when memory takes a store, `Port`;
 //! - `phases`: what these phases tell each other, `Judged` and `CommitPhase`;
 //! - `machine`: the machine between cycles, `Machine`;
 //! - `ends`: how a drive stopped, `Drive` and `Reach`;
@@ -24,6 +25,7 @@ mod log;
 mod machine;
 mod parts;
 mod phases;
+mod port;
 mod reaching;
 mod stages;
 mod turns;

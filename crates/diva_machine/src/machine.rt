@@ -7,9 +7,9 @@ ghost use Rattle.diva_image.specs.ImageLayout.{layout};
 ghost use Rattle.diva_core.specs.Older.{before_entry};
 ghost use Rattle.diva_core.specs.Timed.{Timed, PendingClaim, depth, new_timed, room_of};
 ghost use Rattle.diva_core.specs.Told.{told_of};
-ghost use Rattle.diva_core.specs.Cycle.{begun, cycle_of, drained};
+ghost use Rattle.diva_core.specs.Cycle.{cycle_of};
 ghost use Rattle.diva_core.specs.Machine.{IsMachine};
-ghost use Rattle.diva_core.specs.Headline.{dues, Rises, ByClaims, BySolo, IsJudged, SameLog, AddsRow, HasPace, WillCount};
+ghost use Rattle.diva_core.specs.Headline.{dues, Rises, ByClaims, BySolo, IsJudged, SameLog, AddsRow, HasPace, WillCount, WillJudge};
 ghost use Rattle.diva_core.specs.Right.{IsRight, IsCalm, StaysCalm};
 ghost use Rattle.diva_machine.specs.Start.{start_of};
 ghost use Rattle.diva_machine.specs.Machine.{pending_claim_of};
@@ -71,6 +71,7 @@ impl Machine {
         let room = self.parts.room() as u32;
         let pending = self.parts.pending.len() as u32;
         let idle = self.parts.watchdog.idle();
+        let by_then = u64::from(idle) + DEPTH + u64::from(self.parts.port.period());
         Told {
             cycle: self.parts.cycles + 1,
             count: self.parts.arch.count(),
@@ -79,7 +80,7 @@ impl Machine {
             pending,
             room,
             idle,
-            due: pending == 0 && room > 0 && u64::from(idle) + DEPTH + 1 >= u64::from(self.limit()),
+            due: pending == 0 && room > 0 && by_then >= u64::from(self.limit()),
             ended: !self.parts.goes_on(),
         }
     }
@@ -192,7 +193,7 @@ impl Machine {
     /// Runs one cycle on what a core handed over. On an ended machine nothing changes but `last`,
     /// which is then empty.
     #[inline(always)]
-    #[tactic(auto, using(diva_core::proofs::Keeping::stays, diva_core::proofs::Outcomes::rises, diva_core::proofs::Outcomes::logs, diva_core::proofs::Outcomes::records_by, diva_core::proofs::Pacing::will_count, diva_core::proofs::Progressing::has_pace, diva_core::proofs::Calming::stays_calm))]
+    #[tactic(auto, using(diva_core::proofs::Keeping::stays, diva_core::proofs::Outcomes::rises, diva_core::proofs::Outcomes::logs, diva_core::proofs::Outcomes::records_by, diva_core::proofs::Pacing::will_count, diva_core::proofs::Progressing::has_pace, diva_core::proofs::Calming::stays_calm, diva_core::proofs::Opened::will_judge))]
     pub fn cycle(&mut self, list: &Claims)
         requires { self.old.timed.cycles < 2 ^ 60 }
         // It is the cycle of the definition, in every part.
@@ -220,8 +221,8 @@ impl Machine {
         ensures checked { AreChecked self.new.timed.arch self.new.timed.cycles self.new.entries }
         ensures stays { goes_on self.old.timed.arch ≡ false → self.new.entries ≡ self.old.entries }
 
-        // Nothing ready is held up.
-        ensures drained { (drained (begun self.old.timed)).owed < self.old.timed.config.stores }
+        // Nothing ready is held up for longer than until the port opens, and only a store is; a solo one never.
+        ensures judges { WillJudge self.new.timed }
         ensures front { (p : PendingClaim) (rest : List PendingClaim)
             → goes_on self.old.timed.arch ≡ true
             → self.old.timed.solo ≡ None

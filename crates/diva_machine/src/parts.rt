@@ -9,17 +9,17 @@ ghost use Rattle.diva_isa.specs.State.{State, goes_on, GoesOn};
 ghost use Rattle.diva_isa.specs.Step.{apply, record_of, steps};
 ghost use Rattle.diva_image.specs.ImageLayout.{layout};
 ghost use Rattle.diva_decode.specs.Table.{row_of};
-ghost use Rattle.diva_core.specs.Timed.{Timed, new_timed, room_of};
+ghost use Rattle.diva_core.specs.Timed.{Timed, depth, new_timed, room_of};
 ghost use Rattle.diva_core.specs.declared.pending.Entry.{Entry};
 ghost use Rattle.diva_core.specs.Future.{FutureFile, IsFuture, committed_file};
 ghost use Rattle.diva_core.specs.Machine.{IsMachine, IsConfig};
 ghost use Rattle.diva_core.specs.Headline.{dues, SameLog};
-ghost use Rattle.diva_core.specs.Cycle.{Commit, accepted_in, accepts, judgement_of, commits, committed, cycle_of, drained, flushed, judged, number, watched};
+ghost use Rattle.diva_core.specs.Cycle.{Commit, accepted_in, accepts, commits_under, committed, cycle_of, drained, flushed, number, port_opens, stores_wait, watched};
 ghost use Rattle.diva_core.specs.declared.flushes.Cause.TheVariants.{Silent};
 ghost use Rattle.diva_commit.specs.Committing.{answer, is_committed};
 ghost use Rattle.diva_machine.specs.Start.{start_of};
 ghost use Rattle.diva_machine.specs.Machine.{pending_claim_of};
-ghost use Rattle.diva_machine.specs.Inner.{judged_by, KeepsBounds, Tells};
+ghost use Rattle.diva_machine.specs.Inner.{judged, judged_by, judgement_of, KeepsBounds, Tells};
 ghost use Rattle.diva_machine.specs.Staged.{last_stage, AreChecked, IsFilled, IsSoloFilled, IsStaged};
 ghost use Rattle.diva_machine.specs.Inner.{left, IsAdvanced};
 
@@ -27,6 +27,7 @@ use crate::DEPTH;
 use crate::arch::Arch;
 use crate::log::Log;
 use crate::phases::{CommitPhase, Judged};
+use crate::port::Port;
 use crate::stages::{LAST_STAGE, fill, pass};
 use diva_commit::Committed;
 use diva_core::{Cause, Claim, Config, Entry, FlushRow, FutureFile, Pending, Records};
@@ -41,6 +42,7 @@ use std::marker::Model;
 pub(crate) struct Parts {
     width: u32,
     pub(crate) arch: Arch,
+    pub(crate) port: Port,
     pub(crate) cycles: u64,
     pub(crate) pending: Pending,
     /// How many of the pending claims, the oldest, are past the last stage.
@@ -65,7 +67,7 @@ impl Model for Parts {
 
     ghost view = { λ m. record {
       timed = record {
-        config = record { width = m.width; window = m.pending.capacity; stores = m.arch.stores; limit = m.watchdog.limit };
+        config = record { width = m.width; window = m.pending.capacity; stores = m.arch.stores; limit = m.watchdog.limit; port = m.port };
         arch = m.arch.state;
         count = m.arch.state.instret;
         cycles = m.cycles;
@@ -99,6 +101,7 @@ impl Parts {
         Ok(Parts {
             width: config.width(),
             arch: Arch::new(alloc, image, config.stores() as usize)?,
+            port: Port::new(config.port()),
             cycles: 0,
             pending: Pending::new(alloc, config.window() as usize)?,
             passed: 0,
@@ -160,12 +163,25 @@ impl Parts {
         &list[..room.min(list.len())]
     }
 
-    /// Phase 1: the oldest undrained store goes to memory.
+    /// Phase 1: where the port opens, the oldest undrained store goes to memory.
+    #[inline(always)]
     #[tactic(auto, unfolding(diva_core::specs::Cycle::drained))]
     fn drain(&mut self)
         ensures { self.new ≡ record self.old { timed = drained self.old.timed } }
     {
-        self.arch.drain();
+        if self.arch.owes() && (self.port.is_always_open() || self.port_opens()) {
+            self.arch.drain();
+        }
+    }
+
+    /// Whether the port opens in this cycle, where it does not in each.
+    #[cold]
+    #[inline(never)]
+    fn port_opens(&mut self) -> bool
+        ensures opens { result ≡ port_opens self.old.timed }
+        ensures same { self.new ≡ self.old }
+    {
+        self.port.opens(self.cycles)
     }
 
     /// Drops what is pending, and starts the next instruction on the checker alone.
@@ -317,11 +333,11 @@ impl Parts {
 
     /// Phase 2: what is ready commits, at most `width` claims or the solo instruction.
     #[inline(always)]
-    #[tactic(auto, unfolding(diva_core::specs::Cycle::commits, diva_core::specs::Cycle::committed))]
+    #[tactic(auto, unfolding(diva_core::specs::Cycle::commits_under, diva_core::specs::Cycle::committed))]
     fn commits(&mut self) -> CommitPhase
         requires width { self.old.timed.config.width ≤ 4 }
         requires goes_on { GoesOn self.old.timed.arch }
-        requires owed { self.old.timed.owed < self.old.timed.config.stores }
+        requires owed { self.old.timed.owed ≤ self.old.timed.config.stores }
         requires count { self.old.timed.count + 4 ≤ 2 ^ 62 }
         requires flushes { self.old.timed.flushes < 2 ^ 62 }
         requires silent { self.old.timed.silent < 2 ^ 62 }
@@ -329,9 +345,11 @@ impl Parts {
         requires cycles { 1 ≤ self.old.timed.cycles }
         requires alone { (start : ℕ) → self.old.timed.solo ≡ Some start
             → (self.old.timed.pending ≡ []) × (start < self.old.timed.cycles) }
+        requires passes { (start : ℕ) → self.old.timed.solo ≡ Some start → self.old.timed.cycles ≡ start + depth
+            → stores_wait self.old.timed.config.stores self.old.timed.owed (record_of self.old.timed.arch) ≡ false }
         requires staged { IsStaged (self.old.timed.cycles - 1) self.old }
         requires solo { IsSoloFilled (self.old.timed.cycles - 1) self.old }
-        ensures timed { self.new.timed ≡ commits self.old.timed }
+        ensures timed { self.new.timed ≡ commits_under stores_wait self.old.timed }
         ensures tells { Tells result self.old.timed self.new.timed }
         ensures counted { self.old.timed.count ≤ self.new.timed.count }
         ensures last { self.new.last
@@ -373,7 +391,7 @@ impl Parts {
     fn commit_solo(&mut self)
         requires goes_on { GoesOn self.old.timed.arch }
         requires due { self.old.filled ≡ record_of self.old.timed.arch }
-        requires owed { self.old.timed.owed < self.old.timed.config.stores }
+        requires passes { stores_wait self.old.timed.config.stores self.old.timed.owed (record_of self.old.timed.arch) ≡ false }
         requires count { self.old.timed.count < 2 ^ 62 }
         requires last { length self.old.last < 4 }
         ensures { self.new ≡ record self.old {
@@ -503,7 +521,7 @@ impl Parts {
 
     /// One cycle of a machine that goes on, and accepts so many claims at most.
     #[inline(always)]
-    #[tactic(auto, unfolding(diva_core::specs::Cycle::cycle_of, diva_core::specs::Cycle::drained, diva_core::specs::Cycle::accepts))]
+    #[tactic(auto, unfolding(diva_core::specs::Cycle::cycle_under, diva_core::specs::Cycle::drained, diva_core::specs::Cycle::accepts))]
     pub fn cycle(&mut self, list: &[Claim], room: usize)
         requires goes_on { GoesOn self.old.timed.arch }
         requires room { room ≡ room_of self.old.timed }

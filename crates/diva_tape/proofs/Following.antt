@@ -10,7 +10,7 @@ use Rattle.diva_isa.specs.Step.{record_of, step, steps}
 use Rattle.diva_isa.specs.declared.record.Record.{Record}
 use Rattle.diva_isa.specs.declared.effect.Effect.{Effect}
 use Rattle.diva_core.specs.Timed.{Timed, Config, PendingClaim, new_timed, room_of, depth}
-use Rattle.diva_core.specs.Cycle.{cycle_of}
+use Rattle.diva_core.specs.Cycle.{cycle_of, stores_wait}
 use Rattle.diva_core.specs.Told.{told_of}
 use Rattle.diva_core.specs.History.{FollowRule, IsHistory, lists_of}
 use Rattle.diva_core.specs.Machine.{IsMachine, IsConfig}
@@ -20,7 +20,7 @@ use Rattle.diva_core.proofs.Steps.{steps-add}
 use Rattle.diva_core.proofs.Cycling.{Cycled, cycled, Base, idled, ran, barks, differed, ended, finished, waited, taken}
 use Rattle.diva_core.proofs.Keeping.{stays}
 use Rattle.diva_core.proofs.Outcomes.{by-cases}
-use Rattle.diva_core.proofs.Calming.{stays_calm, no-difference, wait-least, claims-taken, room-some, due_from, Fresh, solo_fresh}
+use Rattle.diva_core.proofs.Calming.{stays_calm, no-difference, not-yet, wait-least, claims-taken, room-some, due_from, Fresh, solo_fresh}
 use Rattle.diva_core.proofs.Listing.{new_calm}
 use Rattle.diva_core.proofs.Starting.{new-machine}
 use Rattle.diva_ahead.specs.Effects.{done_by}
@@ -107,7 +107,7 @@ split_commits (suc k) s c (p ∷ xs) rest h =
 
 keeps_after :
     (ahead : Ahead) (b n : Timed) (list : List Record) (k : ℕ) (rest : List PendingClaim)
-    → Base b n k
+    → Base stores_wait b n k
     → n.flushes ≡ b.flushes
     → Split k b.pending rest
     → n.pending ≡ rest ++ taken b list
@@ -128,15 +128,15 @@ keeps_after ahead b n list k rest v flushes split pending h =
       follows = subst (Follows ahead) far h.follows;
     }
 
-ready_cases : (ahead : Ahead) (b n : Timed) (list : List Record) → IsCalmRunning b → Keeps ahead b.flushes b.arch (waiting b ++ take (room_of b) list) → Cycled b list n → goes_on n.arch ≡ true → Ready ahead n.flushes n.arch (waiting n)
-ready_cases ahead b n list calm h (idled r) on = inl (keeps_after ahead b n list 0 b.pending r.base r.log.flushes (record { done = []; parts = refl; long = refl }) r.pending h)
-ready_cases ahead b n list calm h (ran r) on = inl (keeps_after ahead b n list (suc r.k) r.rest r.base r.log.flushes (split_commits (suc r.k) b.arch (b.cycles + 1) b.pending r.rest r.claims) r.pending h)
-ready_cases ahead b n list calm h (barks r) on =
-    absurd (let w = calm.waits in let two = wait-least b b.pending r.young in let i = r.idle in let late = r.late in omega arith)
-ready_cases ahead b n list calm h (differed r) on = absurd (no-difference b n r (due_from _ _ calm.claims))
-ready_cases ahead b n list calm h (ended r) on = absurd (true≢false (sym on ∙ r.off))
-ready_cases ahead b n list calm h (finished r) on = absurd (none-some _ (sym calm.running ∙ r.since))
-ready_cases ahead b n list calm h (waited r) on = absurd (none-some _ (sym calm.running ∙ r.since))
+ready_cases : (ahead : Ahead) (b n : Timed) (list : List Record) → IsMachine b → IsCalmRunning b → Keeps ahead b.flushes b.arch (waiting b ++ take (room_of b) list) → Cycled stores_wait b list n → goes_on n.arch ≡ true → Ready ahead n.flushes n.arch (waiting n)
+ready_cases ahead b n list inv calm h (idled r) on = inl (keeps_after ahead b n list 0 b.pending r.base r.log.flushes (record { done = []; parts = refl; long = refl }) r.pending h)
+ready_cases ahead b n list inv calm h (ran r) on = inl (keeps_after ahead b n list (suc r.k) r.rest r.base r.log.flushes (split_commits (suc r.k) b.arch (b.cycles + 1) b.pending r.rest r.claims) r.pending h)
+ready_cases ahead b n list inv calm h (barks r) on =
+    absurd (let w = calm.waits in let two = wait-least b b.pending inv.config (not-yet b inv r.was r.unjudged) in let i = r.idle in let late = r.late in omega arith)
+ready_cases ahead b n list inv calm h (differed r) on = absurd (no-difference b n r (due_from _ _ calm.claims))
+ready_cases ahead b n list inv calm h (ended r) on = absurd (true≢false (sym on ∙ r.off))
+ready_cases ahead b n list inv calm h (finished r) on = absurd (none-some _ (sym calm.running ∙ r.since))
+ready_cases ahead b n list inv calm h (waited r) on = absurd (none-some _ (sym calm.running ∙ r.since))
 
 -- ---- while an instruction runs solo
 
@@ -161,7 +161,7 @@ solo_list ahead m start some =
     ap (λ (c : ScalarCall). c.list) (solo_call ahead m start some)
     ∙ rule_none (room_of m) (goes_on (steps (length m.pending) m.arch)) (record_of (steps (length m.pending) m.arch) ∷ []) (solo_room m start some)
 
-solo_flushes : (b n : Timed) (list : List Record) (start : ℕ) → b.solo ≡ Some start → Cycled b list n → n.flushes ≡ b.flushes
+solo_flushes : (b n : Timed) (list : List Record) (start : ℕ) → b.solo ≡ Some start → Cycled stores_wait b list n → n.flushes ≡ b.flushes
 solo_flushes b n list start some (idled r) = r.log.flushes
 solo_flushes b n list start some (ran r) = r.log.flushes
 solo_flushes b n list start some (barks r) = absurd (none-some _ (sym r.was ∙ some))
@@ -171,7 +171,7 @@ solo_flushes b n list start some (finished r) = r.log.flushes
 solo_flushes b n list start some (waited r) = r.log.flushes
 
 -- where it commits, the machine is calm with nothing pending, and else it runs on
-solo_after : (m : Timed) (list : List Record) (start : ℕ) → IsMachine m → goes_on m.arch ≡ true → m.solo ≡ Some start → Cycled m list (cycle_of m list) → Fresh (cycle_of m list) ⊎ ((cycle_of m list).solo ≡ Some start)
+solo_after : (m : Timed) (list : List Record) (start : ℕ) → IsMachine m → goes_on m.arch ≡ true → m.solo ≡ Some start → Cycled stores_wait m list (cycle_of m list) → Fresh (cycle_of m list) ⊎ ((cycle_of m list).solo ≡ Some start)
 solo_after m list start inv on some (idled r) = absurd (none-some _ (sym r.was ∙ some))
 solo_after m list start inv on some (ran r) = absurd (none-some _ (sym r.was ∙ some))
 solo_after m list start inv on some (barks r) = absurd (none-some _ (sym r.was ∙ some))
@@ -205,7 +205,7 @@ turn m ahead list after inv on (inl c) given =
     (subst (λ (l : List Record). Keeps (scalar_call ahead (told_of m) m.arch).core m.flushes m.arch (waiting m ++ take (room_of m) l)) (sym given.lists) a.keeps) in
     record {
       rule = rule;
-      stands = inl ((stays_calm m list inv c.0 right).calm, λ still. ready_cases after m (cycle_of m list) list (c.0 on) keeps (cycled m list inv on) still);
+      stands = inl ((stays_calm m list inv c.0 right).calm, λ still. ready_cases after m (cycle_of m list) list inv (c.0 on) keeps (cycled m list inv on) still);
     }
 turn m ahead list after inv on (inr r) given =
     record {
@@ -251,7 +251,7 @@ leads_again m before after list start inv on some sixth other given =
 -- ---- flushes, whatever the machine is handed
 
 -- the log stays, or an instruction starts solo and the flushes rise
-flush_cases : (b n : Timed) (list : List Record) → Cycled b list n → (n.flushes ≡ b.flushes) ⊎ ((n.flushes ≡ b.flushes + 1) × (n.solo ≡ Some (b.cycles + 1)))
+flush_cases : (b n : Timed) (list : List Record) → Cycled stores_wait b list n → (n.flushes ≡ b.flushes) ⊎ ((n.flushes ≡ b.flushes + 1) × (n.solo ≡ Some (b.cycles + 1)))
 flush_cases b n list (idled r) = inl r.log.flushes
 flush_cases b n list (ran r) = inl r.log.flushes
 flush_cases b n list (barks r) = inr (r.log.flushes, r.solo)

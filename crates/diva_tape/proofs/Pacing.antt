@@ -1,5 +1,6 @@
--- How fast a machine goes that `Scalar` drives.
-use Rattle.std.proofs.Common.{◌≡◌, ◌<◌, ◌≤◌, ℕ, zero, suc, ◌+◌, ◌-◌, Bool, true, false, List, [], ◌∷◌, ◌++◌, length, map, take, refl, ap, sym, ◌∙◌, arith, subst, length-append, inl, inr, ◌⊎◌, if◌then◌else◌, ◌&&◌}
+-- How fast a machine goes that `Scalar` drives, where its port takes a store in each cycle; that it is not flushed, whatever
+-- its port.
+use Rattle.std.proofs.Common.{◌≡◌, ◌<◌, ◌≤◌, ℕ, zero, suc, ◌+◌, ◌-◌, ◌%◌, Bool, true, false, List, [], ◌∷◌, ◌++◌, length, map, take, refl, ap, sym, ◌∙◌, arith, subst, length-append, inl, inr, ◌⊎◌, if◌then◌else◌, ◌&&◌}
 use Rattle.std.specs.Prelude.{nat_lt}
 use Rattle.std.proofs.lemmas.List.{append-nil}
 use Rattle.std.proofs.lemmas.Bool.{cases_Bool, lt-ltb, true≢false}
@@ -8,7 +9,7 @@ use Rattle.diva_isa.specs.State.{State, goes_on}
 use Rattle.diva_isa.specs.Step.{record_of, step, steps}
 use Rattle.diva_isa.specs.declared.record.Record.{Record}
 use Rattle.diva_core.specs.Timed.{Timed, Config, PendingClaim, new_timed, room_of, depth}
-use Rattle.diva_core.specs.Cycle.{accepted_in, cycle_of, run_of}
+use Rattle.diva_core.specs.Cycle.{accepted_in, cycle_of, run_of, stores_wait}
 use Rattle.diva_core.specs.History.{FollowRule, IsHistory, Meaning, lists_of}
 use Rattle.diva_core.specs.Machine.{IsMachine, IsConfig}
 use Rattle.diva_core.specs.Right.{IsCalmRunning, IsRight}
@@ -16,7 +17,7 @@ use Rattle.diva_core.proofs.Commits.{Commits}
 use Rattle.diva_core.proofs.Steps.{steps-add}
 use Rattle.diva_core.proofs.Cycling.{Base, Cycled, cycled, barks, differed, ended, finished, idled, ran, taken, waited}
 use Rattle.diva_core.proofs.Keeping.{length-commits, stays}
-use Rattle.diva_core.proofs.Calming.{due_from, no-difference, stays_calm, wait-least}
+use Rattle.diva_core.proofs.Calming.{NotYet, due_from, no-difference, not-yet, stays_calm, wait-least}
 use Rattle.diva_core.proofs.Listing.{new_calm, run_calm}
 use Rattle.diva_core.proofs.Reaching.{run-off}
 use Rattle.diva_core.proofs.Starting.{new-machine}
@@ -40,9 +41,10 @@ record Queue (m : Timed) : Type 0 where
   successive : AreSuccessive (m.count + 1) m.pending
   leads : Leads m
 
--- a machine that goes on has counted an instruction in each cycle but the first six
+-- a machine that goes on has counted an instruction in each cycle but the first six; its port takes a store in each cycle
 record Paced (m : Timed) : Type 0 where
   calm : IsCalmRunning m
+  port : m.config.port ≡ 1
   count : m.count ≡ m.cycles - depth
   queue : Queue m
 
@@ -138,7 +140,7 @@ record Commits1 (b n : Timed) (rest : List PendingClaim) : Type 0 where
   stepped : n.arch ≡ steps 1 b.arch
   sixth : b.count + depth ≡ b.cycles
 
-one_only : (b n : Timed) (rest : List PendingClaim) (k : ℕ) → Paced b → Base b n (suc k) → Commits (suc k) b.arch (b.cycles + 1) b.pending rest → Commits1 b n rest
+one_only : (b n : Timed) (rest : List PendingClaim) (k : ℕ) → Paced b → Base stores_wait b n (suc k) → Commits (suc k) b.arch (b.cycles + 1) b.pending rest → Commits1 b n rest
 one_only b n rest k p base claims =
     let count = p.count in
     let ready = front_ready k b.arch (b.cycles + 1) b.count b.pending rest claims p.queue.successive in
@@ -155,9 +157,13 @@ one_only b n rest k p base claims =
 abbrev Goes : Timed → Type 0
 Goes n = (goes_on n.arch ≡ true → Paced n) × (goes_on n.arch ≡ false → n.cycles ≡ n.count + depth)
 
--- where nothing was ready, fewer than six cycles have run
-still_early : (b : Timed) → goes_on b.arch ≡ true → Paced b → ((q : PendingClaim) (rest : List PendingClaim) → b.pending ≡ q ∷ rest → b.cycles + 1 < q.cycle + depth) → b.cycles < depth
-still_early b on p young = by_pending b.pending refl
+-- its port opens in each cycle
+opens : (c p : ℕ) → p ≡ 1 → c % p ≡ 0
+opens c p one = rw one (omega arith)
+
+-- where nothing was judged, fewer than six cycles have run
+still_early : (b : Timed) → goes_on b.arch ≡ true → Paced b → NotYet b b.pending → b.cycles < depth
+still_early b on p late = by_pending b.pending refl
   where
     no_end : (off : goes_on b.arch ≡ false) → b.cycles < depth
     no_end off = absurd (true≢false (sym on ∙ off))
@@ -169,20 +175,22 @@ still_early b on p young = by_pending b.pending refl
           | inr off ↦ no_end (ap (λ (xs : List PendingClaim). goes_on (steps (length xs) b.arch)) (sym e) ∙ off)
         ]
     by_pending (q ∷ xs) e =
-        let y = young q xs e in
+        let young : b.cycles + 1 < q.cycle + depth =
+        elim (late q xs e) [ inl y ↦ y | inr closed ↦ absurd (closed (opens (b.cycles + 1) b.config.port p.port)) ] in
         let at = (subst (AreSuccessive (b.count + 1)) e p.queue.successive).0 in
         let count = p.count in
         omega arith
 
-goes : (b n : Timed) (list : List Record) → IsMachine b → goes_on b.arch ≡ true → Paced b → list ≡ scalar_list b → (goes_on n.arch ≡ true → IsCalmRunning n) → Cycled b list n → Goes n
+goes : (b n : Timed) (list : List Record) → IsMachine b → goes_on b.arch ≡ true → Paced b → list ≡ scalar_list b → (goes_on n.arch ≡ true → IsCalmRunning n) → Cycled stores_wait b list n → Goes n
 goes b n list inv on p rule calm (idled r) =
     let next = r.base.cycles in
     let counted = r.base.counted in
     let count = p.count in
-    let early = still_early b on p r.young in
+    let early = still_early b on p (not-yet b inv r.was r.unjudged) in
     let as_before : n.count ≡ b.count = omega arith in (
       λ still. record {
         calm = calm still;
+        port = ap (λ z. z.port) r.base.config ∙ p.port;
         count = omega arith;
         queue = queue_after b n list b.pending inv on p rule next (omega arith) (ap (steps (length b.pending)) r.base.stepped)
             (subst (λ (c : ℕ). AreSuccessive (c + 1) b.pending) (sym as_before) p.queue.successive) r.pending;
@@ -200,11 +208,16 @@ goes b n list inv on p rule calm (ran r) =
     ap (steps (length r.rest)) one.stepped ∙ sym (steps-add 1 (length r.rest) b.arch) ∙ ap (λ (j : ℕ). steps j b.arch) long in
     let successive : AreSuccessive (n.count + 1) r.rest =
     subst (λ (c : ℕ). AreSuccessive (c + 1) r.rest) (sym counted) (tail_successive b.arch (b.cycles + 1) (b.count + 1) b.pending r.rest one.claims p.queue.successive) in (
-      λ still. record { calm = calm still; count = omega arith; queue = queue_after b n list r.rest inv on p rule next (omega arith) far successive r.pending },
+      λ still. record {
+        calm = calm still;
+        port = ap (λ z. z.port) r.base.config ∙ p.port;
+        count = omega arith;
+        queue = queue_after b n list r.rest inv on p rule next (omega arith) far successive r.pending;
+      },
       λ off. absurd (true≢false (sym r.on ∙ off)),
     )
 goes b n list inv on p rule calm (barks r) =
-    absurd (let w = p.calm.waits in let two = wait-least b b.pending r.young in let i = r.idle in let late = r.late in omega arith)
+    absurd (let w = p.calm.waits in let two = wait-least b b.pending inv.config (not-yet b inv r.was r.unjudged) in let i = r.idle in let late = r.late in omega arith)
 goes b n list inv on p rule calm (differed r) = absurd (no-difference b n r (due_from _ _ p.calm.claims))
 goes b n list inv on p rule calm (ended r) =
     let next = r.base.cycles in
@@ -232,30 +245,30 @@ run_paced (list ∷ rest) m inv on p h =
       | inr off ↦ subst IsPaced (sym (run-off rest (cycle_of m list) off)) (λ still. absurd (true≢false (sym still ∙ off)), after.1)
     ]
 
-new_paced : (z : Config) (s : State) → IsConfig z → goes_on s ≡ true → Paced (new_timed z s)
-new_paced z s ok on = record { calm = new_calm z s ok on; count = refl; queue = record { successive = tt; leads = inl refl } }
+new_paced : (z : Config) (s : State) → IsConfig z → z.port ≡ 1 → goes_on s ≡ true → Paced (new_timed z s)
+new_paced z s ok port on = record { calm = new_calm z s ok on; port = port; count = refl; queue = record { successive = tt; leads = inl refl } }
 
 -- a new machine under a new Scalar
-paced : (z : Config) (s : State) (last : Timed) (after : Ahead) (history : List (List Record × Ahead)) → IsConfig z → s.instret ≡ 0 → goes_on s ≡ true
+paced : (z : Config) (s : State) (last : Timed) (after : Ahead) (history : List (List Record × Ahead)) → IsConfig z → z.port ≡ 1 → s.instret ≡ 0 → goes_on s ≡ true
     → IsHistory IsScalarCall (new_timed z s) new_scalar history last after → IsPaced last
-paced z s last after history ok none on h =
+paced z s last after history ok port none on h =
     let m : Timed = new_timed z s in
     subst IsPaced (sym (IsHistory-run IsScalarCall m new_scalar history last after h))
-    (run_paced (lists_of history) m (new-machine z s ok none) on (new_paced z s ok on) (scalar_history m last new_scalar after history (new_leads z s ok none) h))
+    (run_paced (lists_of history) m (new-machine z s ok none) on (new_paced z s ok port on) (scalar_history m last new_scalar after history (new_leads z s ok none) h))
 
 -- a history that leads to a machine that goes on began at one
 began : {C : Type 0} (gives : Meaning C) (m : Timed) (core : C) (history : List (List Record × C)) (last : Timed) (final : C) → IsHistory gives m core history last final → goes_on last.arch ≡ true → goes_on m.arch ≡ true
 began gives m core [] last final h on = ap (λ (n : Timed). goes_on n.arch) (sym h.0) ∙ on
 began gives m core (turn ∷ rest) last final h on = h.0
 
-pub scalar_runs : (z : Config) (s : State) (last : Timed) (after : Ahead) (history : List (List Record × Ahead)) → IsConfig z → s.instret ≡ 0
+pub scalar_runs : (z : Config) (s : State) (last : Timed) (after : Ahead) (history : List (List Record × Ahead)) → IsConfig z → z.port ≡ 1 → s.instret ≡ 0
     → IsHistory IsScalarCall (new_timed z s) new_scalar history last after → goes_on last.arch ≡ true → last.count ≡ last.cycles - depth
-scalar_runs z s last after history ok none h on =
-    (paced z s last after history ok none (began IsScalarCall (new_timed z s) new_scalar history last after h on) h).0 on
+scalar_runs z s last after history ok port none h on =
+    (paced z s last after history ok port none (began IsScalarCall (new_timed z s) new_scalar history last after h on) h).0 on
 
-pub scalar_ends : (z : Config) (s : State) (last : Timed) (after : Ahead) (history : List (List Record × Ahead)) → IsConfig z → s.instret ≡ 0 → goes_on s ≡ true
+pub scalar_ends : (z : Config) (s : State) (last : Timed) (after : Ahead) (history : List (List Record × Ahead)) → IsConfig z → z.port ≡ 1 → s.instret ≡ 0 → goes_on s ≡ true
     → IsHistory IsScalarCall (new_timed z s) new_scalar history last after → goes_on last.arch ≡ false → last.cycles ≡ last.count + depth
-scalar_ends z s last after history ok none on h off = (paced z s last after history ok none on h).1 off
+scalar_ends z s last after history ok port none on h off = (paced z s last after history ok port none on h).1 off
 
 pub scalar_unflushed : (z : Config) (s : State) (last : Timed) (after : Ahead) (history : List (List Record × Ahead)) → IsConfig z → s.instret ≡ 0
     → IsHistory IsScalarCall (new_timed z s) new_scalar history last after → last.flushes ≡ 0

@@ -145,6 +145,12 @@ two_at_once =
     let s = two_stores in
     (due_behind 0 s ∷ due_behind 1 s ∷ []) ∷ (due_behind 2 s ∷ due_behind 3 s ∷ []) ∷ []
 
+-- the same, where the second claim has a wrong value
+abbrev pub second_wrong : List (List Record)
+second_wrong =
+    let s = two_stores in
+    (due_behind 0 s ∷ flipped (due_behind 1 s) ∷ []) ∷ (due_behind 2 s ∷ due_behind 3 s ∷ []) ∷ []
+
 -- nothing for nine cycles, then the first claim of three_instructions with a wrong value
 abbrev pub late_and_wrong : List (List Record)
 late_and_wrong = replicate 9 [] ++ (flipped (due_behind 0 three_instructions) ∷ []) ∷ []

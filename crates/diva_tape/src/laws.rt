@@ -55,16 +55,17 @@ pub fn scalar_may_lead_again()
         IsCalm last × (last.pending ≡ []) × (is_epoch after.epoch last.flushes ≡ false) }
 {}
 
-/// `Scalar` keeps a new machine as fast as it can be, whatever the program and the machine's numbers: it counts an
-/// instruction in each cycle but the first six, until it ends, six cycles after the claim of its last instruction was
-/// handed over; and it is never flushed.
+/// `Scalar` keeps a new machine as fast as it can be, whatever the program and the machine's other numbers, where its port
+/// takes a store in each cycle: it counts an instruction in each cycle but the first six, until it ends, six cycles after
+/// the claim of its last instruction was handed over. With a slower port a store may wait. The machine is never flushed,
+/// whatever its port.
 #[tactic(auto, using(crate::proofs::Pacing::scalar_runs, crate::proofs::Pacing::scalar_ends, crate::proofs::Pacing::scalar_unflushed))]
 pub fn scalar_keeps_pace()
     ensures running { (config : Config) (s : State) (last : Timed) (after : Ahead) (history : List (List Record × Ahead))
-        → IsConfig config → s.instret ≡ 0 → IsHistory IsScalarCall (new_timed config s) new_scalar history last after
+        → IsConfig config → config.port ≡ 1 → s.instret ≡ 0 → IsHistory IsScalarCall (new_timed config s) new_scalar history last after
         → goes_on last.arch ≡ true → last.count ≡ last.cycles - depth }
     ensures ended { (config : Config) (s : State) (last : Timed) (after : Ahead) (history : List (List Record × Ahead))
-        → IsConfig config → s.instret ≡ 0 → goes_on s ≡ true → IsHistory IsScalarCall (new_timed config s) new_scalar history last after
+        → IsConfig config → config.port ≡ 1 → s.instret ≡ 0 → goes_on s ≡ true → IsHistory IsScalarCall (new_timed config s) new_scalar history last after
         → goes_on last.arch ≡ false → last.cycles ≡ last.count + depth }
     ensures flushes { (config : Config) (s : State) (last : Timed) (after : Ahead) (history : List (List Record × Ahead))
         → IsConfig config → s.instret ≡ 0 → IsHistory IsScalarCall (new_timed config s) new_scalar history last after → last.flushes ≡ 0 }

@@ -3,7 +3,8 @@
 //! meant.
 //!
 //! The machine's numbers are 2 claims accepted and judged in a cycle, 16 pending, 4 undrained
-//! stores and a watchdog's limit of 64 cycles, where no others are given.
+//! stores, a watchdog's limit of 64 cycles and a port that takes a store in each cycle, where no
+//! others are given.
 ghost use Rattle.std.specs.Prelude.{◌≡◌, [], ◌∷◌};
 ghost use Rattle.diva_core.specs.declared.differences.Field.TheVariants.{Pc, Word, Value};
 ghost use Rattle.diva_core.specs.declared.flushes.Cause.TheVariants.{Differs, Silent};
@@ -15,7 +16,7 @@ ghost use Rattle.diva_isa.specs.Step.{record_of, step, steps};
 ghost use Rattle.diva_tape.specs.Lists.{lockstep_list, silent_list};
 ghost use Rattle.diva_tape.specs.Scalar.{scalar_list};
 ghost use Rattle.diva_tape.specs.Programs.{led_by, summary_of, acceptances, commitments, registers};
-ghost use Rattle.diva_tape.specs.Programs.{these_lists, hushed, flipped_first, second_twice, eight_at_once, two_at_once, late_and_wrong, stale_word};
+ghost use Rattle.diva_tape.specs.Programs.{these_lists, hushed, flipped_first, second_twice, eight_at_once, two_at_once, second_wrong, late_and_wrong, stale_word};
 ghost use Rattle.diva_tape.specs.Programs.{three_instructions, jump_to_itself, one_word, misaligned_load_outside, jump_to_six, write_to_x0, division_by_zero, least_by_minus_one, store_then_load, store_over_next_word, two_stores};
 
 // ---- single instructions
@@ -109,6 +110,32 @@ pub fn a_store_waits_for_room()
         ≡ 7 ∷ 7 ∷ 8 ∷ 8 ∷ [] }
     ensures summary { summary_of (led_by (these_lists two_at_once) 20 (new_timed (record default_config { stores = 1 }) two_stores))
         ≡ record { end = halt 0; count = 4; cycles = 9; flushes = 0; silent = 0; rows = [] } }
+{}
+
+/// Memory's port takes a store in each sixth cycle. Where one store may be owed, the second is ready in cycle 7 and waits
+/// until the first goes to memory in cycle 12, and nothing flushes. Where four may be owed, neither waits. A wrong claim of
+/// the second store does not wait: it flushes in cycle 7.
+pub fn a_slow_port_holds_a_store()
+    ensures with_one { commitments (these_lists two_at_once) 20 (new_timed (record default_config { stores = 1; port = 6 }) two_stores)
+        ≡ 7 ∷ 12 ∷ 12 ∷ 13 ∷ [] }
+    ensures summary { summary_of (led_by (these_lists two_at_once) 20 (new_timed (record default_config { stores = 1; port = 6 }) two_stores))
+        ≡ record { end = halt 0; count = 4; cycles = 13; flushes = 0; silent = 0; rows = [] } }
+    ensures with_four { summary_of (led_by (these_lists two_at_once) 20 (new_timed (record default_config { port = 6 }) two_stores))
+        ≡ record { end = halt 0; count = 4; cycles = 8; flushes = 0; silent = 0; rows = [] } }
+    ensures wrong { commitments (these_lists second_wrong) 160 (new_timed (record default_config { stores = 1; port = 6 }) two_stores)
+        ≡ 7 ∷ 13 ∷ 83 ∷ 153 ∷ [] }
+    ensures flushed { summary_of (led_by (these_lists second_wrong) 160 (new_timed (record default_config { stores = 1; port = 6 }) two_stores))
+        ≡ record {
+          end = halt 0;
+          count = 4;
+          cycles = 153;
+          flushes = 3;
+          silent = 2;
+          rows =
+              record { cycle = 7; at = 1; cause = Differs (record { field = Value; claimed = 1; due = 0 }) }
+              ∷ record { cycle = 77; at = 2; cause = Silent 64 }
+              ∷ record { cycle = 147; at = 3; cause = Silent 64 } ∷ [];
+        } }
 {}
 
 // ---- right claims

@@ -1,8 +1,10 @@
 // Calls of a machine's parts, of a machine that is driven, and of what needs no machine.
 ghost use Rattle.std.specs.Prelude.{◌≡◌, ◌≤◌, IfOk};
 
-use crate::cores::{Flipped, Late};
-use crate::programs::{ADDS, FIVE, FIVE_FILE, HALTS, LOOP, NOTHING, Program, image_file};
+use crate::cores::{Flipped, Late, Prompted};
+use crate::programs::{
+    ADDS, FIVE, FIVE_FILE, FOUR_STORES, HALTS, LOOP, NOTHING, Program, image_file,
+};
 use diva_core::{Cause, Core, Diff, Field, FlushRow};
 use diva_isa::{Look, Plain, Record, Regs, record_of};
 use diva_machine::{Config, Drive, End, Machine, drive};
@@ -78,6 +80,43 @@ fn flushes_to_the_cycle(rt: HostRuntime) -> Result<(), Fail> {
     drives_to(&rt, alloc, 16, &mut Late { first: 11 }, 36, Some(silent))
 }
 
+/// A port, and a core that hands over each claim when it is due or so many calls later, with the cycle in which `FOUR_STORES` ends,
+/// one place in its store queue and a watchdog's limit of 16, and how often it is flushed.
+///
+/// Where the port opens in each cycle, a claim is due where idle is 9 before the cycle: that of cycle 10 commits in 16, and
+/// each other one 16 cycles later. One call later it would commit in 17, so the watchdog flushes in 16, and the checker's own
+/// instruction commits in 22.
+///
+/// Where it opens in each sixth cycle, a claim is due where idle is 4: that of cycle 5 commits in 11, and each other one 11
+/// cycles later. In the six cycles of its stages the port opens once, so a store that is claimed with nothing pending finds
+/// a place, and up to five calls later it is still in time.
+static PROMPTED: [(u32, u32, u64, u64); 5] = [
+    (1, 0, 96, 0),
+    (1, 1, 132, 6),
+    (6, 0, 66, 0),
+    (6, 5, 96, 0),
+    (6, 6, 132, 6),
+];
+
+#[test]
+fn claims_that_come_when_they_are_due(rt: HostRuntime) -> Result<(), Fail> {
+    let alloc = rt.alloc();
+    let image = diva_image::read(alloc, &image_file(alloc, FOUR_STORES)?)?;
+    for &(port, late, cycles, flushes) in &PROMPTED {
+        let config = Config::new(2, 16, 1, 16).ok_or("a number out of its range")?;
+        let config = config.with_port(port).ok_or("a port out of its range")?;
+        let mut m = Machine::new(alloc, &image, config)?;
+        let mut core = Prompted { late, missed: 0 };
+        let driven = drive(&mut m, &mut core, 1000);
+        assert_eq!(rt;
+            (driven, m.ended(), m.count()),
+            (Drive::Ended, End::Halt(0), 6)
+        );
+        assert_eq!(rt; (m.cycles(), m.flushes()), (cycles, flushes));
+    }
+    Ok(())
+}
+
 /// A core that hands over nothing is flushed in cycle 64 and then every 70 cycles. 1,024 rows are
 /// kept, and the newest beside them.
 #[test]
@@ -118,6 +157,12 @@ fn silent_row(before: u64) -> Option<FlushRow>
 #[test]
 fn parts_of_a_machine(rt: HostRuntime) -> Result<(), Fail> {
     assert!(rt; Config::new(2, 16, 7, 64).is_none());
+    let config = Config::new(2, 16, 4, 64).ok_or("a number out of its range")?;
+    assert_eq!(rt; config.port(), 1);
+    assert_eq!(rt;
+        [0, 1, 6, 7].map(|port| config.with_port(port).map(|config| config.port())),
+        [None, Some(1), Some(6), None]
+    );
     let file = image_file(rt.alloc(), FIVE)?;
     assert_eq!(rt; file.as_slice(), FIVE_FILE.as_slice());
     Ok(())

@@ -60,6 +60,31 @@ impl Core for Late {
     }
 }
 
+/// Hands over the due record where a claim is due, or so many calls later.
+#[derive(Clone, Copy, Debug)]
+pub(crate) struct Prompted {
+    pub late: u32,
+    /// How many calls in a row a claim was due in, and none was handed over.
+    pub missed: u32,
+}
+
+impl Core for Prompted {
+    ghost use Rattle.std.specs.Prelude.{⊤};
+
+    ghost gives = { λ before told state list after. ⊤ };
+
+    fn cycle(&mut self, told: &Told, view: &View<'_>, out: &mut Claims) {
+        if !told.due {
+            self.missed = 0;
+        } else if self.missed < self.late {
+            self.missed += 1;
+        } else {
+            out.push(record_of(view));
+            self.missed = 0;
+        }
+    }
+}
+
 /// Hands over given lists, whatever they claim: each of them in its cycle and in those that follow, up
 /// to the next one's. The cycles rise.
 #[derive(Clone, Copy, Debug)]

@@ -6,7 +6,8 @@
 //!   one that hands over the lists that it is given;
 //! - `runs`: command lines over files and a sink in memory, with the status and the text that are
 //!   due: `runs/tables` has the programs that are run, `runs/pipelined` those that are run ahead of the
-//!   checker, `runs/tapes` tapes that are played, written and refused, `runs/staged` tapes whose claims are
+//!   checker, `runs/tapes` tapes that are played, written and refused, `runs/ports` stores that
+//!   memory takes in some cycles only, `runs/staged` tapes whose claims are
 //!   checked while older ones are pending, `runs/scripts` scripts that are refused, `runs/traces` commit lines,
 //!   `runs/sessions` the commands of the debugger, `runs/sources` sources that are assembled and images that are listed,
 //!   `runs/soaks` images of seeds, `runs/refusals` what is not run, `runs/failing` the order of loads and puts, which

@@ -63,6 +63,19 @@ pub(crate) const HALTS: Record = Record {
     ..NOTHING
 };
 
+/// Four stores of x0, to 32, 36, 40 and 44, and the halt.
+pub(crate) const FOUR_STORES: Program = Program {
+    size: 64,
+    words: &[
+        0x0200_2023,
+        0x0200_2223,
+        0x0200_2423,
+        0x0200_2623,
+        0x05d0_0893,
+        0x0000_0073,
+    ],
+};
+
 /// `rdinstret x1`, `rdinstret x2`, and the halt: no instruction is before the first read, and one before the second.
 pub(crate) const TWO_READS: Program = Program {
     size: 64,

@@ -3,6 +3,7 @@ mod failing;
 mod hostile;
 mod noting;
 mod pipelined;
+mod ports;
 mod refusals;
 mod scripts;
 mod sessions;

@@ -6,26 +6,26 @@ use std::alloc::{AllocError, Global};
 use std::test::Fail;
 
 /// Lines with what they ask for: the command, then the names and numbers. Behind an image stand its core, its script, width, window,
-/// stores and limit; last come of `run` the cycles, the commit lines and the dump, and of `tape` the cycles.
-static TAKEN: [(&str, &str); 26] = [
+/// stores, limit and port; last come of `run` the cycles, the commit lines and the dump, and of `tape` the cycles.
+static TAKEN: [(&str, &str); 32] = [
     (
         "run p1.diva",
-        r#"run "p1.diva" Own None 2 16 4 64 1000000 false None"#,
+        r#"run "p1.diva" Own None 2 16 4 64 1 1000000 false None"#,
     ),
     (
         "run p1.diva --dump 3c:8 --cycles 1000000000 --stores 6 --trace --core silent \
         --script faults.txt --watchdog 1024 --width 1 --window 08",
-        r#"run "p1.diva" Silent Some(FileName { text: "faults.txt" }) 1 8 6 1024 1000000000 true Some(DumpRange { addr: 60, len: 8 })"#,
+        r#"run "p1.diva" Silent Some(FileName { text: "faults.txt" }) 1 8 6 1024 1 1000000000 true Some(DumpRange { addr: 60, len: 8 })"#,
     ),
     // What stands for a flag that is not given is no value of an option.
     (
         "run --trace p --script false",
-        r#"run "p" Own Some(FileName { text: "false" }) 2 16 4 64 1000000 true None"#,
+        r#"run "p" Own Some(FileName { text: "false" }) 2 16 4 64 1 1000000 true None"#,
     ),
-    ("tape p --cycles 9", r#"tape "p" Own None 2 16 4 64 9"#),
+    ("tape p --cycles 9", r#"tape "p" Own None 2 16 4 64 1 9"#),
     (
         "tape p --script s --tape t --core tape",
-        r#"tape "p" Tape(FileName { text: "t" }) Some(FileName { text: "s" }) 2 16 4 64 1000000"#,
+        r#"tape "p" Tape(FileName { text: "t" }) Some(FileName { text: "s" }) 2 16 4 64 1 1000000"#,
     ),
     ("asm p1.s", r#"asm "p1.s""#),
     ("dis -- -x", r#"dis "-x""#),
@@ -33,63 +33,94 @@ static TAKEN: [(&str, &str); 26] = [
     ("soak 7 65536", "soak 7 65536"),
     ("soak 4294967295 0000000002", "soak 4294967295 2"),
     ("soak -- 0 3", "soak 0 3"),
-    ("debug p c", r#"debug "p" Own None 1 16 4 64 "c""#),
+    ("debug p c", r#"debug "p" Own None 1 16 4 64 1 "c""#),
     (
         "debug p c --watchdog 16 --core silent",
-        r#"debug "p" Silent None 1 16 4 16 "c""#,
+        r#"debug "p" Silent None 1 16 4 16 1 "c""#,
+    ),
+    // The ends of the port's range, for each command that has one.
+    (
+        "run p --port 1",
+        r#"run "p" Own None 2 16 4 64 1 1000000 false None"#,
+    ),
+    (
+        "run p --stores 2 --port 6 --width 3",
+        r#"run "p" Own None 3 16 2 64 6 1000000 false None"#,
+    ),
+    (
+        "tape p --port=01",
+        r#"tape "p" Own None 2 16 4 64 1 1000000"#,
+    ),
+    (
+        "tape p --cycles 9 --port 6",
+        r#"tape "p" Own None 2 16 4 64 6 9"#,
+    ),
+    (
+        "debug p c --port 1",
+        r#"debug "p" Own None 1 16 4 64 1 "c""#,
+    ),
+    (
+        "debug --port 6 p c",
+        r#"debug "p" Own None 1 16 4 64 6 "c""#,
     ),
     // Each core, and tapes of any name.
     (
         "run p --core lockstep",
-        r#"run "p" Lockstep None 2 16 4 64 1000000 false None"#,
+        r#"run "p" Lockstep None 2 16 4 64 1 1000000 false None"#,
     ),
     (
         "run p --core scalar",
-        r#"run "p" Scalar None 2 16 4 64 1000000 false None"#,
+        r#"run "p" Scalar None 2 16 4 64 1 1000000 false None"#,
     ),
     (
         "run p --core flood",
-        r#"run "p" Flood None 2 16 4 64 1000000 false None"#,
+        r#"run "p" Flood None 2 16 4 64 1 1000000 false None"#,
     ),
     (
         "run p --core echo",
-        r#"run "p" Echo None 2 16 4 64 1000000 false None"#,
+        r#"run "p" Echo None 2 16 4 64 1 1000000 false None"#,
     ),
     (
         "run p --core noise",
-        r#"run "p" Noise None 2 16 4 64 1000000 false None"#,
+        r#"run "p" Noise None 2 16 4 64 1 1000000 false None"#,
     ),
     (
         "run p --core tape --tape t",
-        r#"run "p" Tape(FileName { text: "t" }) None 2 16 4 64 1000000 false None"#,
+        r#"run "p" Tape(FileName { text: "t" }) None 2 16 4 64 1 1000000 false None"#,
     ),
     (
         "run p --core tape --tape=",
-        r#"run "p" Tape(FileName { text: "" }) None 2 16 4 64 1000000 false None"#,
+        r#"run "p" Tape(FileName { text: "" }) None 2 16 4 64 1 1000000 false None"#,
     ),
     (
         "run p --core=tape --tape=x",
-        r#"run "p" Tape(FileName { text: "x" }) None 2 16 4 64 1000000 false None"#,
+        r#"run "p" Tape(FileName { text: "x" }) None 2 16 4 64 1 1000000 false None"#,
     ),
     // Any word is a name.
-    ("run -", r#"run "-" Own None 2 16 4 64 1000000 false None"#),
-    ("run ''", r#"run "" Own None 2 16 4 64 1000000 false None"#),
+    (
+        "run -",
+        r#"run "-" Own None 2 16 4 64 1 1000000 false None"#,
+    ),
+    (
+        "run ''",
+        r#"run "" Own None 2 16 4 64 1 1000000 false None"#,
+    ),
     (
         "run -- -x",
-        r#"run "-x" Own None 2 16 4 64 1000000 false None"#,
+        r#"run "-x" Own None 2 16 4 64 1 1000000 false None"#,
     ),
     (
         "run --width 2 -- -x",
-        r#"run "-x" Own None 2 16 4 64 1000000 false None"#,
+        r#"run "-x" Own None 2 16 4 64 1 1000000 false None"#,
     ),
     (
         "run -- --help",
-        r#"run "--help" Own None 2 16 4 64 1000000 false None"#,
+        r#"run "--help" Own None 2 16 4 64 1 1000000 false None"#,
     ),
 ];
 
 /// Lines that are refused.
-static REFUSED: [&str; 50] = [
+static REFUSED: [&str; 55] = [
     // No command, and no help.
     "",
     "walk a",
@@ -118,7 +149,9 @@ static REFUSED: [&str; 50] = [
     "debug a b --width 1",
     "tape a --dump 0:4",
     "asm a --core own",
+    "asm a --port 1",
     "soak 1 1 --core own",
+    "soak 1 1 --port 1",
     // Options twice, or without a value.
     "run a --trace --trace",
     "run a --trace true",
@@ -134,6 +167,9 @@ static REFUSED: [&str; 50] = [
     "run a --core noise --tape t",
     // Numbers out of range.
     "run a --width 5",
+    "run a --port 0",
+    "run a --port 7",
+    "run a --port x",
     "run a --cycles 0",
     "run a --dump 8",
     "run a --dump 0:0",
@@ -206,6 +242,6 @@ fn setup_text(alloc: Global, setup: &Setup) -> Result<String, AllocError> {
     let image = setup.image.as_str();
     let (core, script, config) = (&setup.core, &setup.script, &setup.config);
     let (width, window) = (config.width(), config.window());
-    let (stores, limit) = (config.stores(), config.limit());
-    format!(in alloc; "{image:?} {core:?} {script:?} {width} {window} {stores} {limit}")
+    let (stores, limit, port) = (config.stores(), config.limit(), config.port());
+    format!(in alloc; "{image:?} {core:?} {script:?} {width} {window} {stores} {limit} {port}")
 }

@@ -10,10 +10,11 @@ usage: diva run|tape IMAGE, debug IMAGE COMMANDS, asm SRC, dis IMAGE, soak SEED 
 ";
 
 /// Words that are not a valid command line.
-static MISUSED: [&str; 22] = [
+static MISUSED: [&str; 23] = [
     "",
     "run",
     "run a.diva --width 5",
+    "run a.diva --port 7",
     "run a.diva --window 1",
     "walk a.diva",
     "run a.diva --core tape",

@@ -3,6 +3,7 @@ use crate::programs::{ADDS, FIVE, LOOP, Program, TWO_READS};
 use diva_isa::Record;
 
 /// A run of one program.
+#[derive(Clone, Copy)]
 pub(super) struct Row {
     /// The command line; the program's file is `a.diva`, the script's `a.script`, and the tape's `a.tape`.
     pub line: &'static str,

@@ -6,7 +6,7 @@ use crate::programs::{FIVE_FILE, LOOP, Program, THREE_READS, image_file};
 use std::test::Fail;
 
 /// Two stores, to 32 and to 36, and the halt: two claims in each of the first two cycles.
-const STORES: Row = Row {
+pub(super) const STORES: Row = Row {
     line: "run a.diva --core tape --tape a.tape --stores 4",
     tape: b"\
 0 2002023 0 0 20 0 4 0 ; 4 2002223 0 0 24 0 8 0

@@ -2,12 +2,12 @@
 use Rattle.std.proofs.Common.{refl}
 use Rattle.diva_decode.specs.Table.{row_of}
 use Rattle.diva_isa.specs.Step.{record_of, apply, step}
-use Rattle.diva_core.specs.Cycle.{cycle_of, commits, accepts, watched, drained, flushed, committed, puts_store}
+use Rattle.diva_core.specs.Cycle.{cycle_under, commits_under, accepts, watched, drained, flushed, committed, puts_store}
 use Rattle.diva_core.specs.Difference.{first_difference}
 use Rattle.diva_seed.specs.Generator.{next_number}
 use Rattle.diva_tape.specs.Noise.{noise_claim}
 use Rattle.diva_tape.proofs.worked_hostile.three_instructions_in_noise.Goals as goal
 
 pub returns : goal.returns
-unfolding record_of row_of apply step cycle_of commits accepts watched drained flushed committed puts_store first_difference next_number noise_claim
+unfolding record_of row_of apply step cycle_under commits_under accepts watched drained flushed committed puts_store first_difference next_number noise_claim
 returns c = record { first = refl; summary = refl }

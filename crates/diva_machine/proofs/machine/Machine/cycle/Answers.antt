@@ -2,11 +2,13 @@ use Rattle.std.proofs.Common.{◌≡◌, false, ap, sym, ◌∙◌, subst, ◌<�
 use Rattle.diva_isa.specs.State.{goes_on}
 use Rattle.diva_core.specs.Timed.{Timed}
 use Rattle.diva_core.specs.Cycle.{cycle_of}
+use Rattle.diva_core.specs.Headline.{WillJudge}
+use Rattle.diva_core.proofs.Keeping.{stays}
+use Rattle.diva_core.proofs.Opened.{will_judge}
 use Rattle.diva_core.proofs.Outcomes.{cycle-off}
-use Rattle.diva_core.proofs.Cycling.{owed-drained}
 use Rattle.diva_machine.specs.Machine.{IsBetweenCycles, Machine}
 use Rattle.diva_machine.specs.Staged.{Parts}
-use Rattle.diva_machine.proofs.Laws.{sound_again, none_held, none_committed, front_is_judged, sixth_commits}
+use Rattle.diva_machine.proofs.Laws.{sound_again, none_committed, front_is_judged, sixth_commits}
 use Rattle.diva_machine.proofs.machine.Machine.cycle.Goals as goal
 
 pub invariant_of-self : goal.invariant_of-self
@@ -29,8 +31,8 @@ sound c = subst IsBetweenCycles (same c) c.self.invariant.0
 is : (c : goal.After-cycle) → c.cycle.new.self.timed ≡ cycle_of c.args.self.now.timed c.as_slice.result.now
 is c = c.cycle.ensures.timed ∙ ap (λ (m : Timed). cycle_of m c.as_slice.result.now) (same c)
 
-pub returns-then-goes_on-clause-drained : goal.returns-then-goes_on-clause-drained
-returns-then-goes_on-clause-drained c = none_held c.args.self.now.timed c.cycle.new.self.timed c.as_slice.result.now (sound c) (is c)
+pub returns-then-goes_on-clause-judges : goal.returns-then-goes_on-clause-judges
+returns-then-goes_on-clause-judges c = subst WillJudge (sym (is c)) (will_judge _ (stays c.args.self.now.timed c.as_slice.result.now (sound c).machine))
 
 pub returns-then-goes_on-clause-front : goal.returns-then-goes_on-clause-front
 returns-then-goes_on-clause-front c = front_is_judged c.args.self.now.timed c.cycle.new.self.timed c.as_slice.result.now (sound c) (is c)
@@ -49,8 +51,3 @@ returns-else-goes_on-clause-commits c = none_committed c.args.self.now.timed c.f
 
 pub returns-else-goes_on-clause-checked : goal.returns-else-goes_on-clause-checked
 returns-else-goes_on-clause-checked c = rw c.forget_last.ensures c.self.invariant.1.0.checked
-
-pub returns-else-goes_on-clause-drained : goal.returns-else-goes_on-clause-drained
-returns-else-goes_on-clause-drained c =
-    let same : c.self.inside.parts.timed ≡ c.args.self.now.timed = ap (λ (z : Machine). z.timed) c.self.view_is in
-    owed-drained c.args.self.now.timed (subst IsBetweenCycles same c.self.invariant.0).machine

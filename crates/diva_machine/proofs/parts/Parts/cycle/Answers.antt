@@ -1,10 +1,12 @@
-use Rattle.std.proofs.Common.{◌≡◌, ◌-◌, ◌==◌, ◌&&◌, true, not, ap, sym, ◌∙◌, List, [], ◌++◌, map, refl, length, arith}
+use Rattle.std.proofs.Common.{ℕ, ◌≡◌, ◌+◌, ◌-◌, ◌==◌, ◌&&◌, Some, true, false, not, subst, ap, sym, ◌∙◌, List, [], ◌++◌, map, refl, length, arith}
 use Rattle.std.proofs.Math.Bool.{not-not}
 use Rattle.diva_isa.specs.State.{goes_on}
 use Rattle.diva_isa.specs.declared.record.Record.{Record}
-use Rattle.diva_core.specs.Timed.{Timed}
-use Rattle.diva_core.specs.Cycle.{accepted_in, accepts, begun, commits, cycle_of, drained, watched}
+use Rattle.diva_isa.specs.Step.{record_of}
+use Rattle.diva_core.specs.Timed.{Timed, depth}
+use Rattle.diva_core.specs.Cycle.{accepted_in, accepts, begun, commits_under, cycle_under, drained, watched, stores_wait}
 use Rattle.diva_core.specs.Headline.{dues}
+use Rattle.diva_core.proofs.Passing.{alone_stores}
 use Rattle.diva_machine.specs.Inner.{is_open}
 use Rattle.diva_machine.specs.Staged.{Parts}
 use Rattle.diva_machine.proofs.Staging.{staged_begun}
@@ -17,6 +19,14 @@ commits-phase-requires-clause-staged c =
     let next = λ (z : Parts). record z { timed = drained (begun z.timed) } in
     let is : c.drain.new.self ≡ record c.args.self.now { timed = drained (begun c.args.self.now.timed); last = [] } = c.drain.ensures ∙ ap next c.self.view_is ∙ ap next c.forget_last.ensures in
     rw is (staged_begun c.args.self.now c.requires.staged)
+
+pub commits-phase-requires-clause-passes : goal.commits-phase-requires-clause-passes
+unfolding drained
+commits-phase-requires-clause-passes c =
+    let next = λ (z : Parts). record z { timed = drained (begun z.timed) } in
+    let is : c.drain.new.self ≡ record c.args.self.now { timed = drained (begun c.args.self.now.timed); last = [] } = c.drain.ensures ∙ ap next c.self.view_is ∙ ap next c.forget_last.ensures in
+    subst (λ (z : Parts). (start : ℕ) → z.timed.solo ≡ Some start → z.timed.cycles ≡ start + depth → stores_wait z.timed.config.stores z.timed.owed (record_of z.timed.arch) ≡ false)
+    (sym is) (alone_stores c.args.self.now.timed c.requires.machine)
 
 -- the parts of the cycle, each over the one before
 begins : (c : goal.After-watch) → c.drain.new.self.timed ≡ drained (begun c.args.self.now.timed)
@@ -62,11 +72,11 @@ watches : (c : goal.After-watch) → c.watch.new.self.timed ≡ watched c.args.s
 watches c = c.watch.ensures.timed c.args.self.now.timed (counts c)
 
 pub returns-clause-timed : goal.returns-clause-timed
-unfolding cycle_of
+unfolding cycle_under
 returns-clause-timed c =
     let old : Timed = c.args.self.now.timed in
     let on : goes_on old.arch ≡ true = ap (λ n. n == 0) c.requires.goes_on in
-    watches c ∙ ap (watched old) (admits c) ∙ ap (λ z. watched old (accepts old c.args.list.now z)) (c.commits-phase.ensures.timed ∙ ap commits (begins c))
+    watches c ∙ ap (watched old) (admits c) ∙ ap (λ z. watched old (accepts old c.args.list.now z)) (c.commits-phase.ensures.timed ∙ ap (commits_under stores_wait) (begins c))
     ∙ rw on refl
 
 pub returns-clause-last : goal.returns-clause-last

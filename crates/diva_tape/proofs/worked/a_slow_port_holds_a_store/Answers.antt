@@ -1,0 +1,11 @@
+-- Computing with the definitions gives the worked values.
+use Rattle.std.proofs.Common.{refl}
+use Rattle.diva_decode.specs.Table.{row_of}
+use Rattle.diva_isa.specs.Step.{record_of, apply, step}
+use Rattle.diva_core.specs.Cycle.{cycle_under, commits_under, accepts, watched, drained, flushed, committed, puts_store}
+use Rattle.diva_core.specs.Difference.{first_difference}
+use Rattle.diva_tape.proofs.worked.a_slow_port_holds_a_store.Goals as goal
+
+pub returns : goal.returns
+unfolding record_of row_of apply step cycle_under commits_under accepts watched drained flushed committed puts_store first_difference
+returns c = record { with_one = refl; summary = refl; with_four = refl; wrong = refl; flushed = refl }
