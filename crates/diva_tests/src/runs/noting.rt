@@ -20,7 +20,7 @@ pub(super) struct NotingFiles {
 
 impl NotingFiles {
     /// These files, with no load noted so far.
-    pub fn new(alloc: Global, files: MemFiles) -> Self {
+    pub(super) fn new(alloc: Global, files: MemFiles) -> Self {
         NotingFiles {
             files,
             loads: Vec::new(alloc),
@@ -28,7 +28,7 @@ impl NotingFiles {
     }
 
     /// The loads, in order.
-    pub fn into_loads(self) -> Vec<Load> {
+    pub(super) fn into_loads(self) -> Vec<Load> {
         self.loads
     }
 }
@@ -68,7 +68,7 @@ pub(super) struct NotingSink {
 
 impl NotingSink {
     /// This sink, with no put noted so far. The error: out of memory.
-    pub fn new(alloc: Global, sink: MemSink) -> Result<Self, AllocError> {
+    pub(super) fn new(alloc: Global, sink: MemSink) -> Result<Self, AllocError> {
         Ok(NotingSink {
             sink,
             puts: Vec::with_capacity(alloc, ROOM)?,
@@ -77,12 +77,12 @@ impl NotingSink {
     }
 
     /// The bytes that were taken.
-    pub fn bytes(&self) -> &[u8] {
+    pub(super) fn bytes(&self) -> &[u8] {
         self.sink.bytes()
     }
 
     /// The lengths of the puts, in order, `None` where there was no memory to note one.
-    pub fn puts(&self) -> Option<&[usize]> {
+    pub(super) fn puts(&self) -> Option<&[usize]> {
         if self.unnoted == 0 {
             Some(&self.puts)
         } else {
