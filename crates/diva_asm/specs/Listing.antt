@@ -5,7 +5,7 @@ use Rattle.std.specs.Int.{cast_unsigned, div_ceil, w32}
 use Rattle.std.specs.List.{flat_map, range_with_len}
 use Rattle.diva_decode.specs.Table.{format, row_of}
 use Rattle.diva_decode.specs.declared.instr.Instr.{Instr}
-use Rattle.diva_image.specs.Images.{word_at as number_at}
+use Rattle.diva_image.specs.Header.{word_at as number_at}
 use Rattle.diva_image.specs.Layout.{Layout}
 use Rattle.diva_outside.specs.Text.{Text, hex_word}
 use Rattle.diva_asm.specs.Mnemonics.{op_name, format_operands}

@@ -1,57 +1,52 @@
--- What is written is read again.
-use Rattle.std.proofs.Common.{◌≡◌, ℕ, ◌+◌, List, ◌++◌, length, None, nat_lt, false, refl, arith, rules, ◌∙◌, ap, subst, sym}
+-- What is written in version 1 is read again.
+use Rattle.std.proofs.Common.{◌≡◌, ◌≤◌, ℕ, ◌+◌, List, ◌++◌, length, drop, None, refl, arith, ◌∙◌, ap, subst, sym}
 use Rattle.std.specs.Prelude.{Ok}
-use Rattle.std.proofs.lemmas.Bool.{le-ltb}
+use Rattle.std.specs.Option.{option_or}
 use Rattle.std.proofs.lemmas.Grind.{common_steps}
-use Rattle.byteorder.specs.Endian.{little_bytes}
-use Rattle.byteorder.specs.Numbers.{little_number-reads_back}
 use Rattle.diva_image.specs.declared.header.Header.{Header}
 use Rattle.diva_image.specs.declared.image.Image.{Image}
+use Rattle.diva_image.specs.declared.version.Version.TheVariants.{One}
 use Rattle.diva_image.specs.Layout.{Layout}
 use Rattle.diva_image.specs.Inner.{IsLayout}
 use Rattle.diva_image.specs.ImageLayout.{layout, Reads}
-use Rattle.diva_image.specs.Images.{header_size, word_at, header_of, start_fault, header_fault, length_fault, fault_of, image_of, image_bytes}
+use Rattle.diva_image.specs.Header.{head_fault, header_size, header_bytes, header_of, length_fault}
+use Rattle.diva_image.specs.Images.{body_fault, fault_of, image_of, image_bytes, image_under, payload_fault, payload_of, whole_fault, whole_header}
+use Rattle.diva_image.proofs.Headers.{header_again, head_again, length_again, length_sound}
 
-header_sound : (h : Header) → IsLayout h.base h.size h.entry h.len → header_fault h ≡ None
-unfolding header_fault
-header_sound h r = grind (arith, common_steps, r)
+-- bytes whose header and body have no fault have none
+pub faultless_parts : (bytes : List ℕ) (h : Header) → header_of bytes ≡ h → head_fault bytes ≡ None → body_fault h.version bytes ≡ None
+    → fault_of bytes ≡ None
+unfolding fault_of
+faultless_parts bytes h same head body =
+    rw head (subst (λ (k : Header). body_fault k.version bytes ≡ None) (sym same) body)
 
-length_sound : (n : ℕ) → length_fault n n ≡ None
-unfolding length_fault
-length_sound n = grind (arith, common_steps)
+-- the image of bytes with this header
+pub image_with : (bytes : List ℕ) (h : Header) → header_of bytes ≡ h → image_of bytes ≡ image_under h (payload_of h.version bytes)
+image_with bytes h same = ap (λ (k : Header). image_under k (payload_of k.version bytes)) same
+
+payload_sound : (size len : ℕ) → len ≤ size → payload_fault size len ≡ None
+unfolding payload_fault
+payload_sound size len fits = grind (arith, common_steps)
+
+whole_sound : (bytes : List ℕ) (h : Header) → header_of bytes ≡ h → h.last ≤ h.size → length bytes ≡ header_size + h.last → whole_fault bytes ≡ None
+unfolding whole_fault
+whole_sound bytes h same fits whole =
+    subst (λ (k : Header). option_or (payload_fault k.size k.last) (length_fault (length bytes) (header_size + k.last)) ≡ None) (sym same)
+    (rw (payload_sound h.size h.last fits, whole) (length_sound (header_size + h.last)))
 
 module _ (i : Layout) (r : IsLayout i.base i.size i.entry (length i.payload)) where
-  version : word_at 4 (image_bytes i) ≡ 1
-  version = little_number-reads_back 4 1 (little_bytes 4 i.base ++ little_bytes 4 i.size ++ little_bytes 4 i.entry ++ little_bytes 4 (length i.payload) ++ i.payload) (omega arith)
-
-  base : word_at 8 (image_bytes i) ≡ i.base
-  base = little_number-reads_back 4 i.base (little_bytes 4 i.size ++ little_bytes 4 i.entry ++ little_bytes 4 (length i.payload) ++ i.payload) (omega arith)
-
-  size : word_at 12 (image_bytes i) ≡ i.size
-  size = little_number-reads_back 4 i.size (little_bytes 4 i.entry ++ little_bytes 4 (length i.payload) ++ i.payload) (omega arith)
-
-  entry : word_at 16 (image_bytes i) ≡ i.entry
-  entry = little_number-reads_back 4 i.entry (little_bytes 4 (length i.payload) ++ i.payload) (omega arith)
-
-  len : word_at 20 (image_bytes i) ≡ length i.payload
-  len = little_number-reads_back 4 (length i.payload) i.payload (omega arith)
-
-  whole : length (image_bytes i) ≡ header_size + length i.payload
-  whole = search rules
-
-  header : header_of (image_bytes i) ≡ record { base = i.base; size = i.size; entry = i.entry; len = length i.payload }
-  header = cc (base, size, entry, len)
+  header : header_of (image_bytes i) ≡ whole_header i.base i.size i.entry (length i.payload)
+  header = header_again (whole_header i.base i.size i.entry (length i.payload)) i.payload r.placed (omega arith)
 
   sound_again : fault_of (image_bytes i) ≡ None
-  unfolding fault_of start_fault
   sound_again =
-      let long : nat_lt (header_size + length i.payload) header_size ≡ false = le-ltb _ _ (omega arith) in
-      let same : length_fault (header_size + length i.payload) (header_size + (header_of (image_bytes i)).len) ≡ None =
-      ap (λ (n : ℕ). length_fault (header_size + length i.payload) (header_size + n)) len ∙ length_sound (header_size + length i.payload) in
-      rw (whole, same, header, version, long, header_sound _ r) refl
+      faultless_parts (image_bytes i) (whole_header i.base i.size i.entry (length i.payload)) header
+      (head_again (whole_header i.base i.size i.entry (length i.payload)) i.payload r.placed (omega arith))
+      (whole_sound (image_bytes i) (whole_header i.base i.size i.entry (length i.payload)) header r.payload_fits
+      (length_again (whole_header i.base i.size i.entry (length i.payload)) i.payload r.placed (omega arith)))
 
   same_again : image_of (image_bytes i) ≡ i
-  same_again = rw (base, size, entry) refl
+  same_again = image_with (image_bytes i) (whole_header i.base i.size i.entry (length i.payload)) header
 
 -- the bytes of an image are read to the image again
 pub read_again : (i : Image) (bytes : List ℕ) → bytes ≡ image_bytes (layout i) → Reads bytes (Ok i)

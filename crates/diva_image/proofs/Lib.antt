@@ -1,4 +1,14 @@
--- what is written is read again
+-- the header that is written is read again
+pub mod Headers
+-- what is written in version 1 is read again
 pub mod Again
 -- the rules of an image
 pub mod Rules
+-- the segments of a file
+pub mod Tables
+-- the stretches of blocks that are not blank
+pub mod Stretches
+-- what the segments of an image leave out
+pub mod Shown
+-- what is written in version 2 begins again
+pub mod Beginning

@@ -1,11 +1,10 @@
 -- The rules of an image.
-use Rattle.std.proofs.Common.{◌≡◌, ◌<◌, false, arith}
-use Rattle.std.specs.Prelude.{is_none}
+use Rattle.std.proofs.Common.{◌≡◌, ◌<◌, ℕ, List, length, false, arith}
+use Rattle.std.specs.Prelude.{None}
 use Rattle.std.proofs.lemmas.Grind.{common_steps}
-use Rattle.diva_image.specs.declared.header.Header.{Header}
-use Rattle.diva_image.specs.Images.{header_fault}
+use Rattle.diva_image.specs.Images.{image_from, payload_fault}
 
 -- a payload that is longer than memory is a fault
-pub too_long : (h : Header) → h.size < h.len → is_none (header_fault h) ≡ false
-unfolding header_fault
-too_long h longer = grind (arith, common_steps)
+pub too_long : (base size entry : ℕ) (payload : List ℕ) → size < length payload → image_from base size entry payload ≡ None
+unfolding payload_fault
+too_long base size entry payload longer = grind (arith, common_steps)

@@ -4,7 +4,8 @@ use Rattle.diva_image.specs.declared.image.Image.{Image}
 use Rattle.diva_image.specs.declared.fault.ImageFault.{ImageFault}
 use Rattle.diva_image.specs.declared.fault.ImageFault.TheVariants.{Bad, Memory}
 use Rattle.diva_image.specs.Layout.{Layout}
-use Rattle.diva_image.specs.Images.{fault, fault_of, image_of}
+use Rattle.diva_image.specs.Header.{fault}
+use Rattle.diva_image.specs.Images.{fault_of, image_of}
 
 -- an image of the code as the definitions have it
 abbrev pub layout : Image → Layout

@@ -1,9 +1,13 @@
 -- What only private contracts of this crate cite. A reader of its promises can pass over it.
-use Rattle.std.specs.Prelude.{◌≡◌, ◌≤◌, ◌<◌, ℕ, ◌+◌, ◌%◌, ◌^◌}
+use Rattle.std.specs.Prelude.{◌≡◌, ◌≤◌, ◌<◌, ℕ, zero, suc, ◌+◌, ◌-◌, ◌%◌, ◌^◌, ◌==◌, ◌||◌, true, false, Bool, List, [], ◌∷◌, length, None, if◌then◌else◌}
 use Rattle.diva_image.specs.Layout.{most_size}
+use Rattle.diva_image.specs.Header.{head_fault, header_of, header_size}
+use Rattle.diva_image.specs.Segments.{behind, most_segments}
+use Rattle.diva_image.specs.declared.header.Header.{Header}
+use Rattle.diva_image.specs.declared.segment.Segment.{Segment}
 
--- the rules of an image whose payload has len bytes
-pub record IsLayout (base size entry len : ℕ) : Type 0 where
+-- the rules of where memory lies, and where it is entered
+pub record IsPlaced (base size entry : ℕ) : Type 0 where
   pub base_aligned : base % 4 ≡ 0
   pub size_aligned : size % 4 ≡ 0
   pub size_least : 4 ≤ size
@@ -12,4 +16,29 @@ pub record IsLayout (base size entry len : ℕ) : Type 0 where
   pub entry_aligned : entry % 4 ≡ 0
   pub entry_least : base ≤ entry
   pub entry_most : entry < base + size
+
+-- the rules of an image whose payload has len bytes
+pub record IsLayout (base size entry len : ℕ) : Type 0 where
+  pub placed : IsPlaced base size entry
   pub payload_fits : len ≤ size
+
+-- the header of bytes whose header has no fault
+pub record IsHeader (bytes : List ℕ) (h : Header) : Type 0 where
+  pub header : h ≡ header_of bytes
+  pub faultless : head_fault bytes ≡ None
+  pub long : header_size ≤ length bytes
+  pub rules : IsPlaced h.base h.size h.entry
+
+-- segments that lie between two addresses, in order and apart
+abbrev pub ArePlaced : (least most : ℕ) → List Segment → Type 0
+ArePlaced least most [] = Unit {0}
+ArePlaced least most (s ∷ rest) = (0 < s.len) × (least ≤ s.addr) × (behind s ≤ most) × ArePlaced (behind s) most rest
+
+-- segments with a block more behind them, at most n + 1: the block goes on the last segment where that ends at the block,
+-- or there are as many as there may be
+abbrev pub extended : ℕ → List Segment → Segment → List Segment
+extended n [] block = block ∷ []
+extended n (s ∷ []) block =
+    if behind s == block.addr || n == 0 then record { addr = s.addr; len = behind block - s.addr } ∷ [] else s ∷ block ∷ []
+extended zero (s ∷ t ∷ rest) block = s ∷ extended zero (t ∷ rest) block
+extended (suc n) (s ∷ t ∷ rest) block = s ∷ extended n (t ∷ rest) block

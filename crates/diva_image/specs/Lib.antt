@@ -1,7 +1,9 @@
--- What the contracts of this crate cite.
-pub mod Images
+-- What the contracts of this crate cite, in the order in which it is best read.
 pub mod Layout
+pub mod Header
+pub mod Segments
+pub mod Images
 pub mod ImageLayout
+pub mod Migrated
 -- what only private contracts cite
-pub mod Whole
 pub mod Inner

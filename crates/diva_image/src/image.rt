@@ -3,7 +3,8 @@ ghost use Rattle.std.specs.Prelude.{◌≡◌, length, option_map};
 ghost use Rattle.diva_image.specs.Inner.{IsLayout};
 
 use crate::Payload;
-use crate::header::Header;
+use crate::header::{Header, payload_fault};
+use crate::version::Version;
 
 /// What a machine starts with: its memory, which ends at 2^32 at the latest, and where it is entered.
 #[derive(Drop)]
@@ -24,7 +25,7 @@ impl Image {
     ghost use Rattle.diva_image.specs.ImageLayout.{layout};
 
     /// The image of these parts, `None` exactly where they break one of its rules.
-    #[tactic(auto, using(crate::proofs::Rules::too_long))]
+    #[tactic(auto, using(crate::proofs::Rules::too_long), unfolding(crate::specs::Images::payload_fault))]
     pub fn new(base: u32, size: u32, entry: u32, payload: Vec<u8>) -> Option<Self>
         ensures { option_map layout result ≡ image_from base size entry payload.items }
     {
@@ -32,10 +33,11 @@ impl Image {
             return None;
         }
         let header = Header {
+            version: Version::One,
             base,
             size,
             entry,
-            len: payload.len() as u32,
+            last: payload.len() as u32,
         };
         if header.fault().is_some() {
             return None;

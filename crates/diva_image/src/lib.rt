@@ -1,26 +1,37 @@
 //! Image files: what a machine's memory begins with, and where it is entered.
 //!
-//! A file is the four letters "DIVA", then five numbers of four bytes each, the lowest byte first: the version,
-//! which is 1, base, size, entry and length. Then come exactly `length` bytes, which are loaded at base.
+//! A file is the four letters "DIVA", then five numbers of four bytes each, the lowest byte first: the version, base, size,
+//! entry and one more. In version 1 that is a length, and exactly so many bytes follow, which are loaded at base. In version 2
+//! it is a number of segments; a pair of numbers follows for each, its address and how many bytes it has, and then the bytes
+//! of the segments one after another.
 //!
 //! - `image`: `Image`, whose type keeps the rules of an image.
 //! - `payload`: `Payload`, the bytes of an image.
 //! - `reading`: `read`, from bytes to an image or to their first fault.
-//! - `writing`: `write`, from an image to its bytes.
-//! - `header`: the header, read and written, and its faults.
+//! - `writing`: `write`, from an image to its bytes in version 1; `migrating`: `write2`, to those in version 2.
+//! - `header`, `version`: the header, read and written, and its faults.
+//! - `table`: the segments of a file, and their faults; `segments`, `segment`: lists of segments.
 //! - `fault`: `ImageFault`, why bytes are not an image.
 #![tactic(auto)]
 
 mod fault;
 mod header;
 mod image;
+mod migrating;
 mod payload;
 mod reading;
+mod segment;
+mod segments;
+mod table;
+mod version;
 mod writing;
 
 pub use fault::ImageFault;
 pub use header::{HEADER_SIZE, MOST_SIZE};
 pub use image::Image;
+pub use migrating::write2;
 pub use payload::Payload;
 pub use reading::read;
+pub use segments::MOST_SEGMENTS;
+pub use table::PAIR_SIZE;
 pub use writing::write;

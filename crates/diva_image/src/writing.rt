@@ -1,13 +1,15 @@
-// An image to its bytes.
+// An image to its bytes, in version 1.
 ghost use Rattle.std.specs.Prelude.{◌≡◌, IfOk, Ok};
 ghost use Rattle.diva_image.specs.Images.{image_bytes};
 ghost use Rattle.diva_image.specs.ImageLayout.{layout, Reads};
 
 use crate::Image;
 use crate::header::{HEADER_SIZE, Header};
+use crate::version::Version;
 use std::alloc::{AllocError, Global};
 
-/// The bytes of an image, which [`read`](crate::read) makes the same image of. There is one spelling of each image.
+/// The bytes of an image in version 1, which [`read`](crate::read) makes the same image of. There is one spelling of each
+/// image.
 #[tactic(auto, using(crate::proofs::Again::read_again))]
 pub fn write(alloc: Global, image: &Image) -> Result<Vec<u8>, AllocError>
     ensures bytes { IfOk result (λ bytes. bytes.items ≡ image_bytes (layout image.now)) }
@@ -22,10 +24,11 @@ fn spelled(alloc: Global, image: &Image) -> Result<Vec<u8>, AllocError>
 {
     let payload = image.payload.bytes();
     let header = Header {
+        version: Version::One,
         base: image.base,
         size: image.size,
         entry: image.entry,
-        len: payload.len() as u32,
+        last: payload.len() as u32,
     };
     let mut bytes = Vec::with_capacity(alloc, HEADER_SIZE + payload.len())?;
     header.write(&mut bytes)?;

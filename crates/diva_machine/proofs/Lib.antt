@@ -9,3 +9,4 @@ pub mod Judged
 pub mod Counting
 pub mod Driving
 pub mod Ports
+pub mod Beginning

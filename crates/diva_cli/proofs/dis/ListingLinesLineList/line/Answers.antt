@@ -8,7 +8,7 @@ pub overflow_mul-place : goal.overflow_mul-place
 overflow_mul-place c =
     let image = c.args.self.now.image.now in
     let inside = place_inside image c.args.at c.requires in
-    omega (arith, inside, image.rules.payload_fits, image.rules.size_most)
+    omega (arith, inside, image.rules.payload_fits, image.rules.placed.size_most)
 
 pub line_at-requires : goal.line_at-requires
 line_at-requires c = place_inside c.args.self.now.image.now c.args.at c.requires
