@@ -53,11 +53,14 @@ asm = record { name = codes "asm"; positionals = codes "SRC" ∷ []; options = [
 abbrev pub dis : Leaf
 dis = record { name = codes "dis"; positionals = codes "IMAGE" ∷ []; options = []; flags = [] }
 
+abbrev pub migrate : Leaf
+migrate = record { name = codes "migrate"; positionals = codes "IMAGE" ∷ []; options = []; flags = [] }
+
 abbrev pub soak : Leaf
 soak = record { name = codes "soak"; positionals = codes "SEED" ∷ codes "LENGTH" ∷ []; options = []; flags = [] }
 
 abbrev pub leaves : List Leaf
-leaves = run ∷ tape ∷ debug ∷ asm ∷ dis ∷ soak ∷ []
+leaves = run ∷ tape ∷ debug ∷ asm ∷ dis ∷ migrate ∷ soak ∷ []
 
 -- ---- the same for `clap`
 

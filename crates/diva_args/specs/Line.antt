@@ -110,6 +110,7 @@ job_from name value =
     else if bytes_eq name (codes "debug") then option_map job.Debug (debug_from value)
     else if bytes_eq name (codes "asm") then option_map job.Asm (value (codes "SRC"))
     else if bytes_eq name (codes "dis") then option_map job.Dis (value (codes "IMAGE"))
+    else if bytes_eq name (codes "migrate") then option_map job.Migrate (value (codes "IMAGE"))
     else if bytes_eq name (codes "soak") then option_map job.Soak (soak_from value)
     else None
 

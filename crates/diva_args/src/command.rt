@@ -19,7 +19,7 @@ pub(crate) struct Leaf {
 }
 
 /// The commands of the program.
-static LEAVES: [Leaf; 6] = [
+static LEAVES: [Leaf; 7] = [
     Leaf {
         name: "run",
         positionals: &["IMAGE"],
@@ -53,6 +53,12 @@ static LEAVES: [Leaf; 6] = [
     },
     Leaf {
         name: "dis",
+        positionals: &["IMAGE"],
+        options: &[],
+        flags: &[],
+    },
+    Leaf {
+        name: "migrate",
         positionals: &["IMAGE"],
         options: &[],
         flags: &[],

@@ -28,6 +28,8 @@ pub enum Job {
     Asm(FileName),
     /// `dis IMAGE`: lists the image of this name. The name is the word as it is.
     Dis(FileName),
+    /// `migrate IMAGE`: writes the image of this name in version 2. The name is the word as it is.
+    Migrate(FileName),
     /// `soak SEED LENGTH`: runs the image of a seed twice, under two cores.
     Soak(SoakOptions),
 }

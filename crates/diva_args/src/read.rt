@@ -67,6 +67,7 @@ fn job(alloc: Global, matches: &ArgMatches<'_>) -> Result<Job, ArgsFault>
         "debug" => Ok(Job::Debug(debug(alloc, found)?)),
         "asm" => Ok(Job::Asm(file_of(alloc, found, "SRC")?)),
         "dis" => Ok(Job::Dis(file_of(alloc, found, "IMAGE")?)),
+        "migrate" => Ok(Job::Migrate(file_of(alloc, found, "IMAGE")?)),
         "soak" => Ok(Job::Soak(soak(found)?)),
         _ => Err(ArgsFault::Usage),
     }

@@ -11,7 +11,7 @@ use Rattle.diva_isa.specs.declared.end.End.TheVariants.{GoesOn, Halt, Trap}
 use Rattle.diva_core.specs.History.{Meaning}
 use Rattle.diva_core.specs.Timed.{Timed}
 use Rattle.diva_args.specs.declared.job.Job.{Job}
-use Rattle.diva_args.specs.declared.job.Job.TheVariants.{Run, Tape, Debug, Asm, Dis, Soak}
+use Rattle.diva_args.specs.declared.job.Job.TheVariants.{Run, Tape, Debug, Asm, Dis, Migrate, Soak}
 use Rattle.diva_cli.specs.declared.stop.Failure.{Failure}
 use Rattle.diva_cli.specs.declared.stop.Failure.TheVariants.{Cut, Memory}
 use Rattle.diva_cli.specs.Asked.{Asked}
@@ -45,6 +45,7 @@ can_end gives (Tape options) bytes core status text h = ends_done h.last options
 can_end gives (Debug options) bytes core status text h = h.whole.0
 can_end gives (Asm name) bytes core status text h = h.alone.whole
 can_end gives (Dis name) bytes core status text h = h.alone.whole
+can_end gives (Migrate name) bytes core status text h = h.alone.whole
 can_end gives (Soak options) bytes core status text h = h.whole
 
 -- ---- a file that is held is no cause to stop

@@ -9,6 +9,7 @@ pub mod Preparing
 pub mod Working
 pub mod Alone
 pub mod Listing
+pub mod Migrating
 pub mod Completing
 pub mod Refusing
 pub mod Determining

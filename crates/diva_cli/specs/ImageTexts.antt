@@ -1,10 +1,12 @@
--- What the commands `asm` and `dis` write. They ask no core.
-use Rattle.std.specs.Prelude.{◌≡◌, ℕ, Result, Ok, IfOk}
+-- What the commands `asm`, `dis` and `migrate` write. They ask no core.
+use Rattle.std.specs.Prelude.{◌≡◌, ℕ, Result, Ok, None, IfOk}
 use Rattle.std.specs.List.{concat}
 use Rattle.diva_outside.specs.Text.{Text}
 use Rattle.diva_outside.specs.declared.files.What.TheVariants.{Image, Source}
-use Rattle.diva_image.specs.Images.{image_bytes, image_of}
+use Rattle.diva_image.specs.Images.{fault_of, image_bytes, image_of}
 use Rattle.diva_image.specs.Layout.{Layout}
+use Rattle.diva_image.specs.Migrated.{segmented_bytes}
+use Rattle.diva_machine.specs.Start.{start_of}
 use Rattle.diva_asm.specs.Listing.{listing_of}
 use Rattle.diva_asm.specs.Sources.{source_of}
 use Rattle.diva_cli.specs.Changes.{Change}
@@ -25,4 +27,11 @@ pub record HasAssembled {C : Type 0} (bytes : FileBytes) (core : Change C) (ende
 -- a line for each word of an image
 pub record HasListing {C : Type 0} (bytes : FileBytes) (core : Change C) (ended : Result ℕ Text) (text : Text) : Type 0 where
   pub lines : text ≡ concat (listing_of (image_of (bytes Image)))
+  pub alone : IsAlone core ended
+
+-- the bytes of an image in version 2, which start the state that the image starts
+pub record HasMigrated {C : Type 0} (bytes : FileBytes) (core : Change C) (ended : Result ℕ Text) (text : Text) : Type 0 where
+  pub written : text ≡ segmented_bytes (image_of (bytes Image))
+  pub faultless : fault_of text ≡ None
+  pub starts : start_of (image_of text) ≡ start_of (image_of (bytes Image))
   pub alone : IsAlone core ended

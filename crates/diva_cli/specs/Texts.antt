@@ -4,13 +4,13 @@ use Rattle.std.specs.Prelude.{◌≡◌, ◌⊎◌, ℕ, Result}
 use Rattle.diva_outside.specs.Text.{Text}
 use Rattle.diva_core.specs.History.{Meaning}
 use Rattle.diva_args.specs.declared.job.Job.{Job}
-use Rattle.diva_args.specs.declared.job.Job.TheVariants.{Run, Tape, Debug, Asm, Dis, Soak}
+use Rattle.diva_args.specs.declared.job.Job.TheVariants.{Run, Tape, Debug, Asm, Dis, Migrate, Soak}
 use Rattle.diva_cli.specs.Changes.{Change}
 use Rattle.diva_cli.specs.Wanted.{FileBytes}
 use Rattle.diva_cli.specs.Runs.{HasRun}
 use Rattle.diva_cli.specs.TapeTexts.{HasTape}
 use Rattle.diva_cli.specs.DebugTexts.{HasReplies}
-use Rattle.diva_cli.specs.ImageTexts.{HasAssembled, HasListing}
+use Rattle.diva_cli.specs.ImageTexts.{HasAssembled, HasListing, HasMigrated}
 use Rattle.diva_cli.specs.SoakTexts.{HasSoaked}
 
 -- ---- a line for each command
@@ -21,6 +21,7 @@ HasText gives (Tape options) bytes core ended text = HasTape gives options bytes
 HasText gives (Debug options) bytes core ended text = HasReplies gives options bytes core ended text
 HasText gives (Asm name) bytes core ended text = HasAssembled bytes core ended text
 HasText gives (Dis name) bytes core ended text = HasListing bytes core ended text
+HasText gives (Migrate name) bytes core ended text = HasMigrated bytes core ended text
 HasText gives (Soak options) bytes core ended text = HasSoaked gives options core ended text
 
 -- the statuses of commands whose text was written whole
@@ -34,4 +35,5 @@ CanEnd (Tape options) status = IsDone status
 CanEnd (Debug options) status = status ≡ 0
 CanEnd (Asm name) status = status ≡ 0
 CanEnd (Dis name) status = status ≡ 0
+CanEnd (Migrate name) status = status ≡ 0
 CanEnd (Soak options) status = status ≡ 0

@@ -1,23 +1,25 @@
 -- The files that a job wants, in the order in which they are loaded, and what is wrong with their bytes.
-use Rattle.std.specs.Prelude.{◌≡◌, ◌≤◌, ℕ, ◌+◌, List, [], ◌∷◌, ◌++◌, length, Option, Some, None, Err, IsOk}
+use Rattle.std.specs.Prelude.{◌≡◌, ◌≤◌, ℕ, ◌+◌, ◌*◌, List, [], ◌∷◌, ◌++◌, length, Option, Some, None, Err, IsOk}
 use Rattle.diva_outside.specs.Files.{Contents, Has}
 use Rattle.diva_outside.specs.declared.files.What.{What}
 use Rattle.diva_outside.specs.declared.files.What.TheVariants.{Image, Script, Tape as TapeFile, Source, Commands}
-use Rattle.diva_image.specs.Images.{fault, fault_of, header_size}
+use Rattle.diva_image.specs.Header.{fault, header_size}
+use Rattle.diva_image.specs.Images.{fault_of}
 use Rattle.diva_image.specs.Layout.{most_size}
+use Rattle.diva_image.specs.Segments.{most_segments, pair_size}
 use Rattle.diva_faults.specs.Reading.{script_of}
 use Rattle.diva_tape.specs.Tapes.{tape_of}
 use Rattle.diva_args.specs.Options.{DebugOptions, Setup}
 use Rattle.diva_args.specs.declared.job.CoreChoice.{CoreChoice}
 use Rattle.diva_args.specs.declared.job.CoreChoice.TheVariants.{Own, Lockstep, Scalar, Silent, Flood, Echo, Noise, Tape as OfTape}
 use Rattle.diva_args.specs.declared.job.Job.{Job}
-use Rattle.diva_args.specs.declared.job.Job.TheVariants.{Run, Tape, Debug, Asm, Dis, Soak}
+use Rattle.diva_args.specs.declared.job.Job.TheVariants.{Run, Tape, Debug, Asm, Dis, Migrate, Soak}
 use Rattle.diva_asm.specs.Sources.{source_of}
 use Rattle.diva_debug.specs.Reading.{commands_of}
 
 -- the most bytes that a file may have: those of the largest image
 abbrev pub file_limit : ℕ
-file_limit = header_size + most_size
+file_limit = header_size + pair_size * most_segments + most_size
 
 -- a file that is wanted: what it is for, and its name
 pub record Wanted : Type 0 where
@@ -58,6 +60,7 @@ wanted (Tape options) = machine_files options.setup
 wanted (Debug options) = session_files options
 wanted (Asm name) = file Source name ∷ []
 wanted (Dis name) = file Image name ∷ []
+wanted (Migrate name) = file Image name ∷ []
 wanted (Soak options) = []
 
 -- ---- the first fault of a file's bytes, by what the file is for

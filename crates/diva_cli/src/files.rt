@@ -9,13 +9,13 @@ use diva_args::FileName;
 use diva_asm::assemble;
 use diva_debug::{Command, commands};
 use diva_faults::Script;
-use diva_image::{HEADER_SIZE, Image, ImageFault, MOST_SIZE, read};
+use diva_image::{HEADER_SIZE, Image, ImageFault, MOST_SEGMENTS, MOST_SIZE, PAIR_SIZE, read};
 use diva_outside::{Files, LoadFault, TextFault, What};
 use diva_tape::Tape;
 use std::alloc::Global;
 
 /// The most bytes that a file may have: those of the largest image.
-const FILE_LIMIT: usize = HEADER_SIZE + MOST_SIZE as usize;
+const FILE_LIMIT: usize = HEADER_SIZE + PAIR_SIZE * MOST_SEGMENTS + MOST_SIZE as usize;
 
 /// A kind of file: what a file is loaded for, and what its bytes are read to.
 pub(crate) trait FileKind {

@@ -1,7 +1,7 @@
 //! The whole program, over the files, the sink and the core that it is handed.
 //!
 //! - `program`: `top`, from the words to the status; `work` has an arm for each command;
-//! - `run` (with `tape`), `debug`, `asm`, `dis`, `soak`: these commands;
+//! - `run` (with `tape`), `debug`, `asm`, `dis`, `migrate`, `soak`: these commands;
 //! - `files`: the kinds of files, and how a file of any kind is loaded and read; `loading`: the files of a job, one after another;
 //! - `driving`: the core that the command line chose, and what is done with it and a machine;
 //! - `tasks`: the things that are done with a core and a machine, under a script;
@@ -19,7 +19,7 @@
 //! - `Statuses`: what each status says; `Answers`: what is answered, and why;
 //! - `Wanted`: which files a job wants, and what is wrong with their bytes; `Stops`: at which of them loading stops;
 //! - `Texts`: the text of each command; `Runs`: that of `run`, with what holds of the machine; `Driven`: what drove it;
-//! - `TapeTexts`: the text of `tape`; `DebugTexts`, with `Replies`: that of `debug`; `ImageTexts`: those of `asm` and `dis`;
+//! - `TapeTexts`: the text of `tape`; `DebugTexts`, with `Replies`: that of `debug`; `ImageTexts`: those of `asm`, `dis` and `migrate`;
 //!   `SoakTexts`: that of `soak`; `Cuts`: in which part of a text a sink failed;
 //! - `Determined`: what is determined of a run.
 //!
@@ -35,6 +35,7 @@ mod files;
 pub mod laws;
 mod lines;
 mod loading;
+mod migrate;
 mod program;
 mod replying;
 mod run;

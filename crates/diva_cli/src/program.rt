@@ -16,6 +16,7 @@ use crate::asm::asm;
 use crate::debug::debug;
 use crate::dis::dis;
 use crate::lines::usage_line;
+use crate::migrate::migrate;
 use crate::run::{run, tape};
 use crate::soak::soak;
 use crate::stop::Failure;
@@ -146,6 +147,7 @@ fn work<F: Files, S: Sink, C: Core>(
         Job::Debug(options) => debug(alloc, options, files, sink, core),
         Job::Asm(source) => asm(alloc, source, files, sink, core),
         Job::Dis(image) => dis(alloc, image, files, sink, core),
+        Job::Migrate(image) => migrate(alloc, image, files, sink, core),
         Job::Soak(options) => soak(alloc, options, files, sink, core),
     }
 }

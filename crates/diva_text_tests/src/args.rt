@@ -7,7 +7,7 @@ use std::test::Fail;
 
 /// Lines with what they ask for: the command, then the names and numbers. Behind an image stand its core, its script, width, window,
 /// stores, limit and port; last come of `run` the cycles, the commit lines and the dump, and of `tape` the cycles.
-static TAKEN: [(&str, &str); 32] = [
+static TAKEN: [(&str, &str); 33] = [
     (
         "run p1.diva",
         r#"run "p1.diva" Own None 2 16 4 64 1 1000000 false None"#,
@@ -29,6 +29,7 @@ static TAKEN: [(&str, &str); 32] = [
     ),
     ("asm p1.s", r#"asm "p1.s""#),
     ("dis -- -x", r#"dis "-x""#),
+    ("migrate p1.diva", r#"migrate "p1.diva""#),
     ("soak 1 1", "soak 1 1"),
     ("soak 7 65536", "soak 7 65536"),
     ("soak 4294967295 0000000002", "soak 4294967295 2"),
@@ -120,7 +121,7 @@ static TAKEN: [(&str, &str); 32] = [
 ];
 
 /// Lines that are refused.
-static REFUSED: [&str; 55] = [
+static REFUSED: [&str; 58] = [
     // No command, and no help.
     "",
     "walk a",
@@ -141,6 +142,8 @@ static REFUSED: [&str; 55] = [
     "asm",
     "asm a b",
     "dis",
+    "migrate",
+    "migrate a b",
     "soak",
     "soak 1",
     "soak 1 1 1",
@@ -150,6 +153,7 @@ static REFUSED: [&str; 55] = [
     "tape a --dump 0:4",
     "asm a --core own",
     "asm a --port 1",
+    "migrate p1.diva --core own",
     "soak 1 1 --core own",
     "soak 1 1 --port 1",
     // Options twice, or without a value.
@@ -226,6 +230,7 @@ fn text_of(alloc: Global, job: &Job) -> Result<String, AllocError> {
         }
         Job::Asm(source) => format!(in alloc; "asm {:?}", source.as_str()),
         Job::Dis(image) => format!(in alloc; "dis {:?}", image.as_str()),
+        Job::Migrate(image) => format!(in alloc; "migrate {:?}", image.as_str()),
         Job::Soak(SoakOptions { seed, instructions }) => {
             format!(in alloc; "soak {seed} {instructions}")
         }

@@ -1,0 +1,28 @@
+-- The bytes of the image were put.
+use Rattle.std.proofs.Common.{refl}
+use Rattle.std.proofs.lemmas.Result.{err_from_is_err_and}
+use Rattle.diva_args.specs.declared.job.Job.TheVariants.{Migrate}
+use Rattle.diva_cli.specs.Changes.{file_faults}
+use Rattle.diva_cli.proofs.Alone.{wrote_all, wrote_part}
+use Rattle.diva_cli.proofs.Migrating.{has_migrated}
+use Rattle.diva_cli.proofs.Working.{stop_answers}
+use Rattle.diva_cli.proofs.migrate.migrate.Goals as goal
+
+pub returns-in-Err : goal.returns-in-Err
+returns-in-Err g c =
+    stop_answers g.C.Core.gives _ _ _ _ (Migrate c.args.image) c.in-Err.stop _ c.in-Err.ensures.stopped c.write_stop.ensures
+
+pub returns-in_err-put : goal.returns-in_err-put
+returns-in_err-put g c =
+    let h = c.in-Ok.ensures.holds in
+    let p = err_from_is_err_and c.from_residual-in_err-put.result c.from_residual-in_err-put.ensures.1 in
+    rw (p.1, p.2) (wrote_part g.C.Core.gives (Migrate c.args.image) (g.F.Files.contents c.args.files.now) (file_faults g.F.Files.faults c.args.files.now c.load.new.files) (λ _. h.bytes) c.args._core.now _ c.deref.result.now (h.sound, tt) _
+    (has_migrated (λ _. h.bytes) c.args._core.now _ c.deref.result.now _ c.in_ok-bytes.bytes.items c.deref.ensures.value h.holds c.in_ok-bytes.ensures.bytes c.in_ok-bytes.ensures.begins tt)
+    c.in_err-put.ensures)
+
+pub returns : goal.returns
+returns g c =
+    let h = c.in-Ok.ensures.holds in
+    wrote_all g.C.Core.gives (Migrate c.args.image) (g.F.Files.contents c.args.files.now) (file_faults g.F.Files.faults c.args.files.now c.load.new.files) (λ _. h.bytes) c.args._core.now _ c.deref.result.now (h.sound, tt)
+    (has_migrated (λ _. h.bytes) c.args._core.now _ c.deref.result.now _ c.in_ok-bytes.bytes.items c.deref.ensures.value h.holds c.in_ok-bytes.ensures.bytes c.in_ok-bytes.ensures.begins refl)
+    c.in_ok-put.ensures
