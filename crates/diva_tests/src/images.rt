@@ -1,5 +1,8 @@
 // Images: one that is read and written, faults of it, and images of seeds that were worked out by hand, or by a program of another
 // language.
+mod migrated;
+mod segments;
+
 use diva_image::{ImageFault, read, write};
 use diva_soak::soak_image;
 use std::test::Fail;

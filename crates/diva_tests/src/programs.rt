@@ -1,6 +1,6 @@
 // Small programs, the image files that they are, and the records of one of them.
 use diva_isa::Record;
-use std::alloc::Global;
+use std::alloc::{AllocError, Global};
 use std::test::Fail;
 
 /// A program that lies at 0, and is entered there.
@@ -22,6 +22,12 @@ pub(crate) const FIVE: Program = Program {
 pub(crate) const FIVE_FILE: [u8; 36] = [
     0x44, 0x49, 0x56, 0x41, 0x01, 0, 0, 0, 0, 0, 0, 0, 0x40, 0, 0, 0, 0, 0, 0, 0, 0x0c, 0, 0, 0,
     0x93, 0x00, 0x50, 0x00, 0x93, 0x08, 0xd0, 0x05, 0x73, 0, 0, 0,
+];
+
+/// The same image in version 2, where the three words are one segment.
+pub(crate) const FIVE_SEGMENTED: [u8; 44] = [
+    0x44, 0x49, 0x56, 0x41, 0x02, 0, 0, 0, 0, 0, 0, 0, 0x40, 0, 0, 0, 0, 0, 0, 0, 0x01, 0, 0, 0, 0,
+    0, 0, 0, 0x0c, 0, 0, 0, 0x93, 0x00, 0x50, 0x00, 0x93, 0x08, 0xd0, 0x05, 0x73, 0, 0, 0,
 ];
 
 /// A record whose fields are all 0.
@@ -104,12 +110,45 @@ pub(crate) const LOOP: Program = Program {
 /// The image file of a program.
 pub(crate) fn image_file(alloc: Global, program: Program) -> Result<Vec<u8>, Fail> {
     let length = u32::try_from(program.words.len())?.saturating_mul(4);
-    let mut bytes = Vec::from_slice(alloc, b"DIVA")?;
-    for number in [1, 0, program.size, 0, length] {
-        bytes.extend_from_slice(&number.to_le_bytes())?;
-    }
+    let mut bytes = file_of(alloc, [1, 0, program.size, 0, length], &[], &[])?;
     for word in program.words {
         bytes.extend_from_slice(&word.to_le_bytes())?;
     }
     Ok(bytes)
+}
+
+/// An image file of these numbers, which are the version, base, size, entry and one more; then come pairs of
+/// numbers, and bytes.
+pub(crate) fn file_of(
+    alloc: Global,
+    header: [u32; 5],
+    pairs: &[(u32, u32)],
+    bytes: &[u8],
+) -> Result<Vec<u8>, AllocError> {
+    let mut file = Vec::from_slice(alloc, b"DIVA")?;
+    for number in header {
+        file.extend_from_slice(&number.to_le_bytes())?;
+    }
+    for (addr, len) in pairs {
+        file.extend_from_slice(&addr.to_le_bytes())?;
+        file.extend_from_slice(&len.to_le_bytes())?;
+    }
+    file.extend_from_slice(bytes)?;
+    Ok(file)
+}
+
+/// A file as long as this, with zeros where it was shorter, in which one byte is another.
+pub(crate) fn altered(
+    alloc: Global,
+    file: &[u8],
+    len: usize,
+    at: usize,
+    byte: u8,
+) -> Result<Vec<u8>, AllocError> {
+    let mut altered = Vec::from_slice(alloc, file)?;
+    altered.resize(len, 0)?;
+    if let Some(old) = altered.get_mut(at) {
+        *old = byte;
+    }
+    Ok(altered)
 }

@@ -6,6 +6,7 @@ mod pipelined;
 mod ports;
 mod refusals;
 mod scripts;
+mod segments;
 mod sessions;
 mod soaks;
 mod sources;
@@ -109,8 +110,7 @@ fn compare(
     compare_by(rt, &mut Flipped, line, outside, status, text)
 }
 
-/// Compares status and text where nothing is run: the program's own core is not asked, and the text is one put. Gives
-/// the loads.
+/// Compares status and text where nothing is run. Gives the loads.
 fn compare_unasked(
     rt: &impl Abort,
     line: &str,
@@ -118,12 +118,19 @@ fn compare_unasked(
     status: u8,
     text: &str,
 ) -> Result<Vec<Load>, Fail> {
+    let answer = run_unasked(rt, line, outside)?;
+    compare_answer(rt, line, &answer, status, text)?;
+    Ok(answer.loads)
+}
+
+/// What the program answers where nothing is run: its own core is not asked, and all that is written is one put.
+fn run_unasked(rt: &impl Abort, line: &str, outside: Outside) -> Result<Answer, Fail> {
     let mut core = Counting { calls: 0 };
     let answer = run_program(&mut core, line, outside)?;
-    compare_answer(rt, line, &answer, status, text)?;
     assert_eq!(rt; core.calls, 0, "{line}");
-    assert_eq!(rt; answer.puts.as_slice(), [text.len()].as_slice(), "{line}");
-    Ok(answer.loads)
+    let whole = answer.text.len();
+    assert_eq!(rt; answer.puts.as_slice(), [whole].as_slice(), "{line}");
+    Ok(answer)
 }
 
 /// Runs the program on a command line, over the files of `outside` and with this core as its own, and

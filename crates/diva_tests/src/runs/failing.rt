@@ -8,7 +8,7 @@ use super::tapes::{FLOODED, IN_LOCKSTEP};
 use super::traces::FIVE_TRACE;
 use super::{Answer, FIVE_TEXT, Outside, compare_unasked, file_name, five_files, run_program};
 use crate::cores::{Counting, Flipped};
-use crate::programs::FIVE_FILE;
+use crate::programs::{FIVE_FILE, FIVE_SEGMENTED};
 use diva_core::Core;
 use diva_outside::{Fail as SinkFail, What};
 use std::alloc::Global;
@@ -16,7 +16,7 @@ use std::process::Abort;
 use std::test::Fail;
 
 /// Command lines, and the kinds of the files that they load, in order.
-static LOADS: [(&str, &[What]); 11] = [
+static LOADS: [(&str, &[What]); 12] = [
     ("run a.diva", &[What::Image]),
     ("run a.diva --script a.script", &[What::Image, What::Script]),
     (
@@ -39,6 +39,7 @@ static LOADS: [(&str, &[What]); 11] = [
     ),
     ("asm a.s", &[What::Source]),
     ("dis a.diva", &[What::Image]),
+    ("migrate a.diva", &[What::Image]),
     ("soak 1 1", &[]),
 ];
 
@@ -130,9 +131,15 @@ fn puts_that_fail(rt: HostRuntime) -> Result<(), Fail> {
     ] {
         compare_puts(&rt, alloc, line, status, &claims_of(alloc, tape)?)?;
     }
-    let mut image = Vec::new(alloc);
-    image.push(Vec::from_slice(alloc, &FIVE_FILE)?)?;
-    compare_puts(&rt, alloc, "asm a.s", 0, &image)
+    for (line, file) in [
+        ("asm a.s", FIVE_FILE.as_slice()),
+        ("migrate a.diva", &FIVE_SEGMENTED),
+    ] {
+        let mut image = Vec::new(alloc);
+        image.push(Vec::from_slice(alloc, file)?)?;
+        compare_puts(&rt, alloc, line, 0, &image)?;
+    }
+    Ok(())
 }
 
 /// Compares the puts of a text, each of whose lines is one.

@@ -1,16 +1,16 @@
 // What is not run.
 use super::{Outside, compare_unasked, five_files};
-use crate::programs::FIVE_FILE;
+use crate::programs::{FIVE_FILE, altered};
 use diva_outside::What;
 use std::test::Fail;
 
 /// What is written where the words are not a valid command line.
 pub(super) const USAGE: &str = "\
-usage: diva run|tape IMAGE, debug IMAGE COMMANDS, asm SRC, dis IMAGE, soak SEED LENGTH
+usage: diva run|tape IMAGE, debug IMAGE COMMANDS, asm SRC, dis|migrate IMAGE, soak SEED LENGTH
 ";
 
 /// Words that are not a valid command line.
-static MISUSED: [&str; 23] = [
+static MISUSED: [&str; 25] = [
     "",
     "run",
     "run a.diva --width 5",
@@ -26,6 +26,8 @@ static MISUSED: [&str; 23] = [
     "asm",
     "asm a.s --core own",
     "dis a.diva b.diva",
+    "migrate",
+    "migrate a.diva b.diva",
     "soak",
     "soak 1",
     "soak 1 0",
@@ -47,9 +49,9 @@ fn lines_that_are_misused(rt: HostRuntime) -> Result<(), Fail> {
     Ok(())
 }
 
-/// Command lines that name files that are not there, with their statuses and texts. A name may be any word: the last five name
-/// such files.
-static NOT_RUN: [(&str, u8, &str); 11] = [
+/// Command lines that name files that are not there, with their statuses and texts. A name may be any word: the last four are
+/// odd ones.
+static NOT_RUN: [(&str, u8, &str); 12] = [
     ("run b.diva", 8, "unreadable image\n"),
     ("run a.diva --script b.script", 8, "unreadable script\n"),
     ("run b.diva --script b.script", 8, "unreadable image\n"),
@@ -68,6 +70,7 @@ static NOT_RUN: [(&str, u8, &str); 11] = [
         8,
         "unreadable script\n",
     ),
+    ("migrate b.diva", 8, "unreadable image\n"),
     ("tape b.diva", 8, "unreadable image\n"),
     ("run ''", 8, "unreadable image\n"),
     ("run -", 8, "unreadable image\n"),
@@ -90,18 +93,14 @@ fn images_that_are_refused(rt: HostRuntime) -> Result<(), Fail> {
     let alloc = rt.alloc();
     for (len, at, byte, kind, place) in [
         (36, 0, b'd', 2, 0),
-        (36, 4, 2, 3, 4),
+        (36, 4, 3, 3, 4),
         (36, 8, 2, 4, 8),
         (36, 12, 0x42, 5, 12),
         (36, 16, 0x40, 6, 16),
         (36, 20, 0x41, 7, 20),
         (37, 0, b'D', 9, 36),
     ] {
-        let mut file = Vec::from_slice(alloc, &FIVE_FILE)?;
-        file.resize(len, 0)?;
-        if let Some(changed) = file.get_mut(at) {
-            *changed = byte;
-        }
+        let file = altered(alloc, &FIVE_FILE, len, at, byte)?;
         let text = format!(in alloc; "refused image {kind} at {place}\n")?;
         compare_unasked(
             &rt,
@@ -139,15 +138,25 @@ fn files_that_are_too_long(rt: HostRuntime) -> Result<(), Fail> {
     let alloc = rt.alloc();
     for (line, what, word) in [
         ("run a.diva", What::Image, "image"),
+        ("migrate a.diva", What::Image, "image"),
         ("run a.diva --script a.script", What::Script, "script"),
         ("tape a.diva --core tape --tape a.tape", What::Tape, "tape"),
         ("asm a.s", What::Source, "source"),
         ("debug a.diva a.commands", What::Commands, "commands"),
     ] {
         let mut outside = five_files(alloc)?;
-        outside.file_mut(what).resize(16_777_241, b'#')?;
-        let text = format!(in alloc; "refused {word} 0 at 16777240\n")?;
+        outside.file_mut(what).resize(16_777_369, b'#')?;
+        let text = format!(in alloc; "refused {word} 0 at 16777368\n")?;
         compare_unasked(&rt, line, outside, 5, text.as_str())?;
     }
+    Ok(())
+}
+
+/// A file of zeros is loaded, though no image in version 1 is as long.
+#[test]
+fn a_long_file_of_zeros(rt: HostRuntime) -> Result<(), Fail> {
+    let zeros = vec![in rt.alloc(); 0; 16_777_241]?;
+    let outside = Outside::sound(rt.alloc(), zeros);
+    compare_unasked(&rt, "run a.diva", outside, 5, "refused image 2 at 0\n")?;
     Ok(())
 }
