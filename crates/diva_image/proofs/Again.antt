@@ -1,15 +1,14 @@
 -- What is written in version 1 is read again.
-use Rattle.std.proofs.Common.{◌≡◌, ◌≤◌, ℕ, ◌+◌, List, ◌++◌, length, drop, None, refl, arith, ◌∙◌, ap, subst, sym}
+use Rattle.std.proofs.Common.{◌≡◌, ◌≤◌, ℕ, ◌+◌, List, length, None, arith, ap, subst, sym}
 use Rattle.std.specs.Prelude.{Ok}
 use Rattle.std.specs.Option.{option_or}
 use Rattle.std.proofs.lemmas.Grind.{common_steps}
 use Rattle.diva_image.specs.declared.header.Header.{Header}
 use Rattle.diva_image.specs.declared.image.Image.{Image}
-use Rattle.diva_image.specs.declared.version.Version.TheVariants.{One}
 use Rattle.diva_image.specs.Layout.{Layout}
 use Rattle.diva_image.specs.Inner.{IsLayout}
 use Rattle.diva_image.specs.ImageLayout.{layout, Reads}
-use Rattle.diva_image.specs.Header.{head_fault, header_size, header_bytes, header_of, length_fault}
+use Rattle.diva_image.specs.Header.{head_fault, header_size, header_of, length_fault}
 use Rattle.diva_image.specs.Images.{body_fault, fault_of, image_of, image_bytes, image_under, payload_fault, payload_of, whole_fault, whole_header}
 use Rattle.diva_image.proofs.Headers.{header_again, head_again, length_again, length_sound}
 

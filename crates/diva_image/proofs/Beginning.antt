@@ -1,5 +1,5 @@
 -- The file in version 2 is read to an image that begins as the one that was written.
-use Rattle.std.proofs.Common.{◌≡◌, ◌≤◌, ◌<◌, ℕ, zero, suc, ◌+◌, ◌-◌, ◌*◌, ◌^◌, List, [], ◌∷◌, ◌++◌, length, take, drop, replicate, None, nat_lt, false, refl, arith, ◌∙◌, ap, subst, sym}
+use Rattle.std.proofs.Common.{◌≡◌, ◌≤◌, ◌<◌, ℕ, zero, suc, ◌+◌, ◌-◌, ◌*◌, ◌^◌, List, [], ◌∷◌, ◌++◌, length, drop, replicate, None, nat_lt, false, refl, arith, ◌∙◌, ap, subst, sym}
 use Rattle.std.specs.List.{concat, flat_map, sum_by}
 use Rattle.std.proofs.lemmas.List.{append_assoc, drop_at, length-append, length-drop, length-replicate, length-take-le, replicate-append-replicate}
 use Rattle.std.proofs.lemmas.List.Sums.{sum_by-cons}
@@ -8,17 +8,17 @@ use Rattle.diva_image.specs.declared.header.Header.{Header}
 use Rattle.diva_image.specs.declared.image.Image.{Image}
 use Rattle.diva_image.specs.declared.segment.Segment.{Segment}
 use Rattle.diva_image.specs.declared.version.Version.TheVariants.{Two}
-use Rattle.diva_image.specs.Layout.{BeginsAs, Layout, memory_of}
+use Rattle.diva_image.specs.Layout.{BeginsAs, Layout}
 use Rattle.diva_image.specs.Inner.{ArePlaced, IsLayout}
 use Rattle.diva_image.specs.ImageLayout.{layout}
-use Rattle.diva_image.specs.Header.{head_fault, header_bytes, header_of, header_size, length_fault, word_at}
+use Rattle.diva_image.specs.Header.{head_fault, header_bytes, header_of, header_size, word_at}
 use Rattle.diva_image.specs.Images.{fault_of, image_of, image_under}
-use Rattle.diva_image.specs.Segments.{behind, data_place, memory_from, most_segments, pair_size, segment_fault, segmented_fault, segmented_payload, segments_in, segments_of, table_fault}
+use Rattle.diva_image.specs.Segments.{behind, memory_from, most_segments, pair_size, segmented_payload, segments_in, segments_of, table_fault}
 use Rattle.diva_image.specs.Migrated.{BeginsAgain, blocks_of, bytes_at, canonical, limited, pair_bytes, segmented_bytes, stretches}
 use Rattle.diva_image.proofs.Again.{faultless_parts, image_with}
 use Rattle.diva_image.proofs.Headers.{header_again, head_again, length_again, length_sound}
 use Rattle.diva_image.proofs.Shown.{Makes, Show, canonical-placed, concat-blocks, memory-shown, show-limited, show-stretches}
-use Rattle.diva_image.proofs.Tables.{faultless, placed-wider, segmented_parts, sum-placed}
+use Rattle.diva_image.proofs.Tables.{faultless, placed-wider, segmented_parts}
 use Rattle.std.proofs.Math.Nat.{sub_self}
 use Rattle.std.proofs.lemmas.Bool.{le-ltb}
 use Rattle.byteorder.specs.Endian.{little_bytes}

@@ -12,3 +12,5 @@ pub mod Stretches
 pub mod Shown
 -- what is written in version 2 begins again
 pub mod Beginning
+-- the program headers of an executable
+pub mod Loads

@@ -1,5 +1,5 @@
 -- The rules of an image.
-use Rattle.std.proofs.Common.{◌≡◌, ◌<◌, ℕ, List, length, false, arith}
+use Rattle.std.proofs.Common.{◌≡◌, ◌<◌, ℕ, List, length, arith}
 use Rattle.std.specs.Prelude.{None}
 use Rattle.std.proofs.lemmas.Grind.{common_steps}
 use Rattle.diva_image.specs.Images.{image_from, payload_fault}

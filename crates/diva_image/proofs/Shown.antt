@@ -1,9 +1,9 @@
 -- What the segments of an image leave out is 0, so the file in version 2 begins as the image does.
-use Rattle.std.proofs.Common.{◌≡◌, ◌≤◌, ◌<◌, ℕ, zero, suc, ◌+◌, ◌-◌, ◌*◌, ◌^◌, ◌==◌, ◌/◌, Bool, List, [], ◌∷◌, ◌++◌, length, take, drop, replicate, true, false, if◌then◌else◌, refl, arith, ◌∙◌, ap, subst, sym}
-use Rattle.std.specs.List.{concat, flat_map, list_all}
+use Rattle.std.proofs.Common.{◌≡◌, ◌≤◌, ◌<◌, ℕ, zero, suc, ◌+◌, ◌-◌, ◌*◌, ◌==◌, ◌/◌, Bool, List, [], ◌∷◌, ◌++◌, length, take, drop, replicate, true, false, if◌then◌else◌, refl, arith, ◌∙◌, ap, subst, sym}
+use Rattle.std.specs.List.{concat, flat_map}
 use Rattle.std.proofs.lemmas.Bool.{eqb-true}
 use Rattle.std.proofs.lemmas.Grind.{common_steps}
-use Rattle.std.proofs.lemmas.List.{append_assoc, drop-drop, drop_at, drop-append-le, length-append, length-drop, length-replicate, length-take, length-take-le, nil_from_length, replicate-append-replicate, take-append-drop, take-append-le, take_at}
+use Rattle.std.proofs.lemmas.List.{append_assoc, drop-drop, drop_at, length-append, length-drop, length-take-le, nil_from_length, replicate-append-replicate, take-append-drop, take_at}
 use Rattle.std.proofs.Math.Seq.{drop-append-add, take-append-add}
 use Rattle.diva_image.specs.Inner.{ArePlaced}
 use Rattle.diva_image.specs.Migrated.{block_size, blocks_in, blocks_of, bytes_at, is_blank, joined, limited, spanned, stretches}

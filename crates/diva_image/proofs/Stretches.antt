@@ -1,11 +1,11 @@
 -- The stretches of blocks that are not blank, one block after another.
-use Rattle.std.proofs.Common.{◌≡◌, ◌≤◌, ◌<◌, ℕ, zero, suc, ◌+◌, ◌-◌, ◌*◌, ◌/◌, ◌==◌, ◌||◌, ◌⊎◌, ◌≢◌, inl, inr, min, Bool, List, [], ◌∷◌, ◌++◌, length, take, drop, true, false, if◌then◌else◌, refl, arith, ap, subst, sym, ◌∙◌}
+use Rattle.std.proofs.Common.{◌≡◌, ◌≤◌, ◌<◌, ℕ, zero, suc, ◌+◌, ◌-◌, ◌/◌, ◌==◌, ◌||◌, inl, inr, min, List, [], ◌∷◌, ◌++◌, length, true, false, if◌then◌else◌, refl, arith, ap, subst, sym, ◌∙◌}
 use Rattle.std.specs.List.{concat}
 use Rattle.std.proofs.lemmas.Bool.{cases_eq, ne_eqb}
 use Rattle.std.proofs.lemmas.Grind.{common_steps}
 use Rattle.std.proofs.lemmas.List.{append-nil, append_assoc, drop_at, length-append, nil_from_length, take_all, take_at}
-use Rattle.diva_image.specs.Inner.{ArePlaced, extended}
-use Rattle.diva_image.specs.Migrated.{block_size, blocks_in, blocks_of, is_blank, joined, limited, spanned, stretches}
+use Rattle.diva_image.specs.Inner.{extended}
+use Rattle.diva_image.specs.Migrated.{block_size, blocks_of, is_blank, joined, limited, spanned, stretches}
 use Rattle.diva_image.specs.Segments.{behind}
 use Rattle.diva_image.specs.declared.segment.Segment.{Segment}
 

@@ -5,6 +5,7 @@ use Rattle.diva_image.specs.declared.fault.ImageFault.{ImageFault}
 use Rattle.diva_image.specs.declared.fault.ImageFault.TheVariants.{Bad, Memory}
 use Rattle.diva_image.specs.Layout.{Layout}
 use Rattle.diva_image.specs.Header.{fault}
+use Rattle.diva_image.specs.Elf.{elf_fault, elf_of}
 use Rattle.diva_image.specs.Images.{fault_of, image_of}
 
 -- an image of the code as the definitions have it
@@ -16,3 +17,9 @@ abbrev pub Reads : List ℕ → Result Image ImageFault → Type 0
 Reads bytes (Ok i) = (fault_of bytes ≡ None) × (image_of bytes ≡ layout i)
 Reads bytes (Err (Bad kind place)) = fault_of bytes ≡ fault kind place
 Reads bytes (Err Memory) = ⊤
+
+-- the same of an executable, with so much room behind its loads
+abbrev pub ReadsElf : (room : ℕ) → List ℕ → Result Image ImageFault → Type 0
+ReadsElf room bytes (Ok i) = (elf_fault room bytes ≡ None) × (elf_of room bytes ≡ layout i)
+ReadsElf room bytes (Err (Bad kind place)) = elf_fault room bytes ≡ fault kind place
+ReadsElf room bytes (Err Memory) = ⊤

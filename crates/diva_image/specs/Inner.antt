@@ -1,8 +1,11 @@
 -- What only private contracts of this crate cite. A reader of its promises can pass over it.
-use Rattle.std.specs.Prelude.{◌≡◌, ◌≤◌, ◌<◌, ℕ, zero, suc, ◌+◌, ◌-◌, ◌%◌, ◌^◌, ◌==◌, ◌||◌, true, false, Bool, List, [], ◌∷◌, length, None, if◌then◌else◌}
+use Rattle.std.specs.Prelude.{◌≡◌, ◌≤◌, ◌<◌, ℕ, zero, suc, ◌+◌, ◌-◌, ◌%◌, ◌*◌, ◌^◌, ◌==◌, ◌||◌, List, [], ◌∷◌, length, Option, Some, None, if◌then◌else◌}
 use Rattle.diva_image.specs.Layout.{most_size}
 use Rattle.diva_image.specs.Header.{head_fault, header_of, header_size}
-use Rattle.diva_image.specs.Segments.{behind, most_segments}
+use Rattle.diva_image.specs.Segments.{behind}
+use Rattle.diva_image.specs.Elf.{elf_header_fault, elf_header_of, elf_header_size, program_header_size}
+use Rattle.diva_image.specs.declared.fault.Kind.{Kind}
+use Rattle.diva_image.specs.declared.fault.Kind.TheVariants.{ShortHeader, Magic, Version, Base, Size, Entry, Length, CutShort, TrailingBytes, ManySegments, ShortTable, Segment as OfSegment, ShortElf, ElfIdentity, ElfType, ElfMachine, ProgramHeaderSize, ProgramHeaders, Dynamic, Load, NoLoad, ElfSize, ElfEntry}
 use Rattle.diva_image.specs.declared.header.Header.{Header}
 use Rattle.diva_image.specs.declared.segment.Segment.{Segment}
 
@@ -42,3 +45,40 @@ extended n (s ∷ []) block =
     if behind s == block.addr || n == 0 then record { addr = s.addr; len = behind block - s.addr } ∷ [] else s ∷ block ∷ []
 extended zero (s ∷ t ∷ rest) block = s ∷ extended zero (t ∷ rest) block
 extended (suc n) (s ∷ t ∷ rest) block = s ∷ extended n (t ∷ rest) block
+
+-- the number of a kind of fault
+abbrev pub number_of_kind : Kind → ℕ
+number_of_kind ShortHeader = 1
+number_of_kind Magic = 2
+number_of_kind Version = 3
+number_of_kind Base = 4
+number_of_kind Size = 5
+number_of_kind Entry = 6
+number_of_kind Length = 7
+number_of_kind CutShort = 8
+number_of_kind TrailingBytes = 9
+number_of_kind ManySegments = 10
+number_of_kind ShortTable = 11
+number_of_kind OfSegment = 12
+number_of_kind ShortElf = 20
+number_of_kind ElfIdentity = 21
+number_of_kind ElfType = 22
+number_of_kind ElfMachine = 23
+number_of_kind ProgramHeaderSize = 24
+number_of_kind ProgramHeaders = 25
+number_of_kind Dynamic = 26
+number_of_kind Load = 27
+number_of_kind NoLoad = 28
+number_of_kind ElfSize = 29
+number_of_kind ElfEntry = 30
+
+-- bytes whose ELF header has no fault
+pub record IsElf (bytes : List ℕ) : Type 0 where
+  pub faultless : elf_header_fault bytes ≡ None
+  pub long : elf_header_size ≤ length bytes
+  pub table : (elf_header_of bytes).e_phoff + program_header_size * (elf_header_of bytes).e_phnum ≤ length bytes
+
+-- what the loads of an executable come to: the last one ends behind the beginning of the first one
+abbrev pub IsExtent : Option ℕ → (end : ℕ) → Type 0
+IsExtent None end = Unit {0}
+IsExtent (Some first) end = (first < end) × (end ≤ 2 ^ 32)

@@ -3,7 +3,9 @@ pub mod Layout
 pub mod Header
 pub mod Segments
 pub mod Images
+pub mod Elf
 pub mod ImageLayout
 pub mod Migrated
+pub mod Programs
 -- what only private contracts cite
 pub mod Inner

@@ -19,15 +19,40 @@ pub(crate) enum Kind {
     ManySegments = 10,
     ShortTable = 11,
     Segment = 12,
+    ShortElf = 20,
+    ElfIdentity = 21,
+    ElfType = 22,
+    ElfMachine = 23,
+    ProgramHeaderSize = 24,
+    ProgramHeaders = 25,
+    Dynamic = 26,
+    Load = 27,
+    NoLoad = 28,
+    ElfSize = 29,
+    ElfEntry = 30,
 }
 
 /// A fault of the bytes: the number of its kind, and its place in the file.
 #[derive(Clone, Copy, Debug)]
 pub(crate) struct Fault {
-    /// The number of its kind, 1 to 12.
+    /// The number of its kind, 1 to 12 and 20 to 30.
     pub kind: u8,
     /// Where it is, in bytes from the start of the file.
     pub place: u32,
+}
+
+impl Fault {
+    ghost use Rattle.diva_image.specs.Inner.{number_of_kind};
+
+    /// The fault of a kind at a place.
+    pub fn new(kind: Kind, place: u32) -> Self
+        ensures { result ≡ record { kind = number_of_kind kind; place = place } }
+    {
+        Fault {
+            kind: kind as u8,
+            place,
+        }
+    }
 }
 
 /// Why bytes are not an image.
@@ -50,8 +75,24 @@ pub enum ImageFault {
     /// | 10 | there are more than 16 segments | 20 |
     /// | 11 | the table of segments is cut short | length of the file |
     /// | 12 | the first segment that has no bytes, begins below base or below the end of the one before it, or ends past memory | its place in the table |
+    ///
+    /// Those of an executable are tested in this order, those of program headers header by header.
+    ///
+    /// | kind | where | place |
+    /// |---|---|---|
+    /// | 20 | fewer than 52 bytes | length of the file |
+    /// | 21 | the file is not of 32 bits, its numbers are not lowest byte first, or its version is not 1 | the first such byte, 4, 5 or 6 |
+    /// | 22 | `e_type` is not 2 | 16 |
+    /// | 23 | `e_machine` is not 243 | 18 |
+    /// | 24 | there are program headers, and `e_phentsize` is not 32 | 42 |
+    /// | 25 | the program headers reach past the file's end | 28 |
+    /// | 26 | a program header is for a dynamic linker (type 2 or 3) | that of the header |
+    /// | 27 | a load has more bytes of the file than of memory, or bytes past the file's end, ends past 2^32, or begins below the end of an earlier one | that of its header |
+    /// | 28 | there is no load | 44 |
+    /// | 29 | memory has more than 2^24 bytes, or ends past 2^32 | 0 |
+    /// | 30 | the entry is not a multiple of 4, or not in memory | 24 |
     Bad {
-        /// Which fault it is, 1 to 12.
+        /// Which fault it is, 1 to 12 or 20 to 30.
         kind: u8,
         /// Where it is.
         place: u32,

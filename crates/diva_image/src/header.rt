@@ -1,7 +1,7 @@
 // The header of an image's file, and its faults.
 ghost use Rattle.std.specs.Prelude.{◌≡◌, ◌≤◌, ◌++◌, codes, length, IsNone, IfOk, IfErr, None, Some, OnOk};
 ghost use Rattle.std.specs.Int.{to_le_bytes, w32};
-ghost use Rattle.diva_image.specs.Header.{header_size, length_fault, number_of_version, start_fault};
+ghost use Rattle.diva_image.specs.Header.{header_size, is_entry, length_fault, number_of_version, start_fault};
 ghost use Rattle.diva_image.specs.Images.{payload_fault};
 
 use crate::fault::{Fault, Kind};
@@ -34,7 +34,7 @@ pub(crate) struct Header {
 }
 
 impl Header {
-    ghost use Rattle.diva_image.specs.Header.{head_fault, header_bytes, header_fault, header_of, is_entry, is_size};
+    ghost use Rattle.diva_image.specs.Header.{head_fault, header_bytes, header_fault, header_of, is_size};
     ghost use Rattle.diva_image.specs.Inner.{IsPlaced};
 
     /// The header of a file, or the first fault of its bytes.
@@ -80,20 +80,11 @@ impl Header {
         ensures rules { IsNone result → IsPlaced self.now.base self.now.size self.now.entry }
     {
         if self.base % 4 != 0 {
-            Some(Fault {
-                kind: Kind::Base as u8,
-                place: 8,
-            })
+            Some(Fault::new(Kind::Base, 8))
         } else if !self.has_size() {
-            Some(Fault {
-                kind: Kind::Size as u8,
-                place: 12,
-            })
-        } else if !self.has_entry() {
-            Some(Fault {
-                kind: Kind::Entry as u8,
-                place: 16,
-            })
+            Some(Fault::new(Kind::Size, 12))
+        } else if !has_entry(self.base, self.size, self.entry) {
+            Some(Fault::new(Kind::Entry, 16))
         } else {
             None
         }
@@ -108,15 +99,13 @@ impl Header {
             && self.size <= MOST_SIZE
             && u64::from(self.base) + u64::from(self.size) <= 1 << 32
     }
+}
 
-    /// Whether entry is a place for an instruction in memory.
-    fn has_entry(&self) -> bool
-        ensures { result ≡ is_entry self.now.base self.now.size self.now.entry }
-    {
-        self.entry % 4 == 0
-            && self.base <= self.entry
-            && u64::from(self.entry) < u64::from(self.base) + u64::from(self.size)
-    }
+/// Whether entry is a place for an instruction in memory.
+pub(crate) fn has_entry(base: u32, size: u32, entry: u32) -> bool
+    ensures { result ≡ is_entry base size entry }
+{
+    entry % 4 == 0 && base <= entry && u64::from(entry) < u64::from(base) + u64::from(size)
 }
 
 /// The first fault of the length, the letters and the version.
@@ -127,20 +116,11 @@ fn start_fault(bytes: &[u8]) -> Option<Fault>
 {
     if bytes.len() < HEADER_SIZE {
         let place = bytes.len() as u32;
-        Some(Fault {
-            kind: Kind::ShortHeader as u8,
-            place,
-        })
+        Some(Fault::new(Kind::ShortHeader, place))
     } else if !bytes.starts_with(MAGIC) {
-        Some(Fault {
-            kind: Kind::Magic as u8,
-            place: 0,
-        })
+        Some(Fault::new(Kind::Magic, 0))
     } else if !matches!(LittleEndian::read_u32(&bytes[4..]), 1 | 2) {
-        Some(Fault {
-            kind: Kind::Version as u8,
-            place: 4,
-        })
+        Some(Fault::new(Kind::Version, 4))
     } else {
         None
     }
@@ -169,15 +149,9 @@ pub(crate) fn length_fault(len: usize, end: u32) -> Option<Fault>
 {
     if len < end as usize {
         let place = len as u32;
-        Some(Fault {
-            kind: Kind::CutShort as u8,
-            place,
-        })
+        Some(Fault::new(Kind::CutShort, place))
     } else if (end as usize) < len {
-        Some(Fault {
-            kind: Kind::TrailingBytes as u8,
-            place: end,
-        })
+        Some(Fault::new(Kind::TrailingBytes, end))
     } else {
         None
     }
@@ -190,10 +164,7 @@ pub(crate) fn payload_fault(size: u32, len: u32) -> Option<Fault>
     ensures rules { IsNone result → len ≤ size }
 {
     if size < len {
-        Some(Fault {
-            kind: Kind::Length as u8,
-            place: 20,
-        })
+        Some(Fault::new(Kind::Length, 20))
     } else {
         None
     }

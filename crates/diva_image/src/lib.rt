@@ -1,24 +1,33 @@
-//! Image files: what a machine's memory begins with, and where it is entered.
+//! Image files and executables: what a machine's memory begins with, and where it is entered.
 //!
-//! A file is the four letters "DIVA", then five numbers of four bytes each, the lowest byte first: the version, base, size,
+//! An image's file is the four letters "DIVA", then five numbers of four bytes each, the lowest byte first: the version, base, size,
 //! entry and one more. In version 1 that is a length, and exactly so many bytes follow, which are loaded at base. In version 2
 //! it is a number of segments; a pair of numbers follows for each, its address and how many bytes it has, and then the bytes
 //! of the segments one after another.
+//!
+//! An executable is an ELF file of 32 bits for RISC-V, linked to lie at fixed addresses. Its program headers say what is loaded.
 //!
 //! - `image`: `Image`, whose type keeps the rules of an image.
 //! - `payload`: `Payload`, the bytes of an image.
 //! - `reading`: `read`, from bytes to an image or to their first fault.
 //! - `writing`: `write`, from an image to its bytes in version 1; `migrating`: `write2`, to those in version 2.
-//! - `header`, `version`: the header, read and written, and its faults.
+//! - `elf`: `read_elf`, from an executable to an image; `elf_header`: its headers, with the places of their fields.
+//! - `program`: `read_program`, from either kind of file.
+//! - `header`, `version`: the header of an image's file, read and written, and its faults.
 //! - `table`: the segments of a file, and their faults; `segments`, `segment`: lists of segments.
+//! - `memory`: the bytes that memory begins with, part after part.
 //! - `fault`: `ImageFault`, why bytes are not an image.
 #![tactic(auto)]
 
+mod elf;
+mod elf_header;
 mod fault;
 mod header;
 mod image;
+mod memory;
 mod migrating;
 mod payload;
+mod program;
 mod reading;
 mod segment;
 mod segments;
@@ -26,11 +35,13 @@ mod table;
 mod version;
 mod writing;
 
+pub use elf::read_elf;
 pub use fault::ImageFault;
 pub use header::{HEADER_SIZE, MOST_SIZE};
 pub use image::Image;
 pub use migrating::write2;
 pub use payload::Payload;
+pub use program::read_program;
 pub use reading::read;
 pub use segments::MOST_SEGMENTS;
 pub use table::PAIR_SIZE;

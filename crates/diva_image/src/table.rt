@@ -8,6 +8,7 @@ ghost use Rattle.diva_image.specs.Segments.{segmented_payload, segments_in, segm
 
 use crate::fault::{Fault, Kind};
 use crate::header::{HEADER_SIZE, Header, length_fault};
+use crate::memory::append_at;
 use crate::segment::Segment;
 use crate::segments::{MOST_SEGMENTS, Segments};
 use byteorder::{ByteOrder, LittleEndian};
@@ -56,16 +57,10 @@ fn table_fault(bytes: &[u8], header: &Header) -> Option<Fault>
     ensures rules { IsNone result → (header.now.last ≤ most_segments) × (data_place bytes.now ≤ length bytes.now) }
 {
     if MOST_SEGMENTS < header.last as usize {
-        Some(Fault {
-            kind: Kind::ManySegments as u8,
-            place: 20,
-        })
+        Some(Fault::new(Kind::ManySegments, 20))
     } else if bytes.len() < data_place(header) {
         let place = bytes.len() as u32;
-        Some(Fault {
-            kind: Kind::ShortTable as u8,
-            place,
-        })
+        Some(Fault::new(Kind::ShortTable, place))
     } else {
         None
     }
@@ -100,10 +95,7 @@ fn segment_fault(segments: &[Segment], header: &Header) -> Option<Fault>
     let most = u64::from(header.base) + u64::from(header.size);
     for (at, segment) in segments.iter().enumerate() {
         if !segment.is_between(least, most) {
-            return Some(Fault {
-                kind: Kind::Segment as u8,
-                place: (HEADER_SIZE + PAIR_SIZE * at) as u32,
-            });
+            return Some(Fault::new(Kind::Segment, (HEADER_SIZE + PAIR_SIZE * at) as u32));
         }
         least = segment.behind();
     }
@@ -136,9 +128,8 @@ pub(crate) fn memory_from(
     let mut memory = Vec::with_capacity(alloc, end.saturating_sub(u64::from(addr)) as usize)?;
     let mut rest = bytes;
     for segment in segments {
-        memory.resize((segment.addr - addr) as usize, 0)?;
         let (front, behind) = rest.split_at(segment.len as usize);
-        memory.extend_from_slice(front)?;
+        append_at(&mut memory, (segment.addr - addr) as usize, front)?;
         rest = behind;
     }
     Ok(memory)

@@ -1,10 +1,10 @@
 -- One block after another.
-use Rattle.std.proofs.Common.{◌≡◌, ◌≤◌, ◌+◌, ◌++◌, [], ◌∷◌, List, ℕ, length, map, refl, arith, ap, sym, ◌∙◌}
+use Rattle.std.proofs.Common.{◌+◌, ◌++◌, [], ◌∷◌, List, ℕ, length, map, arith, ap, sym, ◌∙◌}
 use Rattle.std.specs.List.{concat}
 use Rattle.std.specs.Slice.Iter.{chunks_rest}
 use Rattle.std.proofs.lemmas.List.{length-append, map-append}
 use Rattle.diva_image.specs.Inner.{ArePlaced}
-use Rattle.diva_image.specs.Migrated.{blocks_of, limited, stretches}
+use Rattle.diva_image.specs.Migrated.{blocks_of}
 use Rattle.diva_image.proofs.Shown.{canonical-placed}
 use Rattle.diva_image.proofs.Stretches.{length-concat_push, made_more, made_same, next_block}
 use Rattle.diva_image.proofs.Tables.{placed-wider}

@@ -1,15 +1,15 @@
 -- One segment after another.
-use Rattle.std.proofs.Common.{◌≡◌, ◌+◌, ◌*◌, ℕ, arith, ap, sym, ◌∙◌, drop, subst}
+use Rattle.std.proofs.Common.{◌≡◌, ◌+◌, ℕ, Some, arith, ap, sym, ◌∙◌, subst}
 use Rattle.diva_image.specs.Header.{header_size}
 use Rattle.diva_image.specs.Inner.{ArePlaced}
-use Rattle.diva_image.specs.Segments.{segment_fault, pair_size}
+use Rattle.diva_image.specs.Segments.{segment_fault}
 use Rattle.diva_image.proofs.Tables.{no_more, one_fault, one_fine, placed}
 use Rattle.diva_image.proofs.table.segment_fault.Goals as goal
 
 pub returns-then-not-is_between-clause-first : goal.returns-then-not-is_between-clause-first
 returns-then-not-is_between-clause-first c =
     let most : c.from.result + c.from-2.result ≡ c.args.header.now.base + c.args.header.now.size = omega arith in
-    sym (c.loop-at.invariant ∙ one_fault _ _ _ c.args.segments.now c.loop-at.at _ c.loop-at-test.true (sym c.if-not-is_between.ensures))
+    ap Some c.new.ensures ∙ sym (c.loop-at.invariant ∙ one_fault _ _ _ c.args.segments.now c.loop-at.at _ c.loop-at-test.true (sym c.if-not-is_between.ensures))
     ∙ ap (λ (m : ℕ). segment_fault c.args.header.now.base m header_size c.args.segments.now) most
 
 pub loop-at-preserved : goal.loop-at-preserved

@@ -1,5 +1,5 @@
 -- One pair of the table after another.
-use Rattle.std.proofs.Common.{◌≡◌, ◌*◌, drop, add-one, refl, ap, sym, ◌∙◌}
+use Rattle.std.proofs.Common.{◌≡◌, ◌*◌, drop, add-one, refl}
 use Rattle.std.proofs.lemmas.List.{take_rest}
 use Rattle.diva_image.specs.Header.{word_at}
 use Rattle.diva_image.specs.Segments.{pair_size}
