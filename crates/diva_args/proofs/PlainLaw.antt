@@ -10,10 +10,10 @@ use Rattle.clap.specs.Simple.{Shape, argument_words, built}
 use Rattle.clap.proofs.WalkLemmas.{both}
 use Rattle.diva_core.specs.Timed.{default_config}
 use Rattle.diva_args.specs.Command.{Leaf, asm, debug, dis, diva, leaves, migrate, run, soak, tape}
-use Rattle.diva_args.specs.Line.{command_of, config_from, config_with, cycles_from, job_from, run_from, run_with, setup_from, setup_with, taken, values_of}
+use Rattle.diva_args.specs.Line.{command_of, config_from, config_with, cycles_from, job_from, room_from, run_from, run_with, setup_from, setup_with, taken, values_of}
 use Rattle.diva_args.specs.Options.{default_cycles, most_cycles}
 use Rattle.diva_args.specs.Plain.{IsPlainLine, PlainLine, Use, are_distinct, flagged, given_by, given_in, has_text, is_plain_word, is_use_of, job_on, name_of, names_in, use_words, value_in, valued, values_in}
-use Rattle.diva_args.specs.Values.{core_of, dump_of, is_set_by, ranged_or, number_or}
+use Rattle.diva_args.specs.Values.{core_of, dump_of, is_set_by, ranged_or, room_of, number_or}
 use Rattle.diva_args.specs.declared.job.Job.TheVariants.{Run}
 use Rattle.diva_args.proofs.PlainSteps.{Stands, first_given, given_row}
 use Rattle.diva_args.proofs.PlainFlags.{flag_kept, value_kept, with_flags}
@@ -51,9 +51,10 @@ pub record IsSound (l : Leaf) : Type 0 where
   pub same : (f g : Text → Option Text) → SameValues l.flags f g → job_from l.name f ≡ job_from l.name g
 
 run_same : (f g : Text → Option Text) → SameValues run.flags f g → run_from f ≡ run_from g
-unfolding run_from setup_from config_from cycles_from
+unfolding run_from setup_from room_from config_from cycles_from
 run_same f g s =
     let image = s.value (codes "IMAGE") refl in
+    let room = s.value (codes "room") refl in
     let core = s.value (codes "core") refl in
     let script = s.value (codes "script") refl in
     let tape = s.value (codes "tape") refl in
@@ -66,7 +67,7 @@ run_same f g s =
     let dump = s.value (codes "dump") refl in
     let trace = s.flag (codes "trace") in
     λ i. run_with
-    (setup_with (image i) (core_of (core i) (tape i)) (script i)
+    (setup_with (image i) (room_of (room i)) (core_of (core i) (tape i)) (script i)
     (config_with (number_or default_config.width (width i)) (number_or default_config.window (window i)) (number_or default_config.stores (stores i)) (number_or default_config.limit (watchdog i)) (number_or default_config.port (port i))))
     (ranged_or 1 most_cycles default_cycles (cycles i)) (trace i) (dump_of (dump i))
 

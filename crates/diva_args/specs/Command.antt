@@ -20,8 +20,12 @@ core_options = codes "core" ∷ codes "script" ∷ codes "tape" ∷ []
 abbrev pub machine_options : List Text
 machine_options = codes "window" ∷ codes "stores" ∷ codes "watchdog" ∷ codes "port" ∷ []
 
+-- that of what loads one: how much memory follows what an executable loads
+abbrev pub room_option : List Text
+room_option = codes "room" ∷ []
+
 abbrev pub setup_options : List Text
-setup_options = core_options ++ codes "width" ∷ machine_options
+setup_options = core_options ++ codes "width" ∷ machine_options ++ room_option
 
 abbrev pub run : Leaf
 run = record {
@@ -43,7 +47,7 @@ abbrev pub debug : Leaf
 debug = record {
   name = codes "debug";
   positionals = codes "IMAGE" ∷ codes "COMMANDS" ∷ [];
-  options = core_options ++ machine_options;
+  options = core_options ++ machine_options ++ room_option;
   flags = [];
 }
 
@@ -54,7 +58,7 @@ abbrev pub dis : Leaf
 dis = record { name = codes "dis"; positionals = codes "IMAGE" ∷ []; options = []; flags = [] }
 
 abbrev pub migrate : Leaf
-migrate = record { name = codes "migrate"; positionals = codes "IMAGE" ∷ []; options = []; flags = [] }
+migrate = record { name = codes "migrate"; positionals = codes "IMAGE" ∷ []; options = room_option; flags = [] }
 
 abbrev pub soak : Leaf
 soak = record { name = codes "soak"; positionals = codes "SEED" ∷ codes "LENGTH" ∷ []; options = []; flags = [] }

@@ -9,8 +9,8 @@ use Rattle.clap.specs.Kinds.{Kinds}
 use Rattle.diva_core.specs.Timed.{Config, default_config}
 use Rattle.diva_core.specs.Machine.{config_in_range}
 use Rattle.diva_args.specs.Command.{diva}
-use Rattle.diva_args.specs.Options.{DebugOptions, DumpRange, RunOptions, Setup, SoakOptions, TapeOptions, default_cycles, longest_soak, most_cycles}
-use Rattle.diva_args.specs.Values.{core_of, dump_of, given_number, is_set_by, ranged_or, number_or}
+use Rattle.diva_args.specs.Options.{DebugOptions, DumpRange, MigrateOptions, RunOptions, Setup, SoakOptions, TapeOptions, default_cycles, longest_soak, most_cycles}
+use Rattle.diva_args.specs.Values.{core_of, dump_of, given_number, is_set_by, ranged_or, room_of, number_or}
 use Rattle.diva_args.specs.declared.job.CoreChoice.{CoreChoice}
 use Rattle.diva_args.specs.declared.job.Job.{Job}
 use Rattle.diva_args.specs.declared.job.Job.TheVariants as job
@@ -45,18 +45,24 @@ config_from width value = config_with
     (number_or default_config.limit (value (codes "watchdog")))
     (number_or default_config.port (value (codes "port")))
 
-abbrev pub setup_with : Option Text → Option CoreChoice → (script : Option Text) → Option Config → Option Setup
-setup_with image core script config = option_and_then (λ i. option_and_then (λ c. option_map (λ z. record {
+-- how many bytes of memory follow those that an executable loads
+unfoldable pub room_from : (Text → Option Text) → Option ℕ
+room_from value = room_of (value (codes "room"))
+
+abbrev pub setup_with : Option Text → (room : Option ℕ) → Option CoreChoice → (script : Option Text) → Option Config → Option Setup
+setup_with image room core script config = option_and_then (λ i. option_and_then (λ r. option_and_then (λ c. option_map (λ z. record {
   image = i;
+  room = r;
   core = c;
   script = script;
   config = z;
-}) config) core) image
+}) config) core) room) image
 
 -- what commands have in common that run an image, on a machine of this width; files are named by the words as they are
 unfoldable pub setup_from : (width : Option ℕ) → (Text → Option Text) → Option Setup
 setup_from width value = setup_with
     (value (codes "IMAGE"))
+    (room_from value)
     (core_of (value (codes "core")) (value (codes "tape")))
     (value (codes "script"))
     (config_from width value)
@@ -94,6 +100,14 @@ debug_with setup commands = option_and_then (λ s. option_map (λ c.
 unfoldable pub debug_from : (Text → Option Text) → Option DebugOptions
 debug_from value = debug_with (setup_from (Some 1) value) (value (codes "COMMANDS"))
 
+abbrev pub migrate_with : (image : Option Text) → (room : Option ℕ) → Option MigrateOptions
+migrate_with image room = option_and_then (λ i. option_map (λ r.
+    record { image = i; room = r }) room) image
+
+-- `migrate`
+unfoldable pub migrate_from : (Text → Option Text) → Option MigrateOptions
+migrate_from value = migrate_with (value (codes "IMAGE")) (room_from value)
+
 abbrev pub soak_with : (seed instructions : Option ℕ) → Option SoakOptions
 soak_with seed instructions = option_and_then (λ s. option_map (λ n.
     record { seed = s; instructions = n }) instructions) seed
@@ -110,7 +124,7 @@ job_from name value =
     else if bytes_eq name (codes "debug") then option_map job.Debug (debug_from value)
     else if bytes_eq name (codes "asm") then option_map job.Asm (value (codes "SRC"))
     else if bytes_eq name (codes "dis") then option_map job.Dis (value (codes "IMAGE"))
-    else if bytes_eq name (codes "migrate") then option_map job.Migrate (value (codes "IMAGE"))
+    else if bytes_eq name (codes "migrate") then option_map job.Migrate (migrate_from value)
     else if bytes_eq name (codes "soak") then option_map job.Soak (soak_from value)
     else None
 

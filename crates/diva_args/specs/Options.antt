@@ -1,5 +1,5 @@
 -- What contracts see of a job, and the ranges that its numbers keep.
-use Rattle.std.specs.Prelude.{ℕ, ◌+◌, ◌^◌, ◌≤◌, Bool, List, Option}
+use Rattle.std.specs.Prelude.{ℕ, ◌+◌, ◌%◌, ◌^◌, ◌≡◌, ◌≤◌, Bool, List, Option}
 use Rattle.diva_core.specs.Timed.{Config}
 use Rattle.diva_args.specs.declared.job.CoreChoice.{CoreChoice}
 
@@ -18,9 +18,20 @@ pub record IsDump (addr len : ℕ) : Type 0 where
   pub len_high : len ≤ most_dumped
   pub end : addr + len ≤ 2 ^ 32
 
--- what commands have in common that run an image: the image, the core, the script, and the numbers of the machine
+-- the most bytes of memory that follow those that an executable loads
+abbrev pub most_room : ℕ
+most_room = 16777212
+
+-- whole words, up to that number
+pub record IsRoom (room : ℕ) : Type 0 where
+  pub aligned : room % 4 ≡ 0
+  pub high : room ≤ most_room
+
+-- what commands have in common that run an image: the image, how many bytes of memory follow those that an executable loads,
+-- the core, the script, and the numbers of the machine
 pub record Setup : Type 0 where
   pub image : List ℕ
+  pub room : ℕ
   pub core : CoreChoice
   pub script : Option (List ℕ)
   pub config : Config
@@ -53,6 +64,11 @@ pub record TapeOptions : Type 0 where
 pub record DebugOptions : Type 0 where
   pub setup : Setup
   pub commands : List ℕ
+
+-- `migrate IMAGE` with its option
+pub record MigrateOptions : Type 0 where
+  pub image : List ℕ
+  pub room : ℕ
 
 -- `soak SEED LENGTH`: the seed of an image, and how many instructions are drawn from it
 pub record SoakOptions : Type 0 where

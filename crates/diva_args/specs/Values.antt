@@ -1,11 +1,11 @@
 -- What the texts of a command line stand for: the rules on the values of options.
-use Rattle.std.specs.Prelude.{ℕ, ◌+◌, ◌==◌, ◌&&◌, Bool, false, nat_le, codes}
+use Rattle.std.specs.Prelude.{ℕ, ◌+◌, ◌%◌, ◌==◌, ◌&&◌, Bool, false, nat_le, codes}
 use Rattle.std.specs.Prelude.{Option, Some, None, option_and_then, option_map, if◌then◌else◌}
 use Rattle.std.specs.List.{before_first, after_first}
 use Rattle.std.specs.Str.{bytes_eq}
 use Rattle.clap.specs.Walk.{Text}
 use Rattle.diva_outside.specs.Numbers.{decimal_of, hex_of}
-use Rattle.diva_args.specs.Options.{DumpRange, most_dumped}
+use Rattle.diva_args.specs.Options.{DumpRange, most_dumped, most_room}
 use Rattle.diva_args.specs.declared.job.CoreChoice.{CoreChoice}
 use Rattle.diva_args.specs.declared.job.CoreChoice.TheVariants.{Own, Lockstep, Scalar, Silent, Flood, Echo, Noise, Tape}
 
@@ -53,6 +53,14 @@ ranged_or least most otherwise (Some word) = number_in_range least most word
 -- a number below 2 ^ 32, or what stands for one that is not given
 abbrev pub number_or : (otherwise : ℕ) → Option Text → Option ℕ
 number_or otherwise = ranged_or 0 4294967295 otherwise
+
+-- the number, where it is a multiple of 4
+abbrev pub in_words : ℕ → Option ℕ
+in_words n = if n % 4 == 0 then Some n else None
+
+-- how many bytes of memory follow those that an executable loads: none where no number is given
+abbrev pub room_of : Option Text → Option ℕ
+room_of word = option_and_then in_words (ranged_or 0 most_room 0 word)
 
 -- `:`
 abbrev pub is_colon : ℕ → Bool

@@ -24,8 +24,8 @@ static LEAVES: [Leaf; 7] = [
         name: "run",
         positionals: &["IMAGE"],
         options: &[
-            "core", "script", "tape", "width", "window", "stores", "watchdog", "port", "cycles",
-            "dump",
+            "core", "script", "tape", "width", "window", "stores", "watchdog", "port", "room",
+            "cycles", "dump",
         ],
         flags: &["trace"],
     },
@@ -33,7 +33,8 @@ static LEAVES: [Leaf; 7] = [
         name: "tape",
         positionals: &["IMAGE"],
         options: &[
-            "core", "script", "tape", "width", "window", "stores", "watchdog", "port", "cycles",
+            "core", "script", "tape", "width", "window", "stores", "watchdog", "port", "room",
+            "cycles",
         ],
         flags: &[],
     },
@@ -41,7 +42,7 @@ static LEAVES: [Leaf; 7] = [
         name: "debug",
         positionals: &["IMAGE", "COMMANDS"],
         options: &[
-            "core", "script", "tape", "window", "stores", "watchdog", "port",
+            "core", "script", "tape", "window", "stores", "watchdog", "port", "room",
         ],
         flags: &[],
     },
@@ -60,7 +61,7 @@ static LEAVES: [Leaf; 7] = [
     Leaf {
         name: "migrate",
         positionals: &["IMAGE"],
-        options: &[],
+        options: &["room"],
         flags: &[],
     },
     Leaf {

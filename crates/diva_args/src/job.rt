@@ -12,6 +12,9 @@ pub(crate) const DEFAULT_CYCLES: u32 = 1_000_000;
 /// The most bytes of memory that are shown.
 pub(crate) const MOST_DUMPED: u32 = 4096;
 
+/// The most bytes of memory that follow those that an executable loads.
+pub(crate) const MOST_ROOM: u32 = 16_777_212;
+
 /// The most instructions that are drawn for `soak`.
 pub(crate) const LONGEST_SOAK: u32 = 65_536;
 
@@ -28,18 +31,22 @@ pub enum Job {
     Asm(FileName),
     /// `dis IMAGE`: lists the image of this name. The name is the word as it is.
     Dis(FileName),
-    /// `migrate IMAGE`: writes the image of this name in version 2. The name is the word as it is.
-    Migrate(FileName),
+    /// `migrate IMAGE`: writes an image in version 2.
+    Migrate(MigrateOptions),
     /// `soak SEED LENGTH`: runs the image of a seed twice, under two cores.
     Soak(SoakOptions),
 }
 
-/// What commands have in common that run an image: the image, the core, the script, and the numbers of the machine.
+/// What commands have in common that run an image: the image, the memory that follows what an executable loads, the core,
+/// the script, and the numbers of the machine.
 #[derive(Debug, Drop)]
 pub struct Setup {
     /// `IMAGE`: the name of the image's file. It is the word as it is, which may be empty or `-`. A longer name that
     /// begins with `-` has to stand behind the word `--`.
     pub image: FileName,
+    /// `--room`: how many bytes of memory follow those that an executable loads, for its stack: a multiple of 4, 0 to
+    /// 16,777,212; 0 by default. It has no effect on an image file.
+    pub room: u32,
     /// `--core` with `--tape`: the core that the checker watches; the program's own where neither is given.
     pub core: CoreChoice,
     /// `--script`: the name of the file whose rows are laid over what the core hands over. It is the word as it is; with
@@ -53,14 +60,14 @@ pub struct Setup {
 }
 
 impl Model for Setup {
-    ghost use Rattle.diva_args.specs.Options.{Setup};
+    ghost use Rattle.diva_args.specs.Options.{IsRoom, Setup};
     ghost use Rattle.diva_core.specs.Machine.{IsConfig};
 
     ghost Value = { Setup };
 
-    ghost view = { λ s. record { image = s.image; core = s.core; script = s.script; config = s.config } };
+    ghost view = { λ s. record { image = s.image; room = s.room; core = s.core; script = s.script; config = s.config } };
 
-    ghost invariant = { λ s. IsConfig s.config };
+    ghost invariant = { λ s. IsConfig s.config × IsRoom s.room };
 }
 
 /// `run IMAGE` with its options.
@@ -124,6 +131,26 @@ impl Model for DebugOptions {
     ghost view = { λ d. record { setup = d.setup; commands = d.commands } };
 
     ghost invariant = { λ d. d.setup.config.width ≡ 1 };
+}
+
+/// `migrate IMAGE` with its option.
+#[derive(Debug, Drop)]
+pub struct MigrateOptions {
+    /// `IMAGE`: the name of the image's file. It is the word as it is.
+    pub image: FileName,
+    /// `--room`: how many bytes of memory follow those that an executable loads, for its stack: a multiple of 4, 0 to
+    /// 16,777,212; 0 by default. It has no effect on an image file.
+    pub room: u32,
+}
+
+impl Model for MigrateOptions {
+    ghost use Rattle.diva_args.specs.Options.{IsRoom, MigrateOptions};
+
+    ghost Value = { MigrateOptions };
+
+    ghost view = { λ m. record { image = m.image; room = m.room } };
+
+    ghost invariant = { λ m. IsRoom m.room };
 }
 
 /// `soak SEED LENGTH`. It names no file, and has no options.

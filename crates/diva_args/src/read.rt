@@ -2,9 +2,9 @@
 ghost use Rattle.std.specs.Prelude.{◌≡◌, ◌≤◌, IfOk, IfSome, None, Some, codes, map, option_and_then, option_map};
 ghost use Rattle.clap.specs.Walk.{rows_of};
 ghost use Rattle.clap.specs.Words.{found_of, subcommand_rows_of};
-ghost use Rattle.diva_args.specs.Line.{command_of, config_from, cycles_from, debug_from, job_of, run_from, setup_from};
-ghost use Rattle.diva_args.specs.Line.{soak_from, taken, tape_from, values_of};
-ghost use Rattle.diva_args.specs.Options.{IsBudget};
+ghost use Rattle.diva_args.specs.Line.{command_of, config_from, cycles_from, debug_from, job_of, migrate_from, room_from};
+ghost use Rattle.diva_args.specs.Line.{run_from, setup_from, soak_from, taken, tape_from, values_of};
+ghost use Rattle.diva_args.specs.Options.{IsBudget, IsRoom};
 ghost use Rattle.diva_args.specs.Plain.{IsPlainLine, PlainLine, job_on};
 ghost use Rattle.diva_args.specs.Values.{given_number, is_set_by, number_or};
 ghost use Rattle.diva_core.specs.Timed.{default_config};
@@ -14,8 +14,8 @@ use crate::command::command;
 use crate::fault::ArgsFault;
 use crate::file_name::FileName;
 use crate::job::{
-    DEFAULT_CYCLES, DebugOptions, Job, LONGEST_SOAK, MOST_CYCLES, RunOptions, Setup, SoakOptions,
-    TapeOptions,
+    DEFAULT_CYCLES, DebugOptions, Job, LONGEST_SOAK, MOST_CYCLES, MOST_ROOM, MigrateOptions,
+    RunOptions, Setup, SoakOptions, TapeOptions,
 };
 use crate::values::{core, dump, number, number_within};
 use clap::ArgMatches;
@@ -67,7 +67,7 @@ fn job(alloc: Global, matches: &ArgMatches<'_>) -> Result<Job, ArgsFault>
         "debug" => Ok(Job::Debug(debug(alloc, found)?)),
         "asm" => Ok(Job::Asm(file_of(alloc, found, "SRC")?)),
         "dis" => Ok(Job::Dis(file_of(alloc, found, "IMAGE")?)),
-        "migrate" => Ok(Job::Migrate(file_of(alloc, found, "IMAGE")?)),
+        "migrate" => Ok(Job::Migrate(migrate(alloc, found)?)),
         "soak" => Ok(Job::Soak(soak(found)?)),
         _ => Err(ArgsFault::Usage),
     }
@@ -141,6 +141,21 @@ fn debug(alloc: Global, found: &ArgMatches<'_>) -> Result<DebugOptions, ArgsFaul
     })
 }
 
+/// `migrate IMAGE` with its option.
+#[tactic(auto, unfolding(crate::specs::Line::migrate_from))]
+fn migrate(alloc: Global, found: &ArgMatches<'_>) -> Result<MigrateOptions, ArgsFault>
+    ensures migrate { IfOk result (λ migrate.
+        migrate_from (values_of (rows_of (found_of found.now))) ≡ Some migrate) }
+    ensures usage { result ≡ Err ArgsFault.Usage
+        → migrate_from (values_of (rows_of (found_of found.now))) ≡ None }
+{
+    let image = file_of(alloc, found, "IMAGE")?;
+    let Some(room) = room(found) else {
+        return Err(ArgsFault::Usage);
+    };
+    Ok(MigrateOptions { image, room })
+}
+
 /// `soak SEED LENGTH`.
 #[tactic(auto, unfolding(crate::specs::Line::soak_from))]
 fn soak(found: &ArgMatches<'_>) -> Result<SoakOptions, ArgsFault>
@@ -178,11 +193,15 @@ fn setup(alloc: Global, found: &ArgMatches<'_>, width: Option<u32>) -> Result<Se
     let Some(image) = text_of(found, "IMAGE") else {
         return Err(ArgsFault::Usage);
     };
+    let Some(room) = room(found) else {
+        return Err(ArgsFault::Usage);
+    };
     let Some(config) = config(found, width) else {
         return Err(ArgsFault::Usage);
     };
     Ok(Setup {
         image: FileName::new(alloc, image)?,
+        room,
         core: core(alloc, text_of(found, "core"), text_of(found, "tape"))?,
         script: name_of(alloc, text_of(found, "script"))?,
         config,
@@ -228,6 +247,16 @@ fn cycles(found: &ArgMatches<'_>) -> Option<u64>
 {
     let cycles = number(text_of(found, "cycles"), 1, MOST_CYCLES, DEFAULT_CYCLES)?;
     Some(u64::from(cycles))
+}
+
+/// How many bytes of memory follow those that an executable loads.
+#[tactic(auto, unfolding(crate::specs::Line::room_from))]
+fn room(found: &ArgMatches<'_>) -> Option<u32>
+    ensures value { result ≡ room_from (values_of (rows_of (found_of found.now))) }
+    ensures in_range { IfSome result IsRoom }
+{
+    let room = number(text_of(found, "room"), 0, MOST_ROOM, 0)?;
+    if room % 4 == 0 { Some(room) } else { None }
 }
 
 /// The name that the words give for an option.

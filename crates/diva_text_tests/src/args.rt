@@ -1,127 +1,168 @@
 // Lines that are taken, and lines that are refused. A line is one string, whose words blanks part.
 use diva_args::{
-    ArgsFault, DebugOptions, Job, RunOptions, Setup, SoakOptions, TapeOptions, read_words,
+    ArgsFault, DebugOptions, Job, MigrateOptions, RunOptions, Setup, SoakOptions, TapeOptions,
+    read_words,
 };
 use std::alloc::{AllocError, Global};
 use std::test::Fail;
 
-/// Lines with what they ask for: the command, then the names and numbers. Behind an image stand its core, its script, width, window,
-/// stores, limit and port; last come of `run` the cycles, the commit lines and the dump, and of `tape` the cycles.
-static TAKEN: [(&str, &str); 33] = [
+/// Lines with what they ask for: the command, then the names and numbers. Behind an image stand its room, its core, its script,
+/// width, window, stores, limit and port; last come of `run` the cycles, the commit lines and the dump, and of `tape` the cycles.
+static TAKEN: [(&str, &str); 45] = [
     (
         "run p1.diva",
-        r#"run "p1.diva" Own None 2 16 4 64 1 1000000 false None"#,
+        r#"run "p1.diva" 0 Own None 2 16 4 64 1 1000000 false None"#,
     ),
     (
         "run p1.diva --dump 3c:8 --cycles 1000000000 --stores 6 --trace --core silent \
         --script faults.txt --watchdog 1024 --width 1 --window 08",
-        r#"run "p1.diva" Silent Some(FileName { text: "faults.txt" }) 1 8 6 1024 1 1000000000 true Some(DumpRange { addr: 60, len: 8 })"#,
+        r#"run "p1.diva" 0 Silent Some(FileName { text: "faults.txt" }) 1 8 6 1024 1 1000000000 true Some(DumpRange { addr: 60, len: 8 })"#,
     ),
     // What stands for a flag that is not given is no value of an option.
     (
         "run --trace p --script false",
-        r#"run "p" Own Some(FileName { text: "false" }) 2 16 4 64 1 1000000 true None"#,
+        r#"run "p" 0 Own Some(FileName { text: "false" }) 2 16 4 64 1 1000000 true None"#,
     ),
-    ("tape p --cycles 9", r#"tape "p" Own None 2 16 4 64 1 9"#),
+    ("tape p --cycles 9", r#"tape "p" 0 Own None 2 16 4 64 1 9"#),
     (
         "tape p --script s --tape t --core tape",
-        r#"tape "p" Tape(FileName { text: "t" }) Some(FileName { text: "s" }) 2 16 4 64 1 1000000"#,
+        r#"tape "p" 0 Tape(FileName { text: "t" }) Some(FileName { text: "s" }) 2 16 4 64 1 1000000"#,
     ),
     ("asm p1.s", r#"asm "p1.s""#),
     ("dis -- -x", r#"dis "-x""#),
-    ("migrate p1.diva", r#"migrate "p1.diva""#),
+    ("migrate p1.diva", r#"migrate "p1.diva" 0"#),
     ("soak 1 1", "soak 1 1"),
     ("soak 7 65536", "soak 7 65536"),
     ("soak 4294967295 0000000002", "soak 4294967295 2"),
     ("soak -- 0 3", "soak 0 3"),
-    ("debug p c", r#"debug "p" Own None 1 16 4 64 1 "c""#),
+    ("debug p c", r#"debug "p" 0 Own None 1 16 4 64 1 "c""#),
     (
         "debug p c --watchdog 16 --core silent",
-        r#"debug "p" Silent None 1 16 4 16 1 "c""#,
+        r#"debug "p" 0 Silent None 1 16 4 16 1 "c""#,
     ),
     // The ends of the port's range, for each command that has one.
     (
         "run p --port 1",
-        r#"run "p" Own None 2 16 4 64 1 1000000 false None"#,
+        r#"run "p" 0 Own None 2 16 4 64 1 1000000 false None"#,
     ),
     (
         "run p --stores 2 --port 6 --width 3",
-        r#"run "p" Own None 3 16 2 64 6 1000000 false None"#,
+        r#"run "p" 0 Own None 3 16 2 64 6 1000000 false None"#,
     ),
     (
         "tape p --port=01",
-        r#"tape "p" Own None 2 16 4 64 1 1000000"#,
+        r#"tape "p" 0 Own None 2 16 4 64 1 1000000"#,
     ),
     (
         "tape p --cycles 9 --port 6",
-        r#"tape "p" Own None 2 16 4 64 6 9"#,
+        r#"tape "p" 0 Own None 2 16 4 64 6 9"#,
     ),
     (
         "debug p c --port 1",
-        r#"debug "p" Own None 1 16 4 64 1 "c""#,
+        r#"debug "p" 0 Own None 1 16 4 64 1 "c""#,
     ),
     (
         "debug --port 6 p c",
-        r#"debug "p" Own None 1 16 4 64 6 "c""#,
+        r#"debug "p" 0 Own None 1 16 4 64 6 "c""#,
     ),
+    // The room behind an executable, for each command that has one, and the ends of its range.
+    (
+        "run p --room 4096",
+        r#"run "p" 4096 Own None 2 16 4 64 1 1000000 false None"#,
+    ),
+    (
+        "tape p --room 4096",
+        r#"tape "p" 4096 Own None 2 16 4 64 1 1000000"#,
+    ),
+    (
+        "debug p c --room 4096",
+        r#"debug "p" 4096 Own None 1 16 4 64 1 "c""#,
+    ),
+    ("migrate p --room 4096", r#"migrate "p" 4096"#),
+    (
+        "run --room 0 p",
+        r#"run "p" 0 Own None 2 16 4 64 1 1000000 false None"#,
+    ),
+    (
+        "run p --room=16777212",
+        r#"run "p" 16777212 Own None 2 16 4 64 1 1000000 false None"#,
+    ),
+    (
+        "tape p --cycles 9 --room 0",
+        r#"tape "p" 0 Own None 2 16 4 64 1 9"#,
+    ),
+    (
+        "tape p --room 16777212 --port 6",
+        r#"tape "p" 16777212 Own None 2 16 4 64 6 1000000"#,
+    ),
+    (
+        "debug --room 0 p c",
+        r#"debug "p" 0 Own None 1 16 4 64 1 "c""#,
+    ),
+    (
+        "debug p c --room 0016777212",
+        r#"debug "p" 16777212 Own None 1 16 4 64 1 "c""#,
+    ),
+    ("migrate p --room 0000000000", r#"migrate "p" 0"#),
+    ("migrate --room=16777212 -- -x", r#"migrate "-x" 16777212"#),
     // Each core, and tapes of any name.
     (
         "run p --core lockstep",
-        r#"run "p" Lockstep None 2 16 4 64 1 1000000 false None"#,
+        r#"run "p" 0 Lockstep None 2 16 4 64 1 1000000 false None"#,
     ),
     (
         "run p --core scalar",
-        r#"run "p" Scalar None 2 16 4 64 1 1000000 false None"#,
+        r#"run "p" 0 Scalar None 2 16 4 64 1 1000000 false None"#,
     ),
     (
         "run p --core flood",
-        r#"run "p" Flood None 2 16 4 64 1 1000000 false None"#,
+        r#"run "p" 0 Flood None 2 16 4 64 1 1000000 false None"#,
     ),
     (
         "run p --core echo",
-        r#"run "p" Echo None 2 16 4 64 1 1000000 false None"#,
+        r#"run "p" 0 Echo None 2 16 4 64 1 1000000 false None"#,
     ),
     (
         "run p --core noise",
-        r#"run "p" Noise None 2 16 4 64 1 1000000 false None"#,
+        r#"run "p" 0 Noise None 2 16 4 64 1 1000000 false None"#,
     ),
     (
         "run p --core tape --tape t",
-        r#"run "p" Tape(FileName { text: "t" }) None 2 16 4 64 1 1000000 false None"#,
+        r#"run "p" 0 Tape(FileName { text: "t" }) None 2 16 4 64 1 1000000 false None"#,
     ),
     (
         "run p --core tape --tape=",
-        r#"run "p" Tape(FileName { text: "" }) None 2 16 4 64 1 1000000 false None"#,
+        r#"run "p" 0 Tape(FileName { text: "" }) None 2 16 4 64 1 1000000 false None"#,
     ),
     (
         "run p --core=tape --tape=x",
-        r#"run "p" Tape(FileName { text: "x" }) None 2 16 4 64 1 1000000 false None"#,
+        r#"run "p" 0 Tape(FileName { text: "x" }) None 2 16 4 64 1 1000000 false None"#,
     ),
     // Any word is a name.
     (
         "run -",
-        r#"run "-" Own None 2 16 4 64 1 1000000 false None"#,
+        r#"run "-" 0 Own None 2 16 4 64 1 1000000 false None"#,
     ),
     (
         "run ''",
-        r#"run "" Own None 2 16 4 64 1 1000000 false None"#,
+        r#"run "" 0 Own None 2 16 4 64 1 1000000 false None"#,
     ),
     (
         "run -- -x",
-        r#"run "-x" Own None 2 16 4 64 1 1000000 false None"#,
+        r#"run "-x" 0 Own None 2 16 4 64 1 1000000 false None"#,
     ),
     (
         "run --width 2 -- -x",
-        r#"run "-x" Own None 2 16 4 64 1 1000000 false None"#,
+        r#"run "-x" 0 Own None 2 16 4 64 1 1000000 false None"#,
     ),
     (
         "run -- --help",
-        r#"run "--help" Own None 2 16 4 64 1 1000000 false None"#,
+        r#"run "--help" 0 Own None 2 16 4 64 1 1000000 false None"#,
     ),
 ];
 
 /// Lines that are refused.
-static REFUSED: [&str; 58] = [
+static REFUSED: [&str; 78] = [
     // No command, and no help.
     "",
     "walk a",
@@ -153,9 +194,12 @@ static REFUSED: [&str; 58] = [
     "tape a --dump 0:4",
     "asm a --core own",
     "asm a --port 1",
+    "asm a --room 4096",
+    "dis a --room 4096",
     "migrate p1.diva --core own",
     "soak 1 1 --core own",
     "soak 1 1 --port 1",
+    "soak 1 1 --room 4096",
     // Options twice, or without a value.
     "run a --trace --trace",
     "run a --trace true",
@@ -163,6 +207,9 @@ static REFUSED: [&str; 58] = [
     "run a --core own --core own",
     "run a --script",
     "run a --script b --script b",
+    "run a --room 4 --room 4",
+    "migrate a --room 4 --room 4",
+    "migrate a --room",
     // Cores with a wrong tape.
     "run a --core vector",
     "run a --core tape",
@@ -174,6 +221,20 @@ static REFUSED: [&str; 58] = [
     "run a --port 0",
     "run a --port 7",
     "run a --port x",
+    "run a --room 16777216",
+    "run a --room 16777213",
+    "run a --room 2",
+    "run a --room -4",
+    "run a --room=-4",
+    "run a --room 00000000004",
+    "run a --room 0x4",
+    "tape a --room 16777216",
+    "debug a b --room 2",
+    "migrate a --room 16777216",
+    "migrate a --room 16777213",
+    "migrate a --room 2",
+    "migrate a --room -4",
+    "migrate a --room=",
     "run a --cycles 0",
     "run a --dump 8",
     "run a --dump 0:0",
@@ -230,7 +291,9 @@ fn text_of(alloc: Global, job: &Job) -> Result<String, AllocError> {
         }
         Job::Asm(source) => format!(in alloc; "asm {:?}", source.as_str()),
         Job::Dis(image) => format!(in alloc; "dis {:?}", image.as_str()),
-        Job::Migrate(image) => format!(in alloc; "migrate {:?}", image.as_str()),
+        Job::Migrate(MigrateOptions { image, room }) => {
+            format!(in alloc; "migrate {:?} {room}", image.as_str())
+        }
         Job::Soak(SoakOptions { seed, instructions }) => {
             format!(in alloc; "soak {seed} {instructions}")
         }
@@ -244,9 +307,11 @@ fn run_text(alloc: Global, options: &RunOptions) -> Result<String, AllocError> {
 }
 
 fn setup_text(alloc: Global, setup: &Setup) -> Result<String, AllocError> {
-    let image = setup.image.as_str();
+    let (image, room) = (setup.image.as_str(), setup.room);
     let (core, script, config) = (&setup.core, &setup.script, &setup.config);
     let (width, window) = (config.width(), config.window());
     let (stores, limit, port) = (config.stores(), config.limit(), config.port());
-    format!(in alloc; "{image:?} {core:?} {script:?} {width} {window} {stores} {limit} {port}")
+    format!(in alloc;
+        "{image:?} {room} {core:?} {script:?} {width} {window} {stores} {limit} {port}"
+    )
 }
