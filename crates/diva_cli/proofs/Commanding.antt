@@ -279,7 +279,7 @@ module _ {C S : Type 0} (gives : Meaning C) (options : DebugOptions) (bytes : Fi
     (p : PerformsBy gives session.ready.core session.ready.script (change session.ready.machine.timed last) (change core after)
     (λ lists. IsReplied commands session.ready.machine.timed lists sink result)) where
   abbrev first : Timed
-  first = new_timed options.setup.config (start_in bytes)
+  first = new_timed options.setup.config (start_in options.setup bytes)
 
   few : length p.lists ≤ cycles_of (length p.done.done) options.setup.config.limit
   few = subst (λ (m : Timed). length p.lists ≤ cycles_of (length p.done.done) m.config.limit) is.ready.begun p.done.most
@@ -291,11 +291,11 @@ module _ {C S : Type 0} (gives : Meaning C) (options : DebugOptions) (bytes : Fi
   all_lists = over_lists gives options.setup (cycles_of (length p.done.done) options.setup.config.limit) bytes session.ready core last after fits is.ready p.lists p.ran p.each p.handed few
 
   abbrev text : List ℕ
-  text = replies_of p.done.done 0 (start_in bytes) (newest_after first p.done.parts)
+  text = replies_of p.done.done 0 (start_in options.setup bytes) (newest_after first p.done.parts)
 
   has_replies : (ended : Result ℕ (List ℕ))
       → IfOk ended (λ s. (s ≡ 0) × (p.done.left ≡ []))
-      → IfErr ended (λ put. BeforeLast p.done.done (λ earlier. put ≡ replies_of earlier 0 (start_in bytes) (newest_after first p.done.parts)))
+      → IfErr ended (λ put. BeforeLast p.done.done (λ earlier. put ≡ replies_of earlier 0 (start_in options.setup bytes) (newest_after first p.done.parts)))
       → HasReplies gives options bytes (change core after) ended text
   has_replies ended whole cut =
       record {
@@ -329,7 +329,7 @@ module _ {C S : Type 0} (gives : Meaning C) (options : DebugOptions) (bytes : Fi
       let b : CutAt p.done.done first p.done.parts (sink.contents sink.before) (sink.contents sink.after) =
       subst (λ (m : Timed). CutAt p.done.done m p.done.parts (sink.contents sink.before) (sink.contents sink.after)) is.ready.begun
       (subst (λ (r : Result (Unit {0}) SinkFailed). OnErr r (CutAt p.done.done session.ready.machine.timed p.done.parts (sink.contents sink.before) (sink.contents sink.after))) err p.done.cut) in
-      let put : List ℕ = replies_of b.earlier 0 (start_in bytes) (newest_after first p.done.parts) in
+      let put : List ℕ = replies_of b.earlier 0 (start_in options.setup bytes) (newest_after first p.done.parts) in
       record {
         rose = q.failed;
         put = put;

@@ -45,17 +45,17 @@ can_end gives (Tape options) bytes core status text h = ends_done h.last options
 can_end gives (Debug options) bytes core status text h = h.whole.0
 can_end gives (Asm name) bytes core status text h = h.alone.whole
 can_end gives (Dis name) bytes core status text h = h.alone.whole
-can_end gives (Migrate name) bytes core status text h = h.alone.whole
+can_end gives (Migrate options) bytes core status text h = h.alone.whole
 can_end gives (Soak options) bytes core status text h = h.whole
 
 -- ---- a file that is held is no cause to stop
 
-faultless-fault : (what : What) (bytes : List ℕ) (kind place : ℕ) → IsFaultless what bytes → HasFault what bytes kind place → ⊥
-faultless-fault Image bytes kind place n f = let e = sym n ∙ f in cc
-faultless-fault Script bytes kind place n f = true≢false (sym (subst IsOk f n))
-faultless-fault TapeFile bytes kind place n f = true≢false (sym (subst IsOk f n))
-faultless-fault Source bytes kind place n f = true≢false (sym (subst IsOk f n))
-faultless-fault Commands bytes kind place n f = true≢false (sym (subst IsOk f n))
+faultless-fault : (what : What) (room : ℕ) (bytes : List ℕ) (kind place : ℕ) → IsFaultless what room bytes → HasFault what room bytes kind place → ⊥
+faultless-fault Image room bytes kind place n f = let e = sym n ∙ f in cc
+faultless-fault Script room bytes kind place n f = true≢false (sym (subst IsOk f n))
+faultless-fault TapeFile room bytes kind place n f = true≢false (sym (subst IsOk f n))
+faultless-fault Source room bytes kind place n f = true≢false (sym (subst IsOk f n))
+faultless-fault Commands room bytes kind place n f = true≢false (sym (subst IsOk f n))
 
 pub some_same : {A : Type 0} (r : Option A) (x y : A) → r ≡ Some x → r ≡ Some y → x ≡ y
 some_same r x y a b = cc
@@ -70,7 +70,7 @@ held-refused (Some bytes_of) text w h r = go r.cause
         let n = ap (λ (b : List ℕ). length b) same in let a = h.short in let b = long.longer.2 in omega arith
     go (inr f) =
         let same : h.bytes ≡ f.bytes = some_same (bytes_of w.name) h.bytes f.bytes h.held f.has in
-        faultless-fault w.what f.bytes r.kind r.place (subst (λ (b : List ℕ). IsFaultless w.what b) same h.faultless) f.first
+        faultless-fault w.what w.room f.bytes r.kind r.place (subst (λ (b : List ℕ). IsFaultless w.what w.room b) same h.faultless) f.first
 
 held-unread : (contents : Contents) (before now : What → ℕ) (text : List ℕ) (w : Wanted) (behind : List Wanted) → ((what : What) → Rose (before what) (now what) → ⊥)
     → IsHeld contents w → IsUnread contents before now text w behind → ⊥

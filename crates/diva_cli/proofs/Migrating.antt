@@ -5,16 +5,17 @@ use Rattle.diva_outside.specs.declared.files.What.TheVariants.{Image as ImageFil
 use Rattle.diva_image.specs.Layout.{Layout}
 use Rattle.diva_image.specs.Images.{image_of}
 use Rattle.diva_image.specs.Migrated.{BeginsAgain, segmented_bytes}
+use Rattle.diva_image.specs.Programs.{image_in}
 use Rattle.diva_machine.specs.Start.{start_of}
 use Rattle.diva_machine.proofs.Beginning.{starts_as}
 use Rattle.diva_cli.specs.Changes.{change}
 use Rattle.diva_cli.specs.ImageTexts.{HasMigrated}
 use Rattle.diva_cli.specs.Wanted.{FileBytes}
 
-pub has_migrated : {C : Type 0} (bytes : FileBytes) (core : C) (ended : Result ℕ Text) (text : Text) (i : Layout) (spelled : List ℕ)
-    → text ≡ spelled → image_of (bytes ImageFile) ≡ i → spelled ≡ segmented_bytes i → BeginsAgain i spelled → IfOk ended (λ s. s ≡ 0)
-    → HasMigrated bytes (change core core) ended text
-has_migrated bytes core ended text i spelled put read written begins whole =
+pub has_migrated : {C : Type 0} (room : ℕ) (bytes : FileBytes) (core : C) (ended : Result ℕ Text) (text : Text) (i : Layout) (spelled : List ℕ)
+    → text ≡ spelled → image_in room (bytes ImageFile) ≡ i → spelled ≡ segmented_bytes i → BeginsAgain i spelled → IfOk ended (λ s. s ≡ 0)
+    → HasMigrated room bytes (change core core) ended text
+has_migrated room bytes core ended text i spelled put read written begins whole =
     let again : BeginsAgain i text = subst (BeginsAgain i) (sym put) begins in
     record {
       written = put ∙ written ∙ ap segmented_bytes (sym read);

@@ -3,13 +3,13 @@ use Rattle.std.proofs.Common.{◌≡◌, ℕ, List, [], ◌∷◌, ◌++◌, Opt
 use Rattle.diva_outside.specs.Files.{Contents}
 use Rattle.diva_outside.specs.declared.files.What.TheVariants.{Image, Script, Tape as TapeFile, Commands}
 use Rattle.diva_image.specs.Layout.{Layout}
-use Rattle.diva_image.specs.Images.{image_of}
+use Rattle.diva_image.specs.Programs.{image_in}
 use Rattle.diva_core.specs.Timed.{new_timed}
 use Rattle.diva_machine.specs.Start.{start_of}
 use Rattle.diva_args.specs.Options.{DebugOptions, Setup}
 use Rattle.diva_cli.specs.declared.loading.Ready.{Ready}
 use Rattle.diva_cli.specs.declared.loading.SessionReady.{SessionReady}
-use Rattle.diva_cli.specs.Wanted.{AreSound, FileBytes, file, file_if, machine_files, tape_name}
+use Rattle.diva_cli.specs.Wanted.{AreSound, FileBytes, file, file_if, file_with, machine_files, tape_name}
 use Rattle.diva_cli.specs.Parts.{AreCommands, Holds, HoldsRows, HoldsCore, HoldsReady, HoldsSession}
 use Rattle.diva_cli.proofs.Stopping.{sound_both, sound_if}
 
@@ -21,7 +21,7 @@ all image script tape TapeFile = tape
 all image script tape _ = []
 
 pub ready_held : (contents : Contents) (setup : Setup) (i : Layout) (ready : Ready)
-    → Holds contents (file Image setup.image) (λ bytes. image_of bytes ≡ i)
+    → Holds contents (file_with setup.room Image setup.image) (λ bytes. image_in setup.room bytes ≡ i)
     → HoldsRows contents setup.script ready.script
     → HoldsCore contents setup.core ready.core
     → ready.machine.timed ≡ new_timed setup.config (start_of i)

@@ -5,7 +5,7 @@ use Rattle.diva_outside.specs.Files.{Contents, IsMissing}
 use Rattle.diva_outside.specs.Lines.{LineFault}
 use Rattle.diva_outside.specs.declared.files.What.{What}
 use Rattle.diva_outside.specs.declared.files.What.TheVariants.{Image, Script, Tape as TapeFile, Source, Commands}
-use Rattle.diva_image.specs.Images.{fault_of}
+use Rattle.diva_image.specs.Programs.{fault_in}
 use Rattle.diva_faults.specs.Reading.{script_of}
 use Rattle.diva_tape.specs.Tapes.{tape_of}
 use Rattle.diva_asm.specs.Sources.{source_of}
@@ -40,12 +40,12 @@ same_line r k l k' l' a b =
 same_fields : {A : Type 0} (r : Option A) (kind place : A → ℕ) (x y : A) → r ≡ Some x → r ≡ Some y → Same (kind x) (place x) (kind y) (place y)
 same_fields r kind place x y a b = let e = some_same r x y a b in record { kinds = ap kind e; places = ap place e }
 
-one_fault : (what : What) (bytes : List ℕ) (k p k' p' : ℕ) → HasFault what bytes k p → HasFault what bytes k' p' → Same k p k' p'
-one_fault Image bytes k p k' p' a b = same_fields (fault_of bytes) (λ f. f.kind) (λ f. f.place) _ _ a b
-one_fault Script bytes k p k' p' a b = same_line (script_of bytes) k p k' p' a b
-one_fault TapeFile bytes k p k' p' a b = same_line (tape_of bytes) k p k' p' a b
-one_fault Source bytes k p k' p' a b = same_line (source_of bytes) k p k' p' a b
-one_fault Commands bytes k p k' p' a b = same_line (commands_of bytes) k p k' p' a b
+one_fault : (what : What) (room : ℕ) (bytes : List ℕ) (k p k' p' : ℕ) → HasFault what room bytes k p → HasFault what room bytes k' p' → Same k p k' p'
+one_fault Image room bytes k p k' p' a b = same_fields (fault_in room bytes) (λ f. f.kind) (λ f. f.place) _ _ a b
+one_fault Script room bytes k p k' p' a b = same_line (script_of bytes) k p k' p' a b
+one_fault TapeFile room bytes k p k' p' a b = same_line (tape_of bytes) k p k' p' a b
+one_fault Source room bytes k p k' p' a b = same_line (source_of bytes) k p k' p' a b
+one_fault Commands room bytes k p k' p' a b = same_line (commands_of bytes) k p k' p' a b
 
 -- ---- files that are known
 
@@ -80,7 +80,7 @@ module _ (bytes_of : List ℕ → Option (List ℕ)) where
       go (inr a) (inl b) = absurd (long-short r'.kind r'.place r.kind r.place b a)
       go (inr a) (inr b) =
           let same : a.bytes ≡ b.bytes = some_same (bytes_of w.name) a.bytes b.bytes a.has b.has in
-          one_fault w.what b.bytes r.kind r.place r'.kind r'.place (subst (λ (z : List ℕ). HasFault w.what z r.kind r.place) same a.first) b.first
+          one_fault w.what w.room b.bytes r.kind r.place r'.kind r'.place (subst (λ (z : List ℕ). HasFault w.what w.room z r.kind r.place) same a.first) b.first
 
   -- two stops, each at a file that can't be used, are at the same one
   both_stop : (this that : Wanted → List Wanted → Type 0) (So : Type 0)

@@ -11,14 +11,14 @@ use Rattle.diva_core.specs.Machine.{IsConfig}
 use Rattle.diva_core.proofs.Reaching.{run-off}
 use Rattle.diva_faults.specs.declared.rows.Row.{Row}
 use Rattle.diva_faults.proofs.Spoiling.{scripted-none}
-use Rattle.diva_image.specs.Images.{image_of}
+use Rattle.diva_image.specs.Programs.{image_in}
 use Rattle.diva_machine.specs.Start.{start_of}
 use Rattle.diva_tape.specs.Tapes.{tape_of}
 use Rattle.diva_tape.specs.TapeText.{IsList, list_text, tape_text}
 use Rattle.diva_tape.specs.TapeCalls.{next_list, later_lists, played}
 use Rattle.diva_tape.proofs.Playing.{played-next}
 use Rattle.diva_tape.proofs.ReadingBack.{tape_read_back}
-use Rattle.diva_outside.specs.declared.files.What.TheVariants.{Script, Tape as TapeFile}
+use Rattle.diva_outside.specs.declared.files.What.TheVariants.{Image, Script, Tape as TapeFile}
 use Rattle.diva_outside.specs.declared.sink.SinkFailed.{SinkFailed}
 use Rattle.diva_args.specs.Options.{RunOptions, TapeOptions}
 use Rattle.diva_args.specs.declared.job.CoreChoice.{CoreChoice}
@@ -80,12 +80,12 @@ only_one : {A E : Type 0} (r : Result A E) (x y : A) → r ≡ Ok x → r ≡ Ok
 only_one r x y a b = cc
 
 module _ (options : TapeOptions) (bytes : FileBytes) (lists : List (List Record)) (last : Timed)
-    (ran : last ≡ run_of (new_timed options.setup.config (start_in bytes)) lists)
+    (ran : last ≡ run_of (new_timed options.setup.config (start_in options.setup bytes)) lists)
     (each : last.cycles ≡ length lists)
     (most : length lists ≤ options.cycles)
-    (whole : IsWhole options.setup options.cycles (start_in bytes) last) where
+    (whole : IsWhole options.setup options.cycles (start_in options.setup bytes) last) where
   abbrev first : Timed
-  first = new_timed options.setup.config (start_in bytes)
+  first = new_timed options.setup.config (start_in options.setup bytes)
 
   pub same_machine : (others : List (List Record)) → others ≡ played (length others) lists → IsHandedFor options.cycles first others → run_of first others ≡ last
   same_machine others are handed =
@@ -98,8 +98,8 @@ module _ (options : TapeOptions) (bytes : FileBytes) (lists : List (List Record)
       (replay : RunOptions) (its_bytes : FileBytes) (is : IsReplay options bytes text replay its_bytes)
       (core after : C) (ended : Result ℕ (List ℕ)) (shown : List ℕ) (run : HasRun gives replay its_bytes (change core after) ended shown)
       (asked : replay.trace ≡ true → IsOk ended) where
-    abbrev whole_run : IsWhole replay.setup replay.cycles (start_in its_bytes) run.last
-        × (shown ≡ asked_trace replay.trace (start_in its_bytes) run.last.count ++ text_of run.last (shown_dump replay.dump))
+    abbrev whole_run : IsWhole replay.setup replay.cycles (start_in replay.setup its_bytes) run.last
+        × (shown ≡ asked_trace replay.trace (start_in replay.setup its_bytes) run.last.count ++ text_of run.last (shown_dump replay.dump))
     whole_run = shown_whole gives replay its_bytes core after ended shown run asked
 
     none : run.over.script ≡ []
@@ -111,8 +111,13 @@ module _ (options : TapeOptions) (bytes : FileBytes) (lists : List (List Record)
     same_lists : run.over.tape ≡ lists
     same_lists = only_one (tape_of text) run.over.tape lists (ap tape_of (sym is.tape) ∙ of_tape) reads
 
-    same_first : new_timed replay.setup.config (start_in its_bytes) ≡ first
-    same_first = ap (λ (z : Config). new_timed z (start_in its_bytes)) is.config ∙ ap (λ (b : List ℕ). new_timed options.setup.config (start_of (image_of b))) is.image
+    same_start : start_in replay.setup its_bytes ≡ start_in options.setup bytes
+    same_start =
+        ap (λ (b : List ℕ). start_of (image_in replay.setup.room b)) is.image
+        ∙ ap (λ (r : ℕ). start_of (image_in r (bytes Image))) is.room
+
+    same_first : new_timed replay.setup.config (start_in replay.setup its_bytes) ≡ first
+    same_first = ap (λ (z : Config). new_timed z (start_in replay.setup its_bytes)) is.config ∙ ap (new_timed options.setup.config) same_start
 
     driven : IsDriven gives (OfTape is.name) lists [] options.cycles (change first run.last) (change core after)
     driven =
@@ -129,14 +134,11 @@ module _ (options : TapeOptions) (bytes : FileBytes) (lists : List (List Record)
           whole = λ on. (let e = whole_run.0.all (ap (λ (m : Timed). goes_on m.arch) driven.ran ∙ on) in let f = driven.each in let g = is.cycles in omega arith);
         }
 
-    same_start : start_in its_bytes ≡ start_in bytes
-    same_start = ap (λ (b : List ℕ). start_of (image_of b)) is.image
-
-    pub same_text : shown ≡ asked_trace replay.trace (start_in bytes) last.count ++ text_of last (shown_dump replay.dump)
+    pub same_text : shown ≡ asked_trace replay.trace (start_in options.setup bytes) last.count ++ text_of last (shown_dump replay.dump)
     same_text =
         whole_run.1
         ∙ ap (λ (s : State). asked_trace replay.trace s run.last.count ++ text_of run.last (shown_dump replay.dump)) same_start
-        ∙ ap (λ (m : Timed). asked_trace replay.trace (start_in bytes) m.count ++ text_of m (shown_dump replay.dump))
+        ∙ ap (λ (m : Timed). asked_trace replay.trace (start_in options.setup bytes) m.count ++ text_of m (shown_dump replay.dump))
         (driven.ran ∙ same_machine driven.lists (driven.handed.in_order ∙ lists-unscripted (first.cycles + 1) (played (length driven.lists) lists)) handed)
 
 -- ---- what is written of a run by `tape`
@@ -169,7 +171,7 @@ module _ {C S : Type 0} (gives : Meaning C) (options : TapeOptions) (bytes : Fil
       let are : All IsList p.lists = subst (λ (r : Result (Unit {0}) SinkFailed). OnOk r (All IsList p.lists)) ok p.done.said in
       let whole = run_whole gives options.setup options.cycles bytes ready core last after fits is p.lists p.ran p.each p.handed (λ on. all on ∙ y) in
       let reads = tape_read_back p.lists are in
-      let ran_new : last ≡ run_of (new_timed options.setup.config (start_in bytes)) p.lists = p.ran ∙ ap (λ (m : Timed). run_of m p.lists) is.begun in
+      let ran_new : last ≡ run_of (new_timed options.setup.config (start_in options.setup bytes)) p.lists = p.ran ∙ ap (λ (m : Timed). run_of m p.lists) is.begun in
       let each : last.cycles ≡ length p.lists = each_new gives options.setup options.cycles bytes ready core last after fits is p.lists p.ran p.each p.handed in
       record {
         text = tape_text p.lists;
@@ -179,7 +181,7 @@ module _ {C S : Type 0} (gives : Meaning C) (options : TapeOptions) (bytes : Fil
           lines = ap tape_text (sym all_lists);
           whole = subst (λ (lists : List (List Record)). IsTapeOf gives options bytes lists last (tape_text p.lists) status) (sym all_lists) (record {
             whole = whole;
-            ended = ends_with options.setup options.cycles (start_in bytes) last status whole says;
+            ended = ends_with options.setup options.cycles (start_in options.setup bytes) last status whole says;
             reads = reads;
             again = same_machine options bytes p.lists last ran_new each few whole;
             replays = λ replay its_bytes r core' after' status' shown run asked.

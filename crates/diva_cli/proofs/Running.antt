@@ -160,7 +160,7 @@ module _ {C : Type 0} (gives : Meaning C) (setup : Setup) (cycles : ℕ) (bytes 
     (each : last.cycles ≡ ready.machine.timed.cycles + length lists)
     (handed : AreHandedBy gives ready.core ready.script (change ready.machine.timed last) (change core after) lists) where
   abbrev first : Timed
-  first = new_timed setup.config (start_in bytes)
+  first = new_timed setup.config (start_in setup bytes)
 
   ran_new : last ≡ run_of first lists
   ran_new = ran ∙ ap (λ (m : Timed). run_of m lists) is.begun
@@ -170,7 +170,7 @@ module _ {C : Type 0} (gives : Meaning C) (setup : Setup) (cycles : ℕ) (bytes 
 
   handed_new : AreHanded gives setup.core is.core.tape ready.script (change first last) (change core after) lists
   handed_new =
-      handed_for gives setup.core is.core.tape ready.script first core lists last after (new_leads setup.config (start_in bytes) fits refl)
+      handed_for gives setup.core is.core.tape ready.script first core lists last after (new_leads setup.config (start_in setup bytes) fits refl)
       (subst (λ (m : Timed). AreHandedBy gives (core_for setup.core is.core.tape) ready.script (change m last) (change core after) lists) is.begun
       (subst (λ (used : CoreInUse). AreHandedBy gives used ready.script (change ready.machine.timed last) (change core after) lists) is.core.is handed))
 
@@ -181,7 +181,7 @@ module _ {C : Type 0} (gives : Meaning C) (setup : Setup) (cycles : ℕ) (bytes 
         rows = is.rows;
         tape = is.core.tape;
         lists = is.core.lists;
-        run = run_from_start gives setup cycles is.core.tape ready.script (start_in bytes) core last after fits refl
+        run = run_from_start gives setup cycles is.core.tape ready.script (start_in setup bytes) core last after fits refl
             (record { lists = lists; ran = ran_new; each = (let e = each_new in omega arith); most = most; handed = handed_new });
       }
 
@@ -189,12 +189,12 @@ module _ {C : Type 0} (gives : Meaning C) (setup : Setup) (cycles : ℕ) (bytes 
   unfolding run_over run_from_start
   over_lists most = refl
 
-  pub run_whole : (goes_on last.arch ≡ true → length lists ≡ cycles) → IsWhole setup cycles (start_in bytes) last
+  pub run_whole : (goes_on last.arch ≡ true → length lists ≡ cycles) → IsWhole setup cycles (start_in setup bytes) last
   run_whole all =
       record {
         all = λ on. each_new ∙ all on;
-        same = λ n ends long. subst (λ (m : Timed). (m.arch ≡ steps n (start_in bytes)) × (m.count ≡ n)) (sym ran_new)
-            (same_end setup.config (start_in bytes) lists n cycles fits refl (λ on. all (ap (λ (m : Timed). goes_on m.arch) ran_new ∙ on)) ends long);
+        same = λ n ends long. subst (λ (m : Timed). (m.arch ≡ steps n (start_in setup bytes)) × (m.count ≡ n)) (sym ran_new)
+            (same_end setup.config (start_in setup bytes) lists n cycles fits refl (λ on. all (ap (λ (m : Timed). goes_on m.arch) ran_new ∙ on)) ends long);
       }
 
 -- ---- how it ended
@@ -282,8 +282,8 @@ went true cycles m lists last sink result w =
 
 pub shown_whole : {C : Type 0} (gives : Meaning C) (options : RunOptions) (bytes : FileBytes) (core after : C) (ended : Result ℕ (List ℕ)) (text : List ℕ)
     (h : HasRun gives options bytes (change core after) ended text) → (options.trace ≡ true → IsOk ended)
-    → IsWhole options.setup options.cycles (start_in bytes) h.last
-    × (text ≡ asked_trace options.trace (start_in bytes) h.last.count ++ text_of h.last (shown_dump options.dump))
+    → IsWhole options.setup options.cycles (start_in options.setup bytes) h.last
+    × (text ≡ asked_trace options.trace (start_in options.setup bytes) h.last.count ++ text_of h.last (shown_dump options.dump))
 shown_whole gives options bytes core after ended text h asked =
     elim h.written [
       | inl s ↦ (s.whole, s.lines)
@@ -316,29 +316,29 @@ module _ {C S : Type 0} (gives : Meaning C) (options : RunOptions) (bytes : File
   now = faults s2
 
   abbrev run_text : List ℕ
-  run_text = asked_trace options.trace (start_in bytes) last.count ++ text_of last (shown_dump options.dump)
+  run_text = asked_trace options.trace (start_in options.setup bytes) last.count ++ text_of last (shown_dump options.dump)
 
   w : Went trace cycles ready.machine.timed p.lists last old mid before between result
   w =
       went trace cycles ready.machine.timed p.lists last (sink_change contents faults s0 s1) result
       (subst (λ (k : Task). Does k (change ready.machine.timed last) p.lists (sink_change contents faults s0 s1) result) task_is p.done)
 
-  run_from_new : last ≡ run_of (new_timed options.setup.config (start_in bytes)) p.lists
+  run_from_new : last ≡ run_of (new_timed options.setup.config (start_in options.setup bytes)) p.lists
   run_from_new = p.ran ∙ ap (λ (m : Timed). run_of m p.lists) is.begun
 
-  puts_trace : Puts (asked_trace options.trace (start_in bytes) last.count) old mid before between result
+  puts_trace : Puts (asked_trace options.trace (start_in options.setup bytes) last.count) old mid before between result
   puts_trace =
-      subst (λ (b : Bool). Puts (asked_trace b (start_in bytes) last.count) old mid before between result) t
+      subst (λ (b : Bool). Puts (asked_trace b (start_in options.setup bytes) last.count) old mid before between result) t
       (subst (λ (x : List ℕ). Puts x old mid before between result)
-      (ap (λ (m : Timed). commits_if trace m p.lists) is.begun ∙ trace-run options.setup.config (start_in bytes) p.lists last trace fits refl run_from_new) w.put)
+      (ap (λ (m : Timed). commits_if trace m p.lists) is.begun ∙ trace-run options.setup.config (start_in options.setup bytes) p.lists last trace fits refl run_from_new) w.put)
 
   abbrev over : IsRunOver gives options.setup options.cycles bytes (change core after) last
   over = run_over gives options.setup options.cycles bytes ready core last after fits is p.lists p.ran p.each p.handed (let m = w.most in omega arith)
 
-  whole_if : (goes_on last.arch ≡ true → length p.lists ≡ cycles) → IsWhole options.setup options.cycles (start_in bytes) last
+  whole_if : (goes_on last.arch ≡ true → length p.lists ≡ cycles) → IsWhole options.setup options.cycles (start_in options.setup bytes) last
   whole_if all = run_whole gives options.setup options.cycles bytes ready core last after fits is p.lists p.ran p.each p.handed (λ on. all on ∙ y)
 
-  whole_ok : result ≡ Ok tt → IsWhole options.setup options.cycles (start_in bytes) last
+  whole_ok : result ≡ Ok tt → IsWhole options.setup options.cycles (start_in options.setup bytes) last
   whole_ok ok = whole_if (subst (λ (r : Result (Unit {0}) SinkFailed). OnOk r (goes_on last.arch ≡ true → length p.lists ≡ cycles)) ok w.whole)
 
   all_lists : over.run.driven.lists ≡ p.lists
@@ -346,14 +346,14 @@ module _ {C S : Type 0} (gives : Meaning C) (options : RunOptions) (bytes : File
 
   both : result ≡ Ok tt → (r : Result (Unit {0}) SinkFailed) → Puts (text_of last (shown_dump dump)) mid new between now r → Puts run_text old new before now r
   both ok r puts =
-      puts_then _ _ old mid new before between now r (subst (λ (x : Result (Unit {0}) SinkFailed). Puts (asked_trace options.trace (start_in bytes) last.count) old mid before between x) ok puts_trace)
+      puts_then _ _ old mid new before between now r (subst (λ (x : Result (Unit {0}) SinkFailed). Puts (asked_trace options.trace (start_in options.setup bytes) last.count) old mid before between x) ok puts_trace)
       (subst (λ (x : Option DumpRange). Puts (text_of last (shown_dump x)) mid new between now r) d puts)
 
   -- what was put before the text that shows the machine
   past : result ≡ Ok tt → (e : SinkFailed) → Puts (text_of last (shown_dump dump)) mid new between now (Err e)
-      → AppendsPast old new (asked_trace options.trace (start_in bytes) last.count) run_text
+      → AppendsPast old new (asked_trace options.trace (start_in options.setup bytes) last.count) run_text
   past ok e puts =
-      puts_past _ _ old mid new before between now e (subst (λ (x : Result (Unit {0}) SinkFailed). Puts (asked_trace options.trace (start_in bytes) last.count) old mid before between x) ok puts_trace)
+      puts_past _ _ old mid new before between now e (subst (λ (x : Result (Unit {0}) SinkFailed). Puts (asked_trace options.trace (start_in options.setup bytes) last.count) old mid before between x) ok puts_trace)
       (subst (λ (x : Option DumpRange). Puts (text_of last (shown_dump x)) mid new between now (Err e)) d puts)
 
   pub wrote_run : result ≡ Ok tt → (status : ℕ) → status ≡ end_status (end_of last.arch.end) → Puts {E = SinkFailed} (text_of last (shown_dump dump)) mid new between now (Ok tt)
@@ -364,7 +364,7 @@ module _ {C S : Type 0} (gives : Meaning C) (options : RunOptions) (bytes : File
         means = record {
           last = last;
           over = over;
-          written = inl (record { whole = whole_ok ok; says = ends_with options.setup options.cycles (start_in bytes) last status (whole_ok ok) says; lines = refl; cut = tt });
+          written = inl (record { whole = whole_ok ok; says = ends_with options.setup options.cycles (start_in options.setup bytes) last status (whole_ok ok) says; lines = refl; cut = tt });
         };
         written = (both ok (Ok tt) puts).ok;
       }
@@ -375,14 +375,14 @@ module _ {C S : Type 0} (gives : Meaning C) (options : RunOptions) (bytes : File
       let q = both ok (Err e) puts in
       record {
         rose = q.failed;
-        put = asked_trace options.trace (start_in bytes) last.count;
+        put = asked_trace options.trace (start_in options.setup bytes) last.count;
         text = run_text;
         means = record { last = last; over = over; written = inl (record { whole = whole_ok ok; says = tt; lines = refl; cut = refl }) };
         written = past ok e puts;
       }
 
   abbrev start : Timed
-  start = new_timed options.setup.config (start_in bytes)
+  start = new_timed options.setup.config (start_in options.setup bytes)
 
   -- where the sink failed among the commit lines
   cut_lines : (e : SinkFailed) → result ≡ Err e → CutLines trace start p.lists old mid
@@ -390,19 +390,19 @@ module _ {C S : Type 0} (gives : Meaning C) (options : RunOptions) (bytes : File
       subst (λ (m : Timed). CutLines trace m p.lists old mid) is.begun
       (subst (λ (r : Result (Unit {0}) SinkFailed). OnErr r (CutLines trace ready.machine.timed p.lists old mid)) err w.cut)
 
-  lines_to : (lists : List (List Record)) (m : Timed) → m ≡ run_of start lists → cycles_text trace_lines start lists ≡ trace_of (start_in bytes) m.count
-  lines_to lists m ran = trace-run options.setup.config (start_in bytes) lists m true fits refl ran
+  lines_to : (lists : List (List Record)) (m : Timed) → m ≡ run_of start lists → cycles_text trace_lines start lists ≡ trace_of (start_in options.setup bytes) m.count
+  lines_to lists m ran = trace-run options.setup.config (start_in options.setup bytes) lists m true fits refl ran
 
   pub cut_trace : (e : SinkFailed) → result ≡ Err e → WritesPart gives (Run options) bytes (change core after) (sink_change contents faults s0 s1)
   cut_trace e err =
-      let q = subst (λ (x : Result (Unit {0}) SinkFailed). Puts (asked_trace options.trace (start_in bytes) last.count) old mid before between x) err puts_trace in
+      let q = subst (λ (x : Result (Unit {0}) SinkFailed). Puts (asked_trace options.trace (start_in options.setup bytes) last.count) old mid before between x) err puts_trace in
       let c = cut_lines e err in
       let b = c.1 in
-      let put : List ℕ = trace_of (start_in bytes) (run_of start b.earlier).count in
+      let put : List ℕ = trace_of (start_in options.setup bytes) (run_of start b.earlier).count in
       record {
         rose = q.failed;
         put = put;
-        text = trace_of (start_in bytes) last.count;
+        text = trace_of (start_in options.setup bytes) last.count;
         means = record {
           last = last;
           over = over;
@@ -412,6 +412,6 @@ module _ {C S : Type 0} (gives : Meaning C) (options : RunOptions) (bytes : File
             cut = record { earlier = b.earlier; last = b.last; in_order = all_lists ∙ b.in_order; holds = refl };
           });
         };
-        written = subst (λ (x : List ℕ). AppendsPast old mid x (trace_of (start_in bytes) last.count)) (lines_to b.earlier (run_of start b.earlier) refl)
+        written = subst (λ (x : List ℕ). AppendsPast old mid x (trace_of (start_in options.setup bytes) last.count)) (lines_to b.earlier (run_of start b.earlier) refl)
             (subst (λ (x : List ℕ). AppendsPast old mid (cycles_text trace_lines start b.earlier) x) (lines_to p.lists last run_from_new) b.holds);
       }

@@ -5,13 +5,13 @@ use Rattle.diva_outside.specs.Files.{Contents, IsMissing}
 use Rattle.diva_outside.specs.declared.files.What.{What}
 use Rattle.diva_outside.specs.declared.files.What.TheVariants.{Image, Script, Tape as TapeFile, Commands}
 use Rattle.diva_image.specs.Layout.{Layout}
-use Rattle.diva_image.specs.Images.{image_of}
+use Rattle.diva_image.specs.Programs.{image_in}
 use Rattle.diva_args.specs.Options.{DebugOptions, Setup}
 use Rattle.diva_faults.specs.declared.rows.Row.{Row}
 use Rattle.diva_cli.specs.declared.stop.Stop.{Stop}
 use Rattle.diva_cli.specs.declared.stop.Stop.TheVariants.{Memory, Unread, Refused}
 use Rattle.diva_cli.specs.Lines.{unreadable_line, refused_line}
-use Rattle.diva_cli.specs.Wanted.{Wanted, FileBytes, AreSound, file, file_if, machine_files, session_files, tape_name}
+use Rattle.diva_cli.specs.Wanted.{Wanted, FileBytes, AreSound, file, file_if, file_with, machine_files, session_files, tape_name}
 use Rattle.diva_cli.specs.Stops.{AreUncounted, StopsAt, StopsLoading, IsUnread}
 use Rattle.diva_cli.specs.Parts.{Stops, Holds, HoldsRows}
 
@@ -92,21 +92,21 @@ stops_since contents b0 b1 now ws (Refused what kind place) f u s =
 
 -- it stops at the image
 pub at_image : (contents : Contents) (setup : Setup) (f0 f1 : What → ℕ) (stop : Stop) → ((w : What) → w ≢ Image → f1 w ≡ f0 w)
-    → Stops contents f0 f1 (file Image setup.image ∷ []) stop
+    → Stops contents f0 f1 (file_with setup.room Image setup.image ∷ []) stop
     → Stops contents f0 f1 (machine_files setup) stop
 at_image contents setup f0 f1 stop others s =
-    stops_front contents f0 f1 (file Image setup.image ∷ []) (file_if Script setup.script ++ file_if TapeFile (tape_name setup.core)) stop
+    stops_front contents f0 f1 (file_with setup.room Image setup.image ∷ []) (file_if Script setup.script ++ file_if TapeFile (tape_name setup.core)) stop
     (uncounted_both f0 f1 (file_if Script setup.script) (file_if TapeFile (tape_name setup.core))
     (uncounted_if f0 f1 Script setup.script (others Script (λ e. cc))) (uncounted_if f0 f1 TapeFile (tape_name setup.core) (others TapeFile (λ e. cc)))) s
 
-module _ (contents : Contents) (setup : Setup) (image : Layout) (h : Holds contents (file Image setup.image) (λ bytes. image_of bytes ≡ image)) where
+module _ (contents : Contents) (setup : Setup) (image : Layout) (h : Holds contents (file_with setup.room Image setup.image) (λ bytes. image_in setup.room bytes ≡ image)) where
   -- it stops at the script
   pub at_script : (contents1 : Contents) (f0 f1 f2 : What → ℕ) (stop : Stop) → contents1 ≡ contents → ((w : What) → f0 w ≤ f1 w)
       → ((w : What) → w ≢ Image → f1 w ≡ f0 w) → ((w : What) → w ≢ Script → f2 w ≡ f1 w)
       → Stops contents1 f1 f2 (file_if Script setup.script) stop
       → Stops contents f0 f2 (machine_files setup) stop
   at_script contents1 f0 f1 f2 stop same le first second s =
-      stops_later contents f0 f2 (file Image setup.image ∷ []) (file_if Script setup.script ++ file_if TapeFile (tape_name setup.core)) stop (λ _. h.bytes) (h.sound, tt)
+      stops_later contents f0 f2 (file_with setup.room Image setup.image ∷ []) (file_if Script setup.script ++ file_if TapeFile (tape_name setup.core)) stop (λ _. h.bytes) (h.sound, tt)
       (stops_front contents f0 f2 (file_if Script setup.script) (file_if TapeFile (tape_name setup.core)) stop
       (uncounted_if f0 f2 TapeFile (tape_name setup.core) (second TapeFile (λ e. cc) ∙ first TapeFile (λ e. cc)))
       (stops_since contents f0 f1 f2 (file_if Script setup.script) stop le (uncounted_if f0 f1 Script setup.script (first Script (λ e. cc)))
@@ -120,7 +120,7 @@ module _ (contents : Contents) (setup : Setup) (image : Layout) (h : Holds conte
       → Stops contents f0 f2 (machine_files setup) stop
   at_tape contents1 contents2 f0 f1 f2 stop rows same1 same2 le none r s =
       let k : HoldsRows contents setup.script rows = subst (λ (t : Contents). HoldsRows t setup.script rows) same1 r in
-      stops_later contents f0 f2 (file Image setup.image ∷ []) (file_if Script setup.script ++ file_if TapeFile (tape_name setup.core)) stop (λ _. h.bytes) (h.sound, tt)
+      stops_later contents f0 f2 (file_with setup.room Image setup.image ∷ []) (file_if Script setup.script ++ file_if TapeFile (tape_name setup.core)) stop (λ _. h.bytes) (h.sound, tt)
       (stops_later contents f0 f2 (file_if Script setup.script) (file_if TapeFile (tape_name setup.core)) stop (λ _. k.bytes) k.sound
       (stops_since contents f0 f1 f2 (file_if TapeFile (tape_name setup.core)) stop le (uncounted_if f0 f1 TapeFile (tape_name setup.core) none)
       (subst (λ (t : Contents). Stops t f1 f2 (file_if TapeFile (tape_name setup.core)) stop) same2 s)))

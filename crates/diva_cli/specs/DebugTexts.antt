@@ -26,9 +26,9 @@ pub record HasReplies {C : Type 0} (gives : Meaning C) (options : DebugOptions) 
   pub over : IsRunOver gives options.setup (cycles_of (length done) options.setup.config.limit) bytes core last
   pub parts : List (List (List Record))
   pub together : over.run.driven.lists ≡ joined parts
-  pub led : AreLed done (new_timed options.setup.config (start_in bytes)) parts
-  pub lines : text
-      ≡ replies_of done 0 (start_in bytes) (newest_after (new_timed options.setup.config (start_in bytes)) parts)
+  pub led : AreLed done (new_timed options.setup.config (start_in options.setup bytes)) parts
+  pub lines : text ≡ replies_of done 0 (start_in options.setup bytes)
+      (newest_after (new_timed options.setup.config (start_in options.setup bytes)) parts)
   -- where the sink failed, it did so at the last of these replies; those before it had been put
-  pub cut : IfErr ended (λ put. BeforeLast done (λ earlier. put
-      ≡ replies_of earlier 0 (start_in bytes) (newest_after (new_timed options.setup.config (start_in bytes)) parts)))
+  pub cut : IfErr ended (λ put. BeforeLast done (λ earlier. put ≡ replies_of earlier 0 (start_in options.setup bytes)
+      (newest_after (new_timed options.setup.config (start_in options.setup bytes)) parts)))

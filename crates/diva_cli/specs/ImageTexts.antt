@@ -6,6 +6,7 @@ use Rattle.diva_outside.specs.declared.files.What.TheVariants.{Image, Source}
 use Rattle.diva_image.specs.Images.{fault_of, image_bytes, image_of}
 use Rattle.diva_image.specs.Layout.{Layout}
 use Rattle.diva_image.specs.Migrated.{segmented_bytes}
+use Rattle.diva_image.specs.Programs.{image_in}
 use Rattle.diva_machine.specs.Start.{start_of}
 use Rattle.diva_asm.specs.Listing.{listing_of}
 use Rattle.diva_asm.specs.Sources.{source_of}
@@ -24,14 +25,15 @@ pub record HasAssembled {C : Type 0} (bytes : FileBytes) (core : Change C) (ende
   pub written : text ≡ image_bytes image
   pub alone : IsAlone core ended
 
--- a line for each word of an image
+-- a line for each word of an image; an executable has no room here
 pub record HasListing {C : Type 0} (bytes : FileBytes) (core : Change C) (ended : Result ℕ Text) (text : Text) : Type 0 where
-  pub lines : text ≡ concat (listing_of (image_of (bytes Image)))
+  pub lines : text ≡ concat (listing_of (image_in 0 (bytes Image)))
   pub alone : IsAlone core ended
 
--- the bytes of an image in version 2, which start the state that the image starts
-pub record HasMigrated {C : Type 0} (bytes : FileBytes) (core : Change C) (ended : Result ℕ Text) (text : Text) : Type 0 where
-  pub written : text ≡ segmented_bytes (image_of (bytes Image))
+-- the bytes of an image file in version 2, without a fault, which start the state that the image starts with this room
+pub record HasMigrated {C : Type 0} (room : ℕ) (bytes : FileBytes) (core : Change C) (ended : Result ℕ Text)
+    (text : Text) : Type 0 where
+  pub written : text ≡ segmented_bytes (image_in room (bytes Image))
   pub faultless : fault_of text ≡ None
-  pub starts : start_of (image_of text) ≡ start_of (image_of (bytes Image))
+  pub starts : start_of (image_of text) ≡ start_of (image_in room (bytes Image))
   pub alone : IsAlone core ended

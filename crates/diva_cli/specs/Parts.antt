@@ -62,10 +62,10 @@ pub record HoldsIf (contents : Contents) (what : What) (name : Option (List ℕ)
   pub holds : this bytes
 
 -- the stop says the first fault of a file's bytes; or memory ran out, which says nothing of them
-abbrev pub SaysFault : What → List ℕ → Stop → Type 0
-SaysFault what bytes Memory = Unit {0}
-SaysFault what bytes (Unread said) = ⊥
-SaysFault what bytes (Refused said kind place) = (said ≡ what) × HasFault what bytes kind place
+abbrev pub SaysFault : What → (room : ℕ) → List ℕ → Stop → Type 0
+SaysFault what room bytes Memory = Unit {0}
+SaysFault what room bytes (Unread said) = ⊥
+SaysFault what room bytes (Refused said kind place) = (said ≡ what) × HasFault what room bytes kind place
 
 -- a file of this kind is refused for the fault of its text; or memory ran out
 abbrev pub stop_of : What → TextFault → Stop
@@ -105,7 +105,7 @@ HoldsCore contents asked core = HoldsIf contents TapeFile (tape_name asked) (λ 
 
 -- the machine is new and begins with the image of these bytes, the script has their rows, and the core is the one asked for
 pub record IsReady (setup : Setup) (bytes : FileBytes) (ready : Ready) : Type 0 where
-  pub begun : ready.machine.timed ≡ new_timed setup.config (start_in bytes)
+  pub begun : ready.machine.timed ≡ new_timed setup.config (start_in setup bytes)
   pub rows : AreRows setup.script (bytes Script) ready.script
   pub core : IsCore setup.core (bytes TapeFile) ready.core
 

@@ -2,7 +2,7 @@
 use Rattle.std.specs.Prelude.{◌≡◌, ◌⊎◌, ◌≤◌, ◌/◌, ◌*◌, ◌+◌, ◌++◌, ℕ, Bool, true, false, List, [], Option, Some, None, Result, Ok, Err, IfOk, IfErr}
 use Rattle.diva_outside.specs.Text.{Text}
 use Rattle.diva_outside.specs.declared.files.What.TheVariants.{Image, Script, Tape as TapeFile}
-use Rattle.diva_image.specs.Images.{image_of}
+use Rattle.diva_image.specs.Programs.{image_in}
 use Rattle.diva_isa.specs.State.{State, goes_on}
 use Rattle.diva_isa.specs.End.{end_of}
 use Rattle.diva_isa.specs.declared.end.End.{End}
@@ -82,9 +82,9 @@ abbrev pub AreLists : Option (List ℕ) → (bytes : List ℕ) → (tape : List 
 AreLists None bytes tape = tape ≡ []
 AreLists (Some name) bytes tape = tape_of bytes ≡ Ok tape
 
--- the state that begins with the image of these files
-abbrev pub start_in : FileBytes → State
-start_in bytes = start_of (image_of (bytes Image))
+-- the state that begins with a setup's image
+abbrev pub start_in : Setup → FileBytes → State
+start_in setup bytes = start_of (image_in setup.room (bytes Image))
 
 -- a run over files with these bytes
 pub record IsRunOver {C : Type 0} (gives : Meaning C) (setup : Setup) (cycles : ℕ) (bytes : FileBytes) (core : Change C)
@@ -93,7 +93,7 @@ pub record IsRunOver {C : Type 0} (gives : Meaning C) (setup : Setup) (cycles : 
   pub rows : AreRows setup.script (bytes Script) script
   pub tape : List (List Record)
   pub lists : AreLists (tape_name setup.core) (bytes TapeFile) tape
-  pub run : IsRunFrom gives setup cycles tape script (start_in bytes) core last
+  pub run : IsRunFrom gives setup cycles tape script (start_in setup bytes) core last
 
 -- ---- the command
 
@@ -128,5 +128,5 @@ pub record HasRun {C : Type 0} (gives : Meaning C) (options : RunOptions) (bytes
     (ended : Result ℕ Text) (text : Text) : Type 0 where
   pub last : Timed
   pub over : IsRunOver gives options.setup options.cycles bytes core last
-  pub written : IsShown options (start_in bytes) last ended text
-      ⊎ IsBrokenOff options (start_in bytes) over.run.driven.lists last ended text
+  pub written : IsShown options (start_in options.setup bytes) last ended text
+      ⊎ IsBrokenOff options (start_in options.setup bytes) over.run.driven.lists last ended text

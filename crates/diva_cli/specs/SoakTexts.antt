@@ -19,7 +19,7 @@ use Rattle.diva_cli.specs.Runs.{IsRunFrom}
 
 -- the numbers of a machine where no option asks for others, and this core; no file is named
 abbrev pub soak_setup : CoreChoice → Setup
-soak_setup core = record { image = []; core = core; script = None; config = default_config }
+soak_setup core = record { image = []; room = 0; core = core; script = None; config = default_config }
 
 -- W + 6 cycles for each of n drawn instructions and the three behind them, W being the watchdog's limit
 abbrev pub soak_cycles : (n : ℕ) → ℕ

@@ -69,7 +69,7 @@ pub record IsHeld (contents : Contents) (w : Wanted) : Type 0 where
   pub bytes : List ℕ
   pub held : IsKnown contents w.name bytes
   pub short : length bytes ≤ file_limit
-  pub faultless : IsFaultless w.what bytes
+  pub faultless : IsFaultless w.what w.room bytes
 
 abbrev pub AreHeld : Contents → List Wanted → Type 0
 AreHeld contents [] = Unit {0}

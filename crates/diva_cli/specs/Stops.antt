@@ -39,7 +39,7 @@ pub record HasFirstFault (contents : Contents) (w : Wanted) (kind place : ℕ) :
   pub bytes : List ℕ
   pub has : Has contents w.name bytes
   pub short : length bytes ≤ file_limit
-  pub first : HasFault w.what bytes kind place
+  pub first : HasFault w.what w.room bytes kind place
 
 pub record IsRefused (contents : Contents) (text : Text) (w : Wanted) : Type 0 where
   pub kind : ℕ

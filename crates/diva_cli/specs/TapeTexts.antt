@@ -18,7 +18,7 @@ use Rattle.diva_cli.specs.Wanted.{FileBytes}
 use Rattle.diva_cli.specs.Cuts.{BeforeLast}
 use Rattle.diva_cli.specs.Runs.{IsRunOver, IsWhole, EndsWith, HasRun, asked_trace, start_in, shown_dump}
 
--- a `run` of the same image with the same numbers, by the tape of this text and without a script
+-- a `run` of the same image with the same room and numbers, by the tape of this text and without a script
 pub record IsReplay (options : TapeOptions) (bytes : FileBytes) (text : Text) (replay : RunOptions) (its_bytes : FileBytes) : Type 0 where
   pub name : List ℕ
   pub core : replay.setup.core ≡ OfTape name
@@ -27,6 +27,7 @@ pub record IsReplay (options : TapeOptions) (bytes : FileBytes) (text : Text) (r
   pub config : replay.setup.config ≡ options.setup.config
   pub cycles : replay.cycles ≡ options.cycles
   pub image : its_bytes Image ≡ bytes Image
+  pub room : replay.setup.room ≡ options.setup.room
 
 -- a machine is handed these lists until it ends, or for all these cycles
 pub record IsHandedFor (cycles : ℕ) (m : Timed) (lists : List (List Record)) : Type 0 where
@@ -37,19 +38,19 @@ pub record IsHandedFor (cycles : ℕ) (m : Timed) (lists : List (List Record)) :
 
 pub record IsTapeOf {C : Type 0} (gives : Meaning C) (options : TapeOptions) (bytes : FileBytes) (lists : List (List Record))
     (last : Timed) (text : Text) (status : ℕ) : Type 0 where
-  pub whole : IsWhole options.setup options.cycles (start_in bytes) last
+  pub whole : IsWhole options.setup options.cycles (start_in options.setup bytes) last
   pub ended : EndsWith last options.cycles status
   -- what was written is a tape of just the lists that were handed over
   pub reads : tape_of text ≡ Ok lists
   -- the lists of that tape, and then empty ones, lead from the same start under the same numbers to this machine again
   pub again : (others : List (List Record)) → others ≡ played (length others) lists
-      → IsHandedFor options.cycles (new_timed options.setup.config (start_in bytes)) others
-      → run_of (new_timed options.setup.config (start_in bytes)) others ≡ last
+      → IsHandedFor options.cycles (new_timed options.setup.config (start_in options.setup bytes)) others
+      → run_of (new_timed options.setup.config (start_in options.setup bytes)) others ≡ last
   -- so running the image with that tape leaves the text of this machine; with commit lines, where they are all written
   pub replays : (replay : RunOptions) → (its_bytes : FileBytes) → IsReplay options bytes text replay its_bytes
       → (core after : C) → (ended : Result ℕ Text) → (shown : Text) → HasRun gives replay its_bytes (change core after) ended shown
       → (replay.trace ≡ true → IsOk ended)
-      → shown ≡ asked_trace replay.trace (start_in bytes) last.count ++ text_of last (shown_dump replay.dump)
+      → shown ≡ asked_trace replay.trace (start_in options.setup bytes) last.count ++ text_of last (shown_dump replay.dump)
 
 -- the text of `tape` over files with these bytes, and how the writing of it ended: a line for each cycle. Where the sink failed, it
 -- did so in the last of these cycles, and the lines of those before it had been put

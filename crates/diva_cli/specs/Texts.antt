@@ -21,7 +21,7 @@ HasText gives (Tape options) bytes core ended text = HasTape gives options bytes
 HasText gives (Debug options) bytes core ended text = HasReplies gives options bytes core ended text
 HasText gives (Asm name) bytes core ended text = HasAssembled bytes core ended text
 HasText gives (Dis name) bytes core ended text = HasListing bytes core ended text
-HasText gives (Migrate name) bytes core ended text = HasMigrated bytes core ended text
+HasText gives (Migrate options) bytes core ended text = HasMigrated options.room bytes core ended text
 HasText gives (Soak options) bytes core ended text = HasSoaked gives options core ended text
 
 -- the statuses of commands whose text was written whole
@@ -35,5 +35,5 @@ CanEnd (Tape options) status = IsDone status
 CanEnd (Debug options) status = status ≡ 0
 CanEnd (Asm name) status = status ≡ 0
 CanEnd (Dis name) status = status ≡ 0
-CanEnd (Migrate name) status = status ≡ 0
+CanEnd (Migrate options) status = status ≡ 0
 CanEnd (Soak options) status = status ≡ 0

@@ -27,7 +27,7 @@ pub(crate) fn dis<F: Files, S: Sink, C: Core>(
     ensures { Answers C.gives (asked_for (Dis image) (F.contents files.old)) (file_faults F.faults files.old files.new)
         (change _core.now _core.now) (sink_change S.contents S.faults sink.old sink.new) result }
 {
-    let listed = match load(alloc, files, &ImageFile, &image) {
+    let listed = match load(alloc, files, &ImageFile { room: 0 }, &image) {
         Ok(listed) => listed,
         Err(stop) => return write_stop(stop, sink),
     };

@@ -1,7 +1,8 @@
 // The kinds of files, each of which is read to something of its own, and how a file of any kind is loaded.
-ghost use Rattle.std.specs.Prelude.{◌≡◌, ◌≢◌, ◌≤◌, ◌∷◌, [], length, IfOk, IfErr, OnOk};
+ghost use Rattle.std.specs.Prelude.{◌≡◌, ◌≢◌, ◌≤◌, ◌∷◌, ℕ, [], length, IfOk, IfErr, OnOk};
 ghost use Rattle.diva_outside.specs.Files.{Has};
-ghost use Rattle.diva_cli.specs.Wanted.{file, file_limit, IsFaultless};
+ghost use Rattle.diva_args.specs.Options.{IsRoom};
+ghost use Rattle.diva_cli.specs.Wanted.{file_limit, file_with, IsFaultless};
 ghost use Rattle.diva_cli.specs.Parts.{Holds, SaysFault, Stops, stop_of};
 
 use crate::stop::Stop;
@@ -9,7 +10,9 @@ use diva_args::FileName;
 use diva_asm::assemble;
 use diva_debug::{Command, commands};
 use diva_faults::Script;
-use diva_image::{HEADER_SIZE, Image, ImageFault, MOST_SEGMENTS, MOST_SIZE, PAIR_SIZE, read};
+use diva_image::{
+    HEADER_SIZE, Image, ImageFault, MOST_SEGMENTS, MOST_SIZE, PAIR_SIZE, read_program,
+};
 use diva_outside::{Files, LoadFault, TextFault, What};
 use diva_tape::Tape;
 use std::alloc::Global;
@@ -17,7 +20,7 @@ use std::alloc::Global;
 /// The most bytes that a file may have: those of the largest image.
 const FILE_LIMIT: usize = HEADER_SIZE + PAIR_SIZE * MOST_SEGMENTS + MOST_SIZE as usize;
 
-/// A kind of file: what a file is loaded for, and what its bytes are read to.
+/// A kind of file: what a file is loaded for, its room, and what its bytes are read to.
 pub(crate) trait FileKind {
     ghost use Rattle.std.specs.Prelude.{List, ℕ};
     ghost use Rattle.diva_outside.specs.declared.files.What.{What};
@@ -30,14 +33,18 @@ pub(crate) trait FileKind {
 
     const WHAT: What;
 
+    /// How many bytes of memory follow those that a file loads where it is an executable.
+    ghost room: { Self → ℕ };
+
     /// This is what the bytes are read to.
-    ghost reads: { List ℕ → Self.Read → Type 0 };
+    ghost reads: { Self → List ℕ → Self.Read → Type 0 };
 
     /// Reads the bytes of a file, or says its first fault.
     fn read(&self, alloc: Global, bytes: &[u8]) -> Result<Self::Read, Stop>
-        ensures read { IfOk result (reads bytes.now) }
-        ensures faultless { OnOk result (IsFaultless WHAT bytes.now) }
-        ensures fault { IfErr result (SaysFault WHAT bytes.now) };
+        requires { length bytes.now ≤ file_limit }
+        ensures read { IfOk result (reads self.now bytes.now) }
+        ensures faultless { OnOk result (IsFaultless WHAT (room self.now) bytes.now) }
+        ensures fault { IfErr result (SaysFault WHAT (room self.now) bytes.now) };
 }
 
 /// What the file of this name is read to.
@@ -50,15 +57,16 @@ pub(crate) fn load<F: Files, K: FileKind>(
     ensures stays { F.contents files.new ≡ F.contents files.old }
     ensures later { (w : What) → F.faults files.old w ≤ F.faults files.new w }
     ensures others { (w : What) → w ≢ K.WHAT → F.faults files.new w ≡ F.faults files.old w }
-    ensures holds { IfOk result (λ read. Holds (F.contents files.old) (file K.WHAT name.now) (λ bytes. K.reads bytes read)) }
+    ensures holds { IfOk result (λ read. Holds (F.contents files.old)
+        (file_with (K.room kind.now) K.WHAT name.now) (λ bytes. K.reads kind.now bytes read)) }
     ensures stopped { IfErr result (λ stop. Stops (F.contents files.old) (F.faults files.old)
-        (F.faults files.new) (file K.WHAT name.now ∷ []) stop) }
+        (F.faults files.new) (file_with (K.room kind.now) K.WHAT name.now ∷ []) stop) }
 {
     let bytes = load_bytes(alloc, files, K::WHAT, name)?;
     kind.read(alloc, &bytes)
 }
 
-/// The bytes of a file.
+/// The bytes of a file, whatever its room.
 fn load_bytes<F: Files>(
     alloc: Global,
     files: &mut F,
@@ -70,8 +78,8 @@ fn load_bytes<F: Files>(
     ensures others { (w : What) → w ≢ what → F.faults files.new w ≡ F.faults files.old w }
     ensures has { IfOk result (λ bytes. Has (F.contents files.old) name.now bytes.items) }
     ensures short { IfOk result (λ bytes. length bytes.items ≤ file_limit) }
-    ensures stopped { IfErr result (λ stop. Stops (F.contents files.old) (F.faults files.old)
-        (F.faults files.new) (file what name.now ∷ []) stop) }
+    ensures stopped { (room : ℕ) → IfErr result (λ stop. Stops (F.contents files.old) (F.faults files.old)
+        (F.faults files.new) (file_with room what name.now ∷ []) stop) }
 {
     match files.load(alloc, what, name.as_str(), FILE_LIMIT) {
         Ok(bytes) => Ok(bytes),
@@ -91,12 +99,17 @@ fn stop_of(what: What, fault: TextFault) -> Stop
     }
 }
 
-/// A file that is read to an image.
-pub(crate) struct ImageFile;
+/// A file that is taken for an image: an image's file, or an executable.
+#[derive(Drop)]
+pub(crate) struct ImageFile {
+    /// How many bytes of memory follow those that an executable loads.
+    pub room: u32,
+    ghost rules: { IsRoom room },
+}
 
 impl FileKind for ImageFile {
-    ghost use Rattle.diva_image.specs.Images.{image_of};
     ghost use Rattle.diva_image.specs.ImageLayout.{layout};
+    ghost use Rattle.diva_image.specs.Programs.{image_in};
     ghost use Rattle.diva_outside.specs.declared.files.What.TheVariants as file;
 
     type Read = Image;
@@ -105,10 +118,12 @@ impl FileKind for ImageFile {
 
     const WHAT: What = What::Image;
 
-    ghost reads = { λ bytes image. image_of bytes ≡ layout image };
+    ghost room = { λ kind. kind.room };
+
+    ghost reads = { λ kind bytes image. image_in kind.room bytes ≡ layout image };
 
     fn read(&self, alloc: Global, bytes: &[u8]) -> Result<Image, Stop> {
-        match read(alloc, bytes) {
+        match read_program(alloc, bytes, self.room) {
             Ok(image) => Ok(image),
             Err(ImageFault::Bad { kind, place }) => Err(Stop::refused(
                 What::Image,
@@ -135,7 +150,9 @@ impl FileKind for SourceFile {
 
     const WHAT: What = What::Source;
 
-    ghost reads = { λ bytes image. source_of bytes ≡ Ok (layout image) };
+    ghost room = { λ kind. 0 };
+
+    ghost reads = { λ kind bytes image. source_of bytes ≡ Ok (layout image) };
 
     fn read(&self, alloc: Global, bytes: &[u8]) -> Result<Image, Stop> {
         match assemble(alloc, bytes) {
@@ -159,7 +176,9 @@ impl FileKind for ScriptFile {
 
     const WHAT: What = What::Script;
 
-    ghost reads = { λ bytes script. script_of bytes ≡ Ok script };
+    ghost room = { λ kind. 0 };
+
+    ghost reads = { λ kind bytes script. script_of bytes ≡ Ok script };
 
     fn read(&self, alloc: Global, bytes: &[u8]) -> Result<Script, Stop> {
         match Script::read(alloc, bytes) {
@@ -183,7 +202,9 @@ impl FileKind for TapeFile {
 
     const WHAT: What = What::Tape;
 
-    ghost reads = { λ bytes tape. tape_of bytes ≡ Ok tape };
+    ghost room = { λ kind. 0 };
+
+    ghost reads = { λ kind bytes tape. tape_of bytes ≡ Ok tape };
 
     fn read(&self, alloc: Global, bytes: &[u8]) -> Result<Tape, Stop> {
         match Tape::read(alloc, bytes) {
@@ -206,7 +227,9 @@ impl FileKind for CommandsFile {
 
     const WHAT: What = What::Commands;
 
-    ghost reads = { λ bytes commands. AreCommands bytes commands.items };
+    ghost room = { λ kind. 0 };
+
+    ghost reads = { λ kind bytes commands. AreCommands bytes commands.items };
 
     fn read(&self, alloc: Global, bytes: &[u8]) -> Result<Vec<Command>, Stop> {
         match commands(alloc, bytes) {

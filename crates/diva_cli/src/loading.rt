@@ -1,11 +1,11 @@
 // What the files of a job come to: they are loaded and read one after another.
 ghost use Rattle.std.specs.Prelude.{◌≡◌, ◌≢◌, ◌≤◌, length, IfOk, IfErr, Ok};
 ghost use Rattle.std.specs.List.{All};
-ghost use Rattle.diva_image.specs.Images.{image_of};
 ghost use Rattle.diva_image.specs.ImageLayout.{layout};
+ghost use Rattle.diva_image.specs.Programs.{image_in};
 ghost use Rattle.diva_core.specs.Machine.{IsConfig};
 ghost use Rattle.diva_debug.specs.Moves.{IsShort};
-ghost use Rattle.diva_cli.specs.Wanted.{file, file_if, file_limit, machine_files, session_files, tape_name};
+ghost use Rattle.diva_cli.specs.Wanted.{file_if, file_limit, file_with, machine_files, session_files, tape_name};
 ghost use Rattle.diva_cli.specs.Parts.{Stops, Holds, HoldsCore, HoldsReady, HoldsRows, HoldsSession};
 
 use crate::driving::CoreInUse;
@@ -106,13 +106,14 @@ fn load_machine_files<F: Files>(alloc: Global, files: &mut F, setup: &Setup) -> 
     ensures others { (w : What) → w ≢ What.Image → w ≢ What.Script → w ≢ What.Tape
         → F.faults files.new w ≡ F.faults files.old w }
     ensures image { IfOk result (λ loaded. Holds (F.contents files.old)
-        (file What.Image setup.now.image) (λ bytes. image_of bytes ≡ layout loaded.image)) }
+        (file_with setup.now.room What.Image setup.now.image)
+        (λ bytes. image_in setup.now.room bytes ≡ layout loaded.image)) }
     ensures script { IfOk result (λ loaded. HoldsRows (F.contents files.old) setup.now.script loaded.script) }
     ensures core { IfOk result (λ loaded. HoldsCore (F.contents files.old) setup.now.core loaded.core) }
     ensures stopped { IfErr result (λ stop. Stops (F.contents files.old) (F.faults files.old)
         (F.faults files.new) (machine_files setup.now) stop) }
 {
-    let image = load(alloc, files, &ImageFile, &setup.image)?;
+    let image = load(alloc, files, &ImageFile { room: setup.room }, &setup.image)?;
     let script = load_script_if(alloc, files, &setup.script)?;
     let core = load_core(alloc, files, &setup.core)?;
     Ok(Loaded {

@@ -7,7 +7,7 @@ ghost use Rattle.diva_cli.specs.Parts.{Answers};
 use crate::files::{ImageFile, load};
 use crate::stop::Failure;
 use crate::writing::write_stop;
-use diva_args::FileName;
+use diva_args::MigrateOptions;
 use diva_core::Core;
 use diva_image::write2;
 use diva_outside::{Files, Sink};
@@ -16,15 +16,16 @@ use std::alloc::Global;
 /// Writes the bytes of an image in version 2, in one put. All memory is taken before that, and the core can't be asked.
 pub(crate) fn migrate<F: Files, S: Sink, C: Core>(
     alloc: Global,
-    image: FileName,
+    options: MigrateOptions,
     files: &mut F,
     sink: &mut S,
     _core: &C,
 ) -> Result<u8, Failure>
-    ensures { Answers C.gives (asked_for (Migrate image) (F.contents files.old)) (file_faults F.faults files.old files.new)
+    ensures { Answers C.gives (asked_for (Migrate options) (F.contents files.old)) (file_faults F.faults files.old files.new)
         (change _core.now _core.now) (sink_change S.contents S.faults sink.old sink.new) result }
 {
-    let image = match load(alloc, files, &ImageFile, &image) {
+    let kind = ImageFile { room: options.room };
+    let image = match load(alloc, files, &kind, &options.image) {
         Ok(image) => image,
         Err(stop) => return write_stop(stop, sink),
     };

@@ -50,8 +50,9 @@ pub fn top<F: Files, S: Sink, C: Core>(
 
     // The job is done: all its files are sound, and its whole text was written. Whatever the core
     // hands over and a script makes of it, the text of a run is that of a machine whose committed
-    // state is the table's after the counted instructions, from the state of the image's bytes; and
-    // the text of a tape is all that was handed to such a machine, and leads another one to its state.
+    // state is the table's after the counted instructions, from the state that the bytes of its image
+    // or executable start; and the text of a tape is all that was handed to such a machine, and leads
+    // another one to its state.
     // The replies of a session show the table's states, and the flushes of such a machine. Both runs of
     // a seed's image halt, in the same state.
     ensures worked { IsDone result
@@ -147,7 +148,7 @@ fn work<F: Files, S: Sink, C: Core>(
         Job::Debug(options) => debug(alloc, options, files, sink, core),
         Job::Asm(source) => asm(alloc, source, files, sink, core),
         Job::Dis(image) => dis(alloc, image, files, sink, core),
-        Job::Migrate(image) => migrate(alloc, image, files, sink, core),
+        Job::Migrate(options) => migrate(alloc, options, files, sink, core),
         Job::Soak(options) => soak(alloc, options, files, sink, core),
     }
 }

@@ -12,7 +12,7 @@ pub returns-in_err-script-clause-stopped : goal.returns-in_err-script-clause-sto
 returns-in_err-script-clause-stopped g c =
     let p = err_from_is_err_and c.from_residual-in_err-script.result c.from_residual-in_err-script.ensures.1 in
     rw (p.1, p.2) (subst (λ (s : Setup). Stops (g.F.Files.contents c.args.files.now) (g.F.Files.faults c.args.files.now) (g.F.Files.faults c.load_script_if.new.files) (machine_files s) c.in_err-script.field-0.0) c.setup.view_is
-    (at_script (g.F.Files.contents c.args.files.now) (record { image = c.setup.inside.image; core = c.setup.inside.core; script = c.setup.inside.script; config = c.setup.inside.config }) _
+    (at_script (g.F.Files.contents c.args.files.now) (record { image = c.setup.inside.image; room = c.setup.inside.room; core = c.setup.inside.core; script = c.setup.inside.script; config = c.setup.inside.config }) _
     c.in_ok-image.ensures.holds
     (g.F.Files.contents c.load.new.files)
     (g.F.Files.faults c.args.files.now) (g.F.Files.faults c.load.new.files) (g.F.Files.faults c.load_script_if.new.files) _
@@ -23,7 +23,7 @@ pub returns-in_err-core-clause-stopped : goal.returns-in_err-core-clause-stopped
 returns-in_err-core-clause-stopped g c =
     let p = err_from_is_err_and c.from_residual-in_err-core.result c.from_residual-in_err-core.ensures.1 in
     rw (p.1, p.2) (subst (λ (s : Setup). Stops (g.F.Files.contents c.args.files.now) (g.F.Files.faults c.args.files.now) (g.F.Files.faults c.load_core.new.files) (machine_files s) c.in_err-core.field-0.0) c.setup.view_is
-    (at_tape (g.F.Files.contents c.args.files.now) (record { image = c.setup.inside.image; core = c.setup.inside.core; script = c.setup.inside.script; config = c.setup.inside.config }) _
+    (at_tape (g.F.Files.contents c.args.files.now) (record { image = c.setup.inside.image; room = c.setup.inside.room; core = c.setup.inside.core; script = c.setup.inside.script; config = c.setup.inside.config }) _
     c.in_ok-image.ensures.holds
     (g.F.Files.contents c.load.new.files) (g.F.Files.contents c.load_script_if.new.files)
     (g.F.Files.faults c.args.files.now) (g.F.Files.faults c.load_script_if.new.files) (g.F.Files.faults c.load_core.new.files) _ _
