@@ -15,6 +15,10 @@
 //!   `runs/texts` writes the text that is due;
 //! - `images`: an image that is read and written, faults of it, and images of seeds; in version 2 `images/segments` has
 //!   images that are read or refused, and `images/migrated` images that are written and read again;
+//! - `executables`: what is read of executables, and what the program makes of small ones: `executables/rows` writes them field
+//!   by field, `executables/headers` changes their headers, `executables/loads` their program headers and
+//!   `executables/memory` what memory they have; `executables/files` has small ones that other tools laid, and
+//!   `executables/commands` has command lines over those;
 //! - `calls`: calls of a machine's parts, of a machine that is driven, and of what needs no machine;
 //! - `lists`: several claims in a cycle, right and wrong ones, and what each cycle commits:
 //!   `lists/tables` has the lists;
@@ -33,6 +37,8 @@
 mod calls;
 #[cfg(test)]
 mod cores;
+#[cfg(test)]
+mod executables;
 #[cfg(test)]
 mod images;
 #[cfg(test)]

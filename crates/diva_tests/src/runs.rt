@@ -4,7 +4,7 @@ mod hostile;
 mod noting;
 mod pipelined;
 mod ports;
-mod refusals;
+pub(crate) mod refusals;
 mod scripts;
 mod segments;
 mod sessions;

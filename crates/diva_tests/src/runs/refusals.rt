@@ -5,7 +5,7 @@ use diva_outside::What;
 use std::test::Fail;
 
 /// What is written where the words are not a valid command line.
-pub(super) const USAGE: &str = "\
+pub(crate) const USAGE: &str = "\
 usage: diva run|tape IMAGE, debug IMAGE COMMANDS, asm SRC, dis|migrate IMAGE, soak SEED LENGTH
 ";
 
