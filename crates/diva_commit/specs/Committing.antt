@@ -1,18 +1,21 @@
 -- What becomes of a record that is to commit.
-use Rattle.std.specs.Prelude.{ℕ, ◌≡◌, ◌&&◌, Bool, true, false, List, [], ◌∷◌, ◌++◌, length, Option, Some, None, if◌then◌else◌}
+use Rattle.std.specs.Prelude.{ℕ, ◌≡◌, ◌==◌, ◌&&◌, Bool, true, false, List, [], ◌∷◌, Option, Some, None, if◌then◌else◌}
 use Rattle.diva_memory.specs.Bytes.{Bytes}
 use Rattle.diva_storeq.specs.declared.masked.Masked.{Masked}
 use Rattle.diva_storeq.specs.Masked.{WritesInside}
+use Rattle.diva_storeq.specs.Stores.{entry_at}
 use Rattle.diva_decode.specs.Table.{row_of}
 use Rattle.diva_isa.specs.State.{State}
-use Rattle.diva_isa.specs.Kind.{reads_instret_by}
-use Rattle.diva_isa.specs.Step.{record_of}
+use Rattle.diva_isa.specs.Kind.{reads_instret_by, size}
+use Rattle.diva_isa.specs.Step.{effect_of, record_of}
+use Rattle.diva_isa.specs.declared.effect.Effect.{Effect}
+use Rattle.diva_isa.specs.declared.effect.Effect.TheVariants.{Nothing, Writes, Stores, Puts}
 use Rattle.diva_isa.specs.End.{end_of}
 use Rattle.diva_isa.specs.declared.end.End.{End}
 use Rattle.diva_isa.specs.declared.end.End.TheVariants.{GoesOn as Running, Halt as Halted, Trap as Trapped}
 use Rattle.diva_isa.specs.declared.record.Record.{Record}
 use Rattle.diva_core.specs.declared.differences.Diff.{Diff}
-use Rattle.diva_core.specs.Cycle.{number, puts_store}
+use Rattle.diva_core.specs.Cycle.{puts_store}
 use Rattle.diva_commit.specs.declared.commits.Committed.{Committed}
 use Rattle.diva_commit.specs.declared.commits.Committed.TheVariants.{GoesOn, Halt, Trap, Held, Differs}
 
@@ -50,8 +53,13 @@ is_committed (Trap number) = true
 is_committed Held = false
 is_committed (Differs d) = false
 
--- the stores of the queue: a store that does not trap stands behind those that were there, another record adds none
-pub record IsQueued (before : List Masked) (r : Record) (after : List Masked) : Type 0 where
-  pub added : List Masked
-  pub count : length added ≡ number (puts_store r)
-  pub behind : after ≡ before ++ added
+-- the entry that an effect puts behind the others of the queue, if it does
+abbrev pub entry_by : Effect → List Masked
+entry_by Nothing = []
+entry_by (Writes rd value) = []
+entry_by (Stores width addr value) = entry_at addr (size width) value ∷ []
+entry_by (Puts byte) = []
+
+-- the entries that a record puts there: one where it is a store that does not trap
+unfoldable pub buffered : Record → List Masked
+buffered r = if r.end == 0 then entry_by (effect_of r) else []

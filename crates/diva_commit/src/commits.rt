@@ -1,13 +1,11 @@
 // What becomes of a record that is to commit.
-ghost use Rattle.std.specs.Prelude.{◌≡◌, ◌<◌, ◌+◌, ◌%◌, ◌==◌, ℕ, List, true, false, length, None, Some, IfSome};
+ghost use Rattle.std.specs.Prelude.{◌≡◌, ◌<◌, ◌+◌, ◌%◌, ◌==◌, ◌++◌, ◌∷◌, [], ℕ, List, true, false, length, None, Some, IfSome};
 ghost use Rattle.diva_decode.specs.Table.{row_of, HasRegisters};
-ghost use Rattle.diva_storeq.specs.Stores.{laid};
+ghost use Rattle.diva_storeq.specs.Stores.{entry_at, laid};
 ghost use Rattle.diva_memory.specs.Bytes.{IsInside};
 ghost use Rattle.diva_isa.specs.Kind.{size};
 ghost use Rattle.diva_isa.specs.Step.{apply, with_bytes};
-ghost use Rattle.diva_isa.specs.declared.record.Record.{Record};
-ghost use Rattle.diva_core.specs.Cycle.{puts_store};
-ghost use Rattle.diva_commit.specs.Committing.{state_of, answer, ending, is_committed, AreInside, IsDueButInstret, IsQueued};
+ghost use Rattle.diva_commit.specs.Committing.{state_of, answer, buffered, ending, is_committed, AreInside, IsDueButInstret};
 
 use diva_core::{Diff, Output};
 use diva_decode::{Instr, decode};
@@ -76,7 +74,7 @@ pub fn commit(
     ensures applied { is_committed result ≡ true → (n : ℕ)
         → state_of regs.new pc.new (laid memory.now queue.new.items) output.new (n + 1) r.now.end
         ≡ apply (state_of regs.old pc.old (laid memory.now queue.old.items) output.old n 0) r.now }
-    ensures queued { is_committed result ≡ true → IsQueued queue.old.items r.now queue.new.items }
+    ensures queued { is_committed result ≡ true → queue.new.items ≡ queue.old.items ++ buffered r.now }
     ensures capacity { queue.new.capacity ≡ queue.old.capacity }
     ensures inside { AreInside memory.now queue.old.items → AreInside memory.now queue.new.items }
 {
@@ -107,7 +105,7 @@ pub fn commit_by(
     ensures applied { is_committed result ≡ true → (n : ℕ)
         → state_of regs.new pc.new (laid memory.now queue.new.items) output.new (n + 1) r.now.end
         ≡ apply (state_of regs.old pc.old (laid memory.now queue.old.items) output.old n 0) r.now }
-    ensures queued { is_committed result ≡ true → IsQueued queue.old.items r.now queue.new.items }
+    ensures queued { is_committed result ≡ true → queue.new.items ≡ queue.old.items ++ buffered r.now }
     ensures capacity { queue.new.capacity ≡ queue.old.capacity }
     ensures inside { AreInside memory.now queue.old.items → AreInside memory.now queue.new.items }
 {
@@ -140,7 +138,7 @@ fn store(memory: &Memory, queue: &mut StoreQueue, width: Width, addr: u32, value
     ensures laid { (regs : List ℕ) (pc : ℕ) (output : List ℕ) (n end : ℕ)
         → state_of regs pc (laid memory.now queue.new.items) output n end
         ≡ with_bytes (state_of regs pc (laid memory.now queue.old.items) output n end) (size width) addr value }
-    ensures queued { (r : Record) → puts_store r ≡ true → IsQueued queue.old.items r queue.new.items }
+    ensures queued { queue.new.items ≡ queue.old.items ++ entry_at addr (size width) value ∷ [] }
     ensures capacity { queue.new.capacity ≡ queue.old.capacity }
     ensures inside { AreInside memory.now queue.old.items → AreInside memory.now queue.new.items }
 {

@@ -146,9 +146,13 @@ barked m = if nat_le m.config.limit m.idle && is_none m.solo && goes_on m.arch t
 unfoldable pub watched : Timed → Timed → Timed
 watched before m = barked (counted before m)
 
+-- phases 2 to 5 under a rule, from a machine on whose phase 1 is over; `before` is the machine before the cycle
+abbrev pub phases_under : Rule → (before m : Timed) → List Record → Timed
+phases_under rule before m list = watched before (accepts before list (commits_under rule m))
+
 -- the whole cycle under a rule; an ended machine stays
 unfoldable pub cycle_under : Rule → Timed → List Record → Timed
-cycle_under rule m list = if goes_on m.arch then watched m (accepts m list (commits_under rule (drained (begun m)))) else m
+cycle_under rule m list = if goes_on m.arch then phases_under rule m (drained (begun m)) list else m
 
 -- the machine's cycle
 abbrev pub cycle_of : Timed → List Record → Timed

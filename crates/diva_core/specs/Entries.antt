@@ -1,8 +1,18 @@
 -- What is noted of the claims that are pending.
-use Rattle.std.specs.Prelude.{ℕ, ◌≡◌, ◌==◌, Bool, true, Some, IfSome}
+use Rattle.std.specs.Prelude.{ℕ, ◌≡◌, ◌==◌, Bool, true, Some, None, IfSome}
 use Rattle.diva_decode.specs.Fields.{opcode}
 use Rattle.diva_decode.specs.Table.{row_of}
+use Rattle.diva_isa.specs.declared.record.Record.{Record}
+use Rattle.diva_core.specs.Timed.{PendingClaim}
 use Rattle.diva_core.specs.declared.pending.Entry.{Entry}
+
+-- a claim that was accepted in this cycle, neither decoded nor checked yet
+abbrev pub fresh : (cycle : ℕ) → Record → Entry
+fresh cycle claim = record { claim = claim; cycle = cycle; decoded = None; verdict = None }
+
+-- a pending entry as the timed machine has it
+abbrev pub pending_claim_of : Entry → PendingClaim
+pending_claim_of e = record { claim = e.claim; cycle = e.cycle }
 
 -- a decoded form is what the table says of the claim's word
 abbrev pub IsDecoded : Entry → Type 0

@@ -1,12 +1,12 @@
 // The claims that wait to be judged, the oldest first.
-ghost use Rattle.std.specs.Prelude.{ℕ, ◌≡◌, ◌≤◌, ◌<◌, ◌+◌, ◌^◌, [], ◌∷◌, ◌++◌, length, IfOk, IfSome, IsTrue, None, Some, slice_get, slice_set, true};
+ghost use Rattle.std.specs.Prelude.{ℕ, ◌≡◌, ◌≤◌, ◌<◌, ◌+◌, ◌^◌, [], ◌∷◌, ◌++◌, length, map, IfOk, IfSome, IsTrue, None, Some, slice_get, slice_set, true};
 ghost use Rattle.std.specs.List.{list_all};
 ghost use Rattle.std.specs.Option.{option_copied};
 ghost use Rattle.circular_buffer.specs.Buffer.{Buffer, buffer};
 ghost use Rattle.diva_isa.specs.Step.{effect_of};
 ghost use Rattle.diva_memory.specs.Span.{Spans};
 ghost use Rattle.diva_core.specs.Effects.{is_apart};
-ghost use Rattle.diva_core.specs.Entries.{has_store_opcode};
+ghost use Rattle.diva_core.specs.Entries.{fresh, has_store_opcode};
 
 use crate::claims::Claim;
 use crate::differences::Diff;
@@ -158,7 +158,8 @@ impl Pending {
 
     /// How many claims there is room for.
     pub fn capacity(&self) -> usize
-        ensures { result ≡ self.now.capacity }
+        ensures value { result ≡ self.now.capacity }
+        ensures most { result ≤ 64 }
     {
         self.entries.capacity()
     }
@@ -245,6 +246,16 @@ impl Pending {
             decoded: None,
             verdict: None,
         });
+    }
+
+    /// Puts claims that are accepted in a cycle behind the others, in order, neither decoded nor checked yet.
+    pub fn accept_all(&mut self, claims: &[Claim], cycle: u64)
+        requires { length self.old.items + length claims.now ≤ self.old.capacity }
+        ensures { self.new ≡ buffer (self.old.items ++ map (fresh cycle) claims.now) self.old.capacity }
+    {
+        for claim in claims {
+            self.accept(claim, cycle);
+        }
     }
 
     /// Takes out the oldest claim.

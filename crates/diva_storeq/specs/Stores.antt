@@ -17,13 +17,16 @@ placed_bytes s = record { base = s.addr; items = store_bytes s }
 unfoldable pub lay : Bytes → Store → Bytes
 lay m s = put_all m s.addr (store_bytes s)
 
--- the entry of a store at a multiple of its width: its bytes stand in one word, from its address on
-unfoldable pub masked : Store → Masked
-masked s = let place = s.addr % 4 in record {
-  addr = s.addr - place;
-  mask = 2 ^ (place + s.width) - 2 ^ place;
-  bytes = s.value % 2 ^ (8 * s.width) * 2 ^ (8 * place);
+-- the entry of a store of so many bytes at a multiple of its width: its bytes stand in one word, from its address on
+abbrev pub entry_at : (addr width value : ℕ) → Masked
+entry_at addr width value = let place = addr % 4 in record {
+  addr = addr - place;
+  mask = 2 ^ (place + width) - 2 ^ place;
+  bytes = value % 2 ^ (8 * width) * 2 ^ (8 * place);
 }
+
+unfoldable pub masked : Store → Masked
+masked s = entry_at s.addr s.width s.value
 
 -- memory after these entries, the oldest first
 abbrev pub laid : Bytes → List Masked → Bytes

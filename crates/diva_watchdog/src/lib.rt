@@ -6,7 +6,7 @@
 //! - `watchdog`: `Watchdog`, which counts the cycles without a commit and says when to flush.
 //! - `recover`: `Recover`, whether the machine runs the core's instructions or one solo.
 //!
-//! The rule is in `specs/Watchdog.antt`.
+//! The rule is in `specs/Watchdog.antt`, and since when an instruction runs solo in `specs/Solo.antt`.
 #![tactic(auto)]
 
 mod recover;

@@ -2,7 +2,8 @@ use Rattle.std.proofs.Common.{refl, ◌∙◌, ap}
 use Rattle.diva_isa.specs.Kind.{size}
 use Rattle.diva_memory.specs.Bytes.{Bytes}
 use Rattle.diva_commit.specs.Committing.{state_of}
-use Rattle.diva_commit.proofs.Storing.{inside_pushed, queued_one, range_fits, store_laid}
+use Rattle.diva_storeq.specs.Stores.{masked}
+use Rattle.diva_commit.proofs.Storing.{inside_pushed, range_fits, store_laid}
 use Rattle.diva_commit.proofs.commits.store.Goals as goal
 
 pub push-requires-clause-range : goal.push-requires-clause-range
@@ -15,7 +16,8 @@ returns-clause-laid c = λ regs pc output n end.
     ∙ store_laid _ _ regs pc output n end (size c.args.width) c.args.addr c.args.value c.size-width.ensures refl refl
 
 pub returns-clause-queued : goal.returns-clause-queued
-returns-clause-queued c = λ r h. rw c.push.ensures.entries (queued_one c.args.queue.now.items _ r h)
+unfolding masked
+returns-clause-queued c = rw (c.push.ensures.entries, c.size-width.ensures) refl
 
 pub returns-clause-inside : goal.returns-clause-inside
 returns-clause-inside c = λ h.

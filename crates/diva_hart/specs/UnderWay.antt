@@ -1,0 +1,48 @@
+-- What is under way: the pending claims, the instruction that runs solo, the watchdog and the log.
+use Rattle.std.specs.Prelude.{ℕ, [], map}
+use Rattle.circular_buffer.specs.Buffer.{buffer}
+use Rattle.diva_isa.specs.State.{State}
+use Rattle.diva_core.specs.Timed.{Config, Timed}
+use Rattle.diva_core.specs.Entries.{pending_claim_of}
+use Rattle.diva_watchdog.specs.Solo.{solo_of}
+use Rattle.diva_watchdog.specs.declared.recover.Recover.TheVariants.{Running}
+use Rattle.diva_hart.specs.HartArch.{HartState}
+use Rattle.diva_hart.specs.Log.{new_log}
+use Rattle.diva_hart.specs.declared.under_way.UnderWay.{UnderWay}
+
+-- the timed machine of a committed state and of what is under way
+abbrev pub timed_of : State → (owed stores port cycles : ℕ) → UnderWay → Timed
+timed_of s owed stores port cycles u =
+    record {
+      config = record { width = u.width; window = u.pending.capacity; stores = stores; limit = u.watchdog.limit; port = port };
+      arch = s;
+      count = s.instret;
+      cycles = cycles;
+      pending = map pending_claim_of u.pending.items;
+      solo = solo_of u.recover;
+      owed = owed;
+      idle = u.watchdog.idle;
+      rows = u.log.rows;
+      newest = u.log.newest;
+      flushes = u.log.flushes;
+      silent = u.log.silent;
+    }
+
+-- nothing is, on a machine with these numbers
+abbrev pub new_under_way : Config → UnderWay
+new_under_way config =
+    record {
+      width = config.width;
+      pending = buffer [] config.window;
+      recover = Running;
+      watchdog = record { limit = config.limit; idle = 0 };
+      log = new_log;
+    }
+
+-- as much of a hart's state as a core is told: its pc, how many instructions led to it, and how it ended, if it has
+abbrev pub told_state : HartState → State
+told_state h = record { regs = []; pc = h.pc; base = 0; bytes = []; output = []; instret = h.instret; end = h.end }
+
+-- as much of a hart's machine
+abbrev pub told_machine : HartState → (port cycles : ℕ) → UnderWay → Timed
+told_machine h port cycles u = timed_of (told_state h) 0 0 port cycles u

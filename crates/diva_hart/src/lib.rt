@@ -1,0 +1,17 @@
+//! What a machine and each hart of two have in common: the committed state but memory, and what is under way.
+//!
+//! - `arch`: registers, pc, output, count, end and store queue, `HartArch`; memory is lent to each of its calls;
+//! - `under_way`: the pending claims, the solo instruction, the watchdog and the log, `UnderWay`;
+//! - `log`: the flushes, as rows and as counts, `Log`.
+//!
+//! `specs/HartArch.antt` says what state a hart sees, and what becomes of it by a record; `specs/UnderWay.antt` says which timed
+//! machine a state and what is under way make up.
+#![tactic(auto)]
+
+mod arch;
+mod log;
+mod under_way;
+
+pub use arch::HartArch;
+pub use log::{KEPT_ROWS, Log};
+pub use under_way::{DEPTH, UnderWay};

@@ -1,0 +1,127 @@
+// What is under way between two commits.
+ghost use Rattle.std.specs.Prelude.{◌≡◌, ◌≤◌, ◌<◌, ◌+◌, ◌-◌, ◌^◌, ◌&&◌, [], length, Some, IfOk, is_none, nat_le, not};
+ghost use Rattle.circular_buffer.specs.Buffer.{buffer};
+ghost use Rattle.diva_core.specs.Timed.{room_of};
+ghost use Rattle.diva_core.specs.Told.{told_of};
+ghost use Rattle.diva_core.specs.Cycle.{is_silent, kept, number};
+ghost use Rattle.diva_watchdog.specs.Solo.{solo_of};
+ghost use Rattle.diva_watchdog.specs.Watchdog.{ticked};
+ghost use Rattle.diva_watchdog.specs.declared.recover.Recover.TheVariants.{Solo};
+ghost use Rattle.diva_hart.specs.UnderWay.{new_under_way, told_machine};
+
+use crate::arch::HartArch;
+use crate::log::Log;
+use diva_core::{Cause, Config, FlushRow, Pending, Told};
+use diva_watchdog::{Recover, Watchdog};
+use std::alloc::{AllocError, Global};
+
+/// The checker's depth, in cycles: a claim that is accepted in one cycle is judged six cycles later at
+/// the earliest, and a solo instruction commits six cycles after the flush that started it.
+pub const DEPTH: u64 = 6;
+
+/// What is under way beside a committed state.
+#[derive(Drop)]
+pub struct UnderWay {
+    /// The claims that are accepted and judged in a cycle at most.
+    pub width: u32,
+    /// The claims that wait to be judged.
+    pub pending: Pending,
+    /// Whether an instruction runs solo, and since when.
+    pub recover: Recover,
+    /// The cycles since the last commit, and their limit.
+    pub watchdog: Watchdog,
+    /// The flushes that came.
+    pub log: Log,
+}
+
+impl UnderWay {
+    /// Nothing is under way yet. All memory is taken here, and the one error is that it runs out.
+    pub fn new(alloc: Global, config: Config) -> Result<Self, AllocError>
+        ensures { IfOk result (λ u. u ≡ new_under_way config) }
+    {
+        Ok(UnderWay {
+            width: config.width(),
+            pending: Pending::new(alloc, config.window() as usize)?,
+            recover: Recover::Running,
+            watchdog: Watchdog::new(config.limit()),
+            log: Log::new(alloc)?,
+        })
+    }
+
+    /// How many claims the coming cycle of a hart accepts at most.
+    #[inline(always)]
+    pub fn room(&self, hart: &HartArch) -> usize
+        ensures value { result ≡ room_of (told_machine hart.now.state 1 0 self.now) }
+        ensures fits { result ≤ self.now.pending.capacity - length self.now.pending.items }
+        ensures width { result ≤ self.now.width }
+        ensures total { result ≤ 64 - length self.now.pending.items }
+    {
+        match self.recover {
+            Recover::Running if hart.goes_on() => {
+                let free = self.pending.capacity() - self.pending.len();
+                free.min(self.width as usize)
+            }
+            _ => 0,
+        }
+    }
+
+    /// What a hart's core is told before the coming cycle, where so many have run, and memory's port takes a store in each cycle
+    /// whose number `port` divides.
+    #[inline(always)]
+    pub fn told(&self, hart: &HartArch, port: u32, cycles: u64) -> Told
+        requires width { self.now.width ≤ 4 }
+        requires cycles { cycles < 2 ^ 63 }
+        ensures { result ≡ told_of (told_machine hart.now.state port cycles self.now) }
+    {
+        let room = self.room(hart) as u32;
+        let pending = self.pending.len() as u32;
+        let idle = self.watchdog.idle();
+        let by_then = u64::from(idle) + DEPTH + u64::from(port);
+        Told {
+            cycle: cycles + 1,
+            count: hart.count(),
+            pc: hart.pc(),
+            epoch: self.log.flushes(),
+            pending,
+            room,
+            idle,
+            due: pending == 0 && room > 0 && by_then >= u64::from(self.watchdog.limit()),
+            ended: !hart.goes_on(),
+        }
+    }
+
+    /// Ends a cycle in which an instruction committed, or none did: whether the watchdog calls for a flush.
+    #[inline(always)]
+    pub fn tick(&mut self, committed: bool) -> bool
+        ensures rest { self.new ≡ record self.old { watchdog = ticked self.old.watchdog committed } }
+        ensures barks { result ≡ (not committed && (nat_le self.new.watchdog.limit self.new.watchdog.idle && is_none (solo_of self.old.recover))) }
+    {
+        if committed {
+            self.watchdog.rest();
+            return false;
+        }
+        let alone = matches!(self.recover, Recover::Solo(_));
+        self.watchdog.tick(false, alone)
+    }
+
+    /// Drops what is pending, and starts the next instruction on the checker alone: the flush comes in a cycle, so many
+    /// instructions having committed by then.
+    pub fn flush(&mut self, cycle: u64, at: u64, cause: Cause)
+        requires flushes { self.old.log.flushes < 2 ^ 63 }
+        requires silent { self.old.log.silent < 2 ^ 63 }
+        ensures { self.new ≡ record self.old {
+          pending = buffer [] self.old.pending.capacity;
+          recover = Solo cycle;
+          log = record {
+            rows = kept self.old.log.rows (record { cycle = cycle; at = at; cause = cause });
+            newest = Some (record { cycle = cycle; at = at; cause = cause });
+            flushes = self.old.log.flushes + 1;
+            silent = self.old.log.silent + number (is_silent cause);
+          };
+        } }
+    {
+        self.pending.clear();
+        self.recover = Recover::Solo(cycle);
+        self.log.add(FlushRow { cycle, at, cause });
+    }
+}
