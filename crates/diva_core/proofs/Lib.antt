@@ -1,3 +1,4 @@
+pub mod Accepting
 pub mod Adding
 pub mod Agreeing
 pub mod Bypassing

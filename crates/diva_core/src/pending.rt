@@ -6,7 +6,8 @@ ghost use Rattle.circular_buffer.specs.Buffer.{Buffer, buffer};
 ghost use Rattle.diva_isa.specs.Step.{effect_of};
 ghost use Rattle.diva_memory.specs.Span.{Spans};
 ghost use Rattle.diva_core.specs.Effects.{is_apart};
-ghost use Rattle.diva_core.specs.Entries.{fresh, has_store_opcode};
+ghost use Rattle.diva_core.specs.Cycle.{accepted_in};
+ghost use Rattle.diva_core.specs.Entries.{fresh, has_store_opcode, pending_claim_of};
 
 use crate::claims::Claim;
 use crate::differences::Diff;
@@ -251,7 +252,10 @@ impl Pending {
     /// Puts claims that are accepted in a cycle behind the others, in order, neither decoded nor checked yet.
     pub fn accept_all(&mut self, claims: &[Claim], cycle: u64)
         requires { length self.old.items + length claims.now ≤ self.old.capacity }
-        ensures { self.new ≡ buffer (self.old.items ++ map (fresh cycle) claims.now) self.old.capacity }
+        ensures entries { self.new ≡ buffer (self.old.items ++ map (fresh cycle) claims.now) self.old.capacity }
+        ensures claims { map pending_claim_of self.new.items
+            ≡ map pending_claim_of self.old.items ++ map (accepted_in cycle) claims.now }
+        ensures capacity { self.new.capacity ≡ self.old.capacity }
     {
         for claim in claims {
             self.accept(claim, cycle);

@@ -2,16 +2,19 @@
 //!
 //! - `arch`: registers, pc, output, count, end and store queue, `HartArch`; memory is lent to each of its calls;
 //! - `under_way`: the pending claims, the solo instruction, the watchdog and the log, `UnderWay`;
-//! - `log`: the flushes, as rows and as counts, `Log`.
+//! - `log`: the flushes, as rows and as counts, `Log`;
+//! - `ends`: how a drive stopped, `Drive`.
 //!
-//! `specs/HartArch.antt` says what state a hart sees, and what becomes of it by a record; `specs/UnderWay.antt` says which timed
+//! `specs/Start.antt` says in which state an image starts, `specs/HartArch.antt` what state a hart sees, and what becomes of it by a record; `specs/UnderWay.antt` says which timed
 //! machine a state and what is under way make up.
 #![tactic(auto)]
 
 mod arch;
+mod ends;
 mod log;
 mod under_way;
 
 pub use arch::HartArch;
+pub use ends::Drive;
 pub use log::{KEPT_ROWS, Log};
 pub use under_way::{DEPTH, UnderWay};

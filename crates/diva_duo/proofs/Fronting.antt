@@ -1,0 +1,81 @@
+-- What becomes of the front claim of a hart.
+use Rattle.std.proofs.Common.{◌≡◌, ℕ, ◌+◌, ◌<◌, ◌≤◌, Bool, true, false, List, [], ◌∷◌, map, drop, length, Option, Some, None, refl, ap, sym, ◌∙◌, arith, slice_get, subst, if◌then◌else◌}
+use Rattle.std.proofs.lemmas.Bool.{le-leb, lt-leb}
+use Rattle.std.proofs.lemmas.Option.{none-some, same_Some}
+use Rattle.diva_isa.specs.State.{State, goes_on}
+use Rattle.diva_isa.specs.declared.record.Record.{Record}
+use Rattle.diva_isa.specs.Step.{record_of}
+use Rattle.diva_core.specs.declared.differences.Diff.{Diff}
+use Rattle.diva_core.specs.declared.flushes.Cause.TheVariants.{Differs}
+use Rattle.diva_core.specs.declared.pending.Entry.{Entry}
+use Rattle.diva_core.specs.Difference.{first_difference}
+use Rattle.diva_core.specs.Timed.{Timed, PendingClaim, depth}
+use Rattle.diva_core.specs.Cycle.{Judgement, Wait, Commit, Flush, by_difference, by_front, by_judgement, judgement_under, past_front, flushed, committed}
+use Rattle.diva_core.specs.Entries.{pending_claim_of}
+use Rattle.diva_duo.specs.Rules.{fences_wait}
+use Rattle.diva_memory.specs.Bytes.{Bytes}
+use Rattle.diva_storeq.specs.Stores.{laid}
+use Rattle.diva_commit.specs.Committing.{state_of}
+use Rattle.diva_hart.specs.HartArch.{HartState, seen}
+use Rattle.diva_duo.specs.Duo.{Hart}
+use Rattle.diva_duo.specs.Inner.{IsOpen, judge_next}
+
+first_is : (items : List Entry) (e : Entry) → slice_get items 0 ≡ Some e → items ≡ e ∷ drop 1 items
+first_is [] e h = absurd (none-some _ h)
+first_is (x ∷ items) e h = ap (λ (y : Entry). y ∷ items) (same_Some _ _ h)
+
+pub some_wait : (items : List Entry) (e : Entry) → slice_get items 0 ≡ Some e → 0 < length (map pending_claim_of items)
+some_wait [] e h = absurd (none-some _ h)
+some_wait (x ∷ items) e h = omega arith
+
+module _ (m : Timed) (items : List Entry) (e : Entry) (first : slice_get items 0 ≡ Some e) (waits : m.pending ≡ map pending_claim_of items) where
+  front_is : m.pending ≡ pending_claim_of e ∷ map pending_claim_of (drop 1 items)
+  front_is = waits ∙ ap (map pending_claim_of) (first_is items e first)
+
+  by : (w : Judgement) → judgement_under fences_wait m ≡ w → (next : Timed → Timed) → judge_next next m ≡ by_judgement m (next (past_front m)) w
+  by w is next = ap (by_judgement m (next (past_front m))) is
+
+  pub young : m.cycles < e.cycle + depth → (next : Timed → Timed) → judge_next next m ≡ m
+  young few next = by Wait (ap (by_front fences_wait m) front_is ∙ rw (lt-leb (e.cycle + depth) m.cycles (omega arith)) refl) next
+
+  module _ (old : e.cycle + depth ≤ m.cycles) where
+    ready : (o : Option Diff) → first_difference e.claim (record_of m.arch) ≡ o → judgement_under fences_wait m ≡ by_difference fences_wait m o
+    ready o d = ap (by_front fences_wait m) front_is ∙ rw (le-leb (e.cycle + depth) m.cycles old, d) refl
+
+    pub differs : (d : Diff) → first_difference e.claim (record_of m.arch) ≡ Some d → (next : Timed → Timed) → judge_next next m ≡ flushed m (Differs d)
+    differs d is next = by (Flush d) (ready (Some d) is) next
+
+    pub held : first_difference e.claim (record_of m.arch) ≡ None → fences_wait m.config.stores m.owed (record_of m.arch) ≡ true → (next : Timed → Timed) → judge_next next m ≡ m
+    held is stops next = by Wait (ready None is ∙ rw stops refl) next
+
+    pub free : first_difference e.claim (record_of m.arch) ≡ None → fences_wait m.config.stores m.owed (record_of m.arch) ≡ false → (next : Timed → Timed) → judge_next next m ≡ next (past_front m)
+    free is goes next = by Commit (ready None is ∙ rw goes refl) next
+
+-- the machine behind a front claim that committed
+module _ (m n : Timed) (ps : List PendingClaim) (is : n ≡ committed (record m { pending = ps }) (record_of m.arch)) where
+  same_end : goes_on (committed m (record_of m.arch)).arch ≡ goes_on n.arch
+  unfolding committed
+  same_end = ap (λ (z : Timed). goes_on z.arch) (sym is)
+
+  pub past_on : drop 1 m.pending ≡ ps → goes_on n.arch ≡ true → past_front m ≡ n
+  unfolding committed
+  past_on rest on =
+      ap (λ (b : Bool). record (committed m (record_of m.arch)) { pending = if b then drop 1 m.pending else [] }) (same_end ∙ on)
+      ∙ ap (λ (xs : List PendingClaim). record (committed m (record_of m.arch)) { pending = xs }) rest
+      ∙ sym is
+
+  pub past_off : goes_on n.arch ≡ false → past_front m ≡ record n { pending = [] }
+  unfolding committed
+  past_off off =
+      ap (λ (b : Bool). record (committed m (record_of m.arch)) { pending = if b then drop 1 m.pending else [] }) (same_end ∙ off)
+      ∙ ap (λ (z : Timed). record z { pending = [] }) (sym is)
+
+-- ---- of a hart
+
+pub opens : (h : Hart) (items : List Entry) (e : Entry) → IsOpen h → h.pending ≡ map pending_claim_of items → slice_get items 0 ≡ Some e → h.state.end ≡ 0
+opens h items e open_ waits first = open_ (subst (λ (xs : List PendingClaim). 0 < length xs) (sym waits) (some_wait items e first))
+
+pub due_is : (memory : Bytes) (h : Hart) (view : State) (r : Record) → view ≡ record (seen memory h.state) { end = 0 } → r ≡ record_of view → h.state.end ≡ 0 → r ≡ record_of (seen memory h.state)
+due_is memory h view r shows is on =
+    let o : HartState = h.state in
+    is ∙ ap record_of shows ∙ ap (λ (e : ℕ). record_of (state_of o.regs o.pc (laid memory o.buffer) o.output o.instret e)) (sym on)

@@ -1,0 +1,74 @@
+-- A hart's numbers leave room for a cycle.
+use Rattle.std.proofs.Common.{◌≡◌, ℕ, ◌+◌, ◌*◌, ◌<◌, ◌≤◌, ◌^◌, length, Option, Some, None, refl, arith}
+use Rattle.std.proofs.Math.Nat.{mul-le-mul_right}
+use Rattle.std.proofs.lemmas.List.{length-drop}
+use Rattle.diva_memory.specs.Bytes.{Bytes}
+use Rattle.diva_isa.specs.State.{State, memory_of}
+use Rattle.diva_core.specs.Timed.{Config, Timed}
+use Rattle.diva_core.specs.Machine.{IsConfig, Lives}
+use Rattle.diva_core.proofs.Starting.{new-machine}
+use Rattle.diva_hart.specs.HartArch.{seen}
+use Rattle.diva_duo.specs.Harts.{first_state}
+use Rattle.diva_duo.specs.Duo.{Duo, Hart, drained_hart, new_duo, new_hart}
+use Rattle.diva_duo.specs.Which.{Which, First, Second, hart_at}
+use Rattle.diva_duo.specs.Sound.{IsDuo, IsHart}
+use Rattle.diva_duo.specs.Inner.{IsReady}
+
+idle_most : (m : Timed) (solo : Option ℕ) → Lives m solo → m.config.limit ≤ 1024 → m.idle < 2 ^ 31
+idle_most m None h high = omega arith
+idle_most m (Some start) h high = let i = h.idled in let s = h.soon in omega arith
+
+pub ready : (now : ℕ) (memory : Bytes) (h : Hart) → IsHart now memory h → now < 2 ^ 60 → IsReady (drained_hart h)
+ready now memory h inv few =
+    let m = inv.machine in
+    let w = inv.within in
+    let wide : h.config.width ≤ 4 = m.config.width_high in
+    let most : h.config.width * inv.at ≤ 4 * inv.at = mul-le-mul_right inv.at wide in
+    let c : h.state.instret ≤ h.config.width * inv.at = m.count in
+    let f : h.flushes ≤ inv.at = m.flushes in
+    let s : h.silent ≤ h.flushes = m.silent in
+    record {
+      width = wide;
+      limit = (let low : 16 ≤ h.config.limit = m.config.limit_low in omega arith);
+      pending = m.window;
+      owed = λ on. (let l = length-drop 1 h.state.buffer in let o : length h.state.buffer ≤ h.config.stores = m.owed in let low : 1 ≤ h.config.stores = m.config.stores_low in omega arith);
+      count = omega arith;
+      flushes = omega arith;
+      silent = omega arith;
+      idle = idle_most _ h.solo m.lives m.config.limit_high;
+    }
+
+pub sound_at : (w : Which) (d : Duo) → IsDuo d → IsHart d.cycles d.memory (hart_at w d)
+sound_at First d inv = inv.first
+sound_at Second d inv = inv.second
+
+-- a hart's width is that of a machine
+pub tells : (w : Which) (d : Duo) → IsDuo d → (hart_at w d).config.width ≤ 4
+tells w d inv = (sound_at w d inv).machine.config.width_high
+
+new_at : (z : Config) (s : State) (n : ℕ) → IsConfig z → z.port ≡ 1 → s.instret ≡ 0 → IsHart 0 (memory_of s) (new_hart z s n)
+new_at z s n ok port none =
+    record {
+      at = 0;
+      within = omega arith;
+      running = λ e. refl;
+      machine = let m = new-machine z (seen (memory_of s) (first_state s n)) ok none in record {
+        config = m.config;
+        counted = refl;
+        lives = m.lives;
+        owed = m.owed;
+        rows = m.rows;
+        past = m.past;
+        window = m.window;
+        flushes = m.flushes;
+        silent = m.silent;
+        count = omega arith;
+        pace = omega arith;
+      };
+      port = port;
+      inside = tt;
+    }
+
+-- two harts that begin with a state
+pub new_sound : (z : Config) (s : State) → IsConfig z → z.port ≡ 1 → s.instret ≡ 0 → s.base + length s.bytes ≤ 2 ^ 32 → IsDuo (new_duo z s)
+new_sound z s ok port none range = record { range = range; first = new_at z s 0 ok port none; second = new_at z s 1 ok port none }

@@ -1,0 +1,342 @@
+// One hart: what it has for itself of the committed state, and what is under way. Memory is lent to it, and it changes memory
+// only where a store drains.
+ghost use Rattle.std.specs.Prelude.{◌≡◌, ◌+◌, ◌-◌, ◌<◌, ◌≤◌, ◌^◌, ◌++◌, [], ℕ, length, map, take, IfOk, IsTrue, Some, true, false, not, ◌==◌, ◌&&◌, if◌then◌else◌};
+ghost use Rattle.diva_decode.specs.Table.{row_of};
+ghost use Rattle.diva_isa.specs.End.{end_of, end_number};
+ghost use Rattle.diva_isa.specs.State.{output_limit};
+ghost use Rattle.diva_isa.specs.Step.{record_of};
+ghost use Rattle.diva_memory.specs.Bytes.{Bytes};
+ghost use Rattle.diva_image.specs.ImageLayout.{layout};
+ghost use Rattle.diva_storeq.specs.Stores.{laid};
+ghost use Rattle.diva_core.specs.Timed.{Timed, room_of};
+ghost use Rattle.diva_core.specs.Told.{told_of};
+ghost use Rattle.diva_core.specs.Cycle.{accepts, commits_under, committed, flushed, judged_under, puts_store, watched};
+ghost use Rattle.diva_commit.specs.Committing.{AreInside, buffered};
+ghost use Rattle.diva_hart.specs.HartArch.{seen};
+ghost use Rattle.diva_hart.specs.Start.{start_of};
+ghost use Rattle.diva_duo.specs.Rules.{fences_wait};
+ghost use Rattle.diva_duo.specs.Harts.{memory_drained};
+ghost use Rattle.diva_duo.specs.Duo.{drained_hart, hart_cycle, has_ended, new_hart, timed};
+ghost use Rattle.diva_duo.specs.Inner.{judge_next, Grown, IsOpen, IsReady, KeepsBounds};
+
+use diva_core::{Cause, Claim, Config, FlushRow, Told, View, first_difference};
+use diva_decode::{Instr, decode};
+use diva_hart::{DEPTH, HartArch, UnderWay};
+use diva_image::Image;
+use diva_isa::{Effect, End, Kind, Record, effect_by, kind_of, record_of};
+use diva_memory::Memory;
+use diva_watchdog::Recover;
+use std::alloc::{AllocError, Global};
+use std::marker::Model;
+
+/// Memory takes a store of each hart in each cycle.
+const PORT: u32 = 1;
+
+#[derive(Drop)]
+pub(crate) struct Hart {
+    arch: HartArch,
+    under: UnderWay,
+}
+
+impl Model for Hart {
+    ghost use Rattle.std.specs.Prelude.{map};
+    ghost use Rattle.diva_core.specs.Entries.{pending_claim_of};
+    ghost use Rattle.diva_watchdog.specs.Solo.{solo_of};
+    ghost use Rattle.diva_duo.specs.Duo.{Hart};
+
+    ghost Value = { Hart };
+
+    ghost view = { λ h. record {
+      config = record { width = h.under.width; window = h.under.pending.capacity; stores = h.arch.stores; limit = h.under.watchdog.limit; port = 1 };
+      state = h.arch.state;
+      pending = map pending_claim_of h.under.pending.items;
+      solo = solo_of h.under.recover;
+      idle = h.under.watchdog.idle;
+      rows = h.under.log.rows;
+      newest = h.under.log.newest;
+      flushes = h.under.log.flushes;
+      silent = h.under.log.silent;
+    } };
+}
+
+impl Hart {
+    /// The hart of a number, 0 or 1, that begins with an image. The one error is that memory runs out.
+    pub fn new(alloc: Global, image: &Image, config: Config, number: u8) -> Result<Self, AllocError>
+        requires { config.port ≡ 1 }
+        ensures { IfOk result (λ h. h ≡ new_hart config (start_of (layout image.now)) number) }
+    {
+        let mut arch = HartArch::new(alloc, image.entry, config.stores() as usize)?;
+        arch.set_reg(10, u32::from(number));
+        Ok(Hart {
+            arch,
+            under: UnderWay::new(alloc, config)?,
+        })
+    }
+
+    /// The state that the hart sees.
+    pub fn view<'a>(&'a self, memory: &'a Memory) -> View<'a>
+        ensures { result ≡ record (seen memory.now self.now.state) { end = 0 } }
+    {
+        self.arch.view(memory)
+    }
+
+    /// Whether the hart has not ended.
+    pub fn goes_on(&self) -> bool
+        ensures { result ≡ (self.now.state.end == 0) }
+    {
+        self.arch.goes_on()
+    }
+
+    /// How the hart has ended, if it has.
+    pub fn end(&self) -> End
+        ensures value { result ≡ end_of self.now.state.end }
+        ensures number { end_number result ≡ self.now.state.end }
+    {
+        self.arch.ended()
+    }
+
+    /// How many instructions have committed.
+    pub fn count(&self) -> u64
+        ensures { result ≡ self.now.state.instret }
+    {
+        self.arch.count()
+    }
+
+    /// What the program put.
+    pub fn output(&self) -> &[u8]
+        ensures bytes { result.now ≡ self.now.state.output }
+        ensures most { length result.now ≤ output_limit }
+    {
+        self.arch.output()
+    }
+
+    /// How many flushes came.
+    pub fn flushes(&self) -> u64
+        ensures { result ≡ self.now.flushes }
+    {
+        self.under.log.flushes()
+    }
+
+    /// How many of the flushes were silent.
+    pub fn silent(&self) -> u64
+        ensures { result ≡ self.now.silent }
+    {
+        self.under.log.silent()
+    }
+
+    /// The rows of the flushes that are kept.
+    pub fn log(&self) -> &[FlushRow]
+        ensures { result.now ≡ self.now.rows }
+    {
+        self.under.log.rows()
+    }
+
+    /// Whether the hart has ended and drained.
+    pub fn has_ended(&self) -> bool
+        ensures { result ≡ has_ended self.now }
+    {
+        !self.arch.goes_on() && self.arch.owed() == 0
+    }
+
+    /// What the hart's core is told before the coming cycle, where so many have run.
+    pub fn told(&self, cycles: u64) -> Told
+        requires width { self.now.config.width ≤ 4 }
+        requires cycles { cycles < 2 ^ 63 }
+        ensures { result ≡ told_of (timed cycles (record { base = 0; items = [] }) self.now) }
+    {
+        self.under.told(&self.arch, PORT, cycles)
+    }
+
+    /// Phase 1: the oldest store of the buffer goes to memory. Whether there was one.
+    pub fn drain(&mut self, memory: &mut Memory) -> bool
+        requires { AreInside memory.old self.old.state.buffer }
+        ensures memory { memory.new ≡ memory_drained memory.old self.old.state }
+        ensures rest { self.new ≡ drained_hart self.old }
+        ensures value { result ≡ not (length self.old.state.buffer == 0) }
+    {
+        let some = self.arch.owed() != 0;
+        self.arch.drain(memory);
+        some
+    }
+
+    /// Drops what is pending, and starts the next instruction on the checker alone.
+    #[cold]
+    #[tactic(auto, unfolding(diva_core::specs::Cycle::flushed))]
+    fn flush(&mut self, cycles: u64, cause: Cause)
+        requires flushes { self.old.flushes < 2 ^ 63 }
+        requires silent { self.old.silent < 2 ^ 63 }
+        ensures timed { (memory : Bytes) → timed cycles memory self.new ≡ flushed (timed cycles memory self.old) cause }
+        ensures state { self.new.state ≡ self.old.state }
+        ensures pending { self.new.pending ≡ [] }
+        ensures bounds { KeepsBounds 0 self.old self.new }
+    {
+        let count = self.arch.count();
+        self.under.flush(cycles, count, cause);
+    }
+
+    /// Whether an equal claim waits: a store where the buffer is full, or a FENCE where it is not empty. `decoded` is what the
+    /// record's word says.
+    #[tactic(auto, unfolding(diva_core::specs::Cycle::puts_store, crate::specs::Rules::is_fence))]
+    fn waits(&self, decoded: Option<Instr>, due: &Record) -> bool
+        requires { decoded ≡ row_of due.now.word }
+        ensures { result ≡ fences_wait self.now.config.stores (length self.now.state.buffer) due.now }
+    {
+        let stores = due.end == 0 && matches!(effect_by(decoded, due), Effect::Stores { .. });
+        let fences = match decoded {
+            Some(i) => matches!(kind_of(i.op), Kind::Fence),
+            None => false,
+        };
+        stores && self.arch.is_full() || fences && self.arch.owed() != 0
+    }
+
+    /// The next instruction commits by its due record: what it stores goes to the buffer.
+    #[tactic(auto, unfolding(diva_core::specs::Cycle::committed))]
+    fn settle(&mut self, memory: &Memory, decoded: Option<Instr>, due: &Record)
+        requires goes_on { self.old.state.end ≡ 0 }
+        requires decoded { decoded ≡ row_of due.now.word }
+        requires due { due.now ≡ record_of (seen memory.now self.old.state) }
+        requires room { (puts_store due.now && (length self.old.state.buffer == self.old.config.stores)) ≡ false }
+        requires count { self.old.state.instret < 2 ^ 62 }
+        ensures timed { (cycles : ℕ) → timed cycles memory.now self.new ≡ committed (timed cycles memory.now self.old) due.now }
+        ensures buffer { self.new.state.buffer ≡ self.old.state.buffer ++ buffered due.now }
+        ensures pending { self.new.pending ≡ self.old.pending }
+        ensures bounds { KeepsBounds 1 self.old self.new }
+        ensures same { (self.new.flushes ≡ self.old.flushes) × (self.new.silent ≡ self.old.silent) }
+    {
+        self.arch.commit(memory, decoded, due, None);
+    }
+
+    /// Judges the front claim, if it is ready: whether a further one may be. It is judged by the state as it now stands, word and
+    /// loaded value included, since the other hart's stores have changed memory meanwhile.
+    #[tactic(auto, using(crate::proofs::Growing::grown_none))]
+    fn judge_front(&mut self, memory: &Memory, cycles: u64) -> bool
+        requires open { IsOpen self.old }
+        requires count { self.old.state.instret < 2 ^ 62 }
+        requires flushes { self.old.flushes < 2 ^ 63 }
+        requires silent { self.old.silent < 2 ^ 63 }
+        ensures open { IsOpen self.new }
+        ensures judges { (next : Timed → Timed) → judge_next next (timed cycles memory.now self.old)
+            ≡ (if result then next (timed cycles memory.now self.new) else timed cycles memory.now self.new) }
+        ensures grown { Grown memory.now self.old self.new }
+        ensures bounds { KeepsBounds 1 self.old self.new }
+        ensures same { IsTrue result → (self.new.flushes ≡ self.old.flushes) × (self.new.silent ≡ self.old.silent) }
+    {
+        let Some(front) = self.under.pending.front() else {
+            return false;
+        };
+        if cycles.saturating_sub(front.cycle) < DEPTH {
+            return false;
+        }
+        let claim = front.claim;
+        let due = record_of(&self.view(memory));
+        if let Some(diff) = first_difference(&claim, &due) {
+            self.flush(cycles, Cause::Differs(diff));
+            return false;
+        }
+        let decoded = decode(due.word);
+        if self.waits(decoded, &due) {
+            return false;
+        }
+        self.under.pending.pop();
+        self.settle(memory, decoded, &due);
+        if !self.arch.goes_on() {
+            self.under.pending.clear();
+        }
+        true
+    }
+
+    /// Judges at most `n` ready claims, oldest first.
+    #[tactic(auto, using(crate::proofs::Growing::judged_less, crate::proofs::Growing::grown_then, crate::proofs::Growing::grown_none))]
+    fn judge(&mut self, memory: &Memory, cycles: u64, n: u32)
+        requires width { n ≤ 4 }
+        requires open { IsOpen self.old }
+        requires count { self.old.state.instret + 4 ≤ 2 ^ 62 }
+        requires flushes { self.old.flushes < 2 ^ 63 }
+        requires silent { self.old.silent < 2 ^ 63 }
+        ensures judged { timed cycles memory.now self.new ≡ judged_under fences_wait n (timed cycles memory.now self.old) }
+        ensures grown { Grown memory.now self.old self.new }
+        ensures bounds { KeepsBounds 4 self.old self.new }
+    {
+        for i in 0..n {
+            if !self.judge_front(memory, cycles) {
+                return;
+            }
+        }
+    }
+
+    /// Phase 2.
+    #[tactic(auto, unfolding(diva_core::specs::Cycle::commits_under), using(crate::proofs::Growing::grown_none))]
+    fn commits(&mut self, memory: &Memory, cycles: u64)
+        requires width { self.old.config.width ≤ 4 }
+        requires goes_on { self.old.state.end ≡ 0 }
+        requires owed { length self.old.state.buffer < self.old.config.stores }
+        requires count { self.old.state.instret + 4 ≤ 2 ^ 62 }
+        requires flushes { self.old.flushes < 2 ^ 63 }
+        requires silent { self.old.silent < 2 ^ 63 }
+        ensures commits { timed cycles memory.now self.new ≡ commits_under fences_wait (timed cycles memory.now self.old) }
+        ensures grown { Grown memory.now self.old self.new }
+        ensures bounds { KeepsBounds 4 self.old self.new }
+    {
+        match self.under.recover {
+            Recover::Running => self.judge(memory, cycles, self.under.width),
+            Recover::Solo(start) => {
+                if cycles >= DEPTH && cycles - DEPTH == start {
+                    let due = record_of(&self.view(memory));
+                    self.under.recover = Recover::Running;
+                    self.settle(memory, decode(due.word), &due);
+                }
+            }
+        }
+    }
+
+    /// Phase 4: the first `room` claims become pending, where phase 2 neither flushed nor ended; `flushes` came before it.
+    #[tactic(auto, unfolding(diva_core::specs::Cycle::accepts))]
+    fn accept(&mut self, cycles: u64, room: usize, flushes: u64, list: &[Claim])
+        requires { length self.old.pending + room ≤ self.old.config.window }
+        ensures accepts { (memory : Bytes) (before : Timed) → room_of before ≡ room → before.flushes ≡ flushes
+            → timed cycles memory self.new ≡ accepts before list.now (timed cycles memory self.old) }
+        ensures rest { self.new ≡ record self.old { pending = self.new.pending } }
+    {
+        if self.arch.goes_on() && self.under.log.flushes() == flushes {
+            self.under
+                .pending
+                .accept_all(&list[..room.min(list.len())], cycles);
+        }
+    }
+
+    /// Phase 5: the watchdog. `count` instructions were counted before the cycle.
+    #[tactic(auto, unfolding(diva_core::specs::Cycle::watched))]
+    fn watch(&mut self, cycles: u64, count: u64)
+        requires limit { 1 ≤ self.old.config.limit }
+        requires idle { self.old.idle < 2 ^ 31 }
+        requires flushes { self.old.flushes < 2 ^ 63 }
+        requires silent { self.old.silent < 2 ^ 63 }
+        ensures watched { (memory : Bytes) (before : Timed) → before.count ≡ count
+            → timed cycles memory self.new ≡ watched before (timed cycles memory self.old) }
+        ensures state { self.new.state ≡ self.old.state }
+    {
+        let barks = self.under.tick(self.arch.count() != count);
+        if barks && self.arch.goes_on() {
+            let limit = self.under.watchdog.limit();
+            self.flush(cycles, Cause::Silent(limit));
+        }
+    }
+
+    /// Phases 2 to 5.
+    pub fn cycle(&mut self, memory: &Memory, cycles: u64, list: &[Claim])
+        requires { IsReady self.old }
+        ensures cycled { self.new ≡ hart_cycle cycles memory.now list.now self.old }
+        ensures counted { self.old.state.instret ≤ self.new.state.instret }
+        ensures few { self.new.state.instret ≤ self.old.state.instret + 4 }
+    {
+        if !self.arch.goes_on() {
+            return;
+        }
+        let room = self.under.room(&self.arch);
+        let flushes = self.under.log.flushes();
+        let count = self.arch.count();
+        self.commits(memory, cycles);
+        self.accept(cycles, room, flushes, list);
+        self.watch(cycles, count);
+    }
+}
