@@ -108,18 +108,19 @@ future_left s t (x ∷ entries) f e here same is = by_claims (f.claims == 0) ref
     by_claims true z = future_begun t entries
     by_claims false z = record { within = (let w = is.within in omega arith); regs = is.regs ∙ older_rest f.claims (eqb-false _ _ z) }
 
-older_more : (entries : List Entry) (e : Entry) (k : ℕ) → k ≤ length entries → older (entries ++ e ∷ []) k ≡ older entries k
-older_more entries e zero h = refl
-older_more [] e (suc k) h = absurd (omega arith)
-older_more (x ∷ entries) e (suc k) h = ap (λ (claims : List Record). x.claim ∷ claims) (older_more entries e k (omega arith))
+-- the older claims stay where others come
+pub older_more : (entries more : List Entry) (k : ℕ) → k ≤ length entries → older (entries ++ more) k ≡ older entries k
+older_more entries more zero h = refl
+older_more [] more (suc k) h = absurd (omega arith)
+older_more (x ∷ entries) more (suc k) h = ap (λ (claims : List Record). x.claim ∷ claims) (older_more entries more k (omega arith))
 
-more_length : (entries : List Entry) (e : Entry) (n : ℕ) → n ≤ length entries → n ≤ length (entries ++ e ∷ [])
-more_length entries e n h = grind (arith, common_steps)
+more_length : (entries more : List Entry) (n : ℕ) → n ≤ length entries → n ≤ length (entries ++ more)
+more_length entries more n h = grind (arith, common_steps)
 
--- a claim becomes pending
-pub future_more : (s : State) (entries : List Entry) (f : FutureFile) (e : Entry) → IsFuture s entries f → IsFuture s (entries ++ e ∷ []) f
-future_more s entries f e is =
+-- claims become pending
+pub future_more : (s : State) (entries more : List Entry) (f : FutureFile) → IsFuture s entries f → IsFuture s (entries ++ more) f
+future_more s entries more f is =
     record {
-      within = more_length entries e f.claims is.within;
-      regs = is.regs ∙ ap (λ (rs : List Record). (with_claims s rs).regs) (sym (older_more entries e f.claims is.within));
+      within = more_length entries more f.claims is.within;
+      regs = is.regs ∙ ap (λ (rs : List Record). (with_claims s rs).regs) (sym (older_more entries more f.claims is.within));
     }

@@ -1,8 +1,6 @@
 pub mod Fronts
 pub mod Laws
-pub mod Storing
 pub mod Telling
-pub mod Answering
 pub mod Verdicts
 pub mod Staging
 pub mod Judged

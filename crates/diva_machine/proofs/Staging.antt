@@ -4,13 +4,15 @@ use Rattle.std.specs.Prelude.{slice_set}
 use Rattle.std.proofs.lemmas.Bool.{true≢false, cases_lt, le-leb, lt-leb}
 use Rattle.std.proofs.lemmas.Bool.Decides.{eqb_tells}
 use Rattle.std.specs.Option.{is_some, option_or}
-use Rattle.std.proofs.lemmas.List.{length-map}
+use Rattle.std.proofs.lemmas.List.{length-map, map-append}
+use Rattle.std.proofs.lemmas.Simd.{map-map}
 use Rattle.std.proofs.lemmas.Option.{none-some, same_Some}
 use Rattle.diva_decode.specs.Table.{row_of}
 use Rattle.diva_isa.specs.State.{State}
 use Rattle.diva_isa.specs.Step.{apply, record_of}
 use Rattle.diva_isa.specs.declared.record.Record.{Record}
 use Rattle.diva_core.specs.declared.pending.Entry.{Entry}
+use Rattle.diva_core.specs.Entries.{fresh, pending_claim_of}
 use Rattle.diva_core.specs.declared.differences.Diff.{Diff}
 use Rattle.diva_core.specs.declared.differences.Field.{Field}
 use Rattle.diva_core.specs.declared.flushes.Cause.{Cause}
@@ -21,8 +23,7 @@ use Rattle.diva_core.specs.Older.{after, before_entry, older, with_claims}
 use Rattle.diva_core.specs.Stages.{Answers, HasVerdict}
 use Rattle.diva_core.specs.Timed.{Timed, PendingClaim}
 use Rattle.diva_core.proofs.Bypassing.{after_goes, before_is}
-use Rattle.diva_core.proofs.Leaving.{claims_alike, future_begun}
-use Rattle.diva_machine.specs.Machine.{pending_claim_of}
+use Rattle.diva_core.proofs.Leaving.{claims_alike, future_begun, older_more}
 use Rattle.diva_machine.specs.declared.stages.Stage.{Stage}
 use Rattle.diva_machine.specs.Staged.{AreChecked, AreInOrder, IsChecked, IsFilled, IsSoloFilled, IsStaged, Parts, last_stage, passed_by}
 use Rattle.diva_machine.specs.Inner.{age_of, earlier_of, own_of, IsAdvanced}
@@ -47,37 +48,37 @@ pub checked_rest : (arch : State) (now : ℕ) (entries : List Entry) (e : Entry)
 checked_rest arch now [] e all first = absurd (none-some _ first)
 checked_rest arch now (x ∷ entries) e all first = subst (λ (y : Entry). AreChecked (apply arch y.claim) now entries) (same_Some _ _ first) (λ k f h. all (suc k) f h)
 
--- an entry comes
-older_more : (entries : List Entry) (k : ℕ) (e : Entry) → k ≤ length entries → older (entries ++ e ∷ []) k ≡ older entries k
-older_more entries zero e h = refl
-older_more [] (suc k) e h = absurd (omega arith)
-older_more (x ∷ entries) (suc k) e h = ap (λ (rs : List Record). x.claim ∷ rs) (older_more entries k e (omega arith))
+-- entries come
+before_more : (arch : State) (entries more : List Entry) (k : ℕ) → k ≤ length entries → before_entry arch (entries ++ more) k ≡ before_entry arch entries k
+before_more arch entries more k h = ap (after arch) (older_more entries more k h)
 
-before_more : (arch : State) (entries : List Entry) (k : ℕ) (e : Entry) → k ≤ length entries → before_entry arch (entries ++ e ∷ []) k ≡ before_entry arch entries k
-before_more arch entries k e h = ap (after arch) (older_more entries k e h)
+-- an entry of a longer list is an old one or a new one
+get_more : (entries more : List Entry) (k : ℕ) (e : Entry) (P : Type 0) → slice_get (entries ++ more) k ≡ Some e
+    → (k < length entries → slice_get entries k ≡ Some e → P) → ((j : ℕ) → slice_get more j ≡ Some e → P) → P
+get_more [] more k e P h old new = new k h
+get_more (x ∷ entries) more zero e P h old new = old (omega arith) h
+get_more (x ∷ entries) more (suc k) e P h old new = get_more entries more k e P h (λ lt at. old (omega arith) at) new
 
--- an element of a longer list is an old one or the new one
-get_more : (entries : List Entry) (e : Entry) (k : ℕ) (f : Entry) (P : Type 0) → slice_get (entries ++ e ∷ []) k ≡ Some f
-    → (k < length entries → slice_get entries k ≡ Some f → P) → (e ≡ f → P) → P
-get_more [] e zero f P h old new = new (same_Some _ _ h)
-get_more [] e (suc k) f P h old new = absurd (none-some _ h)
-get_more (x ∷ entries) e zero f P h old new = old (omega arith) h
-get_more (x ∷ entries) e (suc k) f P h old new = get_more entries e k f P h (λ lt at. old (omega arith) at) new
+-- a claim that is accepted
+fresh_checked : (s : State) (now age : ℕ) (claim : Record) → age ≡ 0 → IsChecked s age (fresh now claim)
+fresh_checked s now zero claim is = record { verdict = λ on. refl; decoded = refl }
+fresh_checked s now (suc age) claim is = absurd (omega arith)
 
--- the entry of a claim that is accepted
-abbrev pub fresh : Record → ℕ → Entry
-fresh claim cycle = record { claim = claim; cycle = cycle; decoded = None; verdict = None }
+accepted_checked : (s : State) (now : ℕ) (claims : List Record) (k : ℕ) (e : Entry) → slice_get (map (fresh now) claims) k ≡ Some e → IsChecked s (now - e.cycle) e
+accepted_checked s now [] k e h = absurd (none-some _ h)
+accepted_checked s now (r ∷ claims) zero e h = subst (λ (x : Entry). IsChecked s (now - x.cycle) x) (same_Some _ _ h) (fresh_checked s now (now - now) r (omega arith))
+accepted_checked s now (r ∷ claims) (suc k) e h = accepted_checked s now claims k e h
 
-fresh_checked : (s : State) (claim : Record) (now age : ℕ) → age ≡ 0 → IsChecked s age (fresh claim now)
-fresh_checked s claim now zero is = record { verdict = λ on. refl; decoded = refl }
-fresh_checked s claim now (suc age) is = absurd (omega arith)
+pub checked_more : (arch : State) (now : ℕ) (entries : List Entry) (claims : List Record) → AreChecked arch now entries → AreChecked arch now (entries ++ map (fresh now) claims)
+checked_more arch now entries claims all k e h =
+    get_more entries (map (fresh now) claims) k e (IsChecked (before_entry arch (entries ++ map (fresh now) claims) k) (now - e.cycle) e) h
+    (λ lt at. subst (λ s. IsChecked s (now - e.cycle) e) (sym (before_more arch entries (map (fresh now) claims) k (omega arith))) (all k e at))
+    (λ j at. accepted_checked (before_entry arch (entries ++ map (fresh now) claims) k) now claims j e at)
 
-pub checked_more : (arch : State) (now : ℕ) (entries : List Entry) (claim : Record) → AreChecked arch now entries → AreChecked arch now (entries ++ fresh claim now ∷ [])
-checked_more arch now entries claim all k f h =
-    get_more entries (fresh claim now) k f (IsChecked (before_entry arch (entries ++ fresh claim now ∷ []) k) (now - f.cycle) f) h
-    (λ lt at. subst (λ s. IsChecked s (now - f.cycle) f) (sym (before_more arch entries k (fresh claim now) (omega arith))) (all k f at))
-    (λ is. subst (λ (x : Entry). IsChecked (before_entry arch (entries ++ fresh claim now ∷ []) k) (now - x.cycle) x) is
-    (fresh_checked (before_entry arch (entries ++ fresh claim now ∷ []) k) claim now (now - now) (omega arith)))
+-- as the timed machine has them
+pub waiting_more : (now : ℕ) (entries : List Entry) (claims : List Record) → map pending_claim_of (entries ++ map (fresh now) claims) ≡ map pending_claim_of entries ++ map (accepted_in now) claims
+waiting_more now entries claims =
+    map-append pending_claim_of entries (map (fresh now) claims) ∙ ap (λ (ps : List PendingClaim). map pending_claim_of entries ++ ps) (map-map pending_claim_of (fresh now) claims)
 
 -- ---- one entry is changed
 

@@ -1,25 +1,22 @@
 -- What only private contracts of this crate cite. A reader of its promises can pass over it.
-use Rattle.std.specs.Prelude.{ℕ, ◌==◌, if◌then◌else◌, ◌≡◌, ◌≤◌, ◌+◌, ◌^◌, ◌&&◌, Bool, true, false, List, length, Option, Some, None, ◌-◌, ◌<◌, [], map, drop, slice_get}
+use Rattle.std.specs.Prelude.{ℕ, ◌==◌, if◌then◌else◌, ◌≡◌, ◌≤◌, ◌+◌, ◌^◌, ◌&&◌, Bool, true, false, List, length, Some, ◌-◌, ◌<◌, [], map, drop, slice_get}
 use Rattle.diva_isa.specs.State.{goes_on, State}
 use Rattle.diva_core.specs.Timed.{Timed}
 use Rattle.diva_machine.specs.declared.ends.Reach.{Reach}
 use Rattle.diva_machine.specs.declared.ends.Reach.TheVariants.{Reached, Ended, Budget}
 use Rattle.diva_core.specs.History.{Meaning, Turns, lists_of}
 use Rattle.diva_core.specs.Headline.{last_committed}
-use Rattle.diva_machine.specs.Machine.{Machine, pending_claim_of}
-use Rattle.diva_isa.specs.End.{IsEnd}
+use Rattle.diva_machine.specs.Machine.{Machine}
 use Rattle.diva_memory.specs.Bytes.{Bytes}
 use Rattle.diva_storeq.specs.declared.masked.Masked.{Masked}
 use Rattle.diva_commit.specs.Committing.{AreInside}
 use Rattle.diva_core.specs.Cycle.{Judgement, Commit, Flush, Wait, judged_under, judgement_under, stores_wait}
-use Rattle.diva_core.specs.declared.flushes.FlushRow.{FlushRow}
-use Rattle.diva_watchdog.specs.declared.recover.Recover.{Recover}
-use Rattle.diva_watchdog.specs.declared.recover.Recover.TheVariants.{Running, Solo}
 use Rattle.diva_machine.specs.declared.phases.CommitPhase.{CommitPhase}
 use Rattle.diva_machine.specs.declared.phases.CommitPhase.TheVariants.{Open, Closed}
 use Rattle.diva_machine.specs.declared.phases.Judged.{Judged}
 use Rattle.diva_machine.specs.declared.phases.Judged.TheVariants.{Committed, Ended, Flushed, Waits}
 use Rattle.diva_core.specs.declared.pending.Entry.{Entry}
+use Rattle.diva_core.specs.Entries.{pending_claim_of}
 use Rattle.diva_core.specs.Future.{committed_file, without_oldest}
 use Rattle.diva_core.specs.Older.{before_entry}
 use Rattle.diva_core.specs.declared.differences.Field.{Field}
@@ -44,20 +41,10 @@ pub record Arch : Type 0 where
   pub owed : ℕ
   pub stores : ℕ
 
--- what holds of the committed state: memory ends at 2^32 at the latest, the undrained stores lie inside it, there are no more
--- instructions than a view may show, and the end is one that a record can have
-pub record IsKept (m : Bytes) (stores : List Masked) (count end : ℕ) : Type 0 where
+-- what holds of the committed state: memory ends at 2^32 at the latest, and the undrained stores lie inside it
+pub record IsKept (m : Bytes) (stores : List Masked) : Type 0 where
   pub range : m.base + length m.items ≤ 2 ^ 32
   pub inside : AreInside m stores
-  pub few : count ≤ 2 ^ 62
-  pub ends : IsEnd end
-
--- the flushes that came: the rows that are kept, the newest, and how many there were
-pub record Log : Type 0 where
-  pub rows : List FlushRow
-  pub newest : Option FlushRow
-  pub flushes : ℕ
-  pub silent : ℕ
 
 -- what a part of a cycle keeps of a machine, and how far its numbers go
 pub record KeepsBounds (m last : Timed) : Type 0 where
@@ -90,11 +77,6 @@ is_open Closed = false
 -- it is open exactly where the machine goes on and has not flushed, m being the one before it and n the one behind it
 abbrev pub Tells : CommitPhase → (m n : Timed) → Type 0
 Tells phase m n = is_open phase ≡ (goes_on n.arch && (n.flushes == m.flushes))
-
--- the cycle in which an instruction was started solo
-abbrev pub solo_of : Recover → Option ℕ
-solo_of Running = None
-solo_of (Solo start) = Some start
 
 -- the age at which a claim passes through a stage that compares
 abbrev pub age_of : Stage → ℕ

@@ -6,12 +6,12 @@ use Rattle.diva_isa.specs.State.{State}
 use Rattle.diva_isa.specs.Step.{record_of}
 use Rattle.diva_isa.specs.declared.record.Record.{Record}
 use Rattle.diva_core.specs.declared.pending.Entry.{Entry}
+use Rattle.diva_core.specs.Entries.{pending_claim_of}
 use Rattle.diva_core.specs.Future.{FutureFile, IsFuture}
 use Rattle.diva_core.specs.Older.{before_entry}
 use Rattle.diva_core.specs.Difference.{difference_in}
 use Rattle.diva_core.specs.Stages.{fields_at, HasVerdict}
 use Rattle.diva_core.specs.Timed.{Timed, PendingClaim}
-use Rattle.diva_machine.specs.Machine.{pending_claim_of}
 
 -- the decoded form of a claim with this word: it is noted at age 2
 abbrev pub decoded_at : (age : ℕ) (word : ℕ) → Option Instr

@@ -1,7 +1,6 @@
 //! The processor's timed machine: a checker that commits nothing that it has not recomputed.
 //!
-//! - `arch`: the committed state over memory and store queue;
-//! - `log`: the flushes, as rows and as counts;
+//! - `arch`: the committed state, memory with what the hart has for itself;
 //! - `stages`: what a pending claim passes through at each age;
 //! - `parts`: the parts of the machine, and the phases of a cycle over them;
 //! - `port`: when memory takes a store, `Port`;
@@ -11,7 +10,8 @@
 //! - `turns`: a machine and a core, turn by turn, `turn` and `drive`;
 //! - `reaching`: turns until so many instructions have committed, `drive_to`.
 //!
-//! How wide and deep the machine is, `Config`, is told by `diva_core`.
+//! How wide and deep the machine is, `Config`, is told by `diva_core`. The committed state but memory, and what is under way
+//! (pending claims, solo instruction, watchdog and log), are the parts that `diva_hart` has for a hart.
 //!
 //! What a cycle does is `cycle_of` of `diva_core`'s definitions; `specs/Start.antt` says in which
 //! state an image starts, `specs/Machine.antt` what contracts see of a machine, `specs/Drives.antt` what a
@@ -21,7 +21,6 @@
 
 mod arch;
 mod ends;
-mod log;
 mod machine;
 mod parts;
 mod phases;
@@ -31,15 +30,9 @@ mod stages;
 mod turns;
 
 pub use diva_core::Config;
+pub use diva_hart::{DEPTH, KEPT_ROWS};
 pub use diva_isa::End;
 pub use ends::{Drive, Reach};
 pub use machine::Machine;
 pub use reaching::drive_to;
 pub use turns::{drive, turn};
-
-/// The checker's depth, in cycles: a claim that is accepted in one cycle is judged six cycles later at
-/// the earliest, and a solo instruction commits six cycles after the flush that started it.
-pub const DEPTH: u64 = 6;
-
-/// How many rows of flushes the log keeps. Later ones are only counted.
-pub const KEPT_ROWS: usize = 1024;

@@ -4,6 +4,7 @@ ghost use Rattle.diva_isa.specs.State.{goes_on, GoesOn, output_limit};
 ghost use Rattle.diva_isa.specs.End.{end_of, end_number};
 ghost use Rattle.diva_isa.specs.Step.{steps};
 ghost use Rattle.diva_image.specs.ImageLayout.{layout};
+ghost use Rattle.diva_core.specs.Entries.{pending_claim_of};
 ghost use Rattle.diva_core.specs.Older.{before_entry};
 ghost use Rattle.diva_core.specs.Timed.{Timed, PendingClaim, depth, new_timed, room_of};
 ghost use Rattle.diva_core.specs.Told.{told_of};
@@ -12,10 +13,8 @@ ghost use Rattle.diva_core.specs.Machine.{IsMachine};
 ghost use Rattle.diva_core.specs.Headline.{dues, Rises, ByClaims, BySolo, IsJudged, SameLog, AddsRow, HasPace, WillCount, WillJudge};
 ghost use Rattle.diva_core.specs.Right.{IsRight, IsCalm, StaysCalm};
 ghost use Rattle.diva_machine.specs.Start.{start_of};
-ghost use Rattle.diva_machine.specs.Machine.{pending_claim_of};
 ghost use Rattle.diva_machine.specs.Staged.{AreChecked, IsChecked};
 
-use crate::DEPTH;
 use crate::parts::Parts;
 use diva_core::{Claims, Config, Entry, FlushRow, Told, View};
 use diva_image::Image;
@@ -68,21 +67,7 @@ impl Machine {
     pub fn told(&self) -> Told
         ensures { result ≡ told_of self.now.timed }
     {
-        let room = self.parts.room() as u32;
-        let pending = self.parts.pending.len() as u32;
-        let idle = self.parts.watchdog.idle();
-        let by_then = u64::from(idle) + DEPTH + u64::from(self.parts.port.period());
-        Told {
-            cycle: self.parts.cycles + 1,
-            count: self.parts.arch.count(),
-            pc: self.parts.arch.pc(),
-            epoch: self.parts.log.flushes(),
-            pending,
-            room,
-            idle,
-            due: pending == 0 && room > 0 && by_then >= u64::from(self.limit()),
-            ended: !self.parts.goes_on(),
-        }
+        self.parts.told()
     }
 
     /// The committed state, memory with the undrained stores laid over it.
@@ -127,21 +112,21 @@ impl Machine {
     pub fn flushes(&self) -> u64
         ensures { result ≡ self.now.timed.flushes }
     {
-        self.parts.log.flushes()
+        self.parts.under.log.flushes()
     }
 
     /// How many of the flushes came since nothing had committed for too long.
     pub fn silent(&self) -> u64
         ensures { result ≡ self.now.timed.silent }
     {
-        self.parts.log.silent()
+        self.parts.under.log.silent()
     }
 
     /// The rows of the first flushes, 1,024 at most.
     pub fn log(&self) -> &[FlushRow]
         ensures { result.now ≡ self.now.timed.rows }
     {
-        self.parts.log.rows()
+        self.parts.under.log.rows()
     }
 
     /// The row of the newest flush, `None` exactly where none came.
@@ -149,14 +134,14 @@ impl Machine {
         ensures row { result ≡ self.now.timed.newest }
         ensures none { IsNone result ↔ (self.now.timed.flushes ≡ 0) }
     {
-        self.parts.log.newest()
+        self.parts.under.log.newest()
     }
 
     /// The watchdog's limit, in cycles.
     pub fn limit(&self) -> u32
         ensures { result ≡ self.now.timed.config.limit }
     {
-        self.parts.watchdog.limit()
+        self.parts.under.watchdog.limit()
     }
 
     /// The records that the last cycle committed, in order; none after a cycle on an ended machine.

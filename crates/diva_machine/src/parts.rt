@@ -3,85 +3,67 @@
 //
 // In most cycles nothing is ready. So what each cycle does stands in the loop that drives the
 // machine (`inline(always)`), and what few cycles do is called (`inline(never)`, `cold`).
-ghost use Rattle.std.specs.Prelude.{◌≡◌, ◌+◌, ◌-◌, ◌*◌, ◌<◌, ◌≤◌, ◌^◌, ◌++◌, [], ◌∷◌, ℕ, length, map, take, slice_get, None, Some, IfOk, IsTrue, List, true, false, not, ◌==◌, ◌&&◌};
+ghost use Rattle.std.specs.Prelude.{◌≡◌, ◌+◌, ◌-◌, ◌<◌, ◌≤◌, ◌^◌, ◌++◌, [], ◌∷◌, ℕ, length, map, take, slice_get, None, Some, IfOk, true, false, not, ◌==◌, ◌&&◌};
 ghost use Rattle.diva_isa.specs.declared.record.Record.{Record};
-ghost use Rattle.diva_isa.specs.State.{State, goes_on, GoesOn};
+ghost use Rattle.diva_isa.specs.State.{goes_on, GoesOn};
 ghost use Rattle.diva_isa.specs.Step.{apply, record_of, steps};
 ghost use Rattle.diva_image.specs.ImageLayout.{layout};
 ghost use Rattle.diva_decode.specs.Table.{row_of};
 ghost use Rattle.diva_core.specs.Timed.{Timed, depth, new_timed, room_of};
+ghost use Rattle.diva_core.specs.Told.{told_of};
 ghost use Rattle.diva_core.specs.declared.pending.Entry.{Entry};
-ghost use Rattle.diva_core.specs.Future.{FutureFile, IsFuture, committed_file};
+ghost use Rattle.diva_core.specs.Entries.{pending_claim_of};
+ghost use Rattle.diva_core.specs.Future.{IsFuture, committed_file};
 ghost use Rattle.diva_core.specs.Machine.{IsMachine, IsConfig};
 ghost use Rattle.diva_core.specs.Headline.{dues, SameLog};
 ghost use Rattle.diva_core.specs.Cycle.{Commit, accepted_in, accepts, commits_under, committed, cycle_of, drained, flushed, number, port_opens, stores_wait, watched};
 ghost use Rattle.diva_core.specs.declared.flushes.Cause.TheVariants.{Silent};
 ghost use Rattle.diva_commit.specs.Committing.{answer, is_committed};
 ghost use Rattle.diva_machine.specs.Start.{start_of};
-ghost use Rattle.diva_machine.specs.Machine.{pending_claim_of};
 ghost use Rattle.diva_machine.specs.Inner.{judged, judged_by, judgement_of, KeepsBounds, Tells};
-ghost use Rattle.diva_machine.specs.Staged.{last_stage, AreChecked, IsFilled, IsSoloFilled, IsStaged};
+ghost use Rattle.diva_machine.specs.Staged.{last_stage, IsFilled, IsSoloFilled, IsStaged};
 ghost use Rattle.diva_machine.specs.Inner.{left, IsAdvanced};
 
-use crate::DEPTH;
 use crate::arch::Arch;
-use crate::log::Log;
 use crate::phases::{CommitPhase, Judged};
 use crate::port::Port;
 use crate::stages::{LAST_STAGE, fill, pass};
 use diva_commit::Committed;
-use diva_core::{Cause, Claim, Config, Entry, FlushRow, FutureFile, Pending, Records};
+use diva_core::{Cause, Claim, Config, Entry, FutureFile, Records, Told};
 use diva_decode::decode;
+use diva_hart::{DEPTH, UnderWay};
 use diva_image::Image;
 use diva_isa::Record;
-use diva_watchdog::{Recover, Watchdog};
+use diva_watchdog::Recover;
 use std::alloc::{AllocError, Global};
 use std::marker::Model;
 
 #[derive(Drop)]
 pub(crate) struct Parts {
-    width: u32,
     pub(crate) arch: Arch,
-    pub(crate) port: Port,
+    port: Port,
     pub(crate) cycles: u64,
-    pub(crate) pending: Pending,
+    /// The pending claims, the solo instruction, the watchdog and the log.
+    pub(crate) under: UnderWay,
     /// How many of the pending claims, the oldest, are past the last stage.
     passed: usize,
     future: FutureFile,
-    recover: Recover,
     /// The record of the solo instruction, as far as the stages have filled it.
     filled: Record,
-    pub(crate) watchdog: Watchdog,
-    pub(crate) log: Log,
     /// What the last cycle committed.
     pub(crate) last: Records<4>,
 }
 
 impl Model for Parts {
-    ghost use Rattle.std.specs.Prelude.{map};
-    ghost use Rattle.diva_machine.specs.Machine.{pending_claim_of};
-    ghost use Rattle.diva_machine.specs.Inner.{solo_of};
+    ghost use Rattle.diva_hart.specs.UnderWay.{timed_of};
     ghost use Rattle.diva_machine.specs.Staged.{Parts};
 
     ghost Value = { Parts };
 
     ghost view = { λ m. record {
-      timed = record {
-        config = record { width = m.width; window = m.pending.capacity; stores = m.arch.stores; limit = m.watchdog.limit; port = m.port };
-        arch = m.arch.state;
-        count = m.arch.state.instret;
-        cycles = m.cycles;
-        pending = map pending_claim_of m.pending.items;
-        solo = solo_of m.recover;
-        owed = m.arch.owed;
-        idle = m.watchdog.idle;
-        rows = m.log.rows;
-        newest = m.log.newest;
-        flushes = m.log.flushes;
-        silent = m.log.silent;
-      };
+      timed = timed_of m.arch.state m.arch.owed m.arch.stores m.port m.cycles m.under;
       last = m.last;
-      entries = m.pending.items;
+      entries = m.under.pending.items;
       passed = m.passed;
       future = m.future;
       filled = m.filled;
@@ -99,35 +81,33 @@ impl Parts {
         ensures future { IfOk result (λ m. m.future ≡ committed_file (start_of (layout image.now)).regs) }
     {
         Ok(Parts {
-            width: config.width(),
             arch: Arch::new(alloc, image, config.stores() as usize)?,
             port: Port::new(config.port()),
             cycles: 0,
-            pending: Pending::new(alloc, config.window() as usize)?,
+            under: UnderWay::new(alloc, config)?,
             passed: 0,
             future: FutureFile::new(),
-            recover: Recover::Running,
             filled: Record::default(),
-            watchdog: Watchdog::new(config.limit()),
-            log: Log::new(alloc)?,
             last: Records::new(),
         })
     }
 
     /// How many claims the coming cycle accepts at most.
     pub fn room(&self) -> usize
-        requires { self.now.timed.config.window ≤ 64 }
-        ensures value { result ≡ room_of self.now.timed }
-        ensures fits { result ≤ self.now.timed.config.window - length self.now.timed.pending }
-        ensures width { result ≤ self.now.timed.config.width }
+        ensures { result ≡ room_of self.now.timed }
     {
-        match self.recover {
-            Recover::Running if self.arch.goes_on() => {
-                let free = self.pending.capacity() - self.pending.len();
-                free.min(self.width as usize)
-            }
-            _ => 0,
-        }
+        self.under.room(self.arch.own())
+    }
+
+    /// What a core is told before the coming cycle.
+    #[inline(always)]
+    pub fn told(&self) -> Told
+        requires width { self.now.timed.config.width ≤ 4 }
+        requires cycles { self.now.timed.cycles < 2 ^ 63 }
+        ensures { result ≡ told_of self.now.timed }
+    {
+        self.under
+            .told(self.arch.own(), self.port.period(), self.cycles)
     }
 
     /// The pending claim at a place, the oldest being at 0.
@@ -136,7 +116,7 @@ impl Parts {
         ensures entry { slice_get self.now.entries at ≡ Some result }
         ensures waits { slice_get self.now.timed.pending at ≡ Some (pending_claim_of result) }
     {
-        self.pending.entry(at)
+        self.under.pending.entry(at)
     }
 
     /// Whether the machine has not ended.
@@ -197,16 +177,9 @@ impl Parts {
           future = committed_file self.old.timed.arch.regs;
         } }
     {
-        let row = FlushRow {
-            cycle: self.cycles,
-            at: self.arch.count(),
-            cause,
-        };
-        self.pending.clear();
         self.passed = 0;
         self.future.reset(self.arch.regs());
-        self.recover = Recover::Solo(self.cycles);
-        self.log.add(row);
+        self.under.flush(self.cycles, self.arch.count(), cause);
     }
 
     /// Judges the front claim by its verdict, and commits it where there is none. It stays at the front.
@@ -230,7 +203,7 @@ impl Parts {
               last = self.old.last ++ e.claim ∷ [];
             } }
     {
-        let front = self.pending.at(0);
+        let front = self.under.pending.at(0);
         let answer = self.arch.commit(front.decoded, &front.claim, front.verdict);
         if answer.is_committed() {
             self.last.push(front.claim);
@@ -246,11 +219,11 @@ impl Parts {
         ensures answer { result ≡ judged_by Commit (goes_on self.old.timed.arch) }
         ensures left { self.new ≡ left (goes_on self.old.timed.arch) self.old }
     {
-        self.pending.pop();
+        self.under.pending.pop();
         self.passed -= 1;
         self.future.leave(self.arch.regs());
         if !self.arch.goes_on() {
-            self.pending.clear();
+            self.under.pending.clear();
             self.passed = 0;
             self.future.reset(self.arch.regs());
             return Judged::Ended;
@@ -286,7 +259,7 @@ impl Parts {
         ensures staged { IsStaged (self.new.timed.cycles - 1) self.new }
         ensures solo { IsSoloFilled self.new.timed.cycles self.new }
     {
-        if let Some(diff) = self.pending.at(0).verdict {
+        if let Some(diff) = self.under.pending.at(0).verdict {
             self.flush(Cause::Differs(diff));
             return Judged::Flushed;
         }
@@ -358,8 +331,8 @@ impl Parts {
         ensures staged { IsStaged (self.new.timed.cycles - 1) self.new }
         ensures solo { IsSoloFilled self.new.timed.cycles self.new }
     {
-        match self.recover {
-            Recover::Running if self.passed > 0 => self.judge(self.width),
+        match self.under.recover {
+            Recover::Running if self.passed > 0 => self.judge(self.under.width),
             Recover::Running => CommitPhase::Open,
             Recover::Solo(start) => {
                 let age = self.cycles.saturating_sub(start);
@@ -403,7 +376,7 @@ impl Parts {
         self.arch
             .commit(decode(self.filled.word), &self.filled, None);
         self.future.reset(self.arch.regs());
-        self.recover = Recover::Running;
+        self.under.recover = Recover::Running;
         self.last.push(self.filled);
     }
 
@@ -415,7 +388,7 @@ impl Parts {
         ensures rest { self.new ≡ record self.old { entries = self.new.entries; passed = self.new.passed; future = self.new.future } }
         ensures staged { IsStaged self.new.timed.cycles self.new }
     {
-        if self.passed < self.pending.len() {
+        if self.passed < self.under.pending.len() {
             self.pass_stages();
         }
     }
@@ -430,7 +403,7 @@ impl Parts {
     {
         // The buffer asks for its length at each look-up: this test serves both.
         let mut at = self.passed;
-        while at < self.pending.len() {
+        while at < self.under.pending.len() {
             self.pass_stage(at);
             at += 1;
         }
@@ -455,8 +428,14 @@ impl Parts {
             → IsAdvanced self.old.timed.arch now at self.old.entries
             → IsAdvanced self.old.timed.arch now (at + 1) self.new.entries }
     {
-        let age = age_in(self.cycles, self.pending.at(at).cycle);
-        pass(&mut self.pending, &mut self.future, at, &self.arch, age);
+        let age = age_in(self.cycles, self.under.pending.at(at).cycle);
+        pass(
+            &mut self.under.pending,
+            &mut self.future,
+            at,
+            &self.arch,
+            age,
+        );
         if age == LAST_STAGE {
             self.passed += 1;
         }
@@ -473,7 +452,7 @@ impl Parts {
         ensures solo { IsSoloFilled self.old.timed.cycles self.old → IsSoloFilled self.new.timed.cycles self.new }
     {
         if !accepted.is_empty() {
-            accept_all(&mut self.pending, accepted, self.cycles);
+            self.under.pending.accept_all(accepted, self.cycles);
         }
     }
 
@@ -491,13 +470,7 @@ impl Parts {
         ensures staged { IsStaged self.old.timed.cycles self.old → IsStaged self.new.timed.cycles self.new }
         ensures solo { IsSoloFilled self.old.timed.cycles self.old → IsSoloFilled self.new.timed.cycles self.new }
     {
-        if committed {
-            self.watchdog.rest();
-            return;
-        }
-        let alone = matches!(self.recover, Recover::Solo(_));
-        let barks = self.watchdog.tick(false, alone);
-        if barks && self.arch.goes_on() {
+        if self.under.tick(committed) && self.arch.goes_on() {
             self.bark();
         }
     }
@@ -515,7 +488,7 @@ impl Parts {
           future = committed_file self.old.timed.arch.regs;
         } }
     {
-        let limit = self.watchdog.limit();
+        let limit = self.under.watchdog.limit();
         self.flush(Cause::Silent(limit));
     }
 
@@ -555,20 +528,4 @@ fn age_in(cycle: u64, accepted: u64) -> u64
     ensures { result + accepted ≡ cycle }
 {
     cycle - accepted
-}
-
-/// Puts claims that are accepted in a cycle behind those that are pending.
-fn accept_all(pending: &mut Pending, claims: &[Claim], cycle: u64)
-    requires { length pending.old.items + length claims.now ≤ pending.old.capacity }
-    ensures items { map pending_claim_of pending.new.items
-        ≡ map pending_claim_of pending.old.items ++ map (accepted_in cycle) claims.now }
-    ensures capacity { pending.new.capacity ≡ pending.old.capacity }
-    ensures checked { (arch : State) → AreChecked arch cycle pending.old.items
-        → AreChecked arch cycle pending.new.items }
-    ensures future { (arch : State) (future : FutureFile) → IsFuture arch pending.old.items future
-        → IsFuture arch pending.new.items future }
-{
-    for claim in claims {
-        pending.accept(claim, cycle);
-    }
 }

@@ -45,7 +45,7 @@ loop-at-preserved c =
     let inv = c.loop-at.invariant in
     let z = c.pass_stage.new.self in
     let same : c.loop-at.self.timed ≡ w.timed = ap (λ (x : Parts). x.timed) inv.rest in
-    let len : length c.self-in-loop-at.inside.pending.items ≡ length c.loop-at.self.entries = ap (λ (x : Parts). length x.entries) c.self-in-loop-at.view_is in
+    let len : length c.self-in-loop-at.inside.under.pending.items ≡ length c.loop-at.self.entries = ap (λ (x : Parts). length x.entries) c.self-in-loop-at.view_is in
     let next = stage_next w c.loop-at.self z c.loop-at.at c.requires.cycles c.requires.staged same inv.waits inv.from (omega arith) c.pass_stage.ensures.passed inv.below inv.early inv.late in
     record {
       rest = c.pass_stage.ensures.rest ∙ ap (λ (x : Parts). record x { entries = z.entries; passed = z.passed; future = z.future }) inv.rest;
@@ -64,5 +64,5 @@ loop-at-preserved c =
 pub returns-clause-staged : goal.returns-clause-staged
 returns-clause-staged c =
     let inv = c.loop-at.invariant in
-    let len : length c.self-in-loop-at.inside.pending.items ≡ length c.loop-at.self.entries = ap (λ (x : Parts). length x.entries) c.self-in-loop-at.view_is in
+    let len : length c.self-in-loop-at.inside.under.pending.items ≡ length c.loop-at.self.entries = ap (λ (x : Parts). length x.entries) c.self-in-loop-at.view_is in
     stages_end c.args.self.now c.loop-at.self c.loop-at.at c.requires.cycles inv.rest inv.waits c.requires.staged (omega arith) inv.advanced inv.late inv.future

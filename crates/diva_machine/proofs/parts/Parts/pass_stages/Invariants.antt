@@ -1,6 +1,6 @@
 use Rattle.std.proofs.Common.{◌≡◌, ◌≤◌, ◌-◌, length, map}
 use Rattle.diva_core.specs.Future.{IsFuture}
-use Rattle.diva_machine.specs.Machine.{pending_claim_of}
+use Rattle.diva_core.specs.Entries.{pending_claim_of}
 use Rattle.diva_machine.specs.Staged.{passed_by}
 use Rattle.diva_machine.specs.Inner.{IsAdvanced}
 use Rattle.diva_machine.proofs.parts.Parts.pass_stages.Given as goal
