@@ -9,7 +9,7 @@ use Rattle.clap.specs.Walk.{Row, Text, nothing_held, walked}
 use Rattle.clap.specs.Simple.{Shape, argument_words, built}
 use Rattle.clap.proofs.WalkLemmas.{both}
 use Rattle.diva_core.specs.Timed.{default_config}
-use Rattle.diva_args.specs.Command.{Leaf, asm, debug, dis, diva, leaves, migrate, run, soak, tape}
+use Rattle.diva_args.specs.Command.{Leaf, asm, debug, dis, diva, duo, leaves, migrate, run, soak, tape}
 use Rattle.diva_args.specs.Line.{command_of, config_from, config_with, cycles_from, job_from, room_from, run_from, run_with, setup_from, setup_with, taken, values_of}
 use Rattle.diva_args.specs.Options.{default_cycles, most_cycles}
 use Rattle.diva_args.specs.Plain.{IsPlainLine, PlainLine, Use, are_distinct, flagged, given_by, given_in, has_text, is_plain_word, is_use_of, job_on, name_of, names_in, use_words, value_in, valued, values_in}
@@ -110,6 +110,13 @@ tape_sound =
     (record { walk_is = refl; turn = refl; sub = refl; label = refl; bare = refl; negates = refl })
     (refl, refl, refl, tt) refl
 
+duo_sound : IsSound duo
+unfolding diva walked
+duo_sound =
+    sound_without_flags duo refl
+    (record { walk_is = refl; turn = refl; sub = refl; label = refl; bare = refl; negates = refl })
+    (refl, refl, refl, tt) refl
+
 debug_sound : IsSound debug
 unfolding diva walked
 debug_sound =
@@ -146,7 +153,7 @@ soak_sound =
     (refl, refl, refl, (refl, refl, refl, tt)) refl
 
 each_sound : (l : Leaf) → Contains leaves l → IsSound l
-each_sound l listed = All-contains IsSound leaves l (All-from_recursion IsSound leaves (run_sound, (tape_sound, (debug_sound, (asm_sound, (dis_sound, (migrate_sound, (soak_sound, tt)))))))) listed
+each_sound l listed = All-contains IsSound leaves l (All-from_recursion IsSound leaves (run_sound, (tape_sound, (duo_sound, (debug_sound, (asm_sound, (dis_sound, (migrate_sound, (soak_sound, tt))))))))) listed
 
 -- ---- names and words
 

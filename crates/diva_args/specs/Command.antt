@@ -13,12 +13,16 @@ pub record Leaf : Type 0 where
 
 -- ---- the table
 
--- the options of what runs an image: those of its core, and those of its machine but for the width
+-- the options of what runs an image: those of its core, and those of its machine but for the width, of which those without
+-- the port are a hart's
 abbrev pub core_options : List Text
 core_options = codes "core" ∷ codes "script" ∷ codes "tape" ∷ []
 
+abbrev pub hart_options : List Text
+hart_options = codes "window" ∷ codes "stores" ∷ codes "watchdog" ∷ []
+
 abbrev pub machine_options : List Text
-machine_options = codes "window" ∷ codes "stores" ∷ codes "watchdog" ∷ codes "port" ∷ []
+machine_options = hart_options ++ codes "port" ∷ []
 
 -- that of what loads one: how much memory follows what an executable loads
 abbrev pub room_option : List Text
@@ -43,6 +47,14 @@ tape = record {
   flags = [];
 }
 
+abbrev pub duo : Leaf
+duo = record {
+  name = codes "duo";
+  positionals = codes "IMAGE" ∷ [];
+  options = codes "core" ∷ codes "width" ∷ hart_options ++ room_option ++ codes "cycles" ∷ codes "dump" ∷ [];
+  flags = [];
+}
+
 abbrev pub debug : Leaf
 debug = record {
   name = codes "debug";
@@ -64,7 +76,7 @@ abbrev pub soak : Leaf
 soak = record { name = codes "soak"; positionals = codes "SEED" ∷ codes "LENGTH" ∷ []; options = []; flags = [] }
 
 abbrev pub leaves : List Leaf
-leaves = run ∷ tape ∷ debug ∷ asm ∷ dis ∷ migrate ∷ soak ∷ []
+leaves = run ∷ tape ∷ duo ∷ debug ∷ asm ∷ dis ∷ migrate ∷ soak ∷ []
 
 -- ---- the same for `clap`
 

@@ -9,9 +9,10 @@ use Rattle.clap.specs.Kinds.{Kinds}
 use Rattle.diva_core.specs.Timed.{Config, default_config}
 use Rattle.diva_core.specs.Machine.{config_in_range}
 use Rattle.diva_args.specs.Command.{diva}
-use Rattle.diva_args.specs.Options.{DebugOptions, DumpRange, MigrateOptions, RunOptions, Setup, SoakOptions, TapeOptions, default_cycles, longest_soak, most_cycles}
-use Rattle.diva_args.specs.Values.{core_of, dump_of, given_number, is_set_by, ranged_or, room_of, number_or}
+use Rattle.diva_args.specs.Options.{DebugOptions, DumpRange, DuoOptions, MigrateOptions, RunOptions, Setup, SoakOptions, TapeOptions, default_cycles, longest_soak, most_cycles}
+use Rattle.diva_args.specs.Values.{core_of, dump_of, given_number, hart_core_of, is_set_by, ranged_or, room_of, number_or}
 use Rattle.diva_args.specs.declared.job.CoreChoice.{CoreChoice}
+use Rattle.diva_args.specs.declared.job.HartCore.{HartCore}
 use Rattle.diva_args.specs.declared.job.Job.{Job}
 use Rattle.diva_args.specs.declared.job.Job.TheVariants as job
 
@@ -36,14 +37,21 @@ config_with width window stores watchdog port =
       port = p;
     })) port) watchdog) stores) window) width
 
--- the numbers of a machine of this width, where they are in their ranges
-unfoldable pub config_from : (width : Option ℕ) → (Text → Option Text) → Option Config
-config_from width value = config_with
+-- the width and the port that the words ask for
+abbrev pub width_from : (Text → Option Text) → Option ℕ
+width_from value = number_or default_config.width (value (codes "width"))
+
+abbrev pub port_from : (Text → Option Text) → Option ℕ
+port_from value = number_or default_config.port (value (codes "port"))
+
+-- the numbers of a machine of this width and port, where they are in their ranges
+unfoldable pub config_from : (width port : Option ℕ) → (Text → Option Text) → Option Config
+config_from width port value = config_with
     width
     (number_or default_config.window (value (codes "window")))
     (number_or default_config.stores (value (codes "stores")))
     (number_or default_config.limit (value (codes "watchdog")))
-    (number_or default_config.port (value (codes "port")))
+    port
 
 -- how many bytes of memory follow those that an executable loads
 unfoldable pub room_from : (Text → Option Text) → Option ℕ
@@ -65,11 +73,11 @@ setup_from width value = setup_with
     (room_from value)
     (core_of (value (codes "core")) (value (codes "tape")))
     (value (codes "script"))
-    (config_from width value)
+    (config_from width (port_from value) value)
 
 -- the same on a machine of the width that the words ask for
 abbrev pub wide_from : (Text → Option Text) → Option Setup
-wide_from value = setup_from (number_or default_config.width (value (codes "width"))) value
+wide_from value = setup_from (width_from value) value
 
 -- the cycles to run at most
 unfoldable pub cycles_from : (Text → Option Text) → Option ℕ
@@ -91,6 +99,28 @@ tape_with setup cycles = option_and_then (λ s. option_map (λ c.
 -- `tape`
 unfoldable pub tape_from : (Text → Option Text) → Option TapeOptions
 tape_from value = tape_with (wide_from value) (cycles_from value)
+
+abbrev pub duo_with : Option Text → (room : Option ℕ) → Option HartCore → Option Config → (cycles : Option ℕ)
+    → Option (Option DumpRange) → Option DuoOptions
+duo_with image room core config cycles dump =
+    option_and_then (λ i. option_and_then (λ r. option_and_then (λ c. option_and_then (λ z. option_and_then (λ n. option_map (λ d. record {
+      image = i;
+      room = r;
+      core = c;
+      config = z;
+      cycles = n;
+      dump = d;
+    }) dump) cycles) config) core) room) image
+
+-- `duo`, whose port takes a store in any cycle
+unfoldable pub duo_from : (Text → Option Text) → Option DuoOptions
+duo_from value = duo_with
+    (value (codes "IMAGE"))
+    (room_from value)
+    (hart_core_of (value (codes "core")))
+    (config_from (width_from value) (Some 1) value)
+    (cycles_from value)
+    (dump_of (value (codes "dump")))
 
 abbrev pub debug_with : Option Setup → (commands : Option Text) → Option DebugOptions
 debug_with setup commands = option_and_then (λ s. option_map (λ c.
@@ -121,6 +151,7 @@ abbrev pub job_from : Text → (Text → Option Text) → Option Job
 job_from name value =
     if bytes_eq name (codes "run") then option_map job.Run (run_from value)
     else if bytes_eq name (codes "tape") then option_map job.Tape (tape_from value)
+    else if bytes_eq name (codes "duo") then option_map job.Duo (duo_from value)
     else if bytes_eq name (codes "debug") then option_map job.Debug (debug_from value)
     else if bytes_eq name (codes "asm") then option_map job.Asm (value (codes "SRC"))
     else if bytes_eq name (codes "dis") then option_map job.Dis (value (codes "IMAGE"))

@@ -2,6 +2,7 @@
 use Rattle.std.specs.Prelude.{ℕ, ◌+◌, ◌%◌, ◌^◌, ◌≡◌, ◌≤◌, Bool, List, Option}
 use Rattle.diva_core.specs.Timed.{Config}
 use Rattle.diva_args.specs.declared.job.CoreChoice.{CoreChoice}
+use Rattle.diva_args.specs.declared.job.HartCore.{HartCore}
 
 -- a part of memory: the address of its first byte, and the number of its bytes
 pub record DumpRange : Type 0 where
@@ -59,6 +60,15 @@ pub record RunOptions : Type 0 where
 pub record TapeOptions : Type 0 where
   pub setup : Setup
   pub cycles : ℕ
+
+-- `duo IMAGE` with its options
+pub record DuoOptions : Type 0 where
+  pub image : List ℕ
+  pub room : ℕ
+  pub core : HartCore
+  pub config : Config
+  pub cycles : ℕ
+  pub dump : Option DumpRange
 
 -- `debug IMAGE COMMANDS` with its options
 pub record DebugOptions : Type 0 where

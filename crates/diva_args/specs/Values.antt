@@ -7,6 +7,8 @@ use Rattle.clap.specs.Walk.{Text}
 use Rattle.diva_outside.specs.Numbers.{decimal_of, hex_of}
 use Rattle.diva_args.specs.Options.{DumpRange, most_dumped, most_room}
 use Rattle.diva_args.specs.declared.job.CoreChoice.{CoreChoice}
+use Rattle.diva_args.specs.declared.job.HartCore.{HartCore}
+use Rattle.diva_args.specs.declared.job.HartCore.TheVariants as hart
 use Rattle.diva_args.specs.declared.job.CoreChoice.TheVariants.{Own, Lockstep, Scalar, Silent, Flood, Echo, Noise, Tape}
 
 -- the core of this name, for one that takes no tape
@@ -28,6 +30,19 @@ core_of None (Some tape) = None
 core_of (Some word) None = core_named word
 core_of (Some word) (Some tape) =
     if bytes_eq word (codes "tape") then Some (Tape tape) else None
+
+-- the core of this name, for one that a hart takes
+unfoldable pub hart_core_named : Text → Option HartCore
+hart_core_named word =
+    if bytes_eq word (codes "scalar") then Some hart.Scalar
+    else if bytes_eq word (codes "lockstep") then Some hart.Lockstep
+    else if bytes_eq word (codes "silent") then Some hart.Silent
+    else None
+
+-- the core of `--core` for harts: `scalar` where none is given
+abbrev pub hart_core_of : Option Text → Option HartCore
+hart_core_of None = Some hart.Scalar
+hart_core_of (Some word) = hart_core_named word
 
 -- whether a flag was given
 abbrev pub is_set_by : Option Text → Bool

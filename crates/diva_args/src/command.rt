@@ -19,7 +19,7 @@ pub(crate) struct Leaf {
 }
 
 /// The commands of the program.
-static LEAVES: [Leaf; 7] = [
+static LEAVES: [Leaf; 8] = [
     Leaf {
         name: "run",
         positionals: &["IMAGE"],
@@ -35,6 +35,14 @@ static LEAVES: [Leaf; 7] = [
         options: &[
             "core", "script", "tape", "width", "window", "stores", "watchdog", "port", "room",
             "cycles",
+        ],
+        flags: &[],
+    },
+    Leaf {
+        name: "duo",
+        positionals: &["IMAGE"],
+        options: &[
+            "core", "width", "window", "stores", "watchdog", "room", "cycles", "dump",
         ],
         flags: &[],
     },

@@ -25,6 +25,8 @@ pub enum Job {
     Run(RunOptions),
     /// `tape IMAGE`: runs an image, and writes down the lists that were handed over.
     Tape(TapeOptions),
+    /// `duo IMAGE`: runs an image on two harts over one memory, and shows how each ended.
+    Duo(DuoOptions),
     /// `debug IMAGE COMMANDS`: replies to commands that step through an image and show it.
     Debug(DebugOptions),
     /// `asm SRC`: assembles the source of this name. The name is the word as it is, as `IMAGE` of `run` is.
@@ -111,6 +113,56 @@ impl Model for TapeOptions {
     ghost view = { λ t. record { setup = t.setup; cycles = t.cycles } };
 
     ghost invariant = { λ t. IsBudget t.cycles };
+}
+
+/// `duo IMAGE` with its options.
+#[derive(Debug, Drop)]
+pub struct DuoOptions {
+    /// `IMAGE`: the name of the image's file, with what is said of that of `run`.
+    pub image: FileName,
+    /// `--room`: how many bytes of memory follow those that an executable loads: a multiple of 4, 0 to 16,777,212; 0 by
+    /// default. It has no effect on an image file.
+    pub room: u32,
+    /// `--core`: the core that each hart's checker watches; `scalar` by default.
+    pub core: HartCore,
+    /// `--width`, `--window`, `--stores` and `--watchdog`: the numbers of each hart, as they are for `run`. Memory's port takes
+    /// a store in any cycle: that number is 1.
+    pub config: Config,
+    /// `--cycles`: the cycles to run at most, 1 to 1,000,000,000; 1,000,000 by default.
+    pub cycles: u64,
+    /// `--dump ADDR:LEN`, with 1 to 8 hex digits for the address: the part of the shared memory to show at the end; `None`
+    /// where the option is not given.
+    pub dump: Option<DumpRange>,
+}
+
+impl Model for DuoOptions {
+    ghost use Rattle.std.specs.Prelude.{◌≡◌};
+    ghost use Rattle.diva_args.specs.Options.{DuoOptions, IsBudget, IsRoom};
+    ghost use Rattle.diva_core.specs.Machine.{IsConfig};
+
+    ghost Value = { DuoOptions };
+
+    ghost view = { λ d. record {
+      image = d.image;
+      room = d.room;
+      core = d.core;
+      config = d.config;
+      cycles = d.cycles;
+      dump = d.dump;
+    } };
+
+    ghost invariant = { λ d. IsConfig d.config × (d.config.port ≡ 1) × IsRoom d.room × IsBudget d.cycles };
+}
+
+/// The core that each of two harts' checkers watches.
+#[derive(Clone, Copy, Debug, PartialEq, Eq)]
+pub enum HartCore {
+    /// `scalar`: right claims, one in each cycle that has room for it.
+    Scalar,
+    /// `lockstep`: one right claim at a time.
+    Lockstep,
+    /// `silent`: no claim, ever.
+    Silent,
 }
 
 /// `debug IMAGE COMMANDS` with its options.

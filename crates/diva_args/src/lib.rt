@@ -21,7 +21,7 @@ mod values;
 pub use fault::ArgsFault;
 pub use file_name::FileName;
 pub use job::{
-    CoreChoice, DebugOptions, DumpRange, Job, MigrateOptions, RunOptions, Setup, SoakOptions,
-    TapeOptions,
+    CoreChoice, DebugOptions, DumpRange, DuoOptions, HartCore, Job, MigrateOptions, RunOptions,
+    Setup, SoakOptions, TapeOptions,
 };
 pub use read::read_words;

@@ -2,22 +2,21 @@
 ghost use Rattle.std.specs.Prelude.{◌≡◌, ◌≤◌, IfOk, IfSome, None, Some, codes, map, option_and_then, option_map};
 ghost use Rattle.clap.specs.Walk.{rows_of};
 ghost use Rattle.clap.specs.Words.{found_of, subcommand_rows_of};
-ghost use Rattle.diva_args.specs.Line.{command_of, config_from, cycles_from, debug_from, job_of, migrate_from, room_from};
-ghost use Rattle.diva_args.specs.Line.{run_from, setup_from, soak_from, taken, tape_from, values_of};
+ghost use Rattle.diva_args.specs.Line.{command_of, config_from, cycles_from, debug_from, duo_from, job_of, migrate_from, port_from};
+ghost use Rattle.diva_args.specs.Line.{room_from, run_from, setup_from, soak_from, taken, tape_from, values_of, width_from};
 ghost use Rattle.diva_args.specs.Options.{IsBudget, IsRoom};
 ghost use Rattle.diva_args.specs.Plain.{IsPlainLine, PlainLine, job_on};
 ghost use Rattle.diva_args.specs.Values.{given_number, is_set_by, number_or};
-ghost use Rattle.diva_core.specs.Timed.{default_config};
 ghost use Rattle.diva_core.specs.Machine.{IsConfig};
 
 use crate::command::command;
 use crate::fault::ArgsFault;
 use crate::file_name::FileName;
 use crate::job::{
-    DEFAULT_CYCLES, DebugOptions, Job, LONGEST_SOAK, MOST_CYCLES, MOST_ROOM, MigrateOptions,
-    RunOptions, Setup, SoakOptions, TapeOptions,
+    DEFAULT_CYCLES, DebugOptions, DuoOptions, Job, LONGEST_SOAK, MOST_CYCLES, MOST_ROOM,
+    MigrateOptions, RunOptions, Setup, SoakOptions, TapeOptions,
 };
-use crate::values::{core, dump, number, number_within};
+use crate::values::{core, dump, hart_core, number, number_within};
 use clap::ArgMatches;
 use diva_core::Config;
 use std::alloc::{AllocError, Global};
@@ -64,6 +63,7 @@ fn job(alloc: Global, matches: &ArgMatches<'_>) -> Result<Job, ArgsFault>
     match name {
         "run" => Ok(Job::Run(run(alloc, found)?)),
         "tape" => Ok(Job::Tape(tape(alloc, found)?)),
+        "duo" => Ok(Job::Duo(duo(alloc, found)?)),
         "debug" => Ok(Job::Debug(debug(alloc, found)?)),
         "asm" => Ok(Job::Asm(file_of(alloc, found, "SRC")?)),
         "dis" => Ok(Job::Dis(file_of(alloc, found, "IMAGE")?)),
@@ -109,6 +109,40 @@ fn tape(alloc: Global, found: &ArgMatches<'_>) -> Result<TapeOptions, ArgsFault>
         return Err(ArgsFault::Usage);
     };
     Ok(TapeOptions { setup, cycles })
+}
+
+/// `duo IMAGE` with its options.
+#[tactic(auto, unfolding(crate::specs::Line::duo_from))]
+fn duo(alloc: Global, found: &ArgMatches<'_>) -> Result<DuoOptions, ArgsFault>
+    ensures duo { IfOk result (λ duo.
+        duo_from (values_of (rows_of (found_of found.now))) ≡ Some duo) }
+    ensures usage { result ≡ Err ArgsFault.Usage
+        → duo_from (values_of (rows_of (found_of found.now))) ≡ None }
+{
+    let image = file_of(alloc, found, "IMAGE")?;
+    let Some(room) = room(found) else {
+        return Err(ArgsFault::Usage);
+    };
+    let Some(core) = hart_core(text_of(found, "core")) else {
+        return Err(ArgsFault::Usage);
+    };
+    let Some(config) = config(found, width(found), Some(1)) else {
+        return Err(ArgsFault::Usage);
+    };
+    let Some(cycles) = cycles(found) else {
+        return Err(ArgsFault::Usage);
+    };
+    let Some(dump) = dump(text_of(found, "dump")) else {
+        return Err(ArgsFault::Usage);
+    };
+    Ok(DuoOptions {
+        image,
+        room,
+        core,
+        config,
+        cycles,
+        dump,
+    })
 }
 
 /// The name of the file that a positional names.
@@ -196,7 +230,7 @@ fn setup(alloc: Global, found: &ArgMatches<'_>, width: Option<u32>) -> Result<Se
     let Some(room) = room(found) else {
         return Err(ArgsFault::Usage);
     };
-    let Some(config) = config(found, width) else {
+    let Some(config) = config(found, width, port(found)) else {
         return Err(ArgsFault::Usage);
     };
     Ok(Setup {
@@ -208,12 +242,13 @@ fn setup(alloc: Global, found: &ArgMatches<'_>, width: Option<u32>) -> Result<Se
     })
 }
 
-/// The numbers of a machine of this width, where they are in their ranges.
+/// The numbers of a machine of this width and port, where they are in their ranges.
 #[tactic(auto, using(crate::proofs::ConfigLemmas::no_config), unfolding(crate::specs::Line::config_from))]
-fn config(found: &ArgMatches<'_>, width: Option<u32>) -> Option<Config>
-    ensures value { result ≡ config_from width (values_of (rows_of (found_of found.now))) }
+fn config(found: &ArgMatches<'_>, width: Option<u32>, port: Option<u32>) -> Option<Config>
+    ensures value { result ≡ config_from width port (values_of (rows_of (found_of found.now))) }
     ensures fits { IfSome result IsConfig }
     ensures width { IfSome result (λ config. width ≡ Some config.width) }
+    ensures port { IfSome result (λ config. port ≡ Some config.port) }
 {
     let usual = Config::default();
     Config::new(
@@ -222,14 +257,21 @@ fn config(found: &ArgMatches<'_>, width: Option<u32>) -> Option<Config>
         number_or(found, "stores", usual.stores())?,
         number_or(found, "watchdog", usual.limit())?,
     )?
-    .with_port(number_or(found, "port", usual.port())?)
+    .with_port(port?)
 }
 
 /// The width that the words ask for.
 fn width(found: &ArgMatches<'_>) -> Option<u32>
-    ensures { result ≡ number_or default_config.width (values_of (rows_of (found_of found.now)) (codes "width")) }
+    ensures { result ≡ width_from (values_of (rows_of (found_of found.now))) }
 {
     number_or(found, "width", Config::default().width())
+}
+
+/// The port that the words ask for.
+fn port(found: &ArgMatches<'_>) -> Option<u32>
+    ensures { result ≡ port_from (values_of (rows_of (found_of found.now))) }
+{
+    number_or(found, "port", Config::default().port())
 }
 
 /// The number of an option of the machine, or what stands for one that is not given.

@@ -1,10 +1,10 @@
 // The values of options as cores, numbers and parts of memory.
 ghost use Rattle.std.specs.Prelude.{◌≡◌, ◌≤◌, IfOk, IfSome, None, Some, option_map};
-ghost use Rattle.diva_args.specs.Values.{core_named, core_of, dump_of, dump_range_of, number_in_range, ranged_or};
+ghost use Rattle.diva_args.specs.Values.{core_named, core_of, dump_of, dump_range_of, hart_core_named, hart_core_of, number_in_range, ranged_or};
 
 use crate::fault::ArgsFault;
 use crate::file_name::FileName;
-use crate::job::{CoreChoice, DumpRange, MOST_DUMPED};
+use crate::job::{CoreChoice, DumpRange, HartCore, MOST_DUMPED};
 use diva_outside::{decimal, hex};
 use std::alloc::Global;
 
@@ -43,6 +43,29 @@ fn named_core(name: &str) -> Option<CoreChoice>
         "flood" => Some(CoreChoice::Flood),
         "echo" => Some(CoreChoice::Echo),
         "noise" => Some(CoreChoice::Noise),
+        _ => None,
+    }
+}
+
+/// The core of `--core` for harts: `scalar` where none is given, and `None` where the word is not the name of such a core.
+pub(crate) fn hart_core(name: Option<&str>) -> Option<HartCore>
+    ensures { result ≡ hart_core_of (option_map (λ text. text.now) name.entry) }
+{
+    match name {
+        Some(name) => named_hart_core(name),
+        None => Some(HartCore::Scalar),
+    }
+}
+
+/// The core of that name, for one that a hart takes.
+#[tactic(auto, unfolding(crate::specs::Values::hart_core_named))]
+fn named_hart_core(name: &str) -> Option<HartCore>
+    ensures { result ≡ hart_core_named name.now }
+{
+    match name {
+        "scalar" => Some(HartCore::Scalar),
+        "lockstep" => Some(HartCore::Lockstep),
+        "silent" => Some(HartCore::Silent),
         _ => None,
     }
 }

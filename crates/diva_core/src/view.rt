@@ -6,7 +6,7 @@ ghost use Rattle.diva_storeq.specs.Stores.{laid};
 
 use crate::output::Output;
 use diva_isa::{Look, Regs, Width};
-use diva_memory::Memory;
+use diva_memory::{Memory, Readable};
 use diva_storeq::StoreQueue;
 use std::marker::Model;
 
@@ -168,6 +168,17 @@ impl View<'_> {
         ensures most { result ≤ output_limit }
     {
         self.output.len()
+    }
+}
+
+impl Readable for View<'_> {
+    ghost use Rattle.diva_isa.specs.State.{memory_of};
+
+    ghost shows = { λ v. memory_of v };
+
+    #[inline(always)]
+    fn byte(&self, addr: u32) -> Option<u8> {
+        View::byte(self, addr)
     }
 }
 

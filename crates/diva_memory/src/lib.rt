@@ -1,6 +1,7 @@
 //! The memory of the machine: the bytes from a first address on.
 //!
 //! - `memory`: `Memory`, the bytes, and how they are read and written.
+//! - `readable`: `Readable`, what can be read byte by byte, as memory is.
 //! - `interval`: `Interval`, addresses between which stores lie that are not in memory yet.
 //! - `span`: `Span`, up to which item such stores go in a list of many things, and their interval.
 //!
@@ -10,8 +11,10 @@
 
 mod interval;
 mod memory;
+mod readable;
 mod span;
 
 pub use interval::Interval;
 pub use memory::Memory;
+pub use readable::Readable;
 pub use span::Span;

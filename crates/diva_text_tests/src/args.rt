@@ -1,14 +1,16 @@
 // Lines that are taken, and lines that are refused. A line is one string, whose words blanks part.
 use diva_args::{
-    ArgsFault, DebugOptions, Job, MigrateOptions, RunOptions, Setup, SoakOptions, TapeOptions,
-    read_words,
+    ArgsFault, DebugOptions, DuoOptions, Job, MigrateOptions, RunOptions, Setup, SoakOptions,
+    TapeOptions, read_words,
 };
+use diva_core::Config;
 use std::alloc::{AllocError, Global};
 use std::test::Fail;
 
 /// Lines with what they ask for: the command, then the names and numbers. Behind an image stand its room, its core, its script,
 /// width, window, stores, limit and port; last come of `run` the cycles, the commit lines and the dump, and of `tape` the cycles.
-static TAKEN: [(&str, &str); 45] = [
+/// `duo` has no script and no commit lines.
+static TAKEN: [(&str, &str); 58] = [
     (
         "run p1.diva",
         r#"run "p1.diva" 0 Own None 2 16 4 64 1 1000000 false None"#,
@@ -65,6 +67,53 @@ static TAKEN: [(&str, &str); 45] = [
         "debug --port 6 p c",
         r#"debug "p" 0 Own None 1 16 4 64 6 "c""#,
     ),
+    // Each option of two harts, and what stands where it is not given.
+    ("duo p", r#"duo "p" 0 Scalar 2 16 4 64 1 1000000 None"#),
+    (
+        "duo p --core scalar",
+        r#"duo "p" 0 Scalar 2 16 4 64 1 1000000 None"#,
+    ),
+    (
+        "duo p --core lockstep",
+        r#"duo "p" 0 Lockstep 2 16 4 64 1 1000000 None"#,
+    ),
+    (
+        "duo p --core=silent",
+        r#"duo "p" 0 Silent 2 16 4 64 1 1000000 None"#,
+    ),
+    (
+        "duo p --width 4",
+        r#"duo "p" 0 Scalar 4 16 4 64 1 1000000 None"#,
+    ),
+    (
+        "duo p --window 64",
+        r#"duo "p" 0 Scalar 2 64 4 64 1 1000000 None"#,
+    ),
+    (
+        "duo --stores 1 p",
+        r#"duo "p" 0 Scalar 2 16 1 64 1 1000000 None"#,
+    ),
+    (
+        "duo p --watchdog 0000000016",
+        r#"duo "p" 0 Scalar 2 16 4 16 1 1000000 None"#,
+    ),
+    (
+        "duo p --room 16777212",
+        r#"duo "p" 16777212 Scalar 2 16 4 64 1 1000000 None"#,
+    ),
+    (
+        "duo p --cycles 1000000000",
+        r#"duo "p" 0 Scalar 2 16 4 64 1 1000000000 None"#,
+    ),
+    (
+        "duo p --dump ffffffff:1",
+        r#"duo "p" 0 Scalar 2 16 4 64 1 1000000 Some(DumpRange { addr: 4294967295, len: 1 })"#,
+    ),
+    (
+        "duo p1.diva --dump 3c:8 --cycles 9 --room 4096 --watchdog 1024 --stores 6 --window 8 --width 1 --core silent",
+        r#"duo "p1.diva" 4096 Silent 1 8 6 1024 1 9 Some(DumpRange { addr: 60, len: 8 })"#,
+    ),
+    ("duo -- -x", r#"duo "-x" 0 Scalar 2 16 4 64 1 1000000 None"#),
     // The room behind an executable, for each command that has one, and the ends of its range.
     (
         "run p --room 4096",
@@ -162,7 +211,7 @@ static TAKEN: [(&str, &str); 45] = [
 ];
 
 /// Lines that are refused.
-static REFUSED: [&str; 78] = [
+static REFUSED: [&str; 97] = [
     // No command, and no help.
     "",
     "walk a",
@@ -171,6 +220,7 @@ static REFUSED: [&str; 78] = [
     "-h",
     "run a --help",
     "dis --help",
+    "duo --help",
     // Words too few or too many.
     "run",
     "run a b",
@@ -180,6 +230,8 @@ static REFUSED: [&str; 78] = [
     "debug a",
     "debug a b c",
     "tape",
+    "duo",
+    "duo a b",
     "asm",
     "asm a b",
     "dis",
@@ -192,6 +244,10 @@ static REFUSED: [&str; 78] = [
     "tape a --trace",
     "debug a b --width 1",
     "tape a --dump 0:4",
+    "duo a --script b",
+    "duo a --tape t",
+    "duo a --trace",
+    "duo a --port 1",
     "asm a --core own",
     "asm a --port 1",
     "asm a --room 4096",
@@ -208,6 +264,8 @@ static REFUSED: [&str; 78] = [
     "run a --script",
     "run a --script b --script b",
     "run a --room 4 --room 4",
+    "duo a --core scalar --core scalar",
+    "duo a --core",
     "migrate a --room 4 --room 4",
     "migrate a --room",
     // Cores with a wrong tape.
@@ -216,6 +274,12 @@ static REFUSED: [&str; 78] = [
     "run a --tape t",
     "run a --core lockstep --tape t",
     "run a --core noise --tape t",
+    // Cores that a hart does not take.
+    "duo a --core own",
+    "duo a --core tape",
+    "duo a --core tape --tape t",
+    "duo a --core noise",
+    "duo a --core=",
     // Numbers out of range.
     "run a --width 5",
     "run a --port 0",
@@ -229,6 +293,11 @@ static REFUSED: [&str; 78] = [
     "run a --room 00000000004",
     "run a --room 0x4",
     "tape a --room 16777216",
+    "duo a --width 5",
+    "duo a --stores 7",
+    "duo a --room 2",
+    "duo a --cycles 0",
+    "duo a --dump fffffffc:5",
     "debug a b --room 2",
     "migrate a --room 16777216",
     "migrate a --room 16777213",
@@ -285,6 +354,7 @@ fn text_of(alloc: Global, job: &Job) -> Result<String, AllocError> {
             let setup = setup_text(alloc, setup)?;
             format!(in alloc; "tape {setup} {cycles}")
         }
+        Job::Duo(options) => duo_text(alloc, options),
         Job::Debug(DebugOptions { setup, commands }) => {
             let setup = setup_text(alloc, setup)?;
             format!(in alloc; "debug {setup} {:?}", commands.as_str())
@@ -308,10 +378,20 @@ fn run_text(alloc: Global, options: &RunOptions) -> Result<String, AllocError> {
 
 fn setup_text(alloc: Global, setup: &Setup) -> Result<String, AllocError> {
     let (image, room) = (setup.image.as_str(), setup.room);
-    let (core, script, config) = (&setup.core, &setup.script, &setup.config);
+    let (core, script) = (&setup.core, &setup.script);
+    let config = config_text(alloc, &setup.config)?;
+    format!(in alloc; "{image:?} {room} {core:?} {script:?} {config}")
+}
+
+fn duo_text(alloc: Global, options: &DuoOptions) -> Result<String, AllocError> {
+    let (image, room, core) = (options.image.as_str(), options.room, options.core);
+    let config = config_text(alloc, &options.config)?;
+    let (cycles, dump) = (options.cycles, &options.dump);
+    format!(in alloc; "duo {image:?} {room} {core:?} {config} {cycles} {dump:?}")
+}
+
+fn config_text(alloc: Global, config: &Config) -> Result<String, AllocError> {
     let (width, window) = (config.width(), config.window());
     let (stores, limit, port) = (config.stores(), config.limit(), config.port());
-    format!(in alloc;
-        "{image:?} {room} {core:?} {script:?} {width} {window} {stores} {limit} {port}"
-    )
+    format!(in alloc; "{width} {window} {stores} {limit} {port}")
 }

@@ -3,7 +3,7 @@
 //! - `args`: command lines, with what they ask for, and such as are refused.
 //! - `asm`: sources and words that were worked out by hand, and some that an assembler made: `asm/sources`, `asm/gnu`.
 //! - `scripts`: scripts, and lists under them. `tapes`: tapes that are read, played and written. `cores`: what a core hands over.
-//! - `commands`: commands of a session. `run_texts`: the text of a run, and other lines.
+//! - `commands`: commands of a session. `run_texts`: the text of a run, that of two harts, and other lines.
 //! - `outside`: files, sinks and numbers, and the lines and words of texts.
 //!
 //! What is due was worked out by hand from `docs/FORMATS.md`, or came from an outside tool; none of it is taken from what

@@ -37,6 +37,10 @@ flush_line row = codes "flush " ++ decimal row.cycle ++ codes " at " ++ decimal 
 
 -- ---- how a run came out
 
+-- a hart, by its number
+unfoldable pub hart_line : ℕ → List ℕ
+hart_line n = codes "hart " ++ decimal n ++ codes "\n"
+
 -- how a state has ended: not at all, in a trap, or with a halt's status
 abbrev pub end_text : End → List ℕ
 end_text GoesOn = codes "none"

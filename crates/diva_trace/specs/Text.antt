@@ -10,8 +10,9 @@ use Rattle.diva_isa.specs.declared.record.Record.{Record}
 use Rattle.diva_core.specs.Headline.{dues}
 use Rattle.diva_core.specs.Timed.{Timed}
 use Rattle.diva_core.specs.declared.flushes.FlushRow.{FlushRow}
-use Rattle.diva_trace.specs.Lines.{commit_line, flush_line, end_line_of, count_line, cycles_line, flushes_line, soak_line, output_line, out_line, registers_line, pc_line, mem_line}
+use Rattle.diva_trace.specs.Lines.{commit_line, flush_line, hart_line, end_line_of, count_line, cycles_line, flushes_line, soak_line, output_line, out_line, registers_line, pc_line, mem_line}
 use Rattle.diva_trace.specs.declared.report.Dump.{Dump}
+use Rattle.diva_trace.specs.declared.report.HartReport.{HartReport}
 use Rattle.diva_trace.specs.declared.report.Report.{Report}
 use Rattle.diva_trace.specs.declared.report.SoakCore.TheVariants.{Scalar, Own}
 
@@ -104,6 +105,46 @@ pub record IsReportOf (m : Timed) (r : Report) : Type 0 where
   pub silent : r.silent ≡ m.silent
   pub output : r.output.now ≡ m.arch.output
   pub view : r.view.now ≡ record m.arch { end = 0 }
+
+-- ---- the text of two harts
+
+-- the lines of a hart that ended at this machine: its number, how it ended, its counts, its output, and its registers and pc
+abbrev pub hart_text : (number : ℕ) → Timed → List ℕ
+hart_text number m =
+    hart_line number
+    ++ end_line_of (end_of m.arch.end)
+    ++ count_line m.count
+    ++ flushes_line m.flushes m.silent
+    ++ output_text m.arch.output
+    ++ registers_text m.arch.regs m.arch.pc
+
+-- the same, of what a report says of the hart
+abbrev pub hart_text_in : (number : ℕ) → HartReport → List ℕ
+hart_text_in number r =
+    hart_line number
+    ++ end_line_of r.end
+    ++ count_line r.count
+    ++ flushes_line r.flushes r.silent
+    ++ output_text r.output.now
+    ++ registers_text r.view.now.regs r.view.now.pc
+
+-- a report says what the hart's machine is, through a view that shows its registers and its pc
+pub record IsHartReportOf (m : Timed) (r : HartReport) : Type 0 where
+  pub end : r.end ≡ end_of m.arch.end
+  pub count : r.count ≡ m.count
+  pub flushes : r.flushes ≡ m.flushes
+  pub silent : r.silent ≡ m.silent
+  pub output : r.output.now ≡ m.arch.output
+  pub regs : r.view.now.regs ≡ m.arch.regs
+  pub pc : r.view.now.pc ≡ m.arch.pc
+
+-- the text of two harts over one memory: the cycles run, the lines of each hart, and a part of that memory, where it is asked for
+abbrev pub harts_text : (cycles : ℕ) → (first second : Timed) → Bytes → Option Dump → List ℕ
+harts_text cycles first second memory dump =
+    cycles_line cycles
+    ++ hart_text 0 first
+    ++ hart_text 1 second
+    ++ asked_text memory dump
 
 -- ---- the text of two runs
 

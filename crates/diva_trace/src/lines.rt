@@ -1,12 +1,12 @@
 // The lines of the program's text, each with its line feed.
 ghost use Rattle.std.specs.Prelude.{◌≡◌, ◌+◌, ◌*◌, ◌%◌, ◌^◌, ◌<◌, ◌≤◌, [], ◌++◌, length, codes};
 ghost use Rattle.std.specs.Fmt.{decimal};
-ghost use Rattle.diva_isa.specs.State.{memory_of};
-ghost use Rattle.diva_trace.specs.Lines.{commit_line, fields_text, cause_text, flush_line, end_line, end_line_of, end_text, count_line, cycles_line, flushes_line, soak_line, soak_core_name, output_line, out_line, register_text, registers_line, pc_line, byte_text, mem_line};
+ghost use Rattle.diva_trace.specs.Lines.{commit_line, fields_text, cause_text, flush_line, end_line, end_line_of, end_text, count_line, cycles_line, flushes_line, hart_line, soak_line, soak_core_name, output_line, out_line, register_text, registers_line, pc_line, byte_text, mem_line};
 
 use crate::report::SoakCore;
 use diva_core::{Cause, Field, FlushRow, View};
 use diva_isa::{End, Record};
+use diva_memory::Readable;
 use diva_outside::Line;
 
 /// A committed instruction: its number, from 0 on, and the eight fields of its record.
@@ -122,6 +122,14 @@ pub fn count_line(n: u64) -> Line
     ensures { result ≡ count_line n }
 {
     number_line(b"count ", n)
+}
+
+/// A hart, by its number.
+#[tactic(auto, unfolding(crate::specs::Lines::hart_line))]
+pub fn hart_line(number: u8) -> Line
+    ensures { result ≡ hart_line number }
+{
+    number_line(b"hart ", u64::from(number))
 }
 
 /// The number of cycles.
@@ -262,18 +270,18 @@ fn push_register(line: &mut Line, view: &View<'_>, n: u8)
 /// The `n` bytes from `addr` on: 1 to 32 of them, which end at 2^32 at the latest. A byte outside memory is shown as
 /// two dots.
 #[tactic(auto, using(crate::proofs::Numbered::flat_map_range_more), unfolding(crate::specs::Lines::mem_line))]
-pub fn mem_line(view: &View<'_>, addr: u32, n: u32) -> Line
+pub fn mem_line<R: Readable>(memory: &R, addr: u32, n: u32) -> Line
     requires some { 1 ≤ n }
     requires few { n ≤ 32 }
     requires in_range { addr + n ≤ 2 ^ 32 }
-    ensures { result ≡ mem_line (memory_of view.now) addr n }
+    ensures { result ≡ mem_line (R.shows memory.now) addr n }
 {
     let mut line = Line::new();
     line.text(b"mem ");
     line.hex_word(addr);
     line.text(b" ");
     for i in 0..n {
-        push_byte(&mut line, view.byte(addr + i));
+        push_byte(&mut line, memory.byte(addr + i));
     }
     line.text(b"\n");
     line

@@ -1,4 +1,4 @@
-// What a run's text is made of, and that of two runs.
+// What a run's text is made of, and those of two harts and of two runs.
 use diva_core::{FlushRow, View};
 use diva_isa::End;
 
@@ -32,6 +32,23 @@ pub struct Report<'a> {
     pub view: &'a View<'a>,
     /// The part of memory to show at the end; `None` where none is asked for.
     pub dump: Option<Dump>,
+}
+
+/// What the lines of one of two harts are made of: what its machine shows once both have run.
+#[derive(Clone, Copy)]
+pub struct HartReport<'a> {
+    /// How the hart ended, if it has.
+    pub end: End,
+    /// The instructions committed.
+    pub count: u64,
+    /// All flushes.
+    pub flushes: u64,
+    /// The silent flushes among them: those where the watchdog's limit was reached without a commit.
+    pub silent: u64,
+    /// The bytes that the program put out on this hart.
+    pub output: &'a [u8],
+    /// The registers and the pc.
+    pub view: &'a View<'a>,
 }
 
 /// The cores under which `soak` runs its image.

@@ -1,7 +1,6 @@
 // The parts of a run's text, and the whole of it, put to a sink line by line.
 ghost use Rattle.std.specs.Prelude.{◌≡◌, ◌+◌, ◌^◌, ◌≤◌, ◌<◌, length};
 ghost use Rattle.std.specs.Option.{ForSome};
-ghost use Rattle.diva_isa.specs.State.{memory_of};
 ghost use Rattle.diva_core.specs.Timed.{Timed};
 ghost use Rattle.diva_outside.specs.Sink.{Puts};
 ghost use Rattle.diva_trace.specs.Text.{commits_text, rows_text, summary_text, output_text, registers_text, dump_text, text_in, text_of, IsReportOf};
@@ -13,6 +12,7 @@ use crate::lines::{
 use crate::report::{Dump, Report};
 use diva_core::{FlushRow, View};
 use diva_isa::Record;
+use diva_memory::Readable;
 use diva_outside::{Line, LineList, Sink, SinkFailed, put_line, put_lines};
 
 /// The lines of some flushes.
@@ -60,16 +60,16 @@ impl LineList for OutLines<'_> {
 
 /// The lines of a part of memory, 16 bytes a line, the last one shorter.
 #[derive(Drop)]
-struct DumpLines<'a> {
-    view: &'a View<'a>,
+struct DumpLines<'a, R> {
+    memory: &'a R,
     dump: Dump,
     ghost in_range: { dump.addr + dump.len ≤ 2 ^ 32 },
 }
 
-impl LineList for DumpLines<'_> {
+impl<R: Readable> LineList for DumpLines<'_, R> {
     ghost use Rattle.diva_trace.specs.Text.{dump_lines};
 
-    ghost lines = { λ s. dump_lines (memory_of s.view.now) s.dump };
+    ghost lines = { λ s. dump_lines (R.shows s.memory.now) s.dump };
 
     #[tactic(auto, using(crate::proofs::Numbered::length_numbered))]
     fn count(&self) -> usize {
@@ -80,7 +80,7 @@ impl LineList for DumpLines<'_> {
     fn line(&self, at: usize) -> Line {
         let done = 16 * at as u32;
         mem_line(
-            self.view,
+            self.memory,
             self.dump.addr + done,
             (self.dump.len - done).min(16),
         )
@@ -168,12 +168,16 @@ pub fn write_registers<S: Sink>(view: &View<'_>, sink: &mut S) -> Result<(), Sin
 
 /// Puts a part of memory that ends at 2^32 at the latest. Where a put fails, a prefix of that text was appended.
 #[tactic(auto, unfolding(crate::specs::Text::dump_text))]
-pub fn write_dump<S: Sink>(view: &View<'_>, dump: Dump, sink: &mut S) -> Result<(), SinkFailed>
+pub fn write_dump<R: Readable, S: Sink>(
+    memory: &R,
+    dump: Dump,
+    sink: &mut S,
+) -> Result<(), SinkFailed>
     requires { dump.addr + dump.len ≤ 2 ^ 32 }
-    ensures { Puts (dump_text (memory_of view.now) dump)
+    ensures { Puts (dump_text (R.shows memory.now) dump)
         (S.contents sink.old) (S.contents sink.new) (S.faults sink.old) (S.faults sink.new) result }
 {
-    put_lines(&DumpLines { view, dump }, sink)
+    put_lines(&DumpLines { memory, dump }, sink)
 }
 
 /// Puts the whole text of a run: the flushes, the summary, the output, the registers and the pc, and, where it is

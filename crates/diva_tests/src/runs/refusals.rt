@@ -6,7 +6,7 @@ use std::test::Fail;
 
 /// What is written where the words are not a valid command line.
 pub(crate) const USAGE: &str = "\
-usage: diva run|tape IMAGE, debug IMAGE COMMANDS, asm SRC, dis|migrate IMAGE, soak SEED LENGTH
+usage: diva run|tape|duo IMAGE, debug IMAGE COMMANDS, asm SRC, dis|migrate IMAGE, soak SEED LENGTH
 ";
 
 /// Words that are not a valid command line.
