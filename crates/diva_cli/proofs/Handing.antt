@@ -17,8 +17,8 @@ use Rattle.diva_faults.specs.declared.rows.Row.{Row}
 use Rattle.diva_faults.specs.Lists.{scripted}
 use Rattle.diva_faults.specs.Spoiled.{spoiled, spoiled_call, inside, lent_name, rows_in}
 use Rattle.diva_faults.proofs.Spoiling.{Turns-none, Turns-spoiled}
-use Rattle.diva_machine.specs.declared.ends.Drive.{Drive}
-use Rattle.diva_machine.specs.declared.ends.Drive.TheVariants.{Ended, Budget}
+use Rattle.diva_hart.specs.declared.ends.Drive.{Drive}
+use Rattle.diva_hart.specs.declared.ends.Drive.TheVariants.{Ended, Budget}
 use Rattle.diva_tape.specs.Lists.{lockstep_call, lockstep_list, silent_list, zeros, flood_list, echo_call, echo_list}
 use Rattle.diva_tape.specs.Noise.{noise_call}
 use Rattle.diva_ahead.specs.Ahead.{Ahead}

@@ -6,8 +6,8 @@ use Rattle.diva_image.specs.Layout.{Layout}
 use Rattle.diva_image.specs.Images.{image_of}
 use Rattle.diva_image.specs.Migrated.{BeginsAgain, segmented_bytes}
 use Rattle.diva_image.specs.Programs.{image_in}
-use Rattle.diva_machine.specs.Start.{start_of}
-use Rattle.diva_machine.proofs.Beginning.{starts_as}
+use Rattle.diva_hart.specs.Start.{start_of}
+use Rattle.diva_hart.proofs.Beginning.{starts_as}
 use Rattle.diva_cli.specs.Changes.{change}
 use Rattle.diva_cli.specs.ImageTexts.{HasMigrated}
 use Rattle.diva_cli.specs.Wanted.{FileBytes}

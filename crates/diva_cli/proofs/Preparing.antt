@@ -5,7 +5,7 @@ use Rattle.diva_outside.specs.declared.files.What.TheVariants.{Image, Script, Ta
 use Rattle.diva_image.specs.Layout.{Layout}
 use Rattle.diva_image.specs.Programs.{image_in}
 use Rattle.diva_core.specs.Timed.{new_timed}
-use Rattle.diva_machine.specs.Start.{start_of}
+use Rattle.diva_hart.specs.Start.{start_of}
 use Rattle.diva_args.specs.Options.{DebugOptions, Setup}
 use Rattle.diva_cli.specs.declared.loading.Ready.{Ready}
 use Rattle.diva_cli.specs.declared.loading.SessionReady.{SessionReady}

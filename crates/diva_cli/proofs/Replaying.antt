@@ -12,7 +12,7 @@ use Rattle.diva_core.proofs.Reaching.{run-off}
 use Rattle.diva_faults.specs.declared.rows.Row.{Row}
 use Rattle.diva_faults.proofs.Spoiling.{scripted-none}
 use Rattle.diva_image.specs.Programs.{image_in}
-use Rattle.diva_machine.specs.Start.{start_of}
+use Rattle.diva_hart.specs.Start.{start_of}
 use Rattle.diva_tape.specs.Tapes.{tape_of}
 use Rattle.diva_tape.specs.TapeText.{IsList, list_text, tape_text}
 use Rattle.diva_tape.specs.TapeCalls.{next_list, later_lists, played}

@@ -13,8 +13,8 @@ use Rattle.diva_core.specs.History.{Meaning, Turns, lists_of}
 use Rattle.diva_core.specs.Machine.{IsConfig}
 use Rattle.diva_core.proofs.Ending.{same_end}
 use Rattle.diva_core.proofs.Turning.{IsHistory-run, length-lists_of}
-use Rattle.diva_machine.specs.declared.ends.Drive.{Drive}
-use Rattle.diva_machine.specs.declared.ends.Drive.TheVariants.{Ended, Budget}
+use Rattle.diva_hart.specs.declared.ends.Drive.{Drive}
+use Rattle.diva_hart.specs.declared.ends.Drive.TheVariants.{Ended, Budget}
 use Rattle.diva_faults.specs.Spoiled.{spoiled}
 use Rattle.diva_faults.proofs.Spoiling.{Turns-none}
 use Rattle.diva_ahead.specs.Ahead.{Ahead}

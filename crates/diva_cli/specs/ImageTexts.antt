@@ -7,7 +7,7 @@ use Rattle.diva_image.specs.Images.{fault_of, image_bytes, image_of}
 use Rattle.diva_image.specs.Layout.{Layout}
 use Rattle.diva_image.specs.Migrated.{segmented_bytes}
 use Rattle.diva_image.specs.Programs.{image_in}
-use Rattle.diva_machine.specs.Start.{start_of}
+use Rattle.diva_hart.specs.Start.{start_of}
 use Rattle.diva_asm.specs.Listing.{listing_of}
 use Rattle.diva_asm.specs.Sources.{source_of}
 use Rattle.diva_cli.specs.Changes.{Change}

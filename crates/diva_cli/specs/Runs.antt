@@ -14,7 +14,7 @@ use Rattle.diva_core.specs.Cycle.{run_of}
 use Rattle.diva_core.specs.History.{Meaning}
 use Rattle.diva_core.specs.Headline.{AddsRows, AreCommitted, EndsAfter}
 use Rattle.diva_core.specs.Right.{AreRight}
-use Rattle.diva_machine.specs.Start.{start_of}
+use Rattle.diva_hart.specs.Start.{start_of}
 use Rattle.diva_faults.specs.declared.rows.Row.{Row}
 use Rattle.diva_faults.specs.Reading.{script_of}
 use Rattle.diva_tape.specs.Tapes.{tape_of}

@@ -6,7 +6,7 @@ use Rattle.diva_isa.specs.State.{State}
 use Rattle.diva_isa.specs.End.{halt}
 use Rattle.diva_core.specs.Timed.{Timed, default_config, depth}
 use Rattle.diva_core.specs.History.{Meaning}
-use Rattle.diva_machine.specs.Start.{start_of}
+use Rattle.diva_hart.specs.Start.{start_of}
 use Rattle.diva_soak.specs.Soak.{soak_of}
 use Rattle.diva_trace.specs.Text.{soak_text}
 use Rattle.diva_args.specs.Options.{Setup, SoakOptions}

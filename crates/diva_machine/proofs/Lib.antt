@@ -7,4 +7,3 @@ pub mod Judged
 pub mod Counting
 pub mod Driving
 pub mod Ports
-pub mod Beginning

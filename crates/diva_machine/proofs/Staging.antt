@@ -4,8 +4,7 @@ use Rattle.std.specs.Prelude.{slice_set}
 use Rattle.std.proofs.lemmas.Bool.{true≢false, cases_lt, le-leb, lt-leb}
 use Rattle.std.proofs.lemmas.Bool.Decides.{eqb_tells}
 use Rattle.std.specs.Option.{is_some, option_or}
-use Rattle.std.proofs.lemmas.List.{length-map, map-append}
-use Rattle.std.proofs.lemmas.Simd.{map-map}
+use Rattle.std.proofs.lemmas.List.{length-map}
 use Rattle.std.proofs.lemmas.Option.{none-some, same_Some}
 use Rattle.diva_decode.specs.Table.{row_of}
 use Rattle.diva_isa.specs.State.{State}
@@ -76,10 +75,6 @@ checked_more arch now entries claims all k e h =
     (λ j at. accepted_checked (before_entry arch (entries ++ map (fresh now) claims) k) now claims j e at)
 
 -- as the timed machine has them
-pub waiting_more : (now : ℕ) (entries : List Entry) (claims : List Record) → map pending_claim_of (entries ++ map (fresh now) claims) ≡ map pending_claim_of entries ++ map (accepted_in now) claims
-waiting_more now entries claims =
-    map-append pending_claim_of entries (map (fresh now) claims) ∙ ap (λ (ps : List PendingClaim). map pending_claim_of entries ++ ps) (map-map pending_claim_of (fresh now) claims)
-
 -- ---- one entry is changed
 
 get_set_same : (xs : List Entry) (i : ℕ) (old new : Entry) → slice_get xs i ≡ Some old → slice_get (slice_set xs i new) i ≡ Some new

@@ -6,14 +6,14 @@
 //! - `port`: when memory takes a store, `Port`;
 //! - `phases`: what these phases tell each other, `Judged` and `CommitPhase`;
 //! - `machine`: the machine between cycles, `Machine`;
-//! - `ends`: how a drive stopped, `Drive` and `Reach`;
+//! - `ends`: how a drive to a count stopped, `Reach`; of another drive `Drive` of `diva_hart` says so;
 //! - `turns`: a machine and a core, turn by turn, `turn` and `drive`;
 //! - `reaching`: turns until so many instructions have committed, `drive_to`.
 //!
 //! How wide and deep the machine is, `Config`, is told by `diva_core`. The committed state but memory, and what is under way
 //! (pending claims, solo instruction, watchdog and log), are the parts that `diva_hart` has for a hart.
 //!
-//! What a cycle does is `cycle_of` of `diva_core`'s definitions; `specs/Start.antt` says in which
+//! What a cycle does is `cycle_of` of `diva_core`'s definitions; `specs/Start.antt` of `diva_hart` says in which
 //! state an image starts, `specs/Machine.antt` what contracts see of a machine, `specs/Drives.antt` what a
 //! drive leaves of one, `specs/Counts.antt` how it stands to a count, and `specs/Staged.antt` what the stages
 //! note of a claim by its age.
@@ -30,9 +30,9 @@ mod stages;
 mod turns;
 
 pub use diva_core::Config;
-pub use diva_hart::{DEPTH, KEPT_ROWS};
+pub use diva_hart::{DEPTH, Drive, KEPT_ROWS};
 pub use diva_isa::End;
-pub use ends::{Drive, Reach};
+pub use ends::Reach;
 pub use machine::Machine;
 pub use reaching::drive_to;
 pub use turns::{drive, turn};

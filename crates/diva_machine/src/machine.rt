@@ -12,7 +12,7 @@ ghost use Rattle.diva_core.specs.Cycle.{cycle_of};
 ghost use Rattle.diva_core.specs.Machine.{IsMachine};
 ghost use Rattle.diva_core.specs.Headline.{dues, Rises, ByClaims, BySolo, IsJudged, SameLog, AddsRow, HasPace, WillCount, WillJudge};
 ghost use Rattle.diva_core.specs.Right.{IsRight, IsCalm, StaysCalm};
-ghost use Rattle.diva_machine.specs.Start.{start_of};
+ghost use Rattle.diva_hart.specs.Start.{start_of};
 ghost use Rattle.diva_machine.specs.Staged.{AreChecked, IsChecked};
 
 use crate::parts::Parts;

@@ -19,7 +19,7 @@ ghost use Rattle.diva_core.specs.Headline.{dues, SameLog};
 ghost use Rattle.diva_core.specs.Cycle.{Commit, accepted_in, accepts, commits_under, committed, cycle_of, drained, flushed, number, port_opens, stores_wait, watched};
 ghost use Rattle.diva_core.specs.declared.flushes.Cause.TheVariants.{Silent};
 ghost use Rattle.diva_commit.specs.Committing.{answer, is_committed};
-ghost use Rattle.diva_machine.specs.Start.{start_of};
+ghost use Rattle.diva_hart.specs.Start.{start_of};
 ghost use Rattle.diva_machine.specs.Inner.{judged, judged_by, judgement_of, KeepsBounds, Tells};
 ghost use Rattle.diva_machine.specs.Staged.{last_stage, IsFilled, IsSoloFilled, IsStaged};
 ghost use Rattle.diva_machine.specs.Inner.{left, IsAdvanced};

@@ -9,9 +9,9 @@ ghost use Rattle.diva_core.specs.Headline.{AddsRow, ByClaims, BySolo, HasPace, K
 ghost use Rattle.diva_core.specs.Right.{IsRight, IsCalm, StaysCalm};
 ghost use Rattle.diva_machine.specs.Drives.{Drives};
 
-use crate::ends::Drive;
 use crate::machine::Machine;
 use diva_core::{Claims, Core};
+use diva_hart::Drive;
 
 /// Asks the core once and runs one cycle; the list is then what was handed over. On an ended
 /// machine the core is not asked, and the list is empty.

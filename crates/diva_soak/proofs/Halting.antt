@@ -15,7 +15,7 @@ use Rattle.diva_isa.specs.declared.record.Record.{Record}
 use Rattle.diva_core.proofs.Bypassing.{with_reg_reads}
 use Rattle.diva_core.proofs.Steps.{step-on, steps-shift}
 use Rattle.diva_image.specs.Layout.{most_size}
-use Rattle.diva_machine.specs.Start.{start_of}
+use Rattle.diva_hart.specs.Start.{start_of}
 use Rattle.diva_soak.specs.Halts.{HaltsWithin}
 use Rattle.diva_soak.specs.Soak.{words_as_bytes, drawn, last_words, of_immediate, of_sources, payload_of, soak_of, soak_size, words_after}
 use Rattle.diva_soak.proofs.EachKind.{has_word}

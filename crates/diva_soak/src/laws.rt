@@ -1,7 +1,7 @@
 //! Laws of the images of seeds. Each function has no body: its clause is about the definitions.
 ghost use Rattle.std.specs.Prelude.{ℕ, ◌≤◌, ◌+◌};
 ghost use Rattle.diva_image.specs.Layout.{most_size};
-ghost use Rattle.diva_machine.specs.Start.{start_of};
+ghost use Rattle.diva_hart.specs.Start.{start_of};
 ghost use Rattle.diva_soak.specs.Halts.{HaltsWithin};
 ghost use Rattle.diva_soak.specs.Soak.{soak_of, soak_size};
 

@@ -2,7 +2,7 @@
 use Rattle.std.proofs.Common.{ap, ◌∙◌}
 use Rattle.diva_core.specs.Timed.{new_timed}
 use Rattle.diva_image.specs.ImageLayout.{layout}
-use Rattle.diva_machine.specs.Start.{start_of}
+use Rattle.diva_hart.specs.Start.{start_of}
 use Rattle.diva_args.specs.Options.{Setup}
 use Rattle.diva_cli.proofs.Preparing.{ready_held}
 use Rattle.diva_cli.proofs.loading.make_ready.Goals as goal

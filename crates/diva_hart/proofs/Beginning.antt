@@ -2,7 +2,7 @@
 use Rattle.std.proofs.Common.{◌≡◌, ℕ, List, [], replicate, refl}
 use Rattle.diva_isa.specs.State.{State}
 use Rattle.diva_image.specs.Layout.{BeginsAs, Layout, memory_of}
-use Rattle.diva_machine.specs.Start.{start_of}
+use Rattle.diva_hart.specs.Start.{start_of}
 
 same_state : (entry entry' base base' : ℕ) (bytes bytes' : List ℕ) → entry ≡ entry' → base ≡ base' → bytes ≡ bytes'
     → (let a : State = record { regs = replicate 32 0; pc = entry; base = base; bytes = bytes; output = []; instret = 0; end = 0 } in
