@@ -11,7 +11,7 @@ use Rattle.diva_hart.specs.declared.ends.Drive.TheVariants.{Ended, Budget}
 use Rattle.diva_duo.specs.Duo.{Duo, duo_cycle_of, is_over}
 use Rattle.diva_duo.specs.Which.{Which, First, Second, hart_at}
 use Rattle.diva_duo.specs.Shown.{Shown}
-use Rattle.diva_duo.specs.Sound.{HasGone}
+use Rattle.diva_duo.specs.Between.{HasGone}
 use Rattle.diva_duo.specs.Turns.{AskedBy, DrivesDuo, DuoTurn, IsDuoHistory, pairs_of}
 use Rattle.diva_duo.proofs.Turning.{history_run}
 use Rattle.diva_ahead.specs.Ahead.{Ahead}

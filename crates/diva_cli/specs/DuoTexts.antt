@@ -12,7 +12,7 @@ use Rattle.diva_hart.specs.Start.{start_of}
 use Rattle.diva_duo.specs.Harts.{replay}
 use Rattle.diva_duo.specs.Duo.{Duo, duo_cycle_of, harts_of, is_over, new_duo}
 use Rattle.diva_duo.specs.Which.{Which, First, Second, hart_at, standing}
-use Rattle.diva_duo.specs.Sound.{HasGone, duo_run}
+use Rattle.diva_duo.specs.Between.{HasGone, duo_run}
 use Rattle.diva_duo.specs.Turns.{acted_by}
 use Rattle.diva_ahead.specs.Ahead.{Ahead}
 use Rattle.diva_tape.specs.Lists.{lockstep_call}

@@ -16,7 +16,7 @@ use Rattle.diva_duo.specs.declared.action.Action.TheVariants.{Go, Drain}
 use Rattle.diva_duo.specs.Harts.{Harts, may_drain, memory_drained, replay, state_drained, where_possible}
 use Rattle.diva_duo.specs.Duo.{Duo, Hart, timed, drained_hart, hart_cycle, duo_drained, duo_cycle_of, phased, is_over, has_ended, harts_of, drains, actions}
 use Rattle.diva_duo.specs.Which.{Which, First, Second, hart_at, standing}
-use Rattle.diva_duo.specs.Sound.{IsHart, IsDuo}
+use Rattle.diva_duo.specs.Between.{CountsFew, IsDuo, IsHart}
 use Rattle.diva_duo.proofs.Moving.{Moves, moves_on, keeps_on, other_memory, stalls_hart}
 use Rattle.diva_duo.proofs.Replaying.{replays, replay_then, went_on, went_none}
 
@@ -181,11 +181,12 @@ module _ (d : Duo) (inv : IsDuo d) (a b : List Record) where
   -- its count does not fall, and its numbers stay
   pub record Continues (w : Which) (e : Duo) : Type 0 where
     pub count : (hart_at w d).state.instret ≤ (hart_at w e).state.instret
+    pub few : CountsFew w d e
     pub config : (hart_at w e).config ≡ (hart_at w d).config
 
   next_continues : (w : Which) → Continues w next
-  next_continues First = record { count = (let e = ap (λ (x : Hart). x.state.instret) first_is ∙ moves_first.counted in omega arith); config = ap (λ (x : Hart). x.config) first_is ∙ moves_first.config }
-  next_continues Second = record { count = (let e = ap (λ (x : Hart). x.state.instret) second_is ∙ moves_second.counted in omega arith); config = ap (λ (x : Hart). x.config) second_is ∙ moves_second.config }
+  next_continues First = record { count = (let e = ap (λ (x : Hart). x.state.instret) first_is ∙ moves_first.counted in omega arith); few = (let e = ap (λ (x : Hart). x.state.instret) first_is ∙ moves_first.counted in let f = moves_first.few in omega arith); config = ap (λ (x : Hart). x.config) first_is ∙ moves_first.config }
+  next_continues Second = record { count = (let e = ap (λ (x : Hart). x.state.instret) second_is ∙ moves_second.counted in omega arith); few = (let e = ap (λ (x : Hart). x.state.instret) second_is ∙ moves_second.counted in let f = moves_second.few in omega arith); config = ap (λ (x : Hart). x.config) second_is ∙ moves_second.config }
 
   next_stalls : (w : Which) → (hart_at w d).state.end ≡ 0 → ((hart_at w d).state.instret < (hart_at w next).state.instret) ⊎ Stalls (standing w d) (standing w next)
   unfolding duo_drained
@@ -194,9 +195,12 @@ module _ (d : Duo) (inv : IsDuo d) (a b : List Record) where
 
   pub continues : (w : Which) → Continues w (duo_cycle_of d a b)
   continues w = elim (cases_Bool (is_over d)) [
-    | inl over ↦ subst (Continues w) (sym (cycle_over over)) (record { count = omega arith; config = refl })
+    | inl over ↦ subst (Continues w) (sym (cycle_over over)) (record { count = omega arith; few = omega arith; config = refl })
     | inr goes ↦ subst (Continues w) (sym (cycle_next goes)) (next_continues w)
   ]
+
+  pub counts_few : (w : Which) → CountsFew w d (duo_cycle_of d a b)
+  counts_few w = (continues w).few
 
   pub stalls_at : (w : Which) → (hart_at w d).state.end ≡ 0 → ((hart_at w d).state.instret < (hart_at w (duo_cycle_of d a b)).state.instret) ⊎ Stalls (standing w d) (standing w (duo_cycle_of d a b))
   stalls_at w on =
@@ -214,8 +218,8 @@ module _ (d : Duo) (inv : IsDuo d) (a b : List Record) where
 
   -- ---- the laws
 
-  pub stays_sound : IsDuo (duo_cycle_of d a b)
-  stays_sound = elim (cases_Bool (is_over d)) [
+  pub stays : IsDuo (duo_cycle_of d a b)
+  stays = elim (cases_Bool (is_over d)) [
     | inl over ↦ subst IsDuo (sym (cycle_over over)) inv
     | inr goes ↦ subst IsDuo (sym (cycle_next goes)) next_keeps
   ]

@@ -20,7 +20,7 @@ use Rattle.diva_commit.specs.Committing.{AreInside, buffered}
 use Rattle.diva_hart.specs.HartArch.{HartState, hart_in, seen}
 use Rattle.diva_duo.specs.Rules.{fence_waits, fences_wait, is_fence}
 use Rattle.diva_duo.specs.Duo.{Hart, timed, moved, drained_hart, hart_cycle}
-use Rattle.diva_duo.specs.Sound.{IsHart}
+use Rattle.diva_duo.specs.Between.{IsHart}
 use Rattle.diva_duo.proofs.Replaying.{Goes, goes_by, went_on}
 
 -- ---- the rule of two harts

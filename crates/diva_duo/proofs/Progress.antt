@@ -8,14 +8,14 @@ use Rattle.diva_core.proofs.Progressing.{has_pace}
 use Rattle.diva_core.proofs.Stalling.{Stalls, most}
 use Rattle.diva_duo.specs.Duo.{Duo, timed, duo_cycle_of}
 use Rattle.diva_duo.specs.Which.{Which, hart_at, standing}
-use Rattle.diva_duo.specs.Sound.{IsDuo, duo_run, WillGo, HasGone}
-use Rattle.diva_duo.proofs.Readying.{sound_at}
-use Rattle.diva_duo.proofs.Cycles.{continues, stalls_at, stays_sound}
+use Rattle.diva_duo.specs.Between.{IsDuo, duo_run, WillGo, HasGone}
+use Rattle.diva_duo.proofs.Readying.{hart_holds}
+use Rattle.diva_duo.proofs.Cycles.{continues, stalls_at, stays}
 
 -- a hart that goes on is a machine
 machine_at : (w : Which) (d : Duo) → IsDuo d → (hart_at w d).state.end ≡ 0 → IsMachine (standing w d)
 machine_at w d inv on =
-    let h = sound_at w d inv in subst (λ a. IsMachine (timed a d.memory (hart_at w d))) (h.running on) h.machine
+    let h = hart_holds w d inv in subst (λ a. IsMachine (timed a d.memory (hart_at w d))) (h.running on) h.machine
 
 pub has_gone : (w : Which) (d : Duo) → IsDuo d → HasGone w d
 has_gone w d inv on = has_pace (standing w d) (machine_at w d inv on)
@@ -27,7 +27,7 @@ run_counts : (w : Which) (lists : List Pair) (d : Duo) → IsDuo d → (hart_at 
 run_counts w [] d inv = omega arith
 run_counts w (l ∷ rest) d inv =
     let c = (continues d inv l.0 l.1 w).count in
-    let r = run_counts w rest (duo_cycle_of d l.0 l.1) (stays_sound d inv l.0 l.1) in
+    let r = run_counts w rest (duo_cycle_of d l.0 l.1) (stays d inv l.0 l.1) in
     omega arith
 
 -- it has counted by the end of the lists, or it has not stalled for so long
@@ -50,7 +50,7 @@ within : (w : Which) (lists : List Pair) (d : Duo) → IsDuo d → (hart_at w d)
 within w [] d inv on = inr (let h = most (standing w d) (machine_at w d inv on) in omega arith)
 within w (l ∷ rest) d inv on =
     let e = duo_cycle_of d l.0 l.1 in
-    let sound = stays_sound d inv l.0 l.1 in
+    let sound = stays d inv l.0 l.1 in
     within_cases w d e (duo_run e rest) (length rest) (continues d inv l.0 l.1 w).config (run_counts w rest e sound) (within w rest e sound) (stalls_at d inv l.0 l.1 w on)
 
 pub will_go : (w : Which) (d : Duo) → IsDuo d → WillGo w d

@@ -11,7 +11,7 @@ use Rattle.diva_hart.specs.HartArch.{seen}
 use Rattle.diva_duo.specs.Harts.{first_state}
 use Rattle.diva_duo.specs.Duo.{Duo, Hart, drained_hart, new_duo, new_hart}
 use Rattle.diva_duo.specs.Which.{Which, First, Second, hart_at}
-use Rattle.diva_duo.specs.Sound.{IsDuo, IsHart}
+use Rattle.diva_duo.specs.Between.{IsDuo, IsHart}
 use Rattle.diva_duo.specs.Inner.{IsReady}
 
 idle_most : (m : Timed) (solo : Option ℕ) → Lives m solo → m.config.limit ≤ 1024 → m.idle < 2 ^ 31
@@ -38,13 +38,13 @@ ready now memory h inv few =
       idle = idle_most _ h.solo m.lives m.config.limit_high;
     }
 
-pub sound_at : (w : Which) (d : Duo) → IsDuo d → IsHart d.cycles d.memory (hart_at w d)
-sound_at First d inv = inv.first
-sound_at Second d inv = inv.second
+pub hart_holds : (w : Which) (d : Duo) → IsDuo d → IsHart d.cycles d.memory (hart_at w d)
+hart_holds First d inv = inv.first
+hart_holds Second d inv = inv.second
 
 -- a hart's width is that of a machine
 pub tells : (w : Which) (d : Duo) → IsDuo d → (hart_at w d).config.width ≤ 4
-tells w d inv = (sound_at w d inv).machine.config.width_high
+tells w d inv = (hart_holds w d inv).machine.config.width_high
 
 new_at : (z : Config) (s : State) (n : ℕ) → IsConfig z → z.port ≡ 1 → s.instret ≡ 0 → IsHart 0 (memory_of s) (new_hart z s n)
 new_at z s n ok port none =
@@ -70,5 +70,5 @@ new_at z s n ok port none =
     }
 
 -- two harts that begin with a state
-pub new_sound : (z : Config) (s : State) → IsConfig z → z.port ≡ 1 → s.instret ≡ 0 → s.base + length s.bytes ≤ 2 ^ 32 → IsDuo (new_duo z s)
-new_sound z s ok port none range = record { range = range; first = new_at z s 0 ok port none; second = new_at z s 1 ok port none }
+pub new_holds : (z : Config) (s : State) → IsConfig z → z.port ≡ 1 → s.instret ≡ 0 → s.base + length s.bytes ≤ 2 ^ 32 → IsDuo (new_duo z s)
+new_holds z s ok port none range = record { range = range; first = new_at z s 0 ok port none; second = new_at z s 1 ok port none }

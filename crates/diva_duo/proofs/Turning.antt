@@ -7,7 +7,7 @@ use Rattle.diva_duo.specs.declared.action.Action.{Action}
 use Rattle.diva_duo.specs.Harts.{replay}
 use Rattle.diva_duo.specs.Duo.{Duo, actions, duo_cycle_of, harts_of, is_over}
 use Rattle.diva_duo.specs.Which.{First, Second}
-use Rattle.diva_duo.specs.Sound.{IsDuo, duo_run}
+use Rattle.diva_duo.specs.Between.{IsDuo, duo_run}
 use Rattle.diva_duo.specs.Shown.{Shown}
 use Rattle.diva_duo.specs.Turns.{Asked, DrivesDuo, DuoTurn, DuoTurns, IsDuoHistory, acted_by, last_acted, pairs_of}
 use Rattle.diva_duo.proofs.Cycles.{cycles_more, replays_actions}

@@ -4,7 +4,7 @@ pub mod Harts
 pub mod Duo
 pub mod Which
 pub mod Shown
-pub mod Sound
+pub mod Between
 pub mod Turns
 -- a worked example, for the function of `worked` alone
 pub mod Programs

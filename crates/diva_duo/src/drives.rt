@@ -2,7 +2,7 @@
 ghost use Rattle.std.specs.Prelude.{◌≡◌, ◌+◌, ◌<◌, ◌≤◌, ◌^◌, ◌↔◌, true, false};
 ghost use Rattle.diva_duo.specs.Duo.{is_over};
 ghost use Rattle.diva_duo.specs.Which.{First, Second, which};
-ghost use Rattle.diva_duo.specs.Sound.{HasGone, IsDuo, WillGo};
+ghost use Rattle.diva_duo.specs.Between.{HasGone, IsDuo, WillGo};
 ghost use Rattle.diva_duo.specs.Turns.{Asked, DrivesDuo};
 
 use crate::duo::Duo;
@@ -26,7 +26,7 @@ pub fn drive2<A: Core, B: Core>(duo: &mut Duo, a: &mut A, b: &mut B, budget: u64
     ensures second_will_go { WillGo Second duo.new.duo }
     ensures first_has_gone { HasGone First duo.new.duo }
     ensures second_has_gone { HasGone Second duo.new.duo }
-    ensures sound { IsDuo duo.new.duo }
+    ensures duo { IsDuo duo.new.duo }
 {
     if duo.ended() {
         return Drive::Ended;

@@ -10,7 +10,7 @@ ghost use Rattle.diva_hart.specs.Start.{start_of};
 ghost use Rattle.diva_duo.specs.Harts.{memory_drained, replay};
 ghost use Rattle.diva_duo.specs.Duo.{actions, drained_hart, drains, duo_cycle_of, goes, hart_cycle, harts_of, is_over, new_duo};
 ghost use Rattle.diva_duo.specs.Which.{First, Second, hart_at, standing, which};
-ghost use Rattle.diva_duo.specs.Sound.{IsDuo, WillGo, HasGone};
+ghost use Rattle.diva_duo.specs.Between.{CountsFew, IsDuo, WillGo, HasGone};
 ghost use Rattle.diva_duo.specs.Inner.{IsReady};
 
 use crate::action::Action;
@@ -71,7 +71,7 @@ impl Parts {
     #[tactic(auto, unfolding(crate::specs::Duo::duo_cycle_of, crate::specs::Duo::duo_drained, crate::specs::Duo::actions))]
     fn cycle(&mut self, a: &[Claim], b: &[Claim])
         requires goes_on { is_over self.old.duo ≡ false }
-        requires sound { IsDuo self.old.duo }
+        requires duo { IsDuo self.old.duo }
         requires cycles { self.old.duo.cycles < 2 ^ 60 }
         requires last { self.old.last ≡ [] }
         ensures duo { self.new.duo ≡ duo_cycle_of self.old.duo a.now b.now }
@@ -144,7 +144,7 @@ pub struct Duo {
 impl Model for Duo {
     ghost use Rattle.std.specs.Prelude.{◌≤◌, ◌^◌};
     ghost use Rattle.diva_duo.specs.Shown.{Shown};
-    ghost use Rattle.diva_duo.specs.Sound.{IsDuo};
+    ghost use Rattle.diva_duo.specs.Between.{IsDuo};
 
     ghost Value = { Shown };
 
@@ -157,7 +157,7 @@ impl Duo {
     /// Two harts that begin with an image, each with its number in x10: pc is the image's entry, all other registers are 0, and
     /// the outputs are empty. Memory takes a store of each hart in each cycle, so the port has to be 1. The one error is that
     /// memory runs out; no later call takes any.
-    #[tactic(auto, using(crate::proofs::Readying::new_sound))]
+    #[tactic(auto, using(crate::proofs::Readying::new_holds))]
     pub fn new(alloc: Global, image: &Image, config: Config) -> Result<Self, AllocError>
         requires { config.port ≡ 1 }
         ensures duo { IfOk result (λ d. d.duo ≡ new_duo config (start_of (layout image.now))) }
@@ -189,7 +189,7 @@ impl Duo {
     /// Whether both harts have ended, and both buffers are empty.
     pub fn ended(&self) -> bool
         ensures value { result ≡ is_over self.now.duo }
-        ensures sound { IsDuo self.now.duo }
+        ensures duo { IsDuo self.now.duo }
     {
         self.parts.is_over()
     }
@@ -288,7 +288,7 @@ impl Duo {
     }
 
     /// Runs one cycle, each hart on its list. Where both have ended and drained, nothing changes but `last`, which is then empty.
-    #[tactic(auto, using(crate::proofs::Cycles::replays_actions, crate::proofs::Cycles::stays_sound, crate::proofs::Progress::will_go, crate::proofs::Progress::has_gone, crate::proofs::Cycles::cycle_over))]
+    #[tactic(auto, using(crate::proofs::Cycles::replays_actions, crate::proofs::Cycles::stays, crate::proofs::Cycles::counts_few, crate::proofs::Progress::will_go, crate::proofs::Progress::has_gone, crate::proofs::Cycles::cycle_over))]
     pub fn cycle(&mut self, a: &Claims, b: &Claims)
         requires { self.old.duo.cycles < 2 ^ 60 }
         // It is the cycle of the definition, in every part.
@@ -297,13 +297,15 @@ impl Duo {
         // What it did are actions of the store-buffer machine, each of which was possible: they lead from the old harts to the new.
         ensures last { self.new.last ≡ actions self.old.duo self.new.duo }
         ensures replayed { replay self.new.last (harts_of self.old.duo) ≡ Some (harts_of self.new.duo) }
+        ensures first_few { CountsFew First self.old.duo self.new.duo }
+        ensures second_few { CountsFew Second self.old.duo self.new.duo }
 
         // Each hart goes on within the watchdog's limit and six cycles, whatever is handed over, and has done so until now.
         ensures first_will_go { WillGo First self.new.duo }
         ensures second_will_go { WillGo Second self.new.duo }
         ensures first_has_gone { HasGone First self.new.duo }
         ensures second_has_gone { HasGone Second self.new.duo }
-        ensures sound { IsDuo self.new.duo }
+        ensures duo { IsDuo self.new.duo }
     {
         self.parts.last.clear();
         if !self.parts.is_over() {

@@ -8,7 +8,7 @@
 //! - `worked`: runs that were worked out by hand, which the definitions give.
 //!
 //! What a cycle does is `duo_cycle_of` of `specs/Duo.antt`: phase by phase the timed machine's of `diva_core`, under the rule of
-//! `specs/Rules.antt`. `specs/Harts.antt` has the store-buffer machine, to which a cycle is some actions, `specs/Sound.antt` what
+//! `specs/Rules.antt`. `specs/Harts.antt` has the store-buffer machine, to which a cycle is some actions, `specs/Between.antt` what
 //! holds between cycles and how soon a hart goes on, and `specs/Turns.antt` the turns of two harts and their cores.
 #![tactic(auto)]
 

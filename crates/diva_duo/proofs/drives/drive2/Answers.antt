@@ -12,7 +12,7 @@ returns-then-ended-clause-drives g c = drives_none g.A.Core.gives g.B.Core.gives
 pub loop-init : goal.loop-init
 loop-init g c =
     let on = sym c.ended.ensures.value ∙ c.if-ended.false in
-    record { drives = drives_none g.A.Core.gives g.B.Core.gives _ _ _; on = on; began = on; sound = c.ended.ensures.sound; cycles = omega arith }
+    record { drives = drives_none g.A.Core.gives g.B.Core.gives _ _ _; on = on; began = on; sound = c.ended.ensures.duo; cycles = omega arith }
 
 pub returns-then-ended-2-clause-drives : goal.returns-then-ended-2-clause-drives
 returns-then-ended-2-clause-drives g c =
@@ -37,7 +37,7 @@ loop-preserved g c =
           c.cycle.new.self inv.drives inv.sound inv.on c.ask.ensures c.ask-in-loop.ensures c.cycle.ensures.cycled c.cycle.ensures.last;
       on = sym c.ended-in-loop.ensures.value ∙ c.if-ended-2.false;
       began = inv.began;
-      sound = c.cycle.ensures.sound;
+      sound = c.cycle.ensures.duo;
       cycles = (let at = inv.cycles in omega arith);
     }
 

@@ -1,6 +1,6 @@
 use Rattle.std.proofs.Common.{◌≡◌, ◌+◌, false}
 use Rattle.diva_duo.specs.Duo.{is_over}
-use Rattle.diva_duo.specs.Sound.{IsDuo}
+use Rattle.diva_duo.specs.Between.{IsDuo}
 use Rattle.diva_duo.specs.Turns.{DrivesDuo}
 use Rattle.diva_duo.proofs.drives.drive2.Given as goal
 

@@ -5,8 +5,8 @@ use Rattle.diva_isa.specs.State.{State, memory_of}
 use Rattle.diva_image.specs.ImageLayout.{layout}
 use Rattle.diva_hart.specs.Start.{start_of}
 use Rattle.diva_duo.specs.Duo.{new_duo}
-use Rattle.diva_duo.specs.Sound.{IsDuo}
-use Rattle.diva_duo.proofs.Readying.{new_sound}
+use Rattle.diva_duo.specs.Between.{IsDuo}
+use Rattle.diva_duo.proofs.Readying.{new_holds}
 use Rattle.diva_duo.proofs.duo.Duo.new.Goals as goal
 
 pub invariant_of-result : goal.invariant_of-result
@@ -16,4 +16,4 @@ invariant_of-result c =
     let range : s.base + length s.bytes ≤ 2 ^ 32 = subst (λ (m : Bytes). m.base + length m.items ≤ 2 ^ 32) memory c.recall.ensures in
     let is : record { memory = c.in_ok-memory.memory; cycles = 0; first = c.in_ok-first.first; second = c.in_ok-second.second } ≡ new_duo c.args.config s =
     λ i. record { memory = memory i; cycles = 0; first = c.in_ok-first.ensures i; second = c.in_ok-second.ensures i } in
-    (subst IsDuo (sym is) (new_sound c.args.config s c.width.ensures.config c.requires refl range), omega arith)
+    (subst IsDuo (sym is) (new_holds c.args.config s c.width.ensures.config c.requires refl range), omega arith)

@@ -24,6 +24,10 @@ pub record IsDuo (d : Duo) : Type 0 where
   pub first : IsHart d.cycles d.memory d.first
   pub second : IsHart d.cycles d.memory d.second
 
+-- in a cycle from d to e a hart counts as many instructions as its width at most
+abbrev pub CountsFew : Which → (d e : Duo) → Type 0
+CountsFew w d e = (hart_at w e).state.instret ≤ (hart_at w d).state.instret + (hart_at w d).config.width
+
 -- ---- until its end, a hart counts an instruction in every W + 6 cycles, W being the watchdog's limit
 
 -- the two harts after these pairs of lists
