@@ -1,6 +1,7 @@
 -- A job all of whose files are known and sound is done.
 use Rattle.std.proofs.Common.{◌≡◌, ◌⊎◌, ℕ, List, [], ◌∷◌, length, Option, Some, None, Result, Ok, Err, IsOk, inl, inr, sym, ◌∙◌, refl, ap, arith, subst}
-use Rattle.std.proofs.lemmas.Bool.{true≢false}
+use Rattle.std.specs.Prelude.{max}
+use Rattle.std.proofs.lemmas.Bool.{cases_Bool, true≢false}
 use Rattle.diva_outside.specs.Causes.{Rose}
 use Rattle.diva_outside.specs.Files.{Contents}
 use Rattle.diva_outside.specs.declared.files.What.{What}
@@ -11,13 +12,15 @@ use Rattle.diva_isa.specs.declared.end.End.TheVariants.{GoesOn, Halt, Trap}
 use Rattle.diva_core.specs.History.{Meaning}
 use Rattle.diva_core.specs.Timed.{Timed}
 use Rattle.diva_args.specs.declared.job.Job.{Job}
-use Rattle.diva_args.specs.declared.job.Job.TheVariants.{Run, Tape, Debug, Asm, Dis, Migrate, Soak}
+use Rattle.diva_args.specs.declared.job.Job.TheVariants.{Run, Tape, Duo as Harts, Debug, Asm, Dis, Migrate, Soak}
 use Rattle.diva_cli.specs.declared.stop.Failure.{Failure}
 use Rattle.diva_cli.specs.declared.stop.Failure.TheVariants.{Cut, Memory}
 use Rattle.diva_cli.specs.Asked.{Asked}
 use Rattle.diva_cli.specs.Changes.{Change, FileFaults, HasFailed, SinkChange, Takes}
 use Rattle.diva_cli.specs.Wanted.{Wanted, FileBytes, wanted, IsFaultless, HasFault}
 use Rattle.diva_cli.specs.Stops.{StopsAt, StopsLoading, IsUnread, IsRefused, IsTooLong, HasFirstFault}
+use Rattle.diva_duo.specs.Duo.{Duo, is_over}
+use Rattle.diva_cli.specs.DuoTexts.{duo_status}
 use Rattle.diva_cli.specs.Runs.{EndsWith, end_status}
 use Rattle.diva_cli.specs.Texts.{HasText, CanEnd, IsDone}
 use Rattle.diva_cli.specs.Answers.{IsAnswer, misused, unread, refused, done}
@@ -34,6 +37,24 @@ done_by GoesOn = inr (inr refl)
 ends_done : (last : Timed) (cycles status : ℕ) → EndsWith last cycles status → IsDone status
 ends_done last cycles status h = subst IsDone (sym h.by_end) (done_by (end_of last.arch.end))
 
+greater_done : (a b : ℕ) → IsDone a → IsDone b → IsDone (max a b)
+greater_done a b (inl x) (inl y) = inl (omega arith)
+greater_done a b (inl x) (inr (inl y)) = inr (inl (omega arith))
+greater_done a b (inl x) (inr (inr y)) = inr (inr (omega arith))
+greater_done a b (inr (inl x)) (inl y) = inr (inl (omega arith))
+greater_done a b (inr (inl x)) (inr (inl y)) = inr (inl (omega arith))
+greater_done a b (inr (inl x)) (inr (inr y)) = inr (inr (omega arith))
+greater_done a b (inr (inr x)) (inl y) = inr (inr (omega arith))
+greater_done a b (inr (inr x)) (inr (inl y)) = inr (inr (omega arith))
+greater_done a b (inr (inr x)) (inr (inr y)) = inr (inr (omega arith))
+
+duo_done : (last : Duo) → IsDone (duo_status last)
+duo_done last =
+    elim (cases_Bool (is_over last)) [
+      | inl over ↦ rw over (greater_done _ _ (done_by (end_of last.first.state.end)) (done_by (end_of last.second.state.end)))
+      | inr off ↦ rw off (inr (inr refl))
+    ]
+
 can_end : {C : Type 0} (gives : Meaning C) (job : Job) (bytes : FileBytes) (core : Change C) (status : ℕ) (text : List ℕ)
     → HasText gives job bytes core (Ok status) text → CanEnd job status
 can_end gives (Run options) bytes core status text h =
@@ -42,6 +63,7 @@ can_end gives (Run options) bytes core status text h =
       | inr b ↦ absurd (let e = b.cut.holds in cc)
     ]
 can_end gives (Tape options) bytes core status text h = ends_done h.last options.cycles status h.whole.ended
+can_end gives (Harts options) bytes core status text h = subst IsDone (sym h.status) (duo_done h.last)
 can_end gives (Debug options) bytes core status text h = h.whole.0
 can_end gives (Asm name) bytes core status text h = h.alone.whole
 can_end gives (Dis name) bytes core status text h = h.alone.whole

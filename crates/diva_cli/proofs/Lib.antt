@@ -15,3 +15,4 @@ pub mod Refusing
 pub mod Determining
 pub mod Commanding
 pub mod Soaking
+pub mod DuoRunning

@@ -12,6 +12,7 @@ pub mod Replies
 pub mod DebugTexts
 pub mod ImageTexts
 pub mod SoakTexts
+pub mod DuoTexts
 pub mod Texts
 pub mod Answers
 pub mod Statuses

@@ -14,15 +14,21 @@ use Rattle.diva_core.specs.Timed.{Timed, default_config, new_timed}
 use Rattle.diva_core.specs.History.{Meaning, Turns}
 use Rattle.diva_faults.specs.declared.rows.Row.{Row}
 use Rattle.diva_tape.specs.Scalar.{new_scalar}
-use Rattle.diva_args.specs.Options.{DebugOptions, Setup, SoakOptions, longest_soak}
+use Rattle.diva_args.specs.Options.{DebugOptions, DuoOptions, Setup, SoakOptions, longest_soak}
 use Rattle.diva_debug.specs.Moves.{IsShort}
 use Rattle.diva_debug.specs.Reading.{commands_of}
 use Rattle.diva_debug.specs.declared.command.Command.{Command}
 use Rattle.diva_args.specs.declared.job.CoreChoice.{CoreChoice}
 use Rattle.diva_args.specs.declared.job.CoreChoice.TheVariants as choice
+use Rattle.diva_args.specs.declared.job.HartCore.{HartCore}
+use Rattle.diva_args.specs.declared.job.HartCore.TheVariants as hart
 use Rattle.diva_args.specs.declared.job.Job.{Job}
+use Rattle.diva_args.specs.declared.job.Job.TheVariants.{Duo}
 use Rattle.diva_cli.specs.declared.driving.CoreInUse.{CoreInUse}
 use Rattle.diva_cli.specs.declared.driving.CoreInUse.TheVariants.{Own, Lockstep, Scalar, Silent, Flood, Echo, Noise, Tape}
+use Rattle.diva_cli.specs.declared.duo.DuoReady.{DuoReady}
+use Rattle.diva_cli.specs.declared.duo.HartCores.{HartCores}
+use Rattle.diva_cli.specs.declared.duo.HartCores.TheVariants as cores
 use Rattle.diva_cli.specs.declared.loading.Ready.{Ready}
 use Rattle.diva_cli.specs.declared.loading.SessionReady.{SessionReady}
 use Rattle.diva_cli.specs.declared.soak.SoakReady.{SoakReady}
@@ -33,8 +39,9 @@ use Rattle.diva_cli.specs.declared.stop.Failure.TheVariants.{Cut, Memory as NoMe
 use Rattle.diva_cli.specs.Asked.{Asked}
 use Rattle.diva_cli.specs.Changes.{Change, FileFaults, HasFailed, SinkChange, Takes, TakesPart, TakesPast}
 use Rattle.diva_cli.specs.Lines.{unreadable_line, refused_line}
-use Rattle.diva_cli.specs.Wanted.{Wanted, FileBytes, HasFault, IsSound, AreSound, file_if, machine_files, session_files, tape_name}
+use Rattle.diva_cli.specs.Wanted.{Wanted, FileBytes, HasFault, IsSound, AreSound, file_if, machine_files, session_files, tape_name, wanted}
 use Rattle.diva_cli.specs.Runs.{AreRows, AreLists, start_in}
+use Rattle.diva_cli.specs.DuoTexts.{duo_start}
 use Rattle.diva_cli.specs.SoakTexts.{soak_cycles, soak_start}
 use Rattle.diva_cli.specs.Stops.{StopsAt, IsUnread, StopsLoading}
 use Rattle.diva_cli.specs.Texts.{HasText}
@@ -138,6 +145,23 @@ pub record Soaks {D : Type 0} (gives : Meaning D) (options : SoakOptions) (core 
   pub turns : Turns gives (new_timed default_config (soak_start options)) core.before last core.after
   pub most : last.cycles ≤ soak_cycles options.instructions
   pub whole : goes_on last.arch ≡ true → last.cycles ≡ soak_cycles options.instructions
+
+-- new cores of a kind, for both harts
+abbrev pub new_cores : HartCore → HartCores
+new_cores hart.Scalar = cores.Scalar new_scalar new_scalar
+new_cores hart.Lockstep = cores.Lockstep
+new_cores hart.Silent = cores.Silent
+
+-- two harts begin with the image of these bytes, and their cores are new and of the kind that is asked for
+pub record IsDuoReady (options : DuoOptions) (bytes : FileBytes) (ready : DuoReady) : Type 0 where
+  pub begun : ready.duo.duo ≡ duo_start options bytes
+  pub cores : ready.cores ≡ new_cores options.core
+
+-- the same, of the bytes of a sound file with the image's name
+pub record HoldsDuo (contents : Contents) (options : DuoOptions) (ready : DuoReady) : Type 0 where
+  pub bytes : FileBytes
+  pub sound : AreSound contents (wanted (Duo options)) bytes
+  pub is : IsDuoReady options bytes ready
 
 -- ---- writing
 

@@ -4,7 +4,7 @@ use Rattle.std.specs.Prelude.{◌≡◌, ◌⊎◌, ℕ, Result}
 use Rattle.diva_outside.specs.Text.{Text}
 use Rattle.diva_core.specs.History.{Meaning}
 use Rattle.diva_args.specs.declared.job.Job.{Job}
-use Rattle.diva_args.specs.declared.job.Job.TheVariants.{Run, Tape, Debug, Asm, Dis, Migrate, Soak}
+use Rattle.diva_args.specs.declared.job.Job.TheVariants.{Run, Tape, Duo, Debug, Asm, Dis, Migrate, Soak}
 use Rattle.diva_cli.specs.Changes.{Change}
 use Rattle.diva_cli.specs.Wanted.{FileBytes}
 use Rattle.diva_cli.specs.Runs.{HasRun}
@@ -12,12 +12,14 @@ use Rattle.diva_cli.specs.TapeTexts.{HasTape}
 use Rattle.diva_cli.specs.DebugTexts.{HasReplies}
 use Rattle.diva_cli.specs.ImageTexts.{HasAssembled, HasListing, HasMigrated}
 use Rattle.diva_cli.specs.SoakTexts.{HasSoaked}
+use Rattle.diva_cli.specs.DuoTexts.{HasDuo}
 
 -- ---- a line for each command
 
 abbrev pub HasText : {C : Type 0} → Meaning C → Job → FileBytes → Change C → (ended : Result ℕ Text) → Text → Type 0
 HasText gives (Run options) bytes core ended text = HasRun gives options bytes core ended text
 HasText gives (Tape options) bytes core ended text = HasTape gives options bytes core ended text
+HasText gives (Duo options) bytes core ended text = HasDuo options bytes core ended text
 HasText gives (Debug options) bytes core ended text = HasReplies gives options bytes core ended text
 HasText gives (Asm name) bytes core ended text = HasAssembled bytes core ended text
 HasText gives (Dis name) bytes core ended text = HasListing bytes core ended text
@@ -32,6 +34,7 @@ IsDone status = (status ≡ 0) ⊎ ((status ≡ 3) ⊎ (status ≡ 4))
 abbrev pub CanEnd : Job → ℕ → Type 0
 CanEnd (Run options) status = IsDone status
 CanEnd (Tape options) status = IsDone status
+CanEnd (Duo options) status = IsDone status
 CanEnd (Debug options) status = status ≡ 0
 CanEnd (Asm name) status = status ≡ 0
 CanEnd (Dis name) status = status ≡ 0

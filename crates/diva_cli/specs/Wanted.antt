@@ -13,7 +13,7 @@ use Rattle.diva_args.specs.Options.{DebugOptions, Setup}
 use Rattle.diva_args.specs.declared.job.CoreChoice.{CoreChoice}
 use Rattle.diva_args.specs.declared.job.CoreChoice.TheVariants.{Own, Lockstep, Scalar, Silent, Flood, Echo, Noise, Tape as OfTape}
 use Rattle.diva_args.specs.declared.job.Job.{Job}
-use Rattle.diva_args.specs.declared.job.Job.TheVariants.{Run, Tape, Debug, Asm, Dis, Migrate, Soak}
+use Rattle.diva_args.specs.declared.job.Job.TheVariants.{Run, Tape, Duo, Debug, Asm, Dis, Migrate, Soak}
 use Rattle.diva_asm.specs.Sources.{source_of}
 use Rattle.diva_debug.specs.Reading.{commands_of}
 
@@ -64,6 +64,7 @@ session_files options = machine_files options.setup ++ file Commands options.com
 abbrev pub wanted : Job → List Wanted
 wanted (Run options) = machine_files options.setup
 wanted (Tape options) = machine_files options.setup
+wanted (Duo options) = file_with options.room Image options.image ∷ []
 wanted (Debug options) = session_files options
 wanted (Asm name) = file Source name ∷ []
 wanted (Dis name) = file Image name ∷ []

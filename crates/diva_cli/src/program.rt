@@ -15,6 +15,7 @@ ghost use Rattle.diva_cli.specs.Parts.{Answers, status_of};
 use crate::asm::asm;
 use crate::debug::debug;
 use crate::dis::dis;
+use crate::duo::duo;
 use crate::lines::usage_line;
 use crate::migrate::migrate;
 use crate::run::{run, tape};
@@ -145,6 +146,7 @@ fn work<F: Files, S: Sink, C: Core>(
     match job {
         Job::Run(options) => run(alloc, options, files, sink, core),
         Job::Tape(options) => tape(alloc, options, files, sink, core),
+        Job::Duo(options) => duo(alloc, options, files, sink, core),
         Job::Debug(options) => debug(alloc, options, files, sink, core),
         Job::Asm(source) => asm(alloc, source, files, sink, core),
         Job::Dis(image) => dis(alloc, image, files, sink, core),

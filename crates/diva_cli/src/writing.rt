@@ -61,7 +61,8 @@ pub(crate) fn write_finished<S: Sink>(
     write_run(&report, sink)
 }
 
-fn shown_dump(asked: Option<DumpRange>) -> Option<Dump>
+/// The part of memory to show, if any is asked for.
+pub(crate) fn shown_dump(asked: Option<DumpRange>) -> Option<Dump>
     ensures shown { result ≡ shown_dump asked }
     ensures range { ForSome result (λ d. d.addr + d.len ≤ 2 ^ 32) }
 {
@@ -106,7 +107,14 @@ fn counts_line(core: SoakCore, machine: &Machine) -> Line
 pub(crate) fn end_status(machine: &Machine) -> u8
     ensures { result ≡ end_status (end_of machine.now.timed.arch.end) }
 {
-    match machine.ended() {
+    status_by(machine.ended())
+}
+
+/// The status that goes with an end.
+pub(crate) fn status_by(end: End) -> u8
+    ensures { result ≡ end_status end }
+{
+    match end {
         End::Halt(_) => 0,
         End::Trap(_) => 3,
         End::GoesOn => 4,

@@ -19,7 +19,7 @@ use arrayvec::ArrayVec;
 use diva_core::{Claim, Claims, Config, FlushRow, Told, View};
 use diva_image::Image;
 use diva_isa::End;
-use diva_memory::Memory;
+use diva_memory::{Memory, Readable};
 use std::alloc::{AllocError, Global};
 use std::marker::Model;
 
@@ -309,5 +309,14 @@ impl Duo {
         if !self.parts.is_over() {
             self.parts.cycle(a.as_slice(), b.as_slice());
         }
+    }
+}
+
+/// The shared memory, with no buffer laid over it.
+impl Readable for Duo {
+    ghost shows = { λ d. d.duo.memory };
+
+    fn byte(&self, addr: u32) -> Option<u8> {
+        Duo::byte(self, addr)
     }
 }
