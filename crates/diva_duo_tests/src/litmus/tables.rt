@@ -1,0 +1,324 @@
+// Small programs whose outcome depends on when each hart goes on, under names of the literature.
+//
+// Each begins with `addi x1, x0, 1`, `addi x4, x0, 2` and `addi x17, x0, 93`, and then hart 1 branches. Harts load and store the
+// words at 0x60 and 0x70, which are 0 at first, and halt.
+
+/// What is looked at behind a run.
+#[derive(Clone, Copy)]
+pub(super) enum Seen {
+    /// A register of a hart.
+    Register { hart: u8, number: u8 },
+    /// The word of the shared memory at an address.
+    Word(u32),
+}
+
+const LOADED_BY_0: Seen = Seen::Register { hart: 0, number: 2 };
+
+const LOADED_BY_1: Seen = Seen::Register { hart: 1, number: 2 };
+
+const LOADED_THEN: Seen = Seen::Register { hart: 1, number: 3 };
+
+const FIRST_WORD: Seen = Seen::Word(0x60);
+
+const SECOND_WORD: Seen = Seen::Word(0x70);
+
+/// What was seen.
+pub(super) type Outcome = [u32; 2];
+
+/// An outcome, and the flushes of each hart, under cores that go by these plans, and for whose loads these values are foretold.
+pub(super) type Foretold = (Outcome, [u64; 2], [&'static [u8]; 2], [&'static [u32]; 2]);
+
+/// A program, and what its two harts can come to.
+pub(super) struct Litmus {
+    pub name: &'static str,
+    pub words: &'static [u32],
+    /// How many claims a cycle accepts.
+    pub width: u32,
+    pub seen: [Seen; 2],
+    /// The outcomes that come, each of which is allowed, and in how many of the 324 runs.
+    pub outcomes: &'static [(Outcome, u32)],
+    /// The flushes of both harts in all these runs.
+    pub flushes: u64,
+    /// The cycles of all these runs.
+    pub cycles: u64,
+    /// Each outcome that is allowed and comes, by claims that are all right; where there are flushes, a value was foretold of an
+    /// outcome that is not allowed.
+    pub foretold: &'static [Foretold],
+}
+
+pub(super) static PROGRAMS: [Litmus; 10] = [
+    // Each hart stores 1, and loads what the other stores.
+    Litmus {
+        name: "store buffering",
+        words: &[
+            0x00100093, 0x00200213, 0x05d00893, 0x00051863, 0x06102023, 0x07002103, 0x00000073,
+            0x06102823, 0x06002103, 0x00000073,
+        ],
+        width: 2,
+        seen: [LOADED_BY_0, LOADED_BY_1],
+        outcomes: &[([0, 0], 24), ([0, 1], 147), ([1, 0], 147), ([1, 1], 6)],
+        flushes: 302,
+        cycles: 8333,
+        foretold: &[
+            ([0, 0], [0, 0], [&[2, 2, 2, 1], &[2, 2, 2, 1]], [&[0], &[0]]),
+            ([0, 1], [0, 0], [&[2, 2, 2, 1], &[2, 2, 1, 2]], [&[0], &[1]]),
+            ([1, 0], [0, 0], [&[2, 2, 1, 2], &[2, 2, 2, 1]], [&[1], &[0]]),
+            ([1, 1], [0, 0], [&[2, 2, 1, 2], &[2, 2, 1, 2]], [&[1], &[1]]),
+        ],
+    },
+    // The same with a fence in between: one of the harts sees the other's store.
+    Litmus {
+        name: "store buffering with fences",
+        words: &[
+            0x00100093, 0x00200213, 0x05d00893, 0x00051a63, 0x06102023, 0x0ff0000f, 0x07002103,
+            0x00000073, 0x06102823, 0x0ff0000f, 0x06002103, 0x00000073,
+        ],
+        width: 2,
+        seen: [LOADED_BY_0, LOADED_BY_1],
+        outcomes: &[([0, 1], 128), ([1, 0], 128), ([1, 1], 68)],
+        flushes: 380,
+        cycles: 8849,
+        foretold: &[
+            (
+                [0, 1],
+                [0, 0],
+                [&[2, 2, 2, 2], &[0, 2, 2, 2, 2]],
+                [&[0], &[1]],
+            ),
+            (
+                [1, 0],
+                [0, 0],
+                [&[0, 2, 2, 2, 2], &[2, 2, 2, 2]],
+                [&[1], &[0]],
+            ),
+            ([1, 1], [0, 0], [&[2, 2, 2, 2], &[2, 2, 2, 2]], [&[1], &[1]]),
+            ([1, 1], [1, 1], [&[2, 2, 2, 2], &[2, 2, 2, 2]], [&[0], &[0]]),
+        ],
+    },
+    // The same with a fence in hart 0 alone. It is allowed that neither sees the other's store, but that comes only where a
+    // store of hart 1 stands behind others.
+    Litmus {
+        name: "store buffering with a fence",
+        words: &[
+            0x00100093, 0x00200213, 0x05d00893, 0x00051a63, 0x06102023, 0x0ff0000f, 0x07002103,
+            0x00000073, 0x06102823, 0x06002103, 0x00000073,
+        ],
+        width: 2,
+        seen: [LOADED_BY_0, LOADED_BY_1],
+        outcomes: &[([0, 1], 128), ([1, 0], 171), ([1, 1], 25)],
+        flushes: 341,
+        cycles: 8756,
+        foretold: &[
+            (
+                [0, 1],
+                [0, 0],
+                [&[2, 2, 2, 2], &[0, 2, 2, 2, 1]],
+                [&[0], &[1]],
+            ),
+            ([1, 0], [0, 0], [&[2, 2, 2, 2], &[2, 2, 2, 1]], [&[1], &[0]]),
+            ([1, 1], [0, 0], [&[2, 2, 2, 2], &[2, 2, 1, 2]], [&[1], &[1]]),
+        ],
+    },
+    // There it comes, in a buffer that holds four stores.
+    Litmus {
+        name: "store buffering with a fence, behind stores",
+        words: &[
+            0x00100093, 0x00200213, 0x05d00893, 0x00051a63, 0x06102023, 0x0ff0000f, 0x07002103,
+            0x00000073, 0x06102423, 0x06102623, 0x06102823, 0x06002103, 0x00000073,
+        ],
+        width: 4,
+        seen: [LOADED_BY_0, LOADED_BY_1],
+        outcomes: &[([0, 0], 34), ([0, 1], 174), ([1, 0], 104), ([1, 1], 12)],
+        flushes: 284,
+        cycles: 8365,
+        foretold: &[
+            ([0, 0], [0, 0], [&[2, 2, 4], &[2, 2, 4, 1]], [&[0], &[0]]),
+            ([0, 1], [0, 0], [&[2, 2, 4], &[2, 2, 3, 2]], [&[0], &[1]]),
+            (
+                [1, 0],
+                [0, 0],
+                [&[0, 2, 2, 1, 1, 2], &[2, 2, 4, 1]],
+                [&[1], &[0]],
+            ),
+            (
+                [1, 1],
+                [0, 0],
+                [&[0, 2, 2, 1, 1, 2], &[2, 2, 2, 1, 2]],
+                [&[1], &[1]],
+            ),
+        ],
+    },
+    // Hart 0 stores twice, and hart 1 loads in the other order: what was stored last is not seen before the first.
+    Litmus {
+        name: "message passing",
+        words: &[
+            0x00100093, 0x00200213, 0x05d00893, 0x00051863, 0x06102023, 0x06102823, 0x00000073,
+            0x07002103, 0x06002183, 0x00000073,
+        ],
+        width: 2,
+        seen: [LOADED_BY_1, LOADED_THEN],
+        outcomes: &[([0, 0], 171), ([0, 1], 55), ([1, 1], 98)],
+        flushes: 153,
+        cycles: 6713,
+        foretold: &[
+            (
+                [0, 0],
+                [0, 0],
+                [&[2, 2, 2, 1], &[2, 2, 2, 1]],
+                [&[], &[0, 0]],
+            ),
+            (
+                [0, 1],
+                [0, 0],
+                [&[2, 2, 2, 1], &[2, 2, 1, 2]],
+                [&[], &[0, 1]],
+            ),
+            (
+                [1, 1],
+                [0, 0],
+                [&[2, 2, 2, 1], &[0, 0, 2, 2, 2, 1]],
+                [&[], &[1, 1]],
+            ),
+            (
+                [1, 1],
+                [0, 1],
+                [&[2, 2, 2, 1], &[2, 2, 2, 1]],
+                [&[], &[1, 0]],
+            ),
+        ],
+    },
+    // Each hart loads what the other stores behind its load: not both see it.
+    Litmus {
+        name: "load buffering",
+        words: &[
+            0x00100093, 0x00200213, 0x05d00893, 0x00051863, 0x06002103, 0x06102823, 0x00000073,
+            0x07002103, 0x06102023, 0x00000073,
+        ],
+        width: 2,
+        seen: [LOADED_BY_0, LOADED_BY_1],
+        outcomes: &[([0, 0], 68), ([0, 1], 128), ([1, 0], 128)],
+        flushes: 256,
+        cycles: 7985,
+        foretold: &[
+            ([0, 0], [0, 0], [&[2, 2, 2, 1], &[2, 2, 2, 1]], [&[0], &[0]]),
+            (
+                [0, 1],
+                [0, 0],
+                [&[2, 2, 2, 1], &[0, 2, 2, 2, 1]],
+                [&[0], &[1]],
+            ),
+            (
+                [1, 0],
+                [0, 0],
+                [&[0, 2, 2, 2, 1], &[2, 2, 2, 1]],
+                [&[1], &[0]],
+            ),
+            ([0, 0], [1, 1], [&[2, 2, 2, 1], &[2, 2, 2, 1]], [&[1], &[1]]),
+        ],
+    },
+    // Both harts store 1 and then 2, in the same words in opposite orders: not both words keep 1.
+    Litmus {
+        name: "two and two stores",
+        words: &[
+            0x00100093, 0x00200213, 0x05d00893, 0x00051863, 0x06102023, 0x06402823, 0x00000073,
+            0x06102823, 0x06402023, 0x00000073,
+        ],
+        width: 2,
+        seen: [FIRST_WORD, SECOND_WORD],
+        outcomes: &[([1, 2], 98), ([2, 1], 139), ([2, 2], 87)],
+        flushes: 0,
+        cycles: 4949,
+        foretold: &[
+            (
+                [1, 2],
+                [0, 0],
+                [&[0, 0, 2, 2, 2, 1], &[2, 2, 2, 1]],
+                [&[], &[]],
+            ),
+            (
+                [2, 1],
+                [0, 0],
+                [&[2, 2, 2, 1], &[0, 2, 2, 2, 1]],
+                [&[], &[]],
+            ),
+            ([2, 2], [0, 0], [&[2, 2, 2, 1], &[2, 2, 2, 1]], [&[], &[]]),
+        ],
+    },
+    // Hart 1 loads twice what hart 0 stores: it does not see the old value behind the new one.
+    Litmus {
+        name: "two loads of a word",
+        words: &[
+            0x00100093, 0x00200213, 0x05d00893, 0x00051663, 0x06102023, 0x00000073, 0x06002103,
+            0x06002183, 0x00000073,
+        ],
+        width: 2,
+        seen: [LOADED_BY_1, LOADED_THEN],
+        outcomes: &[([0, 0], 171), ([0, 1], 14), ([1, 1], 139)],
+        flushes: 153,
+        cycles: 6542,
+        foretold: &[
+            ([0, 0], [0, 0], [&[2, 2, 2], &[2, 2, 2, 1]], [&[], &[0, 0]]),
+            ([0, 1], [0, 0], [&[2, 2, 2], &[2, 2, 1, 2]], [&[], &[0, 1]]),
+            (
+                [1, 1],
+                [0, 0],
+                [&[2, 2, 2], &[0, 2, 2, 2, 1]],
+                [&[], &[1, 1]],
+            ),
+            ([1, 1], [0, 1], [&[2, 2, 2], &[2, 2, 2, 1]], [&[], &[1, 0]]),
+        ],
+    },
+    // Hart 0 stores twice. Hart 1 stores 2 where hart 0 stored last, and loads the other word. That it keeps 2 and the load
+    // is 0 is allowed, but comes only where the store of hart 1 stands behind others.
+    Litmus {
+        name: "stores and a load",
+        words: &[
+            0x00100093, 0x00200213, 0x05d00893, 0x00051863, 0x06102023, 0x06102823, 0x00000073,
+            0x06402823, 0x06002103, 0x00000073,
+        ],
+        width: 2,
+        seen: [LOADED_BY_1, SECOND_WORD],
+        outcomes: &[([0, 1], 171), ([1, 1], 14), ([1, 2], 139)],
+        flushes: 151,
+        cycles: 6689,
+        foretold: &[
+            ([0, 1], [0, 0], [&[2, 2, 2, 1], &[2, 2, 2, 1]], [&[], &[0]]),
+            ([1, 1], [0, 0], [&[2, 2, 2, 1], &[2, 2, 1, 2]], [&[], &[1]]),
+            (
+                [1, 2],
+                [0, 0],
+                [&[2, 2, 2, 1], &[0, 2, 2, 2, 1]],
+                [&[], &[1]],
+            ),
+        ],
+    },
+    // There it comes.
+    Litmus {
+        name: "stores and a load, behind stores",
+        words: &[
+            0x00100093, 0x00200213, 0x05d00893, 0x00051863, 0x06102023, 0x06102823, 0x00000073,
+            0x06102423, 0x06102623, 0x06402823, 0x06002103, 0x00000073,
+        ],
+        width: 4,
+        seen: [LOADED_BY_1, SECOND_WORD],
+        outcomes: &[([0, 1], 95), ([0, 2], 43), ([1, 1], 7), ([1, 2], 179)],
+        flushes: 169,
+        cycles: 7063,
+        foretold: &[
+            (
+                [0, 1],
+                [0, 0],
+                [&[0, 0, 2, 2, 3], &[2, 2, 4, 1]],
+                [&[], &[0]],
+            ),
+            ([0, 2], [0, 0], [&[2, 2, 3], &[2, 2, 4, 1]], [&[], &[0]]),
+            (
+                [1, 1],
+                [0, 0],
+                [&[0, 0, 2, 2, 3], &[2, 2, 1, 1, 1, 2]],
+                [&[], &[1]],
+            ),
+            ([1, 2], [0, 0], [&[2, 2, 3], &[2, 2, 3, 2]], [&[], &[1]]),
+        ],
+    },
+];
