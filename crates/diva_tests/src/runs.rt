@@ -1,5 +1,6 @@
 // Command lines over files and a sink in memory, with the status and the text that are due.
 mod failing;
+mod harts;
 mod hostile;
 mod noting;
 mod pipelined;

@@ -1,4 +1,5 @@
 // The order of loads and of puts, and what follows where each of them in turn fails.
+use super::harts::PAIR_TEXT;
 use super::noting::Load;
 use super::refusals::USAGE;
 use super::sessions::{STEPS_COMMANDS, STEPS_TEXT};
@@ -16,7 +17,7 @@ use std::process::Abort;
 use std::test::Fail;
 
 /// Command lines, and the kinds of the files that they load, in order.
-static LOADS: [(&str, &[What]); 12] = [
+static LOADS: [(&str, &[What]); 13] = [
     ("run a.diva", &[What::Image]),
     ("run a.diva --script a.script", &[What::Image, What::Script]),
     (
@@ -28,6 +29,7 @@ static LOADS: [(&str, &[What]); 12] = [
         &[What::Image, What::Script, What::Tape],
     ),
     ("tape a.diva", &[What::Image]),
+    ("duo a.diva", &[What::Image]),
     (
         "tape a.diva --core tape --tape a.tape --script a.script",
         &[What::Image, What::Script, What::Tape],
@@ -105,8 +107,9 @@ fn stops_at(alloc: Global, call: u64, what: What) -> Result<[(Outside, u8, Strin
 }
 
 /// Command lines, with the status and the text that are due where no put fails.
-static TEXTS: [(&str, u8, &str); 6] = [
+static TEXTS: [(&str, u8, &str); 7] = [
     ("run a.diva --core lockstep", 0, FIVE_TEXT),
+    ("duo a.diva --core lockstep", 0, PAIR_TEXT),
     ("debug a.diva a.commands --core scalar", 0, STEPS_TEXT),
     ("dis a.diva", 0, FIVE_LISTING),
     ("run", 2, USAGE),

@@ -10,7 +10,7 @@ usage: diva run|tape|duo IMAGE, debug IMAGE COMMANDS, asm SRC, dis|migrate IMAGE
 ";
 
 /// Words that are not a valid command line.
-static MISUSED: [&str; 25] = [
+static MISUSED: [&str; 31] = [
     "",
     "run",
     "run a.diva --width 5",
@@ -21,6 +21,12 @@ static MISUSED: [&str; 25] = [
     "run a.diva --tape a.tape",
     "tape a.diva --dump 0:4",
     "tape a.diva --trace",
+    "duo",
+    "duo a.diva --core own",
+    "duo a.diva --port 1",
+    "duo a.diva --trace",
+    "duo a.diva --script a.script",
+    "duo a.diva --tape a.tape",
     "debug a.diva",
     "debug a.diva a.commands --width 2",
     "asm",
@@ -51,7 +57,7 @@ fn lines_that_are_misused(rt: HostRuntime) -> Result<(), Fail> {
 
 /// Command lines that name files that are not there, with their statuses and texts. A name may be any word: the last four are
 /// odd ones.
-static NOT_RUN: [(&str, u8, &str); 12] = [
+static NOT_RUN: [(&str, u8, &str); 14] = [
     ("run b.diva", 8, "unreadable image\n"),
     ("run a.diva --script b.script", 8, "unreadable script\n"),
     ("run b.diva --script b.script", 8, "unreadable image\n"),
@@ -72,6 +78,8 @@ static NOT_RUN: [(&str, u8, &str); 12] = [
     ),
     ("migrate b.diva", 8, "unreadable image\n"),
     ("tape b.diva", 8, "unreadable image\n"),
+    ("duo b.diva", 8, "unreadable image\n"),
+    ("duo a.script", 5, "refused image 1 at 0\n"),
     ("run ''", 8, "unreadable image\n"),
     ("run -", 8, "unreadable image\n"),
     ("run -- -x", 8, "unreadable image\n"),

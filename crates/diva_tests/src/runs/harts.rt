@@ -1,0 +1,295 @@
+// Runs on two harts over one memory.
+use super::texts::registers_text;
+use super::{Outside, compare, five_files, run_program};
+use crate::cores::Counting;
+use crate::programs::{FIVE, Program, image_file};
+use std::alloc::Global;
+use std::fmt::Write;
+use std::test::Fail;
+
+/// A run of one program on two harts.
+#[derive(Clone, Copy)]
+struct Pair {
+    /// The command line; the program's file is `a.diva`.
+    line: &'static str,
+    program: Program,
+    status: u8,
+    cycles: u32,
+    /// Of each hart, the lines of its numbers and of its output.
+    counts: [&'static str; 2],
+    harts: [Hart; 2],
+    /// The line of shared memory, if one is asked for.
+    memory: &'static str,
+}
+
+/// What one of the two harts leaves.
+#[derive(Clone, Copy)]
+struct Hart {
+    end: &'static str,
+    /// The registers that are not 0 in the end.
+    registers: &'static [(u8, u32)],
+    pc: u32,
+}
+
+/// What `FIVE` writes where each hart claims one by one, to the letter.
+pub(super) const PAIR_TEXT: &str = "\
+cycles 21
+hart 0
+end halt 0
+count 3
+flushes 0 silent 0
+output 0
+x0 00000000 x1 00000005 x2 00000000 x3 00000000
+x4 00000000 x5 00000000 x6 00000000 x7 00000000
+x8 00000000 x9 00000000 x10 00000000 x11 00000000
+x12 00000000 x13 00000000 x14 00000000 x15 00000000
+x16 00000000 x17 0000005d x18 00000000 x19 00000000
+x20 00000000 x21 00000000 x22 00000000 x23 00000000
+x24 00000000 x25 00000000 x26 00000000 x27 00000000
+x28 00000000 x29 00000000 x30 00000000 x31 00000000
+pc 00000008
+hart 1
+end halt 1
+count 3
+flushes 0 silent 0
+output 0
+x0 00000000 x1 00000005 x2 00000000 x3 00000000
+x4 00000000 x5 00000000 x6 00000000 x7 00000000
+x8 00000000 x9 00000000 x10 00000001 x11 00000000
+x12 00000000 x13 00000000 x14 00000000 x15 00000000
+x16 00000000 x17 0000005d x18 00000000 x19 00000000
+x20 00000000 x21 00000000 x22 00000000 x23 00000000
+x24 00000000 x25 00000000 x26 00000000 x27 00000000
+x28 00000000 x29 00000000 x30 00000000 x31 00000000
+pc 00000008
+";
+
+/// Each hart stores 1 in its slot, at 32 or 36, fences, and loads what the other stored.
+const FENCED: Program = Program {
+    size: 64,
+    words: &[
+        0x0010_0093,
+        0x0025_1293,
+        0x4050_0333,
+        0x0212_a023,
+        0x0ff0_000f,
+        0x0243_2103,
+        0x05d0_0893,
+        0x0000_0073,
+    ],
+};
+
+/// The lines of numbers and output of a hart of `FENCED` that is claimed one by one.
+const NO_FLUSH: &str = "count 8\nflushes 0 silent 0\noutput 0\n";
+
+/// The same of one that overlooks the other's store: it runs ahead of the checker.
+const ONE_FLUSH: &str = "count 8\nflushes 1 silent 0\noutput 0\n";
+
+/// The same of one whose core hands over nothing: each instruction is the checker's own, behind a flush of the watchdog.
+const EIGHT_SILENT: &str = "count 8\nflushes 8 silent 8\noutput 0\n";
+
+/// `FENCED` claimed one by one: the eight claims commit in the cycles 7 to 56, and each load is of a store that went to memory.
+const FENCED_PAIR: Pair = Pair {
+    line: "duo a.diva --core lockstep",
+    program: FENCED,
+    status: 0,
+    cycles: 56,
+    counts: [NO_FLUSH, NO_FLUSH],
+    harts: [
+        Hart {
+            end: "halt 0",
+            registers: &[(1, 1), (2, 1), (17, 0x5d)],
+            pc: 28,
+        },
+        Hart {
+            end: "halt 1",
+            registers: &[
+                (1, 1),
+                (2, 1),
+                (5, 4),
+                (6, 0xffff_fffc),
+                (10, 1),
+                (17, 0x5d),
+            ],
+            pc: 28,
+        },
+    ],
+    memory: "",
+};
+
+static PAIRS: [Pair; 9] = [
+    FENCED_PAIR,
+    // Slots of a word each, in shared memory.
+    Pair {
+        line: "duo a.diva --dump 20:16 --core lockstep --stores 1",
+        memory: "mem 00000020 01000000010000000000000000000000\n",
+        ..FENCED_PAIR
+    },
+    // Memory's last 8 bytes, and 8 behind it.
+    Pair {
+        line: "duo a.diva --core lockstep --dump 38:16 --room 64",
+        memory: "mem 00000038 0000000000000000................\n",
+        ..FENCED_PAIR
+    },
+    // The load is claimed in cycle 6 with what shared memory has, and judged in cycle 12, behind the other's store.
+    Pair {
+        line: "duo a.diva",
+        cycles: 26,
+        counts: [ONE_FLUSH, ONE_FLUSH],
+        ..FENCED_PAIR
+    },
+    // Each instruction commits 70 cycles behind the one before.
+    Pair {
+        line: "duo a.diva --core silent",
+        cycles: 560,
+        counts: [EIGHT_SILENT, EIGHT_SILENT],
+        ..FENCED_PAIR
+    },
+    // `ebreak` traps on both harts.
+    Pair {
+        line: "duo a.diva --core lockstep",
+        program: Program {
+            size: 64,
+            words: &[0x0010_0073],
+        },
+        status: 3,
+        cycles: 7,
+        counts: [
+            "count 1\nflushes 0 silent 0\noutput 0\n",
+            "count 1\nflushes 0 silent 0\noutput 0\n",
+        ],
+        harts: [
+            Hart {
+                end: "trap 3",
+                registers: &[],
+                pc: 0,
+            },
+            Hart {
+                end: "trap 3",
+                registers: &[(10, 1)],
+                pc: 0,
+            },
+        ],
+        memory: "",
+    },
+    // `bne x10, x0, 12`: hart 0 halts, and hart 1 traps at once.
+    Pair {
+        line: "duo a.diva --core scalar",
+        program: Program {
+            size: 64,
+            words: &[0x0005_1663, 0x05d0_0893, 0x0000_0073, 0x0010_0073],
+        },
+        status: 3,
+        cycles: 9,
+        counts: [
+            "count 3\nflushes 0 silent 0\noutput 0\n",
+            "count 2\nflushes 0 silent 0\noutput 0\n",
+        ],
+        harts: [
+            Hart {
+                end: "halt 0",
+                registers: &[(17, 0x5d)],
+                pc: 8,
+            },
+            Hart {
+                end: "trap 3",
+                registers: &[(10, 1)],
+                pc: 12,
+            },
+        ],
+        memory: "",
+    },
+    // `beq x10, x0, 8`: hart 0 halts, and hart 1 jumps to where it is for ever.
+    Pair {
+        line: "duo a.diva --cycles 100",
+        program: Program {
+            size: 64,
+            words: &[0x0005_0463, 0x0000_006f, 0x05d0_0893, 0x0000_0073],
+        },
+        status: 4,
+        cycles: 100,
+        counts: [
+            "count 3\nflushes 0 silent 0\noutput 0\n",
+            "count 94\nflushes 0 silent 0\noutput 0\n",
+        ],
+        harts: [
+            Hart {
+                end: "halt 0",
+                registers: &[(17, 0x5d)],
+                pc: 12,
+            },
+            Hart {
+                end: "none",
+                registers: &[(10, 1)],
+                pc: 4,
+            },
+        ],
+        memory: "",
+    },
+    // Both halts are of cycle 21.
+    Pair {
+        line: "duo a.diva --core lockstep --cycles 20",
+        program: FIVE,
+        status: 4,
+        cycles: 20,
+        counts: [
+            "count 2\nflushes 0 silent 0\noutput 0\n",
+            "count 2\nflushes 0 silent 0\noutput 0\n",
+        ],
+        harts: [
+            Hart {
+                end: "none",
+                registers: &[(1, 5), (17, 0x5d)],
+                pc: 8,
+            },
+            Hart {
+                end: "none",
+                registers: &[(1, 5), (10, 1), (17, 0x5d)],
+                pc: 8,
+            },
+        ],
+        memory: "",
+    },
+];
+
+/// The whole text of a run on two harts.
+fn pair_text(alloc: Global, pair: &Pair) -> Result<String, Fail> {
+    let mut text = format!(in alloc; "cycles {}\n", pair.cycles)?;
+    for (number, (counts, hart)) in pair.counts.iter().zip(pair.harts.iter()).enumerate() {
+        let Hart { end, pc, .. } = *hart;
+        let registers = registers_text(alloc, hart.registers)?;
+        write!(
+            text,
+            "hart {number}\nend {end}\n{counts}{registers}pc {pc:08x}\n"
+        )?;
+    }
+    text.push_str(pair.memory)?;
+    Ok(text)
+}
+
+#[test]
+fn programs_on_two_harts(rt: HostRuntime) -> Result<(), Fail> {
+    let alloc = rt.alloc();
+    compare(
+        &rt,
+        "duo a.diva --core lockstep",
+        five_files(alloc)?,
+        0,
+        PAIR_TEXT,
+    )?;
+    for pair in &PAIRS {
+        let outside = Outside::sound(alloc, image_file(alloc, pair.program)?);
+        let text = pair_text(alloc, pair)?;
+        compare(&rt, pair.line, outside, pair.status, text.as_str())?;
+    }
+    Ok(())
+}
+
+/// Each hart has a core of its own: the one that the program is handed is not asked.
+#[test]
+fn cores_of_two_harts(rt: HostRuntime) -> Result<(), Fail> {
+    let mut core = Counting { calls: 0 };
+    let answer = run_program(&mut core, "duo a.diva", five_files(rt.alloc())?)?;
+    assert_eq!(rt; (answer.status, core.calls), (0, 0));
+    Ok(())
+}
