@@ -6,7 +6,7 @@ use diva_duo::{Action, Drive, Duo, drive2};
 use std::alloc::Global;
 use std::process::Abort;
 use std::test::Fail;
-use tables::{ROWS, Row};
+use tables::{ENDS, ORDERS, Row, VALUES, WAITS};
 
 /// Plays the tapes of a row, cycle by cycle, and compares what each cycle does to the harts. They are over behind the last of
 /// the row's cycles, and not before.
@@ -17,31 +17,27 @@ fn compare_cycles(rt: &impl Abort, alloc: Global, row: &Row) -> Result<(), Fail>
     for before in 0..row.cycles {
         assert_eq!(rt; duo.cycles(), u64::from(before), "{}", row.name);
         let driven = drive2(&mut duo, &mut first, &mut second, 1);
-        compare_cycle(rt, &duo, row, before, driven);
+        compare_cycle(rt, &duo, row, before + 1, driven);
     }
     compare_end(rt, &duo, row);
     Ok(())
 }
 
-/// Compares what the cycle behind so many others did to the harts, and whether they are over.
-fn compare_cycle(rt: &impl Abort, duo: &Duo, row: &Row, before: u32, driven: Drive) {
-    let is_last = row.cycles - before == 1;
+/// Compares what a cycle did to the harts, and whether they are over.
+fn compare_cycle(rt: &impl Abort, duo: &Duo, row: &Row, cycle: u32, driven: Drive) {
+    let is_last = cycle == row.cycles;
     let due = if is_last { Drive::Ended } else { Drive::Budget };
     assert_eq!(rt;
         (duo.last(), driven, duo.ended()),
-        (actions_behind(row, before), due, is_last),
-        "{}, behind {before} cycles",
+        (actions_in(row, cycle), due, is_last),
+        "{}, cycle {cycle}",
         row.name
     );
 }
 
-/// What the cycle of a row behind so many others is to do.
-fn actions_behind(row: &Row, before: u32) -> &'static [Action] {
-    match row
-        .actions
-        .iter()
-        .find(|(cycle, _)| cycle.checked_sub(1) == Some(before))
-    {
+/// What a cycle of the row is to do.
+fn actions_in(row: &Row, cycle: u32) -> &'static [Action] {
+    match row.actions.iter().find(|(of, _)| *of == cycle) {
         Some((_, actions)) => actions,
         None => &[],
     }
@@ -78,10 +74,30 @@ fn compare_end(rt: &impl Abort, duo: &Duo, row: &Row) {
     }
 }
 
-#[test]
-fn lists_of_two_harts(rt: HostRuntime) -> Result<(), Fail> {
-    for row in &ROWS {
-        compare_cycles(&rt, rt.alloc(), row)?;
+/// Plays all rows.
+fn compare_rows(rt: &impl Abort, alloc: Global, rows: &[Row]) -> Result<(), Fail> {
+    for row in rows {
+        compare_cycles(rt, alloc, row)?;
     }
     Ok(())
+}
+
+#[test]
+fn stores_and_fences_that_wait(rt: HostRuntime) -> Result<(), Fail> {
+    compare_rows(&rt, rt.alloc(), &WAITS)
+}
+
+#[test]
+fn harts_that_end_with_stores_owed(rt: HostRuntime) -> Result<(), Fail> {
+    compare_rows(&rt, rt.alloc(), &ENDS)
+}
+
+#[test]
+fn values_that_change_meanwhile(rt: HostRuntime) -> Result<(), Fail> {
+    compare_rows(&rt, rt.alloc(), &VALUES)
+}
+
+#[test]
+fn two_stores_in_one_word(rt: HostRuntime) -> Result<(), Fail> {
+    compare_rows(&rt, rt.alloc(), &ORDERS)
 }

@@ -2,8 +2,8 @@
 use diva_core::{Claim, Claims, Core, Told, View};
 use diva_tape::{Lockstep, Scalar};
 
-/// Hands over what `Scalar` would in some calls, as many as its plan has for the cycle. Of the first loads, until a flush, it claims
-/// the values that are foretold.
+/// Hands over what `Scalar` would in some calls, as many as its plan has for the cycle. Of the first loads, until a flush, it
+/// claims the values that are foretold.
 #[derive(Drop)]
 pub(crate) struct Planned<'a> {
     /// For each cycle, how many claims are handed over at most: past the end as many as for the last.

@@ -6,7 +6,7 @@ use diva_duo::{Action, Drive, Duo, drive2};
 use std::process::Abort;
 use std::test::Fail;
 
-/// Hart 1 branches to the last two of `sw x17, 48(x0)`, `addi x1, x0, 1`, `addi x17, x0, 93` and `ecall`; hart 0 does all of them.
+/// Hart 1 branches to the last two of `sw x17, 48(x0)`, `addi x1, x0, 1`, `addi x17, x0, 93` and `ecall`; hart 0 does all four.
 ///
 /// With one instruction after the other hart 0 commits in cycles 7, 14, 21, 28 and 35, and hart 1 in 7, 14 and 21.
 const WORDS: [u32; 5] = [0x00051663, 0x03102823, 0x00100093, 0x05d00893, 0x00000073];

@@ -15,8 +15,8 @@ pub(crate) type Numbers = [u32; 4];
 /// The numbers that a machine has where none are given.
 pub(crate) const USUAL: Numbers = [2, 16, 4, 64];
 
-/// A flush: its cycle, how many instructions had committed, and the field in which a claim differed, with what was claimed and what
-/// was due; nothing differed where the flush is the watchdog's.
+/// A flush: its cycle, how many instructions had committed, and the field in which a claim differed, with what was claimed and
+/// what was due; nothing differed where the flush is the watchdog's.
 pub(crate) type Flush = (u64, u64, Option<(Field, u32, u32)>);
 
 /// Hart 0 goes on by an instruction.

@@ -10,8 +10,8 @@ use std::process::Abort;
 use std::test::Fail;
 use tables::{Foretold, Litmus, Outcome, PROGRAMS, Seen};
 
-/// Plans of cores that hand over at most 1, 2 or 4 claims a call, from cycle 6 on. Behind the first so many places they are plans of
-/// cores that begin so many cycles earlier.
+/// Plans of cores that hand over at most 1, 2 or 4 claims a call, from cycle 6 on. Behind the first so many places they are plans
+/// of cores that begin so many cycles earlier.
 static PLANS: [[u8; 6]; 3] = [[0, 0, 0, 0, 0, 1], [0, 0, 0, 0, 0, 2], [0, 0, 0, 0, 0, 4]];
 
 /// What all runs of a program came to.

@@ -5,6 +5,7 @@ use crate::harts::{D0, D1, Flush, G0, G1, compare_flushes, duo_of, tape_core, wo
 use diva_core::{Field, Told};
 use diva_duo::{Action, Drive, Duo, drive2};
 use diva_isa::End;
+use diva_tape::TapeCore;
 use std::process::Abort;
 use std::test::Fail;
 
@@ -13,7 +14,7 @@ const WORDS: [u32; 7] = [
     0x00100893, 0x00000073, 0x00150093, 0x02102823, 0x03002103, 0x05d00893, 0x00000073,
 ];
 
-/// Hart 0's load is claimed in cycle 3 with the value 9. The next claims follow in cycle 16, behind the checker's own instruction.
+/// Hart 0's load is claimed in cycle 3 with the value 9. The next claims follow in cycle 16, behind the checker's own.
 const FIRST: &[u8] = b"\
 0 100893 0 0 0 1 4 0 ; 4 73 1 0 0 0 8 0\n8 150093 0 0 0 1 c 0\nc 2102823 0 1 30 1 10 0 ; 10 3002103 0 0 30 9 14 0\n\
 14 5d00893 0 0 0 5d 18 0 ; 18 73 5d 0 0 0 18 100\n\n\n\n\n\n\n\n\n\n\n\n14 5d00893 0 0 0 5d 18 0 ; 18 73 5d 0 0 0 18 100";
@@ -136,6 +137,20 @@ fn numbers(told: Told) -> Numbers {
     )
 }
 
+/// Drives two harts until so many cycles have run.
+fn drive_to(
+    rt: &impl Abort,
+    duo: &mut Duo,
+    first: &mut TapeCore,
+    second: &mut TapeCore,
+    cycles: u32,
+) {
+    assert!(rt; duo.cycles() <= u64::from(cycles));
+    let budget = u64::from(cycles) - duo.cycles();
+    let driven = drive2(duo, first, second, budget);
+    assert_eq!(rt; driven == Drive::Ended, duo.ended());
+}
+
 /// Compares what is seen of two harts.
 fn compare_moment(rt: &impl Abort, duo: &Duo, moment: &Moment) {
     let cycles = moment.cycles;
@@ -188,14 +203,9 @@ fn all_that_is_seen(rt: HostRuntime) -> Result<(), Fail> {
     let mut duo = duo_of(rt.alloc(), 64, &WORDS, [2, 16, 4, 16])?;
     let mut first = tape_core(rt.alloc(), FIRST)?;
     let mut second = tape_core(rt.alloc(), SECOND)?;
-    let mut before = 0;
     for moment in &MOMENTS {
-        assert_eq!(rt; duo.cycles(), u64::from(before));
-        let budget = u64::from(moment.cycles.saturating_sub(before));
-        let driven = drive2(&mut duo, &mut first, &mut second, budget);
-        assert_eq!(rt; driven == Drive::Ended, duo.ended());
+        drive_to(&rt, &mut duo, &mut first, &mut second, moment.cycles);
         compare_moment(&rt, &duo, moment);
-        before = moment.cycles;
     }
     assert!(rt; duo.ended());
     Ok(())

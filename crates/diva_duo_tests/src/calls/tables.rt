@@ -66,7 +66,8 @@ const STORES_1: &[u8] =
 const STORES_2: &[u8] =
     b"0 150093 1 0 0 2 4 0\n4 2102823 0 2 30 2 8 0\n8 5d00893 0 0 0 5d c 0 ; c 73 5d 1 0 0 c 101";
 
-pub(super) static ROWS: [Row; 19] = [
+/// Stores and fences that wait, and loads that do not.
+pub(super) static WAITS: [Row; 6] = [
     // Each hart stores 1 in its word, 32 or 36, and loads the other one. In cycle 9 both stores commit, and both loads while
     // the stores wait.
     Row {
@@ -220,6 +221,10 @@ pub(super) static ROWS: [Row; 19] = [
         stored: &[(0x20, 0x2), (0x24, 0x2), (0x28, 0x2)],
         ..HALTS
     },
+];
+
+/// Harts that end while stores are owed.
+pub(super) static ENDS: [Row; 3] = [
     // All four claims commit in cycle 7. Both harts have ended then, and are over once both buffers are empty.
     Row {
         name: "both end with two stores owed",
@@ -279,6 +284,10 @@ pub(super) static ROWS: [Row; 19] = [
         ends: [End::Trap(3), End::Trap(3)],
         ..HALTS
     },
+];
+
+/// Claims of what the other hart stores, and of what the hart itself stores.
+pub(super) static VALUES: [Row; 5] = [
     // Hart 1's load of the old value is claimed in cycle 4 and judged in 10, in which hart 0's store goes to memory.
     Row {
         name: "a value that is old",
@@ -409,6 +418,10 @@ pub(super) static ROWS: [Row; 19] = [
         stored: &[(0x1c, 0x5d00893)],
         ..HALTS
     },
+];
+
+/// Two harts that store in one word.
+pub(super) static ORDERS: [Row; 5] = [
     // Both stores go to memory in cycle 9, hart 0's first.
     Row {
         name: "two stores in one word",
@@ -490,12 +503,13 @@ pub(super) static ROWS: [Row; 19] = [
         words: ONE_WORD,
         tapes: [
             b"\
-0 150093 0 0 0 1 4 0 ; 4 2102823 0 1 30 1 8 0 ; 0 150093 0 0 0 1 4 0 ; 0 150093 0 0 0 1 4 0 ; 0 150093 0 0 0 1 4 0 ; 0 150093 0 0 0 1 4 0 ; 0 150093 0 0 0 1 4 0 ; 0 150093 0 0 0 1 4 0\n\
-8 5d00893 0 0 0 5d c 0 ; c 73 5d 0 0 0 c 100 ; 0 150093 0 0 0 1 4 0 ; 0 150093 0 0 0 1 4 0 ; 0 150093 0 0 0 1 4 0 ; 0 150093 0 0 0 1 4 0 ; 0 150093 0 0 0 1 4 0 ; 0 150093 0 0 0 1 4 0",
+0 150093 0 0 0 1 4 0 ; 4 2102823 0 1 30 1 8 0 ; 0 150093 0 0 0 1 4 0 ; 0 150093 0 0 0 1 4 0 ; 0 150093 0 0 0 1 4 0 ; \
+0 150093 0 0 0 1 4 0 ; 0 150093 0 0 0 1 4 0 ; 0 150093 0 0 0 1 4 0\n8 5d00893 0 0 0 5d c 0 ; c 73 5d 0 0 0 c 100 ; \
+0 150093 0 0 0 1 4 0 ; 0 150093 0 0 0 1 4 0 ; 0 150093 0 0 0 1 4 0 ; 0 150093 0 0 0 1 4 0 ; 0 150093 0 0 0 1 4 0 ; \
+0 150093 0 0 0 1 4 0",
             b"\
-0 150093 1 0 0 2 4 0\n\
-4 2102823 0 2 30 2 8 0 ; 8 5d00893 0 0 0 5d c 0 ; c 73 5d 1 0 0 c 101 ; 4 2102823 0 2 30 2 8 0 ; 8 5d00893 0 0 0 5d c 0 ; c 73 5d 1 0 0 c 101\n\
-c 73 5d 1 0 0 c 101",
+0 150093 1 0 0 2 4 0\n4 2102823 0 2 30 2 8 0 ; 8 5d00893 0 0 0 5d c 0 ; c 73 5d 1 0 0 c 101 ; 4 2102823 0 2 30 2 8 0 ; \
+8 5d00893 0 0 0 5d c 0 ; c 73 5d 1 0 0 c 101\nc 73 5d 1 0 0 c 101",
         ],
         actions: &[
             (7, &[G0, G0, G1]),
