@@ -1,8 +1,9 @@
-//! What a machine and each hart of two have in common: the committed state but memory, and what is under way.
+//! What a machine and each hart of two have in common: the committed state but memory, what is under way, and memory's port.
 //!
 //! - `arch`: registers, pc, output, count, end and store queue, `HartArch`; memory is lent to each of its calls;
 //! - `under_way`: the pending claims, the solo instruction, the watchdog and the log, `UnderWay`;
-//! - `log`: the flushes, as rows and as counts, `Log`.
+//! - `log`: the flushes, as rows and as counts, `Log`;
+//! - `port`: when memory takes a store, `Port`.
 //!
 //! `specs/HartArch.antt` says what state a hart sees, and what becomes of it by a record; `specs/UnderWay.antt` says which timed
 //! machine a state and what is under way make up.
@@ -10,8 +11,10 @@
 
 mod arch;
 mod log;
+mod port;
 mod under_way;
 
 pub use arch::HartArch;
 pub use log::{KEPT_ROWS, Log};
+pub use port::Port;
 pub use under_way::{DEPTH, UnderWay};

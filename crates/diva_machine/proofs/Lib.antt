@@ -6,5 +6,4 @@ pub mod Staging
 pub mod Judged
 pub mod Counting
 pub mod Driving
-pub mod Ports
 pub mod Beginning
