@@ -21,16 +21,13 @@ ghost use Rattle.diva_duo.specs.Inner.{judge_next, Grown, IsOpen, IsReady, Keeps
 
 use diva_core::{Cause, Claim, Config, FlushRow, Told, View, first_difference};
 use diva_decode::{Instr, decode};
-use diva_hart::{DEPTH, HartArch, UnderWay};
+use diva_hart::{DEPTH, HartArch, Port, UnderWay};
 use diva_image::Image;
 use diva_isa::{Effect, End, Kind, Record, effect_by, kind_of, record_of};
 use diva_memory::Memory;
 use diva_watchdog::Recover;
 use std::alloc::{AllocError, Global};
 use std::marker::Model;
-
-/// Memory takes a store of each hart in each cycle.
-const PORT: u32 = 1;
 
 #[derive(Drop)]
 pub(crate) struct Hart {
@@ -144,7 +141,8 @@ impl Hart {
         requires cycles { cycles < 2 ^ 63 }
         ensures { result ≡ told_of (timed cycles (record { base = 0; items = [] }) self.now) }
     {
-        self.under.told(&self.arch, PORT, cycles)
+        let always_open = Port::new(1);
+        self.under.told(&self.arch, &always_open, cycles)
     }
 
     /// Phase 1: the oldest store of the buffer goes to memory. Whether there was one.

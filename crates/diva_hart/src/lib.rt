@@ -1,20 +1,23 @@
-//! What a machine and each hart of two have in common: the committed state but memory, and what is under way.
+//! What a machine and each hart of two have in common: the committed state but memory, what is under way, and memory's port.
 //!
 //! - `arch`: registers, pc, output, count, end and store queue, `HartArch`; memory is lent to each of its calls;
 //! - `under_way`: the pending claims, the solo instruction, the watchdog and the log, `UnderWay`;
 //! - `log`: the flushes, as rows and as counts, `Log`;
+//! - `port`: when memory takes a store, `Port`;
 //! - `ends`: how a drive stopped, `Drive`.
 //!
-//! `specs/Start.antt` says in which state an image starts, `specs/HartArch.antt` what state a hart sees, and what becomes of it by a record; `specs/UnderWay.antt` says which timed
-//! machine a state and what is under way make up.
+//! `specs/Start.antt` says in which state an image starts, `specs/HartArch.antt` what state a hart sees, and what becomes of it by a
+//! record; `specs/UnderWay.antt` says which timed machine a state and what is under way make up.
 #![tactic(auto)]
 
 mod arch;
 mod ends;
 mod log;
+mod port;
 mod under_way;
 
 pub use arch::HartArch;
 pub use ends::Drive;
 pub use log::{KEPT_ROWS, Log};
+pub use port::Port;
 pub use under_way::{DEPTH, UnderWay};

@@ -11,6 +11,7 @@ ghost use Rattle.diva_hart.specs.UnderWay.{new_under_way, told_machine};
 
 use crate::arch::HartArch;
 use crate::log::Log;
+use crate::port::Port;
 use diva_core::{Cause, Config, FlushRow, Pending, Told};
 use diva_watchdog::{Recover, Watchdog};
 use std::alloc::{AllocError, Global};
@@ -65,18 +66,17 @@ impl UnderWay {
         }
     }
 
-    /// What a hart's core is told before the coming cycle, where so many have run, and memory's port takes a store in each cycle
-    /// whose number `port` divides.
+    /// What a hart's core is told before the coming cycle, where so many have run, and memory has this port.
     #[inline(always)]
-    pub fn told(&self, hart: &HartArch, port: u32, cycles: u64) -> Told
+    pub fn told(&self, hart: &HartArch, port: &Port, cycles: u64) -> Told
         requires width { self.now.width ≤ 4 }
         requires cycles { cycles < 2 ^ 63 }
-        ensures { result ≡ told_of (told_machine hart.now.state port cycles self.now) }
+        ensures { result ≡ told_of (told_machine hart.now.state port.now cycles self.now) }
     {
         let room = self.room(hart) as u32;
         let pending = self.pending.len() as u32;
         let idle = self.watchdog.idle();
-        let by_then = u64::from(idle) + DEPTH + u64::from(port);
+        let by_then = u64::from(idle) + DEPTH + u64::from(port.period());
         Told {
             cycle: cycles + 1,
             count: hart.count(),

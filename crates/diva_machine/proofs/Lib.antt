@@ -6,4 +6,3 @@ pub mod Staging
 pub mod Judged
 pub mod Counting
 pub mod Driving
-pub mod Ports

@@ -3,7 +3,6 @@
 //! - `arch`: the committed state, memory with what the hart has for itself;
 //! - `stages`: what a pending claim passes through at each age;
 //! - `parts`: the parts of the machine, and the phases of a cycle over them;
-//! - `port`: when memory takes a store, `Port`;
 //! - `phases`: what these phases tell each other, `Judged` and `CommitPhase`;
 //! - `machine`: the machine between cycles, `Machine`;
 //! - `ends`: how a drive to a count stopped, `Reach`; of another drive `Drive` of `diva_hart` says so;
@@ -11,7 +10,7 @@
 //! - `reaching`: turns until so many instructions have committed, `drive_to`.
 //!
 //! How wide and deep the machine is, `Config`, is told by `diva_core`. The committed state but memory, and what is under way
-//! (pending claims, solo instruction, watchdog and log), are the parts that `diva_hart` has for a hart.
+//! (pending claims, solo instruction, watchdog and log), are the parts that `diva_hart` has for a hart, as is memory's port.
 //!
 //! What a cycle does is `cycle_of` of `diva_core`'s definitions; `specs/Start.antt` of `diva_hart` says in which
 //! state an image starts, `specs/Machine.antt` what contracts see of a machine, `specs/Drives.antt` what a
@@ -24,7 +23,6 @@ mod ends;
 mod machine;
 mod parts;
 mod phases;
-mod port;
 mod reaching;
 mod stages;
 mod turns;

@@ -26,12 +26,11 @@ ghost use Rattle.diva_machine.specs.Inner.{left, IsAdvanced};
 
 use crate::arch::Arch;
 use crate::phases::{CommitPhase, Judged};
-use crate::port::Port;
 use crate::stages::{LAST_STAGE, fill, pass};
 use diva_commit::Committed;
 use diva_core::{Cause, Claim, Config, Entry, FutureFile, Records, Told};
 use diva_decode::decode;
-use diva_hart::{DEPTH, UnderWay};
+use diva_hart::{DEPTH, Port, UnderWay};
 use diva_image::Image;
 use diva_isa::Record;
 use diva_watchdog::Recover;
@@ -106,8 +105,7 @@ impl Parts {
         requires cycles { self.now.timed.cycles < 2 ^ 63 }
         ensures { result ≡ told_of self.now.timed }
     {
-        self.under
-            .told(self.arch.own(), self.port.period(), self.cycles)
+        self.under.told(self.arch.own(), &self.port, self.cycles)
     }
 
     /// The pending claim at a place, the oldest being at 0.

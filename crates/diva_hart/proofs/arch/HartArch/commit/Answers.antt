@@ -1,4 +1,4 @@
-use Rattle.std.proofs.Common.{◌≡◌, ℕ, ◌++◌, sym, subst, ap, ◌∙◌, arith}
+use Rattle.std.proofs.Common.{◌≡◌, ◌≤◌, ℕ, ◌+◌, ◌^◌, ◌++◌, sym, subst, ap, ◌∙◌, arith, rules}
 use Rattle.diva_isa.specs.declared.record.Record.{Record}
 use Rattle.diva_isa.specs.End.{IsEnd}
 use Rattle.diva_isa.specs.State.{State}
@@ -20,10 +20,11 @@ commit_by-answer-requires-clause-due c = λ none.
 
 pub invariant_of-self : goal.invariant_of-self
 invariant_of-self c =
-    let yes = ap is_committed (sym c.commit_by-answer.ensures.answer) ∙ sym c.is_committed.ensures ∙ c.if-is_committed.true in (
-      (let is : c.self.inside.count ≡ c.args.self.now.state.instret = ap (λ (h : HartArch). h.state.instret) c.self.view_is in let before = c.requires.count in omega arith),
-      subst (λ (x : Record). IsEnd x.end) (sym (c.requires.due (committed_none _ _ _ yes))) (end_record_of _),
-    )
+    let yes = ap is_committed (sym c.commit_by-answer.ensures.answer) ∙ sym c.is_committed.ensures ∙ c.if-is_committed.true in
+    let is : c.self.inside.count ≡ c.args.self.now.state.instret = ap (λ (h : HartArch). h.state.instret) c.self.view_is in
+    let count : c.self.inside.count + 1 ≤ 2 ^ 62 = (let before = c.requires.count in omega arith) in
+    let end : IsEnd c.args.r.now.end = subst (λ (x : Record). IsEnd x.end) (sym (c.requires.due (committed_none _ _ _ yes))) (end_record_of _) in
+    search rules
 
 pub returns-then-is_committed-clause-owed : goal.returns-then-is_committed-clause-owed
 returns-then-is_committed-clause-owed c = λ yes.

@@ -5,7 +5,7 @@ use std::marker::Model;
 
 /// Memory's port: it opens, and takes a store, in those cycles alone whose number its period divides.
 #[derive(Drop)]
-pub(crate) struct Port {
+pub struct Port {
     /// How many cycles there are from one opening to the next.
     period: u32,
     /// A cycle in which it opens. While it is asked cycle by cycle this is the newest, and no cycle is divided by the
