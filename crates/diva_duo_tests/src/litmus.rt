@@ -45,7 +45,7 @@ impl Tally {
     }
 }
 
-/// Two harts of a program, driven until they are over under cores that go by these plans and values.
+/// Two harts of a program that accept four claims a cycle, driven until they are over under cores that go by plans and values.
 fn driven(
     rt: &impl Abort,
     alloc: Global,
@@ -53,7 +53,7 @@ fn driven(
     plans: [&[u8]; 2],
     values: [&[u32]; 2],
 ) -> Result<Duo, Fail> {
-    let mut duo = duo_of(alloc, 128, litmus.words, [litmus.width, 16, 4, 64])?;
+    let mut duo = duo_of(alloc, 128, litmus.words, [4, 16, 4, 64])?;
     let mut first = planned(alloc, plans[0], values[0])?;
     let mut second = planned(alloc, plans[1], values[1])?;
     let driven = drive2(&mut duo, &mut first, &mut second, 100);

@@ -32,8 +32,6 @@ pub(super) type Foretold = (Outcome, [u64; 2], [&'static [u8]; 2], [&'static [u3
 pub(super) struct Litmus {
     pub name: &'static str,
     pub words: &'static [u32],
-    /// How many claims a cycle accepts.
-    pub width: u32,
     pub seen: [Seen; 2],
     /// The outcomes that come, each of which is allowed, and in how many of the 324 runs.
     pub outcomes: &'static [(Outcome, u32)],
@@ -54,11 +52,10 @@ pub(super) static PROGRAMS: [Litmus; 10] = [
             0x00100093, 0x00200213, 0x05d00893, 0x00051863, 0x06102023, 0x07002103, 0x00000073,
             0x06102823, 0x06002103, 0x00000073,
         ],
-        width: 2,
         seen: [LOADED_BY_0, LOADED_BY_1],
-        outcomes: &[([0, 0], 24), ([0, 1], 147), ([1, 0], 147), ([1, 1], 6)],
-        flushes: 302,
-        cycles: 8333,
+        outcomes: &[([0, 0], 22), ([0, 1], 148), ([1, 0], 148), ([1, 1], 6)],
+        flushes: 300,
+        cycles: 8237,
         foretold: &[
             ([0, 0], [0, 0], [&[2, 2, 2, 1], &[2, 2, 2, 1]], [&[0], &[0]]),
             ([0, 1], [0, 0], [&[2, 2, 2, 1], &[2, 2, 1, 2]], [&[0], &[1]]),
@@ -73,11 +70,10 @@ pub(super) static PROGRAMS: [Litmus; 10] = [
             0x00100093, 0x00200213, 0x05d00893, 0x00051a63, 0x06102023, 0x0ff0000f, 0x07002103,
             0x00000073, 0x06102823, 0x0ff0000f, 0x06002103, 0x00000073,
         ],
-        width: 2,
         seen: [LOADED_BY_0, LOADED_BY_1],
-        outcomes: &[([0, 1], 128), ([1, 0], 128), ([1, 1], 68)],
-        flushes: 380,
-        cycles: 8849,
+        outcomes: &[([0, 1], 131), ([1, 0], 131), ([1, 1], 62)],
+        flushes: 368,
+        cycles: 8705,
         foretold: &[
             (
                 [0, 1],
@@ -103,11 +99,10 @@ pub(super) static PROGRAMS: [Litmus; 10] = [
             0x00100093, 0x00200213, 0x05d00893, 0x00051a63, 0x06102023, 0x0ff0000f, 0x07002103,
             0x00000073, 0x06102823, 0x06002103, 0x00000073,
         ],
-        width: 2,
         seen: [LOADED_BY_0, LOADED_BY_1],
-        outcomes: &[([0, 1], 128), ([1, 0], 171), ([1, 1], 25)],
-        flushes: 341,
-        cycles: 8756,
+        outcomes: &[([0, 1], 131), ([1, 0], 170), ([1, 1], 23)],
+        flushes: 334,
+        cycles: 8622,
         foretold: &[
             (
                 [0, 1],
@@ -126,7 +121,6 @@ pub(super) static PROGRAMS: [Litmus; 10] = [
             0x00100093, 0x00200213, 0x05d00893, 0x00051a63, 0x06102023, 0x0ff0000f, 0x07002103,
             0x00000073, 0x06102423, 0x06102623, 0x06102823, 0x06002103, 0x00000073,
         ],
-        width: 4,
         seen: [LOADED_BY_0, LOADED_BY_1],
         outcomes: &[([0, 0], 34), ([0, 1], 174), ([1, 0], 104), ([1, 1], 12)],
         flushes: 284,
@@ -155,11 +149,10 @@ pub(super) static PROGRAMS: [Litmus; 10] = [
             0x00100093, 0x00200213, 0x05d00893, 0x00051863, 0x06102023, 0x06102823, 0x00000073,
             0x07002103, 0x06002183, 0x00000073,
         ],
-        width: 2,
         seen: [LOADED_BY_1, LOADED_THEN],
-        outcomes: &[([0, 0], 171), ([0, 1], 55), ([1, 1], 98)],
-        flushes: 153,
-        cycles: 6713,
+        outcomes: &[([0, 0], 170), ([0, 1], 52), ([1, 1], 102)],
+        flushes: 154,
+        cycles: 6649,
         foretold: &[
             (
                 [0, 0],
@@ -194,11 +187,10 @@ pub(super) static PROGRAMS: [Litmus; 10] = [
             0x00100093, 0x00200213, 0x05d00893, 0x00051863, 0x06002103, 0x06102823, 0x00000073,
             0x07002103, 0x06102023, 0x00000073,
         ],
-        width: 2,
         seen: [LOADED_BY_0, LOADED_BY_1],
-        outcomes: &[([0, 0], 68), ([0, 1], 128), ([1, 0], 128)],
-        flushes: 256,
-        cycles: 7985,
+        outcomes: &[([0, 0], 62), ([0, 1], 131), ([1, 0], 131)],
+        flushes: 260,
+        cycles: 7959,
         foretold: &[
             ([0, 0], [0, 0], [&[2, 2, 2, 1], &[2, 2, 2, 1]], [&[0], &[0]]),
             (
@@ -223,11 +215,10 @@ pub(super) static PROGRAMS: [Litmus; 10] = [
             0x00100093, 0x00200213, 0x05d00893, 0x00051863, 0x06102023, 0x06402823, 0x00000073,
             0x06102823, 0x06402023, 0x00000073,
         ],
-        width: 2,
         seen: [FIRST_WORD, SECOND_WORD],
-        outcomes: &[([1, 2], 98), ([2, 1], 139), ([2, 2], 87)],
+        outcomes: &[([1, 2], 102), ([2, 1], 141), ([2, 2], 81)],
         flushes: 0,
-        cycles: 4949,
+        cycles: 4871,
         foretold: &[
             (
                 [1, 2],
@@ -251,11 +242,10 @@ pub(super) static PROGRAMS: [Litmus; 10] = [
             0x00100093, 0x00200213, 0x05d00893, 0x00051663, 0x06102023, 0x00000073, 0x06002103,
             0x06002183, 0x00000073,
         ],
-        width: 2,
         seen: [LOADED_BY_1, LOADED_THEN],
-        outcomes: &[([0, 0], 171), ([0, 1], 14), ([1, 1], 139)],
+        outcomes: &[([0, 0], 170), ([0, 1], 13), ([1, 1], 141)],
         flushes: 153,
-        cycles: 6542,
+        cycles: 6467,
         foretold: &[
             ([0, 0], [0, 0], [&[2, 2, 2], &[2, 2, 2, 1]], [&[], &[0, 0]]),
             ([0, 1], [0, 0], [&[2, 2, 2], &[2, 2, 1, 2]], [&[], &[0, 1]]),
@@ -268,7 +258,7 @@ pub(super) static PROGRAMS: [Litmus; 10] = [
             ([1, 1], [0, 1], [&[2, 2, 2], &[2, 2, 2, 1]], [&[], &[1, 0]]),
         ],
     },
-    // Hart 0 stores twice. Hart 1 stores 2 where hart 0 stored last, and loads the other word. That it keeps 2 and the load
+    // Hart 0 stores twice. Hart 1 stores 2 where hart 0 stored last, and loads the other word. That the word keeps 2 and the load
     // is 0 is allowed, but comes only where the store of hart 1 stands behind others.
     Litmus {
         name: "stores and a load",
@@ -276,11 +266,10 @@ pub(super) static PROGRAMS: [Litmus; 10] = [
             0x00100093, 0x00200213, 0x05d00893, 0x00051863, 0x06102023, 0x06102823, 0x00000073,
             0x06402823, 0x06002103, 0x00000073,
         ],
-        width: 2,
         seen: [LOADED_BY_1, SECOND_WORD],
-        outcomes: &[([0, 1], 171), ([1, 1], 14), ([1, 2], 139)],
-        flushes: 151,
-        cycles: 6689,
+        outcomes: &[([0, 1], 170), ([1, 1], 13), ([1, 2], 141)],
+        flushes: 150,
+        cycles: 6601,
         foretold: &[
             ([0, 1], [0, 0], [&[2, 2, 2, 1], &[2, 2, 2, 1]], [&[], &[0]]),
             ([1, 1], [0, 0], [&[2, 2, 2, 1], &[2, 2, 1, 2]], [&[], &[1]]),
@@ -299,7 +288,6 @@ pub(super) static PROGRAMS: [Litmus; 10] = [
             0x00100093, 0x00200213, 0x05d00893, 0x00051863, 0x06102023, 0x06102823, 0x00000073,
             0x06102423, 0x06102623, 0x06402823, 0x06002103, 0x00000073,
         ],
-        width: 4,
         seen: [LOADED_BY_1, SECOND_WORD],
         outcomes: &[([0, 1], 95), ([0, 2], 43), ([1, 1], 7), ([1, 2], 179)],
         flushes: 169,
