@@ -17,7 +17,8 @@ struct Pair {
     cycles: u32,
     /// Of each hart, the lines of its numbers and of its output.
     counts: [&'static str; 2],
-    harts: [Hart; 2],
+    first: Hart,
+    second: Hart,
     /// The line of shared memory, if one is asked for.
     memory: &'static str,
 }
@@ -95,25 +96,23 @@ const FENCED_PAIR: Pair = Pair {
     status: 0,
     cycles: 56,
     counts: [NO_FLUSH, NO_FLUSH],
-    harts: [
-        Hart {
-            end: "halt 0",
-            registers: &[(1, 1), (2, 1), (17, 0x5d)],
-            pc: 28,
-        },
-        Hart {
-            end: "halt 1",
-            registers: &[
-                (1, 1),
-                (2, 1),
-                (5, 4),
-                (6, 0xffff_fffc),
-                (10, 1),
-                (17, 0x5d),
-            ],
-            pc: 28,
-        },
-    ],
+    first: Hart {
+        end: "halt 0",
+        registers: &[(1, 1), (2, 1), (17, 0x5d)],
+        pc: 28,
+    },
+    second: Hart {
+        end: "halt 1",
+        registers: &[
+            (1, 1),
+            (2, 1),
+            (5, 4),
+            (6, 0xffff_fffc),
+            (10, 1),
+            (17, 0x5d),
+        ],
+        pc: 28,
+    },
     memory: "",
 };
 
@@ -158,18 +157,16 @@ static PAIRS: [Pair; 9] = [
             "count 1\nflushes 0 silent 0\noutput 0\n",
             "count 1\nflushes 0 silent 0\noutput 0\n",
         ],
-        harts: [
-            Hart {
-                end: "trap 3",
-                registers: &[],
-                pc: 0,
-            },
-            Hart {
-                end: "trap 3",
-                registers: &[(10, 1)],
-                pc: 0,
-            },
-        ],
+        first: Hart {
+            end: "trap 3",
+            registers: &[],
+            pc: 0,
+        },
+        second: Hart {
+            end: "trap 3",
+            registers: &[(10, 1)],
+            pc: 0,
+        },
         memory: "",
     },
     // `bne x10, x0, 12`: hart 0 halts, and hart 1 traps at once.
@@ -185,18 +182,16 @@ static PAIRS: [Pair; 9] = [
             "count 3\nflushes 0 silent 0\noutput 0\n",
             "count 2\nflushes 0 silent 0\noutput 0\n",
         ],
-        harts: [
-            Hart {
-                end: "halt 0",
-                registers: &[(17, 0x5d)],
-                pc: 8,
-            },
-            Hart {
-                end: "trap 3",
-                registers: &[(10, 1)],
-                pc: 12,
-            },
-        ],
+        first: Hart {
+            end: "halt 0",
+            registers: &[(17, 0x5d)],
+            pc: 8,
+        },
+        second: Hart {
+            end: "trap 3",
+            registers: &[(10, 1)],
+            pc: 12,
+        },
         memory: "",
     },
     // `beq x10, x0, 8`: hart 0 halts, and hart 1 jumps to where it is for ever.
@@ -212,18 +207,16 @@ static PAIRS: [Pair; 9] = [
             "count 3\nflushes 0 silent 0\noutput 0\n",
             "count 94\nflushes 0 silent 0\noutput 0\n",
         ],
-        harts: [
-            Hart {
-                end: "halt 0",
-                registers: &[(17, 0x5d)],
-                pc: 12,
-            },
-            Hart {
-                end: "none",
-                registers: &[(10, 1)],
-                pc: 4,
-            },
-        ],
+        first: Hart {
+            end: "halt 0",
+            registers: &[(17, 0x5d)],
+            pc: 12,
+        },
+        second: Hart {
+            end: "none",
+            registers: &[(10, 1)],
+            pc: 4,
+        },
         memory: "",
     },
     // Both halts are of cycle 21.
@@ -236,18 +229,16 @@ static PAIRS: [Pair; 9] = [
             "count 2\nflushes 0 silent 0\noutput 0\n",
             "count 2\nflushes 0 silent 0\noutput 0\n",
         ],
-        harts: [
-            Hart {
-                end: "none",
-                registers: &[(1, 5), (17, 0x5d)],
-                pc: 8,
-            },
-            Hart {
-                end: "none",
-                registers: &[(1, 5), (10, 1), (17, 0x5d)],
-                pc: 8,
-            },
-        ],
+        first: Hart {
+            end: "none",
+            registers: &[(1, 5), (17, 0x5d)],
+            pc: 8,
+        },
+        second: Hart {
+            end: "none",
+            registers: &[(1, 5), (10, 1), (17, 0x5d)],
+            pc: 8,
+        },
         memory: "",
     },
 ];
@@ -255,8 +246,9 @@ static PAIRS: [Pair; 9] = [
 /// The whole text of a run on two harts.
 fn pair_text(alloc: Global, pair: &Pair) -> Result<String, Fail> {
     let mut text = format!(in alloc; "cycles {}\n", pair.cycles)?;
-    for (number, (counts, hart)) in pair.counts.iter().zip(pair.harts.iter()).enumerate() {
-        let Hart { end, pc, .. } = *hart;
+    let harts = [pair.first, pair.second];
+    for (number, (counts, hart)) in pair.counts.iter().zip(harts).enumerate() {
+        let Hart { end, pc, .. } = hart;
         let registers = registers_text(alloc, hart.registers)?;
         write!(
             text,
