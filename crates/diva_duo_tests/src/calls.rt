@@ -1,7 +1,7 @@
 // Two harts on given lists, action by action.
 mod tables;
 
-use crate::harts::{G0, G1, compare_flushes, duo_of, tape_core, word_at};
+use crate::harts::{GO_0, GO_1, compare_flushes, duo_of, tape_core, word_at};
 use diva_duo::{Action, Drive, Duo, drive2};
 use std::alloc::Global;
 use std::process::Abort;
@@ -59,7 +59,7 @@ fn times(row: &Row, action: Action) -> u64 {
 /// Compares what has become of the harts, and of memory.
 fn compare_end(rt: &impl Abort, duo: &Duo, row: &Row) {
     let name = row.name;
-    let counts = [G0, G1].map(|action| times(row, action));
+    let counts = [GO_0, GO_1].map(|action| times(row, action));
     assert_eq!(rt; [duo.count(0), duo.count(1)], counts, "{name}");
     assert_eq!(rt; [duo.end(0), duo.end(1)], row.ends, "{name}");
     let limit = row.numbers[3];

@@ -1,6 +1,6 @@
 // Budgets of a drive, and the cores that it asks.
 use crate::cores::Counting;
-use crate::harts::{D0, D1, G0, USUAL, duo_of};
+use crate::harts::{DRAIN_0, DRAIN_1, GO_0, USUAL, duo_of};
 use diva_core::{Claim, Claims};
 use diva_duo::{Action, Drive, Duo, drive2};
 use std::process::Abort;
@@ -16,10 +16,10 @@ const WORDS: [u32; 5] = [0x00051663, 0x03102823, 0x00100093, 0x05d00893, 0x00000
 static DRIVES: [(u64, Drive, u64, &[Action], [u64; 2]); 6] = [
     (0, Drive::Budget, 0, &[], [0, 0]),
     (10, Drive::Budget, 10, &[], [10, 10]),
-    (5, Drive::Budget, 15, &[D0], [15, 15]),
+    (5, Drive::Budget, 15, &[DRAIN_0], [15, 15]),
     (19, Drive::Budget, 34, &[], [34, 21]),
-    (1000, Drive::Ended, 35, &[G0], [35, 21]),
-    (1000, Drive::Ended, 35, &[G0], [35, 21]),
+    (1000, Drive::Ended, 35, &[GO_0], [35, 21]),
+    (1000, Drive::Ended, 35, &[GO_0], [35, 21]),
 ];
 
 /// A cycle of harts that are over does nothing, whatever is handed over.

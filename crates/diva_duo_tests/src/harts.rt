@@ -20,16 +20,16 @@ pub(crate) const USUAL: Numbers = [2, 16, 4, 64];
 pub(crate) type Flush = (u64, u64, Option<(Field, u32, u32)>);
 
 /// Hart 0 goes on by an instruction.
-pub(crate) const G0: Action = Action::Go(0);
+pub(crate) const GO_0: Action = Action::Go(0);
 
 /// Hart 1 goes on by an instruction.
-pub(crate) const G1: Action = Action::Go(1);
+pub(crate) const GO_1: Action = Action::Go(1);
 
 /// A store of hart 0 goes to memory.
-pub(crate) const D0: Action = Action::Drain(0);
+pub(crate) const DRAIN_0: Action = Action::Drain(0);
 
 /// A store of hart 1 goes to memory.
-pub(crate) const D1: Action = Action::Drain(1);
+pub(crate) const DRAIN_1: Action = Action::Drain(1);
 
 /// Two harts over a memory of so many bytes that begins with these words, the first of which is their first instruction.
 pub(crate) fn duo_of(alloc: Global, size: u32, words: &[u32], numbers: Numbers) -> Result<Duo, Fail>

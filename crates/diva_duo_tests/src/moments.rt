@@ -1,7 +1,9 @@
 // All that is seen of two harts, between some cycles of a run.
 ghost use Rattle.std.specs.Prelude.{◌<◌};
 
-use crate::harts::{D0, D1, Flush, G0, G1, compare_flushes, duo_of, tape_core, word_at};
+use crate::harts::{
+    DRAIN_0, DRAIN_1, Flush, GO_0, GO_1, compare_flushes, duo_of, tape_core, word_at,
+};
 use diva_core::{Field, Told};
 use diva_duo::{Action, Drive, Duo, drive2};
 use diva_isa::End;
@@ -56,7 +58,7 @@ static MOMENTS: [Moment; 6] = [
     // Hart 0's load has been flushed, and its store is owed: hart 0 alone sees it.
     Moment {
         cycles: 9,
-        last: &[G0],
+        last: &[GO_0],
         told: [
             (4, 16, 1, 0, 0, 0, false, false),
             (2, 8, 0, 2, 2, 1, false, false),
@@ -69,7 +71,7 @@ static MOMENTS: [Moment; 6] = [
     // The checker's own load has committed, and hart 1's store is owed.
     Moment {
         cycles: 15,
-        last: &[G0, G1, G1],
+        last: &[GO_0, GO_1, GO_1],
         told: [
             (5, 20, 1, 0, 2, 0, false, false),
             (4, 16, 0, 0, 2, 0, false, false),
@@ -108,7 +110,7 @@ static MOMENTS: [Moment; 6] = [
     // Both have ended, and nothing is owed.
     Moment {
         cycles: 81,
-        last: &[G1],
+        last: &[GO_1],
         told: [
             (7, 24, 1, 0, 0, 0, false, true),
             (7, 24, 3, 0, 0, 0, false, true),
