@@ -5,11 +5,11 @@ use Rattle.diva_isa.specs.declared.record.Record.{Record}
 use Rattle.diva_core.specs.Timed.{Timed}
 use Rattle.diva_core.specs.Cycle.{cycle_of}
 use Rattle.diva_core.specs.Told.{told_of}
-use Rattle.diva_core.specs.History.{Meaning, IsHistory, lists_of}
+use Rattle.diva_core.specs.History.{Meaning, IsHistory, Turns, lists_of}
 use Rattle.diva_core.specs.Machine.{IsMachine}
-use Rattle.diva_core.specs.Headline.{committed_in, dues, last_committed}
+use Rattle.diva_core.specs.Headline.{KeepsPace, Rises, committed_in, dues, last_committed}
 use Rattle.diva_core.proofs.Outcomes.{cycle-cycles}
-use Rattle.diva_core.proofs.Pacing.{turns-calm, turns-commit, turns-rows, turns-stay}
+use Rattle.diva_core.proofs.Pacing.{turns-calm, turns-commit, turns-pace, turns-rise, turns-rows, turns-stay}
 use Rattle.diva_core.proofs.Turning.{IsHistory-more}
 use Rattle.diva_machine.specs.Drives.{Drives}
 use Rattle.diva_machine.specs.Inner.{TakesTurns}
@@ -34,6 +34,18 @@ last-then gives before m core [] mid between more h = rw h.0 refl
 last-then gives before m core (turn ∷ rest) mid between more h =
     last-then gives (committed_in m turn.0) (cycle_of m turn.0) turn.1 rest mid between more h.1.1
 
+-- one turn more
+unfoldable pub turns_more :
+    {C : Type 0} (gives : Meaning C) (m : Timed) (core : C) (last : Timed) (final : C) (t : Turns gives m core last final)
+    → IsMachine m → (list : List Record) (after : C) → goes_on last.arch ≡ true → gives final (told_of last) last.arch list after
+    → Turns gives m core (cycle_of last list) after
+turns_more gives m core last final t inv list after on asked =
+    record {
+      history = t.history ++ (list, after) ∷ [];
+      good = IsHistory-more gives m core t.history last final list after t.good on asked;
+      each = rw length-append (let e = t.each in let n = cycle-cycles last list (turns-stay gives m core last final inv t) on in omega arith);
+    }
+
 pub no_turns : {C : Type 0} (gives : Meaning C) (m : Machine) (core : C) → TakesTurns gives m core m core
 no_turns gives m core = record { turns = record { history = []; good = (refl, refl); each = omega arith }; shows = refl }
 
@@ -50,6 +62,15 @@ module _ {C : Type 0} (gives : Meaning C) (m : Machine) (core : C) (last : Machi
     calm = turns-calm gives m.timed core last.timed final inv t.turns;
   }
 
+  pub rises : IsMachine m.timed → Rises m.timed last.timed
+  rises inv = turns-rise gives m.timed core last.timed final inv t.turns
+
+  pub keeps : IsMachine m.timed → IsMachine last.timed
+  keeps inv = turns-stay gives m.timed core last.timed final inv t.turns
+
+  pub paces : IsMachine m.timed → KeepsPace m.timed last.timed
+  paces inv = turns-pace gives m.timed core last.timed final inv t.turns
+
   -- one turn more
   pub next_turn :
       IsMachine m.timed
@@ -59,13 +80,10 @@ module _ {C : Type 0} (gives : Meaning C) (m : Machine) (core : C) (last : Machi
       → next.timed ≡ cycle_of last.timed list
       → next.last ≡ dues (next.timed.count - last.timed.count) last.timed.arch
       → TakesTurns gives m core next after
+  unfolding turns_more
   next_turn inv next list after on asked cycled committed =
       rw cycled (record {
-        turns = record {
-          history = t.turns.history ++ (list, after) ∷ [];
-          good = IsHistory-more gives m.timed core t.turns.history last.timed final list after t.turns.good on asked;
-          each = rw length-append (let e = t.turns.each in let n = cycle-cycles last.timed list (turns-stay gives m.timed core last.timed final inv t.turns) on in omega arith);
-        };
+        turns = turns_more gives m.timed core last.timed final t.turns inv list after on asked;
         shows = committed ∙ ap (λ (k : Timed). dues (k.count - last.timed.count) last.timed.arch) cycled
             ∙ sym (last-more gives m.last m.timed core t.turns.history last.timed final list after t.turns.good);
       })

@@ -6,3 +6,4 @@ pub mod Staging
 pub mod Judged
 pub mod Counting
 pub mod Driving
+mod Asking

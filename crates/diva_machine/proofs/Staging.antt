@@ -23,9 +23,10 @@ use Rattle.diva_core.specs.Stages.{Answers, HasVerdict}
 use Rattle.diva_core.specs.Timed.{Timed, PendingClaim}
 use Rattle.diva_core.proofs.Bypassing.{after_goes, before_is}
 use Rattle.diva_core.proofs.Leaving.{claims_alike, future_begun, older_more}
-use Rattle.diva_machine.specs.declared.stages.Stage.{Stage}
+use Rattle.diva_vote.specs.declared.stage.Stage.{Stage}
 use Rattle.diva_machine.specs.Staged.{AreChecked, AreInOrder, IsChecked, IsFilled, IsSoloFilled, IsStaged, Parts, last_stage, passed_by}
-use Rattle.diva_machine.specs.Inner.{age_of, earlier_of, own_of, IsAdvanced}
+use Rattle.diva_vote.specs.Lanes.{earlier_of, own_of}
+use Rattle.diva_machine.specs.Inner.{age_of, IsAdvanced}
 use Rattle.diva_machine.proofs.Verdicts.{age_from, before_of, decodes_none, form_kept, form_whole, found_by, stays_found, verdict_past, whole_verdict}
 
 -- ---- entries by place
@@ -104,6 +105,11 @@ pub waiting_set : (xs : List Entry) (i : ℕ) (old new : Entry) → slice_get xs
 waiting_set [] i old new h e = refl
 waiting_set (x ∷ xs) zero old new h e = let is : x ≡ old = same_Some _ _ h in ap (λ w. w ∷ map pending_claim_of xs) (e ∙ ap (λ (y : Entry). pending_claim_of y) (sym is))
 waiting_set (x ∷ xs) (suc i) old new h e = ap (λ ws. pending_claim_of x ∷ ws) (waiting_set xs i old new h e)
+
+pub get_mapped : (xs : List Entry) (i : ℕ) (e : Entry) → slice_get xs i ≡ Some e → slice_get (map pending_claim_of xs) i ≡ Some (pending_claim_of e)
+get_mapped [] i e h = absurd (none-some _ h)
+get_mapped (x ∷ xs) zero e h = ap (λ (y : Entry). Some (pending_claim_of y)) (same_Some _ _ h)
+get_mapped (x ∷ xs) (suc i) e h = get_mapped xs i e h
 
 older_set : (xs : List Entry) (i k : ℕ) (old new : Entry) → slice_get xs i ≡ Some old → new.claim ≡ old.claim → older (slice_set xs i new) k ≡ older xs k
 older_set [] i k old new h e = refl

@@ -12,10 +12,11 @@ use Rattle.diva_core.specs.declared.differences.Diff.{Diff}
 use Rattle.diva_core.specs.declared.pending.Entry.{Entry}
 use Rattle.diva_core.specs.Difference.{difference_in, field_of, first_difference}
 use Rattle.diva_core.specs.Stages.{Answers, HasVerdict, fields_at, fetch_fields, operand_fields, address_fields, outcome_fields, execute_fields, memory_fields, is_memory}
-use Rattle.diva_machine.specs.declared.stages.Stage.{Stage}
-use Rattle.diva_machine.specs.declared.stages.Stage.TheVariants.{Fetch, Operands, Execute, Access}
+use Rattle.diva_vote.specs.declared.stage.Stage.{Stage}
+use Rattle.diva_vote.specs.declared.stage.Stage.TheVariants.{Fetch, Operands, Execute, Memory}
 use Rattle.diva_machine.specs.Staged.{decoded_at, last_stage}
-use Rattle.diva_machine.specs.Inner.{age_of, earlier_of, own_of}
+use Rattle.diva_vote.specs.Lanes.{earlier_of, own_of}
+use Rattle.diva_machine.specs.Inner.{age_of}
 
 -- the verdict of a claim p of an age, where r is due
 abbrev pub verdict_at : ℕ → Record → Record → Option Diff
@@ -70,20 +71,20 @@ abbrev pub before_of : Stage → ℕ
 before_of Fetch = 0
 before_of Operands = 2
 before_of Execute = 3
-before_of Access = 4
+before_of Memory = 4
 
 pub age_from : (stage : Stage) → age_of stage ≡ suc (before_of stage)
 age_from Fetch = refl
 age_from Operands = refl
 age_from Execute = refl
-age_from Access = refl
+age_from Memory = refl
 
 -- it does not decode
 pub decodes_none : (stage : Stage) → before_of stage ≢ 1
 decodes_none Fetch = λ is. omega arith
 decodes_none Operands = λ is. omega arith
 decodes_none Execute = λ is. omega arith
-decodes_none Access = λ is. omega arith
+decodes_none Memory = λ is. omega arith
 
 -- what the memory stage needs of the earlier fields
 address_agrees : (memory : Bool) (p r : Record) → difference_in (fields_at 4 memory) p r ≡ None → difference_in address_fields p r ≡ None
@@ -112,7 +113,7 @@ module _ (s : State) (e : Entry) where
   found_by Fetch v was answer = found_next 0 v was (λ on agrees. answer on agrees)
   found_by Operands v was answer = found_next 2 v was (λ on agrees. answer on agrees)
   found_by Execute v was answer = found_next 3 v was (λ on agrees. answer on agrees)
-  found_by Access v was answer = found_next 4 v was (λ on agrees. answer on (address_agrees (is_memory (record_of s)) e.claim (record_of s) agrees))
+  found_by Memory v was answer = found_next 4 v was (λ on agrees. answer on (address_agrees (is_memory (record_of s)) e.claim (record_of s) agrees))
 
   -- nor behind the last one
   pub verdict_past : (a : ℕ) → last_stage ≤ a → HasVerdict s a e → HasVerdict s (suc a) e

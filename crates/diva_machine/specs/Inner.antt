@@ -1,11 +1,13 @@
 -- What only private contracts of this crate cite. A reader of its promises can pass over it.
-use Rattle.std.specs.Prelude.{ℕ, ◌==◌, if◌then◌else◌, ◌≡◌, ◌≤◌, ◌+◌, ◌^◌, ◌&&◌, Bool, true, false, List, length, Some, ◌-◌, ◌<◌, [], map, drop, slice_get}
+use Rattle.std.specs.Prelude.{ℕ, ◌==◌, if◌then◌else◌, ◌≡◌, ◌≤◌, ◌+◌, ◌^◌, ◌&&◌, Bool, true, false, List, length, Some, ◌-◌, ◌<◌, [], ◌++◌, map, drop, slice_get}
 use Rattle.diva_isa.specs.State.{goes_on, State}
 use Rattle.diva_core.specs.Timed.{Timed}
 use Rattle.diva_machine.specs.declared.ends.Reach.{Reach}
 use Rattle.diva_machine.specs.declared.ends.Reach.TheVariants.{Reached, Ended, Budget}
 use Rattle.diva_core.specs.History.{Meaning, Turns, lists_of}
 use Rattle.diva_core.specs.Headline.{last_committed}
+use Rattle.diva_vote.specs.Questions.{Question}
+use Rattle.diva_machine.specs.Asked.{asked_over}
 use Rattle.diva_machine.specs.Machine.{Machine}
 use Rattle.diva_memory.specs.Bytes.{Bytes}
 use Rattle.diva_storeq.specs.declared.masked.Masked.{Masked}
@@ -19,10 +21,8 @@ use Rattle.diva_core.specs.declared.pending.Entry.{Entry}
 use Rattle.diva_core.specs.Entries.{pending_claim_of}
 use Rattle.diva_core.specs.Future.{committed_file, without_oldest}
 use Rattle.diva_core.specs.Older.{before_entry}
-use Rattle.diva_core.specs.declared.differences.Field.{Field}
-use Rattle.diva_core.specs.Stages.{fetch_fields, operand_fields, execute_fields, memory_fields, read_fields, address_fields}
-use Rattle.diva_machine.specs.declared.stages.Stage.{Stage}
-use Rattle.diva_machine.specs.declared.stages.Stage.TheVariants.{Fetch, Operands, Execute, Access}
+use Rattle.diva_vote.specs.declared.stage.Stage.{Stage}
+use Rattle.diva_vote.specs.declared.stage.Stage.TheVariants.{Fetch, Operands, Execute, Memory}
 use Rattle.diva_machine.specs.Staged.{IsChecked, last_stage, Parts}
 
 -- how a machine stands to a count; the count is looked at first
@@ -34,6 +34,14 @@ reach_of target m = if m.count == target then Reached else (if goes_on m.arch th
 pub record TakesTurns {C : Type 0} (gives : Meaning C) (m : Machine) (core : C) (last : Machine) (final : C) : Type 0 where
   pub turns : Turns gives m.timed core last.timed final
   pub shows : last.last ≡ last_committed m.last m.timed (lists_of turns.history)
+
+-- turns lead from a machine and a core to others, and from the stages that claims pass through to others, to which what was asked
+-- in these turns was put in the end, and nothing else
+pub record LedTurns {C S : Type 0} (gives : Meaning C) (m : Timed) (core : C) (last : Timed) (final : C)
+    (led : S → List Question → S → Type 0) (stages after : S) : Type 0 where
+  pub turns : Turns gives m core last final
+  pub asked : (first : S) (before : List Question) → led first before stages
+      → led first (before ++ asked_over m (lists_of turns.history)) after
 
 -- the committed state, the stores owed to memory, and how many may be owed
 pub record Arch : Type 0 where
@@ -83,21 +91,7 @@ abbrev pub age_of : Stage → ℕ
 age_of Fetch = 1
 age_of Operands = 3
 age_of Execute = 4
-age_of Access = last_stage
-
--- the fields that such a stage compares; `memory` says whether the due record is a load or a store
-abbrev pub own_of : Stage → (memory : Bool) → List Field
-own_of Fetch memory = fetch_fields
-own_of Operands memory = operand_fields
-own_of Execute memory = execute_fields memory
-own_of Access memory = memory_fields memory
-
--- those that have to agree before: where they do not, nothing is said of its answer
-abbrev pub earlier_of : Stage → List Field
-earlier_of Fetch = []
-earlier_of Operands = fetch_fields
-earlier_of Execute = read_fields
-earlier_of Access = address_fields
+age_of Memory = last_stage
 
 -- the entries before a place have gone through the stages of the cycle now + 1, the others through those of `now`
 pub record IsAdvanced (arch : State) (now at : ℕ) (entries : List Entry) : Type 0 where

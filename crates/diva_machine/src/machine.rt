@@ -1,5 +1,5 @@
 // The machine between cycles.
-ghost use Rattle.std.specs.Prelude.{◌≡◌, ◌⊎◌, ◌↔◌, ◌+◌, ◌-◌, ◌*◌, ◌<◌, ◌≤◌, ◌^◌, ◌∷◌, ℕ, [], List, length, slice_get, None, Some, IsNone, IfOk, true, false};
+ghost use Rattle.std.specs.Prelude.{◌≡◌, ◌⊎◌, ◌↔◌, ◌+◌, ◌-◌, ◌*◌, ◌<◌, ◌≤◌, ◌^◌, ◌∷◌, ◌++◌, ℕ, [], List, length, slice_get, None, Some, IsNone, IfOk, true, false};
 ghost use Rattle.diva_isa.specs.State.{goes_on, GoesOn, output_limit};
 ghost use Rattle.diva_isa.specs.End.{end_of, end_number};
 ghost use Rattle.diva_isa.specs.Step.{steps};
@@ -13,12 +13,18 @@ ghost use Rattle.diva_core.specs.Machine.{IsMachine};
 ghost use Rattle.diva_core.specs.Headline.{dues, Rises, ByClaims, BySolo, IsJudged, SameLog, AddsRow, HasPace, WillCount, WillJudge};
 ghost use Rattle.diva_core.specs.Right.{IsRight, IsCalm, StaysCalm};
 ghost use Rattle.diva_hart.specs.Start.{start_of};
+ghost use Rattle.diva_vote.specs.Questions.{HeardAll, Question};
+ghost use Rattle.diva_vote.specs.Votes.{AtLeastTwo};
+ghost use Rattle.diva_machine.specs.Asked.{asked_of};
 ghost use Rattle.diva_machine.specs.Staged.{AreChecked, IsChecked};
 
+use crate::panel::Panel;
 use crate::parts::Parts;
+use crate::stages::{Checks, Stages};
 use diva_core::{Claims, Config, Entry, FlushRow, Told, View};
 use diva_image::Image;
 use diva_isa::{End, Record};
+use diva_vote::Lane;
 use std::alloc::{AllocError, Global};
 use std::marker::Model;
 
@@ -178,7 +184,7 @@ impl Machine {
     /// Runs one cycle on what a core handed over. On an ended machine nothing changes but `last`,
     /// which is then empty.
     #[inline(always)]
-    #[tactic(auto, using(diva_core::proofs::Keeping::stays, diva_core::proofs::Outcomes::rises, diva_core::proofs::Outcomes::logs, diva_core::proofs::Outcomes::records_by, diva_core::proofs::Pacing::will_count, diva_core::proofs::Progressing::has_pace, diva_core::proofs::Calming::stays_calm, diva_core::proofs::Opened::will_judge))]
+    #[tactic(auto, using(diva_core::proofs::Keeping::stays, diva_core::proofs::Outcomes::rises, diva_core::proofs::Outcomes::logs, diva_core::proofs::Outcomes::records_by, diva_core::proofs::Pacing::will_count, diva_core::proofs::Progressing::has_pace, diva_core::proofs::Calming::stays_calm, crate::proofs::Laws::sixth_commits))]
     pub fn cycle(&mut self, list: &Claims)
         requires { self.old.timed.cycles < 2 ^ 60 }
         // It is the cycle of the definition, in every part.
@@ -220,26 +226,111 @@ impl Machine {
             → self.old.timed.cycles + 1 ≡ start + depth
             → self.new.timed.count ≡ self.old.timed.count + 1 }
     {
+        self.cycle_by(list, &mut Checks);
+    }
+
+    /// The same, where what a stage finds in a claim is what most of three lanes say. Each is asked once for each claim and
+    /// stage, whatever the others said, and whatever an earlier stage found. Two honest lanes are enough: the third may be
+    /// anything. The registers, the store queue, what commits, and an instruction that runs solo are not voted on.
+    #[tactic(auto, using(diva_core::proofs::Keeping::stays, diva_core::proofs::Outcomes::rises, diva_core::proofs::Outcomes::logs, diva_core::proofs::Outcomes::records_by, diva_core::proofs::Pacing::will_count, diva_core::proofs::Progressing::has_pace, diva_core::proofs::Calming::stays_calm, crate::proofs::Laws::sixth_commits))]
+    pub fn cycle_voted<A: Lane, B: Lane, L: Lane>(
+        &mut self,
+        list: &Claims,
+        a: &mut A,
+        b: &mut B,
+        l: &mut L,
+    )
+        requires cycles { self.old.timed.cycles < 2 ^ 60 }
+        requires honest { AtLeastTwo (A.honest a.old) (B.honest b.old) (L.honest l.old) }
+        // Each lane that was honest is honest again, and it has heard each question of the cycle.
+        ensures first_stays { A.honest a.old → A.honest a.new }
+        ensures second_stays { B.honest b.old → B.honest b.new }
+        ensures third_stays { L.honest l.old → L.honest l.new }
+        ensures first_hears { HeardAll A.hears a.old (asked_of self.old.timed) a.new }
+        ensures second_hears { HeardAll B.hears b.old (asked_of self.old.timed) b.new }
+        ensures third_hears { HeardAll L.hears l.old (asked_of self.old.timed) l.new }
+
+        // It is the cycle of the definition, in every part.
+        ensures cycled { self.new.timed ≡ cycle_of self.old.timed list.now }
+        ensures last { self.new.last
+            ≡ dues (self.new.timed.count - self.old.timed.count) self.old.timed.arch }
+
+        // The committed state is the table's after the counted instructions, each committed by an
+        // equal claim or by the checker alone, and each flush has its cause.
+        ensures rises { Rises self.old.timed self.new.timed }
+        ensures commits { ByClaims self.old.timed self.new.last
+            ⊎ BySolo self.old.timed self.new.last }
+        ensures logs { SameLog self.old.timed self.new.timed ⊎ AddsRow self.old.timed self.new.timed }
+
+        // Its numbers are within their bounds again, and it goes on counting.
+        ensures machine { IsMachine self.new.timed }
+        ensures counts { WillCount self.new.timed }
+        ensures paced { HasPace self.new.timed }
+
+        // A right list leaves a calm machine calm, and leads to no flush.
+        ensures calm { IsCalm self.old.timed → IsRight self.old.timed list.now
+            → StaysCalm self.old.timed self.new.timed }
+
+        // The stages have checked each pending claim as far as its age goes; an ended machine keeps what it noted.
+        ensures checked { AreChecked self.new.timed.arch self.new.timed.cycles self.new.entries }
+        ensures stays { goes_on self.old.timed.arch ≡ false → self.new.entries ≡ self.old.entries }
+
+        // Nothing ready is held up for longer than until the port opens, and only a store is; a solo one never.
+        ensures judges { WillJudge self.new.timed }
+        ensures front { (p : PendingClaim) (rest : List PendingClaim)
+            → goes_on self.old.timed.arch ≡ true
+            → self.old.timed.solo ≡ None
+            → self.old.timed.pending ≡ p ∷ rest
+            → p.cycle + depth ≤ self.old.timed.cycles + 1
+            → IsJudged self.old.timed self.new.timed p }
+        ensures sixth { (start : ℕ)
+            → goes_on self.old.timed.arch ≡ true
+            → self.old.timed.solo ≡ Some start
+            → self.old.timed.cycles + 1 ≡ start + depth
+            → self.new.timed.count ≡ self.old.timed.count + 1 }
+    {
+        let mut panel = Panel::new(a, b, l);
+        self.cycle_by(list, &mut panel);
+    }
+
+    /// The same, whatever the stages are that a claim passes through.
+    #[inline(always)]
+    #[tactic(auto, unfolding(crate::specs::Asked::asked_of))]
+    pub(crate) fn cycle_by<S: Stages>(&mut self, list: &Claims, stages: &mut S)
+        requires cycles { self.old.timed.cycles < 2 ^ 60 }
+        requires stages_sound { S.sound stages.old }
+        ensures stages_sound { S.sound stages.new }
+        ensures led { (first : S) (before : List Question) → S.led first before stages.old
+            → S.led first (before ++ asked_of self.old.timed) stages.new }
+        ensures was { IsMachine self.old.timed }
+        ensures cycled { self.new.timed ≡ cycle_of self.old.timed list.now }
+        ensures last { self.new.last
+            ≡ dues (self.new.timed.count - self.old.timed.count) self.old.timed.arch }
+        ensures checked { AreChecked self.new.timed.arch self.new.timed.cycles self.new.entries }
+        ensures stays { goes_on self.old.timed.arch ≡ false → self.new.entries ≡ self.old.entries }
+    {
         if self.parts.goes_on() {
             let room = self.parts.room();
-            self.parts.cycle(list.as_slice(), room);
+            self.parts.cycle(list.as_slice(), room, stages);
         } else {
             self.parts.forget_last();
         }
     }
+
     /// The same for a machine that goes on, where it is known how many claims the cycle accepts at most.
     #[inline(always)]
-    #[tactic(auto, using(diva_core::proofs::Outcomes::records_by))]
-    pub(crate) fn cycle_within(&mut self, list: &Claims, room: u32)
+    pub(crate) fn cycle_within<S: Stages>(&mut self, list: &Claims, room: u32, stages: &mut S)
         requires goes_on { goes_on self.old.timed.arch ≡ true }
         requires cycles { self.old.timed.cycles < 2 ^ 60 }
         requires room { room ≡ room_of self.old.timed }
+        requires stages_sound { S.sound stages.old }
+        ensures stages_sound { S.sound stages.new }
+        ensures led { (first : S) (before : List Question) → S.led first before stages.old
+            → S.led first (before ++ asked_of self.old.timed) stages.new }
         ensures cycled { self.new.timed ≡ cycle_of self.old.timed list.now }
         ensures last { self.new.last
             ≡ dues (self.new.timed.count - self.old.timed.count) self.old.timed.arch }
-        ensures commits { ByClaims self.old.timed self.new.last
-            ⊎ BySolo self.old.timed self.new.last }
     {
-        self.parts.cycle(list.as_slice(), room as usize);
+        self.parts.cycle(list.as_slice(), room as usize, stages);
     }
 }

@@ -3,7 +3,7 @@
 //
 // In most cycles nothing is ready. So what each cycle does stands in the loop that drives the
 // machine (`inline(always)`), and what few cycles do is called (`inline(never)`, `cold`).
-ghost use Rattle.std.specs.Prelude.{◌≡◌, ◌+◌, ◌-◌, ◌<◌, ◌≤◌, ◌^◌, ◌++◌, [], ◌∷◌, ℕ, length, map, take, slice_get, None, Some, IfOk, true, false, not, ◌==◌, ◌&&◌};
+ghost use Rattle.std.specs.Prelude.{◌≡◌, ◌+◌, ◌-◌, ◌<◌, ◌≤◌, ◌^◌, ◌++◌, [], ◌∷◌, ℕ, List, length, map, take, slice_get, None, Some, IfOk, true, false, not, ◌==◌, ◌&&◌};
 ghost use Rattle.diva_isa.specs.declared.record.Record.{Record};
 ghost use Rattle.diva_isa.specs.State.{goes_on, GoesOn};
 ghost use Rattle.diva_isa.specs.Step.{apply, record_of, steps};
@@ -20,13 +20,15 @@ ghost use Rattle.diva_core.specs.Cycle.{Commit, accepted_in, accepts, commits_un
 ghost use Rattle.diva_core.specs.declared.flushes.Cause.TheVariants.{Silent};
 ghost use Rattle.diva_commit.specs.Committing.{answer, is_committed};
 ghost use Rattle.diva_hart.specs.Start.{start_of};
+ghost use Rattle.diva_vote.specs.Questions.{Question};
+ghost use Rattle.diva_machine.specs.Asked.{asked_at, asked_in, asked_of};
 ghost use Rattle.diva_machine.specs.Inner.{judged, judged_by, judgement_of, KeepsBounds, Tells};
 ghost use Rattle.diva_machine.specs.Staged.{last_stage, IsFilled, IsSoloFilled, IsStaged};
 ghost use Rattle.diva_machine.specs.Inner.{left, IsAdvanced};
 
 use crate::arch::Arch;
 use crate::phases::{CommitPhase, Judged};
-use crate::stages::{LAST_STAGE, fill, pass};
+use crate::stages::{LAST_STAGE, Stages, fill};
 use diva_commit::Committed;
 use diva_core::{Cause, Claim, Config, Entry, FutureFile, Records, Told};
 use diva_decode::decode;
@@ -380,42 +382,55 @@ impl Parts {
 
     /// Phase 3: each claim that is not past the last stage passes through the one of its age.
     #[inline(always)]
-    fn advance(&mut self)
+    fn advance<S: Stages>(&mut self, stages: &mut S)
         requires cycles { 1 ≤ self.old.timed.cycles }
         requires staged { IsStaged (self.old.timed.cycles - 1) self.old }
+        requires stages_sound { S.sound stages.old }
+        ensures stages_sound { S.sound stages.new }
+        ensures led { (first : S) (before : List Question) → S.led first before stages.old
+            → S.led first (before ++ asked_in self.old.timed.cycles self.old.timed.pending) stages.new }
         ensures rest { self.new ≡ record self.old { entries = self.new.entries; passed = self.new.passed; future = self.new.future } }
         ensures staged { IsStaged self.new.timed.cycles self.new }
     {
         if self.passed < self.under.pending.len() {
-            self.pass_stages();
+            self.pass_stages(stages);
         }
     }
 
     #[inline(always)]
-    fn pass_stages(&mut self)
+    fn pass_stages<S: Stages>(&mut self, stages: &mut S)
         requires cycles { 1 ≤ self.old.timed.cycles }
         requires staged { IsStaged (self.old.timed.cycles - 1) self.old }
         requires some { self.old.passed < length self.old.entries }
+        requires stages_sound { S.sound stages.old }
+        ensures stages_sound { S.sound stages.new }
+        ensures led { (first : S) (before : List Question) → S.led first before stages.old
+            → S.led first (before ++ asked_in self.old.timed.cycles self.old.timed.pending) stages.new }
         ensures rest { self.new ≡ record self.old { entries = self.new.entries; passed = self.new.passed; future = self.new.future } }
         ensures staged { IsStaged self.new.timed.cycles self.new }
     {
         // The buffer asks for its length at each look-up: this test serves both.
         let mut at = self.passed;
         while at < self.under.pending.len() {
-            self.pass_stage(at);
+            self.pass_stage(at, stages);
             at += 1;
         }
     }
 
     /// The claim at a place passes through the stage of its age.
     #[inline(always)]
-    fn pass_stage(&mut self, at: usize)
+    fn pass_stage<S: Stages>(&mut self, at: usize, stages: &mut S)
         requires place { at < length self.old.entries }
         requires few { at < 64 }
         requires passed { self.old.passed ≤ at }
         requires aged { (e : Entry) → slice_get self.old.entries at ≡ Some e → e.cycle < self.old.timed.cycles }
         requires young { (e : Entry) → slice_get self.old.entries at ≡ Some e → self.old.timed.cycles ≤ e.cycle + last_stage }
         requires future { IsFuture self.old.timed.arch self.old.entries self.old.future }
+        requires stages_sound { S.sound stages.old }
+        ensures stages_sound { S.sound stages.new }
+        ensures led { (e : Entry) (first : S) (before : List Question) → slice_get self.old.entries at ≡ Some e
+            → S.led first before stages.old
+            → S.led first (before ++ asked_at (self.old.timed.cycles - e.cycle) e.claim) stages.new }
         ensures rest { self.new ≡ record self.old { entries = self.new.entries; passed = self.new.passed; future = self.new.future } }
         ensures waits { map pending_claim_of self.new.entries ≡ map pending_claim_of self.old.entries }
         ensures passed { (e : Entry) → slice_get self.old.entries at ≡ Some e → self.new.passed
@@ -427,7 +442,7 @@ impl Parts {
             → IsAdvanced self.old.timed.arch now (at + 1) self.new.entries }
     {
         let age = age_in(self.cycles, self.under.pending.at(at).cycle);
-        pass(
+        stages.pass(
             &mut self.under.pending,
             &mut self.future,
             at,
@@ -493,13 +508,17 @@ impl Parts {
     /// One cycle of a machine that goes on, and accepts so many claims at most.
     #[inline(always)]
     #[tactic(auto, unfolding(diva_core::specs::Cycle::cycle_under, diva_core::specs::Cycle::drained, diva_core::specs::Cycle::accepts))]
-    pub fn cycle(&mut self, list: &[Claim], room: usize)
+    pub fn cycle<S: Stages>(&mut self, list: &[Claim], room: usize, stages: &mut S)
         requires goes_on { GoesOn self.old.timed.arch }
         requires room { room ≡ room_of self.old.timed }
         requires machine { IsMachine self.old.timed }
         requires cycles { self.old.timed.cycles < 2 ^ 60 }
         requires staged { IsStaged self.old.timed.cycles self.old }
         requires solo { IsSoloFilled self.old.timed.cycles self.old }
+        requires stages_sound { S.sound stages.old }
+        ensures stages_sound { S.sound stages.new }
+        ensures led { (first : S) (before : List Question) → S.led first before stages.old
+            → S.led first (before ++ asked_of self.old.timed) stages.new }
         ensures timed { self.new.timed ≡ cycle_of self.old.timed list.now }
         ensures last { self.new.last
             ≡ dues (self.new.timed.count - self.old.timed.count) self.old.timed.arch }
@@ -512,7 +531,7 @@ impl Parts {
         self.drain();
         let phase = self.commits();
         let accepted = phase.accepted(admitted);
-        self.advance();
+        self.advance(stages);
         self.accept(accepted);
         let committed = !self.last.is_empty();
         self.watch(committed);

@@ -5,38 +5,102 @@ ghost use Rattle.diva_decode.specs.Table.{row_of};
 ghost use Rattle.diva_core.specs.declared.pending.Entry.{Entry};
 ghost use Rattle.diva_core.specs.Entries.{pending_claim_of};
 ghost use Rattle.diva_core.specs.Future.{IsFuture};
-ghost use Rattle.diva_core.specs.Older.{before_entry};
-ghost use Rattle.diva_core.specs.Stages.{Answers};
+ghost use Rattle.diva_isa.specs.State.{State};
 ghost use Rattle.diva_machine.specs.Staged.{IsFilled, last_stage};
-ghost use Rattle.diva_machine.specs.Inner.{HasPassed, age_of, earlier_of, own_of};
+ghost use Rattle.diva_machine.specs.Inner.{HasPassed, age_of};
 
 use crate::arch::Arch;
 use diva_core::{Diff, Field, FutureFile, Pending, View};
 use diva_execchk::is_memory;
 use diva_isa::Record;
+use diva_vote::{Stage, check};
 
 /// The age at which a claim, or the solo instruction, passes through the stage of the fetch.
-const FETCH_STAGE: u64 = 1;
+pub(crate) const FETCH_STAGE: u64 = 1;
 
 /// The age at which a claim is decoded.
-const DECODE_STAGE: u64 = 2;
+pub(crate) const DECODE_STAGE: u64 = 2;
 
 /// The age at which a claim, or the solo instruction, passes through the stage of operands.
-const OPERANDS_STAGE: u64 = 3;
+pub(crate) const OPERANDS_STAGE: u64 = 3;
 
 /// The age at which a claim, or the solo instruction, passes through the stage that executes.
-const EXECUTE_STAGE: u64 = 4;
+pub(crate) const EXECUTE_STAGE: u64 = 4;
 
 /// The age at which a claim, or the solo instruction, passes through the last stage.
 pub(crate) const LAST_STAGE: u64 = 5;
 
-/// The claim at a place comes to an age, and passes through that age's stage. A difference that an earlier stage found
-/// stays.
+/// What a claim passes through at each age: the checks themselves, or three lanes that vote.
+pub(crate) trait Stages {
+    ghost use Rattle.std.specs.Prelude.{◌++◌, List};
+    ghost use Rattle.diva_core.specs.Entries.{pending_claim_of};
+    ghost use Rattle.diva_core.specs.Future.{IsFuture};
+    ghost use Rattle.diva_core.specs.declared.pending.Entry.{Entry};
+    ghost use Rattle.diva_vote.specs.Questions.{Question};
+    ghost use Rattle.diva_machine.specs.Asked.{asked_at};
+    ghost use Rattle.diva_machine.specs.Inner.{HasPassed};
+    ghost use Rattle.diva_machine.specs.Staged.{last_stage};
+
+    /// They answer as the checks do.
+    ghost sound: { Self → Type 0 };
+
+    /// What they were, the questions that were put to them since, in order, and what they are then.
+    ghost led: { Self → List Question → Self → Type 0 };
+
+    /// The claim at a place comes to an age, and passes through that age's stage. A difference that an earlier stage found
+    /// stays.
+    fn pass(
+        &mut self,
+        pending: &mut Pending,
+        future: &mut FutureFile,
+        at: usize,
+        arch: &Arch,
+        age: u64,
+    )
+        requires sound { sound self.old }
+        requires place { at < length pending.old.items }
+        requires age { 1 ≤ age }
+        requires young { age ≤ last_stage }
+        requires future { IsFuture arch.now.state pending.old.items future.old }
+        ensures sound { sound self.new }
+        ensures led { (e : Entry) (first : Self) (before : List Question) → slice_get pending.old.items at ≡ Some e
+            → led first before self.old → led first (before ++ asked_at age e.claim) self.new }
+        ensures future { IsFuture arch.now.state pending.new.items future.new }
+        ensures waits { map pending_claim_of pending.new.items ≡ map pending_claim_of pending.old.items }
+        ensures capacity { pending.new.capacity ≡ pending.old.capacity }
+        ensures advanced { HasPassed arch.now.state age at pending.old.items pending.new.items };
+}
+
+/// The stages that are the checks. Nothing is asked but these.
+#[derive(Drop)]
+pub(crate) struct Checks;
+
+impl Stages for Checks {
+    ghost use Rattle.std.specs.Prelude.{⊤};
+
+    ghost sound = { λ checks. ⊤ };
+
+    ghost led = { λ before questions after. ⊤ };
+
+    #[inline(always)]
+    fn pass(
+        &mut self,
+        pending: &mut Pending,
+        future: &mut FutureFile,
+        at: usize,
+        arch: &Arch,
+        age: u64,
+    ) {
+        pass(pending, future, at, arch, age);
+    }
+}
+
+/// The claim at a place comes to an age, and passes through that age's stage.
 ///
 /// Most claims agree. So each stage asks whether there is a difference, and only where there is one it is noted, by a call
 /// that looks for it once more.
 #[inline(always)]
-pub(crate) fn pass(pending: &mut Pending, future: &mut FutureFile, at: usize, arch: &Arch, age: u64)
+fn pass(pending: &mut Pending, future: &mut FutureFile, at: usize, arch: &Arch, age: u64)
     requires place { at < length pending.old.items }
     requires age { 1 ≤ age }
     requires young { age ≤ last_stage }
@@ -54,19 +118,6 @@ pub(crate) fn pass(pending: &mut Pending, future: &mut FutureFile, at: usize, ar
         LAST_STAGE => pass_last(pending, at, arch),
         _ => unreachable!(),
     }
-}
-
-/// A stage that compares, and what it compares.
-#[derive(Clone, Copy, Debug, PartialEq, Eq)]
-enum Stage {
-    /// The pc, and the word there.
-    Fetch,
-    /// The words that the instruction reads.
-    Operands,
-    /// The address, and what the instruction comes to, unless it is a load or a store.
-    Execute,
-    /// What a load or a store comes to.
-    Access,
 }
 
 /// The stage of the fetch.
@@ -118,11 +169,19 @@ fn note_operands(pending: &mut Pending, future: &mut FutureFile, at: usize, arch
     ensures capacity { pending.new.capacity ≡ pending.old.capacity }
     ensures advanced { HasPassed arch.now.state (age_of Stage.Operands) at pending.old.items pending.new.items }
 {
+    keep_next(future, pending, at);
+    note_check(Stage::Operands, pending, at, arch);
+}
+
+/// The claim at a place leaves its result in the future file, where it is the next one to do so.
+pub(crate) fn keep_next(future: &mut FutureFile, pending: &Pending, at: usize)
+    requires { at < length pending.now.items }
+    ensures { (s : State) → IsFuture s pending.now.items future.old → IsFuture s pending.now.items future.new }
+{
     if future.claims() == at {
         pending.recall();
         future.keep(pending.at(at));
     }
-    note_check(Stage::Operands, pending, at, arch);
 }
 
 /// The stage that executes.
@@ -165,7 +224,7 @@ fn pass_access(pending: &mut Pending, at: usize, arch: &Arch)
     if pending.at(at).decoded.is_none()
         || diva_execchk::check_memory(pending, at, &arch.view()).is_some()
     {
-        note_check(Stage::Access, pending, at, arch);
+        note_check(Stage::Memory, pending, at, arch);
     }
 }
 
@@ -182,23 +241,9 @@ fn note_check(stage: Stage, pending: &mut Pending, at: usize, arch: &Arch)
     note(pending, at, found);
 }
 
-/// What the check of a stage finds in the claim at a place.
-fn check(stage: Stage, pending: &Pending, at: usize, view: &View<'_>) -> Option<Diff>
-    requires { at < length pending.now.items }
-    ensures { (e : Entry) → slice_get pending.now.items at ≡ Some e
-        → Answers (earlier_of stage) (own_of stage) (before_entry view.now pending.now.items at) e.claim result }
-{
-    match stage {
-        Stage::Fetch => diva_fetchchk::check(pending, at, view),
-        Stage::Operands => diva_opchk::check(pending, at, view),
-        Stage::Execute => diva_execchk::check(pending, at, view),
-        Stage::Access => diva_execchk::check_memory(pending, at, view),
-    }
-}
-
 /// Decodes the claim at a place.
 #[inline(always)]
-fn note_decoded(pending: &mut Pending, at: usize)
+pub(crate) fn note_decoded(pending: &mut Pending, at: usize)
     requires { at < length pending.old.items }
     ensures items { (e : Entry) → slice_get pending.old.items at ≡ Some e
         → pending.new.items ≡ slice_set pending.old.items at (record e { decoded = row_of e.claim.word }) }
@@ -210,7 +255,7 @@ fn note_decoded(pending: &mut Pending, at: usize)
 
 /// Gives the claim at a place what its stage found, unless an earlier stage found a difference: that one stays.
 #[inline(always)]
-fn note(pending: &mut Pending, at: usize, found: Option<Diff>)
+pub(crate) fn note(pending: &mut Pending, at: usize, found: Option<Diff>)
     requires { at < length pending.old.items }
     ensures items { (e : Entry) → slice_get pending.old.items at ≡ Some e
         → pending.new.items ≡ slice_set pending.old.items at (record e { verdict = option_or e.verdict found }) }

@@ -1,5 +1,5 @@
 // A machine and a core, turn by turn.
-ghost use Rattle.std.specs.Prelude.{◌≡◌, ◌+◌, ◌-◌, ◌≤◌, ◌<◌, ◌^◌, ◌↔◌, ◌⊎◌, [], true, false};
+ghost use Rattle.std.specs.Prelude.{◌≡◌, ◌+◌, ◌-◌, ◌≤◌, ◌<◌, ◌^◌, ◌↔◌, ◌⊎◌, ◌++◌, List, [], true, false};
 ghost use Rattle.diva_isa.specs.State.{goes_on};
 ghost use Rattle.diva_core.specs.Told.{told_of};
 ghost use Rattle.diva_core.specs.Cycle.{cycle_of};
@@ -7,15 +7,19 @@ ghost use Rattle.diva_core.specs.Timed.{room_of};
 ghost use Rattle.diva_core.specs.Machine.{IsMachine};
 ghost use Rattle.diva_core.specs.Headline.{AddsRow, ByClaims, BySolo, HasPace, KeepsPace, Rises, SameLog, WillCount, dues};
 ghost use Rattle.diva_core.specs.Right.{IsRight, IsCalm, StaysCalm};
+ghost use Rattle.diva_vote.specs.Questions.{Question};
+ghost use Rattle.diva_machine.specs.Asked.{asked_of};
 ghost use Rattle.diva_machine.specs.Drives.{Drives};
+ghost use Rattle.diva_machine.specs.Inner.{LedTurns, TakesTurns};
 
 use crate::machine::Machine;
+use crate::stages::{Checks, Stages};
 use diva_core::{Claims, Core};
 use diva_hart::Drive;
 
 /// Asks the core once and runs one cycle; the list is then what was handed over. On an ended
 /// machine the core is not asked, and the list is empty.
-#[tactic(auto, using(diva_core::proofs::Outcomes::rises, diva_core::proofs::Outcomes::logs, diva_core::proofs::Keeping::stays, diva_core::proofs::Pacing::will_count, diva_core::proofs::Progressing::has_pace, diva_core::proofs::Calming::stays_calm))]
+#[tactic(auto, using(diva_core::proofs::Outcomes::rises, diva_core::proofs::Outcomes::logs, diva_core::proofs::Outcomes::records_by, diva_core::proofs::Keeping::stays, diva_core::proofs::Pacing::will_count, diva_core::proofs::Progressing::has_pace, diva_core::proofs::Calming::stays_calm))]
 pub fn turn<C: Core>(m: &mut Machine, core: &mut C, list: &mut Claims)
     requires { m.old.timed.cycles < 2 ^ 60 }
     ensures cycled { m.new.timed ≡ cycle_of m.old.timed list.new }
@@ -38,12 +42,35 @@ pub fn turn<C: Core>(m: &mut Machine, core: &mut C, list: &mut Claims)
     // A right list leaves a calm machine calm, and leads to no flush.
     ensures calm { IsCalm m.old.timed → IsRight m.old.timed list.new → StaysCalm m.old.timed m.new.timed }
 {
+    turn_by(m, core, list, &mut Checks);
+}
+
+/// The same, whatever the stages are that a claim passes through.
+pub(crate) fn turn_by<C: Core, S: Stages>(
+    m: &mut Machine,
+    core: &mut C,
+    list: &mut Claims,
+    stages: &mut S,
+)
+    requires cycles { m.old.timed.cycles < 2 ^ 60 }
+    requires stages_sound { S.sound stages.old }
+    ensures led { (first : S) (before : List Question) → S.led first before stages.old
+        → S.led first (before ++ asked_of m.old.timed) stages.new }
+    ensures was { IsMachine m.old.timed }
+    ensures cycled { m.new.timed ≡ cycle_of m.old.timed list.new }
+    ensures asked { goes_on m.old.timed.arch ≡ true
+        → C.gives core.old (told_of m.old.timed) m.old.timed.arch list.new core.new }
+    ensures ended { goes_on m.old.timed.arch ≡ false
+        → (m.new.timed ≡ m.old.timed) × (m.new.last ≡ []) × (core.new ≡ core.old) × (list.new ≡ []) }
+    ensures stays { goes_on m.old.timed.arch ≡ false → m.new.entries ≡ m.old.entries }
+    ensures last { m.new.last ≡ dues (m.new.timed.count - m.old.timed.count) m.old.timed.arch }
+{
     if m.goes_on() {
         let room = ask(m, core, list);
-        m.cycle_within(list, room);
+        m.cycle_within(list, room, stages);
     } else {
         list.clear();
-        m.cycle(list);
+        m.cycle_by(list, stages);
     }
 }
 
@@ -86,6 +113,28 @@ pub fn drive<C: Core>(m: &mut Machine, core: &mut C, budget: u64) -> Drive
     ensures paced { HasPace m.new.timed }
     ensures counts { WillCount m.new.timed }
 {
+    drive_by(m, core, &mut Checks, budget)
+}
+
+/// The same, whatever the stages are that a claim passes through.
+pub(crate) fn drive_by<C: Core, S: Stages>(
+    m: &mut Machine,
+    core: &mut C,
+    stages: &mut S,
+    budget: u64,
+) -> Drive
+    requires cycles { m.old.timed.cycles + budget ≤ 2 ^ 60 }
+    requires stages_sound { S.sound stages.old }
+    ensures was { IsMachine m.old.timed }
+    ensures turns { TakesTurns C.gives m.old core.old m.new core.new }
+    ensures led { LedTurns C.gives m.old.timed core.old m.new.timed core.new S.led stages.old stages.new }
+    ensures ended { (result ≡ Drive.Ended) ↔ (goes_on m.new.timed.arch ≡ false) }
+    ensures budget { (result ≡ Drive.Budget)
+        ↔ ((m.new.timed.cycles ≡ m.old.timed.cycles + budget) × (goes_on m.new.timed.arch ≡ true)) }
+    ensures within { m.new.timed.cycles ≤ m.old.timed.cycles + budget }
+    ensures stays { goes_on m.old.timed.arch ≡ false
+        → (m.new ≡ m.old) × (core.new ≡ core.old) }
+{
     if !m.goes_on() {
         return Drive::Ended;
     }
@@ -93,7 +142,7 @@ pub fn drive<C: Core>(m: &mut Machine, core: &mut C, budget: u64) -> Drive
     // Each half of a turn is made part of the loop: as one function they would be too large for that.
     for _ in 0..budget {
         let room = ask(m, core, &mut list);
-        m.cycle_within(&list, room);
+        m.cycle_within(&list, room, stages);
         if !m.goes_on() {
             return Drive::Ended;
         }

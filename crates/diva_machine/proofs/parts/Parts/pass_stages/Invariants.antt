@@ -1,12 +1,14 @@
-use Rattle.std.proofs.Common.{◌≡◌, ◌≤◌, ◌-◌, length, map}
+use Rattle.std.proofs.Common.{◌≡◌, ◌≤◌, ◌-◌, ◌++◌, List, length, map, take}
 use Rattle.diva_core.specs.Future.{IsFuture}
 use Rattle.diva_core.specs.Entries.{pending_claim_of}
 use Rattle.diva_machine.specs.Staged.{passed_by}
+use Rattle.diva_vote.specs.Questions.{Question}
+use Rattle.diva_machine.specs.Asked.{asked_in}
 use Rattle.diva_machine.specs.Inner.{IsAdvanced}
 use Rattle.diva_machine.proofs.parts.Parts.pass_stages.Given as goal
 
 abbrev pub invariant-loop-at : goal.invariant-loop-at
-invariant-loop-at l = record {
+invariant-loop-at g l = record {
   rest : l.self ≡ record l.fn.self { entries = l.self.entries; passed = l.self.passed; future = l.self.future };
   waits : map pending_claim_of l.self.entries ≡ l.fn.self.timed.pending;
   length : length l.self.entries ≡ length l.fn.self.entries;
@@ -16,7 +18,10 @@ invariant-loop-at l = record {
   late : passed_by l.fn.self.timed.cycles l.fn.self.timed.pending ≤ l.at → l.self.passed ≡ passed_by l.fn.self.timed.cycles l.fn.self.timed.pending;
   future : IsFuture l.fn.self.timed.arch l.self.entries l.self.future;
   advanced : IsAdvanced l.fn.self.timed.arch (l.fn.self.timed.cycles - 1) l.at l.self.entries;
+  sound : g.S.Stages.sound l.stages;
+  led : (first : _) (before : List Question) → g.S.Stages.led first before l.fn.stages
+      → g.S.Stages.led first (before ++ asked_in l.fn.self.timed.cycles (take l.at l.fn.self.timed.pending)) l.stages;
 }
 
 abbrev pub decreases-loop-at : goal.decreases-loop-at
-decreases-loop-at l = length l.self.entries - l.at
+decreases-loop-at g l = length l.self.entries - l.at

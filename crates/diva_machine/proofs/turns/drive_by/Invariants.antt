@@ -1,8 +1,8 @@
 use Rattle.std.proofs.Common.{◌≡◌, ◌+◌, true}
 use Rattle.diva_isa.specs.State.{goes_on}
 use Rattle.diva_core.specs.Machine.{IsMachine}
-use Rattle.diva_machine.specs.Inner.{TakesTurns}
-use Rattle.diva_machine.proofs.turns.drive.Given as goal
+use Rattle.diva_machine.specs.Inner.{LedTurns, TakesTurns}
+use Rattle.diva_machine.proofs.turns.drive_by.Given as goal
 
 abbrev pub invariant-loop : goal.invariant-loop
 invariant-loop g l = record {
@@ -11,4 +11,6 @@ invariant-loop g l = record {
   began : goes_on l.fn.m.timed.arch ≡ true;
   cycles : l.m.timed.cycles ≡ l.fn.m.timed.cycles + l.counter;
   sound : IsMachine l.fn.m.timed;
+  stages : g.S.Stages.sound l.stages;
+  led : LedTurns g.C.Core.gives l.fn.m.timed l.fn.core l.m.timed l.core g.S.Stages.led l.fn.stages l.stages;
 }

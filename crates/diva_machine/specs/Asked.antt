@@ -1,0 +1,44 @@
+-- What is asked of the lanes of a machine that is voted on: of each claim, once at each stage that compares.
+use Rattle.std.specs.Prelude.{ℕ, zero, suc, ◌+◌, ◌-◌, List, [], ◌∷◌, ◌++◌, map, if◌then◌else◌}
+use Rattle.std.specs.List.{flat_map}
+use Rattle.diva_isa.specs.State.{goes_on}
+use Rattle.diva_isa.specs.declared.record.Record.{Record}
+use Rattle.diva_core.specs.Timed.{Timed, PendingClaim}
+use Rattle.diva_core.specs.Cycle.{begun, commits_under, cycle_of, drained, stores_wait}
+use Rattle.diva_core.specs.History.{Meaning, Turns, lists_of}
+use Rattle.diva_vote.specs.declared.stage.Stage.{Stage}
+use Rattle.diva_vote.specs.declared.stage.Stage.TheVariants.{Fetch, Operands, Execute, Memory}
+use Rattle.diva_vote.specs.Questions.{HeardAll, Hearing, Question}
+
+-- the stage that compares a claim of an age: one, or none
+abbrev pub stages_at : (age : ℕ) → List Stage
+stages_at zero = []
+stages_at (suc zero) = Fetch ∷ []
+stages_at (suc (suc zero)) = []
+stages_at (suc (suc (suc zero))) = Operands ∷ []
+stages_at (suc (suc (suc (suc zero)))) = Execute ∷ []
+stages_at (suc (suc (suc (suc (suc zero))))) = Memory ∷ []
+stages_at (suc (suc (suc (suc (suc (suc age)))))) = []
+
+-- what is asked of a claim of an age
+abbrev pub asked_at : (age : ℕ) → Record → List Question
+asked_at age claim = map (λ stage. record { stage = stage; claim = claim }) (stages_at age)
+
+-- what is asked in a cycle of the claims that are pending, the oldest first
+abbrev pub asked_in : (cycle : ℕ) → List PendingClaim → List Question
+asked_in cycle pending = flat_map (λ p. asked_at (cycle - p.cycle) p.claim) pending
+
+-- what is asked in the coming cycle: of the claims that its commits leave
+unfoldable pub asked_of : Timed → List Question
+asked_of m = if goes_on m.arch then asked_in (m.cycles + 1) (commits_under stores_wait (drained (begun m))).pending else []
+
+-- what is asked in the cycles in which a machine is handed these lists
+abbrev pub asked_over : Timed → List (List Record) → List Question
+asked_over m [] = []
+asked_over m (list ∷ lists) = asked_of m ++ asked_over (cycle_of m list) lists
+
+-- turns lead from a machine and a core to others, and in them a lane heard what was asked, and nothing else
+pub record HearsTurns {C L : Type 0} (gives : Meaning C) (m : Timed) (core : C) (last : Timed) (final : C)
+    (hears : Hearing L) (before after : L) : Type 0 where
+  pub turns : Turns gives m core last final
+  pub heard : HeardAll hears before (asked_over m (lists_of turns.history)) after
