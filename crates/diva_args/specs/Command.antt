@@ -35,7 +35,7 @@ abbrev pub run : Leaf
 run = record {
   name = codes "run";
   positionals = codes "IMAGE" ∷ [];
-  options = setup_options ++ codes "cycles" ∷ codes "dump" ∷ [];
+  options = setup_options ++ codes "cycles" ∷ codes "dump" ∷ codes "liar" ∷ [];
   flags = codes "trace" ∷ [];
 }
 

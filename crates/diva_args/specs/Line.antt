@@ -10,9 +10,10 @@ use Rattle.diva_core.specs.Timed.{Config, default_config}
 use Rattle.diva_core.specs.Machine.{config_in_range}
 use Rattle.diva_args.specs.Command.{diva}
 use Rattle.diva_args.specs.Options.{DebugOptions, DumpRange, DuoOptions, MigrateOptions, RunOptions, Setup, SoakOptions, TapeOptions, default_cycles, longest_soak, most_cycles}
-use Rattle.diva_args.specs.Values.{core_of, dump_of, given_number, hart_core_of, is_set_by, ranged_or, room_of, number_or}
+use Rattle.diva_args.specs.Values.{core_of, dump_of, given_number, hart_core_of, is_set_by, liar_of, ranged_or, room_of, number_or}
 use Rattle.diva_args.specs.declared.job.CoreChoice.{CoreChoice}
 use Rattle.diva_args.specs.declared.job.HartCore.{HartCore}
+use Rattle.diva_args.specs.declared.job.LanePlace.{LanePlace}
 use Rattle.diva_args.specs.declared.job.Job.{Job}
 use Rattle.diva_args.specs.declared.job.Job.TheVariants as job
 
@@ -83,14 +84,14 @@ wide_from value = setup_from (width_from value) value
 unfoldable pub cycles_from : (Text → Option Text) → Option ℕ
 cycles_from value = ranged_or 1 most_cycles default_cycles (value (codes "cycles"))
 
-abbrev pub run_with : Option Setup → Option ℕ → Bool → Option (Option DumpRange) → Option RunOptions
-run_with setup cycles trace dump = option_and_then (λ s. option_and_then (λ c. option_map (λ d.
-    record { setup = s; cycles = c; trace = trace; dump = d }) dump) cycles) setup
+abbrev pub run_with : Option Setup → Option ℕ → Bool → Option (Option DumpRange) → Option (Option LanePlace) → Option RunOptions
+run_with setup cycles trace dump liar = option_and_then (λ s. option_and_then (λ c. option_and_then (λ d. option_map (λ l.
+    record { setup = s; cycles = c; trace = trace; dump = d; liar = l }) liar) dump) cycles) setup
 
 -- `run`
 unfoldable pub run_from : (Text → Option Text) → Option RunOptions
 run_from value = run_with (wide_from value) (cycles_from value)
-    (is_set_by (value (codes "trace"))) (dump_of (value (codes "dump")))
+    (is_set_by (value (codes "trace"))) (dump_of (value (codes "dump"))) (liar_of (value (codes "liar")))
 
 abbrev pub tape_with : Option Setup → Option ℕ → Option TapeOptions
 tape_with setup cycles = option_and_then (λ s. option_map (λ c.

@@ -3,6 +3,7 @@ use Rattle.std.specs.Prelude.{ℕ, ◌+◌, ◌%◌, ◌^◌, ◌≡◌, ◌≤�
 use Rattle.diva_core.specs.Timed.{Config}
 use Rattle.diva_args.specs.declared.job.CoreChoice.{CoreChoice}
 use Rattle.diva_args.specs.declared.job.HartCore.{HartCore}
+use Rattle.diva_args.specs.declared.job.LanePlace.{LanePlace}
 
 -- a part of memory: the address of its first byte, and the number of its bytes
 pub record DumpRange : Type 0 where
@@ -55,6 +56,7 @@ pub record RunOptions : Type 0 where
   pub cycles : ℕ
   pub trace : Bool
   pub dump : Option DumpRange
+  pub liar : Option LanePlace
 
 -- `tape IMAGE` with its options
 pub record TapeOptions : Type 0 where

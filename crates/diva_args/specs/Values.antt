@@ -1,5 +1,5 @@
 -- What the texts of a command line stand for: the rules on the values of options.
-use Rattle.std.specs.Prelude.{ℕ, ◌+◌, ◌%◌, ◌==◌, ◌&&◌, Bool, false, nat_le, codes}
+use Rattle.std.specs.Prelude.{ℕ, zero, suc, ◌+◌, ◌%◌, ◌==◌, ◌&&◌, Bool, false, nat_le, codes}
 use Rattle.std.specs.Prelude.{Option, Some, None, option_and_then, option_map, if◌then◌else◌}
 use Rattle.std.specs.List.{before_first, after_first}
 use Rattle.std.specs.Str.{bytes_eq}
@@ -9,6 +9,8 @@ use Rattle.diva_args.specs.Options.{DumpRange, most_dumped, most_room}
 use Rattle.diva_args.specs.declared.job.CoreChoice.{CoreChoice}
 use Rattle.diva_args.specs.declared.job.HartCore.{HartCore}
 use Rattle.diva_args.specs.declared.job.HartCore.TheVariants as hart
+use Rattle.diva_args.specs.declared.job.LanePlace.{LanePlace}
+use Rattle.diva_args.specs.declared.job.LanePlace.TheVariants.{First, Second, Third}
 use Rattle.diva_args.specs.declared.job.CoreChoice.TheVariants.{Own, Lockstep, Scalar, Silent, Flood, Echo, Noise, Tape}
 
 -- the core of this name, for one that takes no tape
@@ -95,3 +97,14 @@ dump_range_of word = option_and_then (λ addr. option_and_then (dump_at addr)
 abbrev pub dump_of : Option Text → Option (Option DumpRange)
 dump_of None = Some None
 dump_of (Some word) = option_map Some (dump_range_of word)
+
+-- the place of this number, which is 0, 1 or 2
+abbrev pub place_numbered : ℕ → LanePlace
+place_numbered zero = First
+place_numbered (suc zero) = Second
+place_numbered (suc (suc n)) = Third
+
+-- the place of `--liar`, 0, 1 or 2, if it is given
+unfoldable pub liar_of : Option Text → Option (Option LanePlace)
+liar_of None = Some None
+liar_of (Some word) = option_map (λ n. Some (place_numbered n)) (number_in_range 0 2 word)

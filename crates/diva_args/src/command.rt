@@ -25,7 +25,7 @@ static LEAVES: [Leaf; 8] = [
         positionals: &["IMAGE"],
         options: &[
             "core", "script", "tape", "width", "window", "stores", "watchdog", "port", "room",
-            "cycles", "dump",
+            "cycles", "dump", "liar",
         ],
         flags: &["trace"],
     },

@@ -84,6 +84,9 @@ pub struct RunOptions {
     /// `--dump ADDR:LEN`, with 1 to 8 hex digits for the address: the part of memory to show at the end; `None` where
     /// the option is not given.
     pub dump: Option<DumpRange>,
+    /// `--liar`: the place, 0, 1 or 2, of the one of three voting lanes that lies; `None` where the option is not given, and
+    /// nothing is voted on.
+    pub liar: Option<LanePlace>,
 }
 
 impl Model for RunOptions {
@@ -91,7 +94,7 @@ impl Model for RunOptions {
 
     ghost Value = { RunOptions };
 
-    ghost view = { λ r. record { setup = r.setup; cycles = r.cycles; trace = r.trace; dump = r.dump } };
+    ghost view = { λ r. record { setup = r.setup; cycles = r.cycles; trace = r.trace; dump = r.dump; liar = r.liar } };
 
     ghost invariant = { λ r. IsBudget r.cycles };
 }
@@ -244,6 +247,17 @@ pub enum CoreChoice {
     /// `tape`: the lists in the file that `--tape` names, which is given for this core and for no other. The name is the
     /// word as it is, which may be empty.
     Tape(FileName),
+}
+
+/// The place of one of three voting lanes.
+#[derive(Clone, Copy, Debug, PartialEq, Eq)]
+pub enum LanePlace {
+    /// `0`
+    First,
+    /// `1`
+    Second,
+    /// `2`
+    Third,
 }
 
 /// A part of memory, of 1 to 4,096 bytes, that ends at 2^32 at the latest.

@@ -5,7 +5,7 @@
 //!
 //! - `read`: `read_words`, from words to a job.
 //! - `command`: the table of commands, and `clap`'s command of it.
-//! - `values`: the values of options as cores, numbers and parts of memory.
+//! - `values`: the values of options as cores, numbers, parts of memory and places of voting lanes.
 //! - `job`: `Job` and its parts, whose types keep the ranges of the numbers.
 //! - `file_name`: `FileName`, the name of a file.
 //! - `fault`: `ArgsFault`, why there is no job.
@@ -21,7 +21,7 @@ mod values;
 pub use fault::ArgsFault;
 pub use file_name::FileName;
 pub use job::{
-    CoreChoice, DebugOptions, DumpRange, DuoOptions, HartCore, Job, MigrateOptions, RunOptions,
-    Setup, SoakOptions, TapeOptions,
+    CoreChoice, DebugOptions, DumpRange, DuoOptions, HartCore, Job, LanePlace, MigrateOptions,
+    RunOptions, Setup, SoakOptions, TapeOptions,
 };
 pub use read::read_words;

@@ -16,7 +16,7 @@ use crate::job::{
     DEFAULT_CYCLES, DebugOptions, DuoOptions, Job, LONGEST_SOAK, MOST_CYCLES, MOST_ROOM,
     MigrateOptions, RunOptions, Setup, SoakOptions, TapeOptions,
 };
-use crate::values::{core, dump, hart_core, number, number_within};
+use crate::values::{core, dump, hart_core, liar, number, number_within};
 use clap::ArgMatches;
 use diva_core::Config;
 use std::alloc::{AllocError, Global};
@@ -88,11 +88,15 @@ fn run(alloc: Global, found: &ArgMatches<'_>) -> Result<RunOptions, ArgsFault>
     let Some(dump) = dump(text_of(found, "dump")) else {
         return Err(ArgsFault::Usage);
     };
+    let Some(liar) = liar(text_of(found, "liar")) else {
+        return Err(ArgsFault::Usage);
+    };
     Ok(RunOptions {
         setup,
         cycles,
         trace: is_set(found, "trace"),
         dump,
+        liar,
     })
 }
 

@@ -1,10 +1,11 @@
-// The values of options as cores, numbers and parts of memory.
+// The values of options as cores, numbers, parts of memory and places of voting lanes.
 ghost use Rattle.std.specs.Prelude.{◌≡◌, ◌≤◌, IfOk, IfSome, None, Some, option_map};
-ghost use Rattle.diva_args.specs.Values.{core_named, core_of, dump_of, dump_range_of, hart_core_named, hart_core_of, number_in_range, ranged_or};
+ghost use Rattle.diva_args.specs.Values.{core_named, core_of, dump_of, dump_range_of, hart_core_named, hart_core_of, liar_of, number_in_range};
+ghost use Rattle.diva_args.specs.Values.{place_numbered, ranged_or};
 
 use crate::fault::ArgsFault;
 use crate::file_name::FileName;
-use crate::job::{CoreChoice, DumpRange, HartCore, MOST_DUMPED};
+use crate::job::{CoreChoice, DumpRange, HartCore, LanePlace, MOST_DUMPED};
 use diva_outside::{decimal, hex};
 use std::alloc::Global;
 
@@ -120,5 +121,27 @@ fn dump_range(word: &str) -> Option<DumpRange>
         Some(DumpRange { addr, len })
     } else {
         None
+    }
+}
+
+/// The place of `--liar`: `Some(None)` where the option is not given, and `None` where the word is not 0, 1 or 2.
+#[tactic(auto, unfolding(crate::specs::Values::liar_of))]
+pub(crate) fn liar(word: Option<&str>) -> Option<Option<LanePlace>>
+    ensures { result ≡ liar_of (option_map (λ text. text.now) word.entry) }
+{
+    match word {
+        Some(word) => Some(Some(place_numbered(number_within(word, 0, 2)?))),
+        None => Some(None),
+    }
+}
+
+/// The place of this number, which is 0, 1 or 2.
+fn place_numbered(number: u32) -> LanePlace
+    ensures { result ≡ place_numbered number }
+{
+    match number {
+        0 => LanePlace::First,
+        1 => LanePlace::Second,
+        _ => LanePlace::Third,
     }
 }

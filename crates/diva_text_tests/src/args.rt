@@ -8,22 +8,22 @@ use std::alloc::{AllocError, Global};
 use std::test::Fail;
 
 /// Lines with what they ask for: the command, then the names and numbers. Behind an image stand its room, its core, its script,
-/// width, window, stores, limit and port; last come of `run` the cycles, the commit lines and the dump, and of `tape` the cycles.
-/// `duo` has no script and no commit lines.
-static TAKEN: [(&str, &str); 58] = [
+/// width, window, stores, limit and port; last come of `run` the cycles, the commit lines, the dump and the place of the voting
+/// lane that lies, and of `tape` the cycles. `duo` has no script, no commit lines and no such place.
+static TAKEN: [(&str, &str); 66] = [
     (
         "run p1.diva",
-        r#"run "p1.diva" 0 Own None 2 16 4 64 1 1000000 false None"#,
+        r#"run "p1.diva" 0 Own None 2 16 4 64 1 1000000 false None None"#,
     ),
     (
         "run p1.diva --dump 3c:8 --cycles 1000000000 --stores 6 --trace --core silent \
         --script faults.txt --watchdog 1024 --width 1 --window 08",
-        r#"run "p1.diva" 0 Silent Some(FileName { text: "faults.txt" }) 1 8 6 1024 1 1000000000 true Some(DumpRange { addr: 60, len: 8 })"#,
+        r#"run "p1.diva" 0 Silent Some(FileName { text: "faults.txt" }) 1 8 6 1024 1 1000000000 true Some(DumpRange { addr: 60, len: 8 }) None"#,
     ),
     // What stands for a flag that is not given is no value of an option.
     (
         "run --trace p --script false",
-        r#"run "p" 0 Own Some(FileName { text: "false" }) 2 16 4 64 1 1000000 true None"#,
+        r#"run "p" 0 Own Some(FileName { text: "false" }) 2 16 4 64 1 1000000 true None None"#,
     ),
     ("tape p --cycles 9", r#"tape "p" 0 Own None 2 16 4 64 1 9"#),
     (
@@ -45,11 +45,11 @@ static TAKEN: [(&str, &str); 58] = [
     // The ends of the port's range, for each command that has one.
     (
         "run p --port 1",
-        r#"run "p" 0 Own None 2 16 4 64 1 1000000 false None"#,
+        r#"run "p" 0 Own None 2 16 4 64 1 1000000 false None None"#,
     ),
     (
         "run p --stores 2 --port 6 --width 3",
-        r#"run "p" 0 Own None 3 16 2 64 6 1000000 false None"#,
+        r#"run "p" 0 Own None 3 16 2 64 6 1000000 false None None"#,
     ),
     (
         "tape p --port=01",
@@ -117,7 +117,7 @@ static TAKEN: [(&str, &str); 58] = [
     // The room behind an executable, for each command that has one, and the ends of its range.
     (
         "run p --room 4096",
-        r#"run "p" 4096 Own None 2 16 4 64 1 1000000 false None"#,
+        r#"run "p" 4096 Own None 2 16 4 64 1 1000000 false None None"#,
     ),
     (
         "tape p --room 4096",
@@ -130,11 +130,11 @@ static TAKEN: [(&str, &str); 58] = [
     ("migrate p --room 4096", r#"migrate "p" 4096"#),
     (
         "run --room 0 p",
-        r#"run "p" 0 Own None 2 16 4 64 1 1000000 false None"#,
+        r#"run "p" 0 Own None 2 16 4 64 1 1000000 false None None"#,
     ),
     (
         "run p --room=16777212",
-        r#"run "p" 16777212 Own None 2 16 4 64 1 1000000 false None"#,
+        r#"run "p" 16777212 Own None 2 16 4 64 1 1000000 false None None"#,
     ),
     (
         "tape p --cycles 9 --room 0",
@@ -154,64 +154,97 @@ static TAKEN: [(&str, &str); 58] = [
     ),
     ("migrate p --room 0000000000", r#"migrate "p" 0"#),
     ("migrate --room=16777212 -- -x", r#"migrate "-x" 16777212"#),
+    // Each place of the voting lane that lies, alone and among other options.
+    (
+        "run p --liar 0",
+        r#"run "p" 0 Own None 2 16 4 64 1 1000000 false None Some(First)"#,
+    ),
+    (
+        "run p --liar 1",
+        r#"run "p" 0 Own None 2 16 4 64 1 1000000 false None Some(Second)"#,
+    ),
+    (
+        "run p --liar 2",
+        r#"run "p" 0 Own None 2 16 4 64 1 1000000 false None Some(Third)"#,
+    ),
+    (
+        "run --liar 01 p",
+        r#"run "p" 0 Own None 2 16 4 64 1 1000000 false None Some(Second)"#,
+    ),
+    (
+        "run --liar=0000000002 -- -x",
+        r#"run "-x" 0 Own None 2 16 4 64 1 1000000 false None Some(Third)"#,
+    ),
+    (
+        "run p --liar 1 --dump 3c:8 --cycles 9 --trace",
+        r#"run "p" 0 Own None 2 16 4 64 1 9 true Some(DumpRange { addr: 60, len: 8 }) Some(Second)"#,
+    ),
+    (
+        "run p --trace --port 6 --core echo --liar 0 --room 4096 --script s --width 4",
+        r#"run "p" 4096 Echo Some(FileName { text: "s" }) 4 16 4 64 6 1000000 true None Some(First)"#,
+    ),
+    (
+        "run --dump 0:1 p --core tape --window 8 --tape t --stores 6 --watchdog 16 --liar 2",
+        r#"run "p" 0 Tape(FileName { text: "t" }) None 2 8 6 16 1 1000000 false Some(DumpRange { addr: 0, len: 1 }) Some(Third)"#,
+    ),
     // Each core, and tapes of any name.
     (
         "run p --core lockstep",
-        r#"run "p" 0 Lockstep None 2 16 4 64 1 1000000 false None"#,
+        r#"run "p" 0 Lockstep None 2 16 4 64 1 1000000 false None None"#,
     ),
     (
         "run p --core scalar",
-        r#"run "p" 0 Scalar None 2 16 4 64 1 1000000 false None"#,
+        r#"run "p" 0 Scalar None 2 16 4 64 1 1000000 false None None"#,
     ),
     (
         "run p --core flood",
-        r#"run "p" 0 Flood None 2 16 4 64 1 1000000 false None"#,
+        r#"run "p" 0 Flood None 2 16 4 64 1 1000000 false None None"#,
     ),
     (
         "run p --core echo",
-        r#"run "p" 0 Echo None 2 16 4 64 1 1000000 false None"#,
+        r#"run "p" 0 Echo None 2 16 4 64 1 1000000 false None None"#,
     ),
     (
         "run p --core noise",
-        r#"run "p" 0 Noise None 2 16 4 64 1 1000000 false None"#,
+        r#"run "p" 0 Noise None 2 16 4 64 1 1000000 false None None"#,
     ),
     (
         "run p --core tape --tape t",
-        r#"run "p" 0 Tape(FileName { text: "t" }) None 2 16 4 64 1 1000000 false None"#,
+        r#"run "p" 0 Tape(FileName { text: "t" }) None 2 16 4 64 1 1000000 false None None"#,
     ),
     (
         "run p --core tape --tape=",
-        r#"run "p" 0 Tape(FileName { text: "" }) None 2 16 4 64 1 1000000 false None"#,
+        r#"run "p" 0 Tape(FileName { text: "" }) None 2 16 4 64 1 1000000 false None None"#,
     ),
     (
         "run p --core=tape --tape=x",
-        r#"run "p" 0 Tape(FileName { text: "x" }) None 2 16 4 64 1 1000000 false None"#,
+        r#"run "p" 0 Tape(FileName { text: "x" }) None 2 16 4 64 1 1000000 false None None"#,
     ),
     // Any word is a name.
     (
         "run -",
-        r#"run "-" 0 Own None 2 16 4 64 1 1000000 false None"#,
+        r#"run "-" 0 Own None 2 16 4 64 1 1000000 false None None"#,
     ),
     (
         "run ''",
-        r#"run "" 0 Own None 2 16 4 64 1 1000000 false None"#,
+        r#"run "" 0 Own None 2 16 4 64 1 1000000 false None None"#,
     ),
     (
         "run -- -x",
-        r#"run "-x" 0 Own None 2 16 4 64 1 1000000 false None"#,
+        r#"run "-x" 0 Own None 2 16 4 64 1 1000000 false None None"#,
     ),
     (
         "run --width 2 -- -x",
-        r#"run "-x" 0 Own None 2 16 4 64 1 1000000 false None"#,
+        r#"run "-x" 0 Own None 2 16 4 64 1 1000000 false None None"#,
     ),
     (
         "run -- --help",
-        r#"run "--help" 0 Own None 2 16 4 64 1 1000000 false None"#,
+        r#"run "--help" 0 Own None 2 16 4 64 1 1000000 false None None"#,
     ),
 ];
 
 /// Lines that are refused.
-static REFUSED: [&str; 97] = [
+static REFUSED: [&str; 113] = [
     // No command, and no help.
     "",
     "walk a",
@@ -244,18 +277,25 @@ static REFUSED: [&str; 97] = [
     "tape a --trace",
     "debug a b --width 1",
     "tape a --dump 0:4",
+    "tape a --liar 0",
+    "debug a b --liar 0",
     "duo a --script b",
     "duo a --tape t",
     "duo a --trace",
     "duo a --port 1",
+    "duo a --liar 0",
     "asm a --core own",
     "asm a --port 1",
     "asm a --room 4096",
+    "asm a --liar 0",
     "dis a --room 4096",
+    "dis a --liar 0",
     "migrate p1.diva --core own",
+    "migrate p1.diva --liar 0",
     "soak 1 1 --core own",
     "soak 1 1 --port 1",
     "soak 1 1 --room 4096",
+    "soak 1 1 --liar 0",
     // Options twice, or without a value.
     "run a --trace --trace",
     "run a --trace true",
@@ -264,6 +304,8 @@ static REFUSED: [&str; 97] = [
     "run a --script",
     "run a --script b --script b",
     "run a --room 4 --room 4",
+    "run a --liar",
+    "run a --liar 1 --liar 1",
     "duo a --core scalar --core scalar",
     "duo a --core",
     "migrate a --room 4 --room 4",
@@ -292,6 +334,13 @@ static REFUSED: [&str; 97] = [
     "run a --room=-4",
     "run a --room 00000000004",
     "run a --room 0x4",
+    "run a --liar 3",
+    "run a --liar -1",
+    "run a --liar=-1",
+    "run a --liar x",
+    "run a --liar ''",
+    "run a --liar=",
+    "run a --liar 00000000001",
     "tape a --room 16777216",
     "duo a --width 5",
     "duo a --stores 7",
@@ -372,8 +421,9 @@ fn text_of(alloc: Global, job: &Job) -> Result<String, AllocError> {
 
 fn run_text(alloc: Global, options: &RunOptions) -> Result<String, AllocError> {
     let setup = setup_text(alloc, &options.setup)?;
-    let (cycles, trace, dump) = (options.cycles, options.trace, &options.dump);
-    format!(in alloc; "run {setup} {cycles} {trace} {dump:?}")
+    let (cycles, trace) = (options.cycles, options.trace);
+    let (dump, liar) = (&options.dump, &options.liar);
+    format!(in alloc; "run {setup} {cycles} {trace} {dump:?} {liar:?}")
 }
 
 fn setup_text(alloc: Global, setup: &Setup) -> Result<String, AllocError> {
