@@ -5,6 +5,7 @@ use Rattle.diva_isa.specs.declared.end.End.TheVariants.{GoesOn, Halt, Trap}
 use Rattle.diva_isa.specs.State.{State, goes_on}
 use Rattle.diva_isa.specs.Step.{steps}
 use Rattle.diva_isa.specs.declared.record.Record.{Record}
+use Rattle.diva_args.specs.declared.job.LanePlace.{LanePlace}
 use Rattle.diva_core.specs.Timed.{Timed, Config, depth, new_timed}
 use Rattle.diva_core.specs.Cycle.{cycle_of, run_of}
 use Rattle.diva_core.specs.History.{Meaning, IsHistory, FollowRule}
@@ -262,10 +263,10 @@ on_err : {A E : Type 0} {P Q : Type 0} (r : Result A E) → (P → Q) → OnErr 
 on_err (Ok a) f h = tt
 on_err (Err e) f h = f h
 
-went : {S : Type 0} (trace : Bool) (cycles : ℕ) (m : Timed) (lists : List (List Record)) (last : Timed) (sink : SinkChange S) (result : Result (Unit {0}) SinkFailed)
-    → Does (run_task trace cycles) (change m last) lists sink result
+went : {S : Type 0} (trace : Bool) (cycles : ℕ) (liar : Option LanePlace) (m : Timed) (lists : List (List Record)) (last : Timed) (sink : SinkChange S) (result : Result (Unit {0}) SinkFailed)
+    → Does (run_task trace cycles liar) (change m last) lists sink result
     → Went trace cycles m lists last (sink.contents sink.before) (sink.contents sink.after) (sink.faults sink.before) (sink.faults sink.after) result
-went false cycles m lists last sink result q =
+went false cycles liar m lists last sink result q =
     record {
       most = q.most;
       whole = subst (λ (r : Result (Unit {0}) SinkFailed). OnOk r (goes_on last.arch ≡ true → length lists ≡ cycles)) (sym q.never_fails) q.whole;
@@ -275,7 +276,7 @@ went false cycles m lists last sink result q =
           (puts_nothing (sink.contents sink.before) (sink.faults sink.before))));
       cut = subst (λ (r : Result (Unit {0}) SinkFailed). OnErr r (CutLines false m lists (sink.contents sink.before) (sink.contents sink.after))) (sym q.never_fails) tt;
     }
-went true cycles m lists last sink result w =
+went true cycles liar m lists last sink result w =
     record { most = w.most; whole = w.whole; put = w.put; cut = on_err result (λ b. (refl, b)) w.cut }
 
 -- ---- the text of a run, where its commit lines were all put if they are asked for
@@ -291,9 +292,9 @@ shown_whole gives options bytes core after ended text h asked =
     ]
 
 module _ {C S : Type 0} (gives : Meaning C) (options : RunOptions) (bytes : FileBytes) (ready : Ready) (core : C) (last : Timed) (after : C)
-    (trace : Bool) (cycles : ℕ) (dump : Option DumpRange) (contents : S → Option (List ℕ)) (faults : S → ℕ) (s0 s1 s2 : S) (result : Result (Unit {0}) SinkFailed)
+    (trace : Bool) (cycles : ℕ) (liar : Option LanePlace) (dump : Option DumpRange) (contents : S → Option (List ℕ)) (faults : S → ℕ) (s0 s1 s2 : S) (result : Result (Unit {0}) SinkFailed)
     (t : trace ≡ options.trace) (y : cycles ≡ options.cycles) (d : dump ≡ options.dump) (fits : IsConfig options.setup.config)
-    (is : IsReady options.setup bytes ready) (task : Task) (task_is : task ≡ run_task trace cycles)
+    (is : IsReady options.setup bytes ready) (task : Task) (task_is : task ≡ run_task trace cycles liar)
     (p : PerformsBy gives ready.core ready.script (change ready.machine.timed last) (change core after)
     (λ lists. Does task (change ready.machine.timed last) lists (sink_change contents faults s0 s1) result)) where
   -- the sink before the run, behind the commit lines, and at the end
@@ -320,7 +321,7 @@ module _ {C S : Type 0} (gives : Meaning C) (options : RunOptions) (bytes : File
 
   w : Went trace cycles ready.machine.timed p.lists last old mid before between result
   w =
-      went trace cycles ready.machine.timed p.lists last (sink_change contents faults s0 s1) result
+      went trace cycles liar ready.machine.timed p.lists last (sink_change contents faults s0 s1) result
       (subst (λ (k : Task). Does k (change ready.machine.timed last) p.lists (sink_change contents faults s0 s1) result) task_is p.done)
 
   run_from_new : last ≡ run_of (new_timed options.setup.config (start_in options.setup bytes)) p.lists

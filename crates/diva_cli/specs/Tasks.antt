@@ -1,6 +1,6 @@
 -- What is done with a machine and a core, and what is written of it as it goes.
 -- Only private contracts of this crate cite this: a reader of its promises can pass over it.
-use Rattle.std.specs.Prelude.{ℕ, ◌≡◌, ◌≤◌, ◌+◌, ◌^◌, List, [], ◌∷◌, ◌++◌, length, Bool, true, false, Result, Ok, OnOk, OnErr, ⊤}
+use Rattle.std.specs.Prelude.{ℕ, ◌≡◌, ◌≤◌, ◌+◌, ◌^◌, List, [], ◌∷◌, ◌++◌, length, Bool, true, false, Option, Result, Ok, OnOk, OnErr, ⊤}
 use Rattle.std.specs.List.{All}
 use Rattle.diva_outside.specs.Text.{Text}
 use Rattle.diva_outside.specs.declared.sink.SinkFailed.{SinkFailed}
@@ -26,6 +26,7 @@ use Rattle.diva_cli.specs.declared.tasks.Task.{Task}
 use Rattle.diva_cli.specs.declared.tasks.Task.TheVariants.{Quiet, Trace, Tape, Debug}
 use Rattle.diva_trace.specs.Text.{commits_text}
 use Rattle.diva_cli.specs.Replies.{AreLed, cycles_of, joined, newest_after, replies_of}
+use Rattle.diva_args.specs.declared.job.LanePlace.{LanePlace}
 use Rattle.diva_debug.specs.Moves.{IsShort}
 use Rattle.diva_debug.specs.declared.command.Command.{Command}
 
@@ -95,24 +96,24 @@ pub record IsReplied {S : Type 0} (commands : List Command) (m : Timed) (lists :
   pub cut : OnErr result (BeforeLast done (λ earlier. TakesPast sink
       (replies_of earlier m.count m.arch (newest_after m parts)) (replies_of done m.count m.arch (newest_after m parts))))
 
--- ---- a line for each task, which asks something of a machine, and does something with it
+-- ---- a line for each task, which asks something of a machine, and does something with it, whether lanes vote or not
 abbrev pub Allows : Task → Timed → Type 0
-Allows (Quiet cycles) m = m.cycles + cycles ≤ 2 ^ 60
-Allows (Trace cycles) m = m.cycles + cycles ≤ 2 ^ 60
+Allows (Quiet cycles liar) m = m.cycles + cycles ≤ 2 ^ 60
+Allows (Trace cycles liar) m = m.cycles + cycles ≤ 2 ^ 60
 Allows (Tape cycles) m = m.cycles + cycles ≤ 2 ^ 60
 Allows (Debug commands) m = CanReply commands.now m
 
 abbrev pub Does : {S : Type 0} → Task → (machine : Change Timed) → List (List Record) → SinkChange S
     → Result (Unit {0}) SinkFailed → Type 0
-Does (Quiet cycles) machine lists sink result = IsQuiet cycles machine lists sink result
-Does (Trace cycles) machine lists sink result = IsWritten trace_lines (λ list. ⊤) cycles machine lists sink result
+Does (Quiet cycles liar) machine lists sink result = IsQuiet cycles machine lists sink result
+Does (Trace cycles liar) machine lists sink result = IsWritten trace_lines (λ list. ⊤) cycles machine lists sink result
 Does (Tape cycles) machine lists sink result = IsWritten tape_line IsList cycles machine lists sink result
 Does (Debug commands) machine lists sink result = IsReplied commands.now machine.before lists sink result
 
--- what is done for a run, with commit lines or without
-abbrev pub run_task : (trace : Bool) → (cycles : ℕ) → Task
-run_task false cycles = Quiet cycles
-run_task true cycles = Trace cycles
+-- what is done for a run, with commit lines or without, and whether lanes vote, of which one lies
+abbrev pub run_task : (trace : Bool) → (cycles : ℕ) → (liar : Option LanePlace) → Task
+run_task false cycles liar = Quiet cycles liar
+run_task true cycles liar = Trace cycles liar
 
 -- ---- by a core
 

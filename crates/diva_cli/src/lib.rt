@@ -5,6 +5,7 @@
 //! - `files`: the kinds of files, and how a file of any kind is loaded and read; `loading`: the files of a job, one after another;
 //! - `driving`: the core that the command line chose, and what is done with it and a machine;
 //! - `tasks`: the things that are done with a core and a machine, under a script;
+//! - `checking`: how claims are checked, by the checks alone or by three lanes that vote, of which one lies;
 //! - `streaming`: texts that are written cycle by cycle, as a machine is driven;
 //! - `replying`: commands that move a machine, and the replies to them;
 //! - `writing`: what is written otherwise, and the status that goes with it;
@@ -28,6 +29,7 @@
 #![tactic(auto)]
 
 mod asm;
+mod checking;
 mod debug;
 mod dis;
 mod driving;

@@ -13,7 +13,7 @@ use crate::loading::{Ready, make_ready};
 use crate::stop::Failure;
 use crate::tasks::Task;
 use crate::writing::{end_status, write_finished, write_stop};
-use diva_args::{RunOptions, TapeOptions};
+use diva_args::{LanePlace, RunOptions, TapeOptions};
 use diva_core::Core;
 use diva_outside::{Files, Sink};
 use std::alloc::Global;
@@ -49,7 +49,7 @@ fn run_ready<S: Sink, C: Core>(
         → WritesText C.gives (Run options) bytes
         (change core.old core.new) (sink_change S.contents S.faults sink.old sink.new) result }
 {
-    let task = run_task(options.trace, options.cycles);
+    let task = run_task(options.trace, options.cycles, options.liar);
     perform_by(
         &mut ready.machine,
         &mut ready.core,
@@ -63,13 +63,13 @@ fn run_ready<S: Sink, C: Core>(
 }
 
 /// What is done for a run. Nothing watches the turns of one without commit lines.
-fn run_task<'a>(trace: bool, cycles: u64) -> Task<'a>
-    ensures { result ≡ run_task trace cycles }
+fn run_task<'a>(trace: bool, cycles: u64, liar: Option<LanePlace>) -> Task<'a>
+    ensures { result ≡ run_task trace cycles liar }
 {
     if trace {
-        Task::Trace(cycles)
+        Task::Trace(cycles, liar)
     } else {
-        Task::Quiet(cycles)
+        Task::Quiet(cycles, liar)
     }
 }
 

@@ -4,9 +4,11 @@ ghost use Rattle.diva_tape.specs.TapeText.{IsList, list_text};
 ghost use Rattle.diva_cli.specs.Changes.{PutsTo, change, sink_change};
 ghost use Rattle.diva_cli.specs.Tasks.{IsWritten, Performs};
 
+use crate::checking::turn_checked;
+use diva_args::LanePlace;
 use diva_core::{Claims, Core};
 use diva_isa::Record;
-use diva_machine::{Machine, turn};
+use diva_machine::Machine;
 use diva_outside::{Sink, SinkFailed, put_line};
 use diva_tape::tape_piece;
 use diva_trace::write_commits;
@@ -92,11 +94,12 @@ fn write_list<S: Sink>(list: &Claims, sink: &mut S) -> Result<(), SinkFailed>
 }
 
 /// Takes turns, and writes the text of each, until the machine ends, the budget's cycles are run or
-/// the sink fails.
+/// the sink fails. Where a place is given, three lanes vote, and the one in that place lies.
 pub(crate) fn drive_writing<D: Core, W: CycleWriter, S: Sink>(
     m: &mut Machine,
     core: &mut D,
     budget: u64,
+    liar: Option<LanePlace>,
     writer: &W,
     sink: &mut S,
 ) -> Result<(), SinkFailed>
@@ -111,7 +114,7 @@ pub(crate) fn drive_writing<D: Core, W: CycleWriter, S: Sink>(
     let mut list = Claims::new();
     for _ in 0..budget {
         let first = m.count();
-        turn(m, core, &mut list);
+        turn_checked(m, core, &mut list, liar);
         writer.write(first, m.last(), &list, sink)?;
         if !m.goes_on() {
             return Ok(());

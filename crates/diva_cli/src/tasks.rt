@@ -3,22 +3,25 @@ ghost use Rattle.diva_faults.specs.Spoiled.{spoiled};
 ghost use Rattle.diva_cli.specs.Changes.{change, sink_change};
 ghost use Rattle.diva_cli.specs.Tasks.{Allows, Does, Performs};
 
+use crate::checking::drive_checked;
 use crate::replying::reply_each;
 use crate::streaming::{TapeWriter, TraceWriter, drive_writing};
+use diva_args::LanePlace;
 use diva_core::Core;
 use diva_debug::Command;
 use diva_faults::{Faulty, Script};
-use diva_machine::{Machine, drive};
+use diva_machine::Machine;
 use diva_outside::{Sink, SinkFailed};
 
 /// What is done with a machine and a core.
 #[derive(Clone, Copy, Debug)]
 pub(crate) enum Task<'a> {
-    /// It is driven for so many cycles at most, and nothing is written.
-    Quiet(u64),
+    /// It is driven for so many cycles at most, and nothing is written. Where a place is given, three lanes vote, and the one
+    /// in that place lies.
+    Quiet(u64, Option<LanePlace>),
     /// The same, and each instruction that commits is written as a commit line.
-    Trace(u64),
-    /// The same, and each list that is handed over is written as a line of a tape.
+    Trace(u64, Option<LanePlace>),
+    /// It is driven for so many cycles at most, and each list that is handed over is written as a line of a tape.
     Tape(u64),
     /// It is moved by these commands, and a reply to each is written.
     Debug(&'a [Command]),
@@ -76,12 +79,12 @@ fn perform<D: Core, S: Sink>(
         (sink_change S.contents S.faults sink.old sink.new) result) }
 {
     match task {
-        Task::Quiet(cycles) => {
-            drive(m, core, cycles);
+        Task::Quiet(cycles, liar) => {
+            drive_checked(m, core, cycles, liar);
             Ok(())
         }
-        Task::Trace(cycles) => drive_writing(m, core, cycles, &TraceWriter, sink),
-        Task::Tape(cycles) => drive_writing(m, core, cycles, &TapeWriter, sink),
+        Task::Trace(cycles, liar) => drive_writing(m, core, cycles, liar, &TraceWriter, sink),
+        Task::Tape(cycles) => drive_writing(m, core, cycles, None, &TapeWriter, sink),
         Task::Debug(commands) => reply_each(m, core, commands, sink),
     }
 }

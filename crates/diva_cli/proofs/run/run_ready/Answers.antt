@@ -8,7 +8,7 @@ use Rattle.diva_cli.proofs.run.run_ready.Goals as goal
 pub returns-in_err-perform_by : goal.returns-in_err-perform_by
 returns-in_err-perform_by g c = λ bytes is.
     let p = err_from_is_err_and c.from_residual.result c.from_residual.ensures.1 in
-    rw (p.1, p.2) (cut_trace g.C.Core.gives c.args.options bytes c.args.ready.now _ _ _ _ _ c.options.inside.dump g.S.Sink.contents g.S.Sink.faults _ _ c.perform_by.new.sink _
+    rw (p.1, p.2) (cut_trace g.C.Core.gives c.args.options bytes c.args.ready.now _ _ _ _ _ _ c.options.inside.dump g.S.Sink.contents g.S.Sink.faults _ _ c.perform_by.new.sink _
     (ap (λ (o : RunOptions). o.trace) c.options.view_is)
     (ap (λ (o : RunOptions). o.cycles) c.options.view_is)
     (ap (λ (o : RunOptions). o.dump) c.options.view_is)
@@ -17,7 +17,7 @@ returns-in_err-perform_by g c = λ bytes is.
 pub returns-in_err-write_finished : goal.returns-in_err-write_finished
 returns-in_err-write_finished g c = λ bytes is.
     let p = err_from_is_err_and c.from_residual-in_err-write_finished.result c.from_residual-in_err-write_finished.ensures.1 in
-    rw (p.1, p.2) (cut_run g.C.Core.gives c.args.options bytes c.args.ready.now _ _ _ _ _ _ g.S.Sink.contents g.S.Sink.faults _ _ _ (Ok tt)
+    rw (p.1, p.2) (cut_run g.C.Core.gives c.args.options bytes c.args.ready.now _ _ _ _ _ _ _ g.S.Sink.contents g.S.Sink.faults _ _ _ (Ok tt)
     (ap (λ (o : RunOptions). o.trace) c.options.view_is)
     (ap (λ (o : RunOptions). o.cycles) c.options.view_is)
     (ap (λ (o : RunOptions). o.dump) c.options.view_is)
@@ -25,7 +25,7 @@ returns-in_err-write_finished g c = λ bytes is.
 
 pub returns : goal.returns
 returns g c = λ bytes is.
-    wrote_run g.C.Core.gives c.args.options bytes c.args.ready.now _ _ _ _ _ _ g.S.Sink.contents g.S.Sink.faults _ _ _ (Ok tt)
+    wrote_run g.C.Core.gives c.args.options bytes c.args.ready.now _ _ _ _ _ _ _ g.S.Sink.contents g.S.Sink.faults _ _ _ (Ok tt)
     (ap (λ (o : RunOptions). o.trace) c.options.view_is)
     (ap (λ (o : RunOptions). o.cycles) c.options.view_is)
     (ap (λ (o : RunOptions). o.dump) c.options.view_is)

@@ -1,0 +1,96 @@
+// How the claims of a machine are checked: by the checks alone, or by three lanes that vote, of which one lies. Nothing that is
+// promised of a turn or a drive depends on it.
+ghost use Rattle.std.specs.Prelude.{◌≡◌, ◌+◌, ◌-◌, ◌≤◌, ◌<◌, ◌^◌, ◌↔◌, true, false};
+ghost use Rattle.diva_isa.specs.State.{goes_on};
+ghost use Rattle.diva_core.specs.Told.{told_of};
+ghost use Rattle.diva_core.specs.Cycle.{cycle_of};
+ghost use Rattle.diva_core.specs.Machine.{IsMachine};
+ghost use Rattle.diva_core.specs.Headline.{dues};
+ghost use Rattle.diva_machine.specs.Drives.{Drives};
+ghost use Rattle.diva_vote.specs.Votes.{AtLeastTwo};
+ghost use Rattle.diva_vote.specs.declared.lanes.Seat.TheVariants.{Honest};
+
+use diva_args::LanePlace;
+use diva_core::{Claims, Core};
+use diva_machine::{Drive, Machine, drive, drive_voted, turn, turn_voted};
+use diva_vote::Seat;
+
+/// Three lanes that vote, all honest but one.
+struct Lanes {
+    first: Seat,
+    second: Seat,
+    third: Seat,
+}
+
+impl Lanes {
+    /// The lanes of which the one in this place lies.
+    fn with_liar(place: LanePlace) -> Self
+        ensures { AtLeastTwo (result.first ≡ Honest) (result.second ≡ Honest) (result.third ≡ Honest) }
+    {
+        let seat = |at| if at == place {
+            Seat::Liar
+        } else {
+            Seat::Honest
+        };
+        Lanes {
+            first: seat(LanePlace::First),
+            second: seat(LanePlace::Second),
+            third: seat(LanePlace::Third),
+        }
+    }
+}
+
+/// Drives a machine for so many cycles at most. Where a place is given, three lanes vote, and the one in that place lies.
+#[inline(always)]
+pub(crate) fn drive_checked<C: Core>(
+    m: &mut Machine,
+    core: &mut C,
+    budget: u64,
+    liar: Option<LanePlace>,
+) -> Drive
+    requires { m.old.timed.cycles + budget ≤ 2 ^ 60 }
+    ensures drives { Drives C.gives m.old core.old m.new core.new }
+    ensures ended { (result ≡ Drive.Ended) ↔ (goes_on m.new.timed.arch ≡ false) }
+    ensures budget { (result ≡ Drive.Budget)
+        ↔ ((m.new.timed.cycles ≡ m.old.timed.cycles + budget) × (goes_on m.new.timed.arch ≡ true)) }
+    ensures within { m.new.timed.cycles ≤ m.old.timed.cycles + budget }
+{
+    match liar {
+        None => drive(m, core, budget),
+        Some(place) => {
+            let Lanes {
+                mut first,
+                mut second,
+                mut third,
+            } = Lanes::with_liar(place);
+            drive_voted(m, core, &mut first, &mut second, &mut third, budget)
+        }
+    }
+}
+
+/// Takes a turn. Where a place is given, three lanes vote, and the one in that place lies.
+pub(crate) fn turn_checked<C: Core>(
+    m: &mut Machine,
+    core: &mut C,
+    list: &mut Claims,
+    liar: Option<LanePlace>,
+)
+    requires { m.old.timed.cycles < 2 ^ 60 }
+    ensures cycled { m.new.timed ≡ cycle_of m.old.timed list.new }
+    ensures asked { goes_on m.old.timed.arch ≡ true
+        → C.gives core.old (told_of m.old.timed) m.old.timed.arch list.new core.new }
+    ensures last { m.new.last ≡ dues (m.new.timed.count - m.old.timed.count) m.old.timed.arch }
+    ensures machine { IsMachine m.new.timed }
+{
+    match liar {
+        None => turn(m, core, list),
+        Some(place) => {
+            let Lanes {
+                mut first,
+                mut second,
+                mut third,
+            } = Lanes::with_liar(place);
+            turn_voted(m, core, list, &mut first, &mut second, &mut third);
+        }
+    }
+}
