@@ -16,3 +16,4 @@ pub mod Determining
 pub mod Commanding
 pub mod Soaking
 pub mod DuoRunning
+pub mod Voting

@@ -1,9 +1,10 @@
-//! What follows of the text of a run, and of the text of `soak`. The function has no body: its clauses are about the definitions.
-ghost use Rattle.std.specs.Prelude.{◌≡◌, ℕ, true, Result, IsOk};
+//! What follows of the text of a run, and of the text of `soak`. The functions have no body: their clauses are about the definitions.
+ghost use Rattle.std.specs.Prelude.{◌≡◌, ℕ, true, Option, Result, IsOk};
 ghost use Rattle.diva_outside.specs.Text.{Text};
 ghost use Rattle.diva_args.specs.Options.{RunOptions, SoakOptions};
 ghost use Rattle.diva_args.specs.declared.job.CoreChoice.TheVariants.{Own};
-ghost use Rattle.diva_cli.specs.Changes.{change};
+ghost use Rattle.diva_args.specs.declared.job.LanePlace.{LanePlace};
+ghost use Rattle.diva_cli.specs.Changes.{Change, change};
 ghost use Rattle.diva_cli.specs.Determined.{IsDetermined};
 ghost use Rattle.diva_cli.specs.Runs.{HasRun};
 ghost use Rattle.diva_cli.specs.SoakTexts.{HasSoaked};
@@ -24,4 +25,13 @@ pub fn own_run_is_determined<C: Core>()
     ensures soak { (options : SoakOptions) (core after last : C) (ended other : Result ℕ Text) (text same : Text)
         → HasSoaked C.gives options (change core after) ended text → HasSoaked C.gives options (change core last) other same
         → text ≡ same }
+{}
+
+/// What is promised of the text of a run is promised whether lanes vote or not, and wherever the liar stands: the text that is
+/// due without is the text that is due with a liar in any place, and the other way round.
+#[tactic(auto, using(crate::proofs::Voting::run_with_liar))]
+pub fn one_liar_is_outvoted<C: Core>()
+    ensures { (options : RunOptions) (liar : Option LanePlace) (bytes : FileBytes) (core : Change C) (ended : Result ℕ Text) (text : Text)
+        → HasRun C.gives options bytes core ended text
+        → HasRun C.gives (record options { liar = liar }) bytes core ended text }
 {}

@@ -10,7 +10,7 @@
 //!   memory takes in some cycles only, `runs/staged` tapes whose claims are
 //!   checked while older ones are pending, `runs/scripts` scripts that are refused, `runs/traces` commit lines,
 //!   `runs/sessions` the commands of the debugger, `runs/sources` sources that are assembled and images that are listed,
-//!   `runs/harts` runs on two harts, `runs/segments` images in version 2, also as `migrate` writes them, `runs/soaks` images of seeds, `runs/refusals` what
+//!   `runs/harts` runs on two harts, `runs/lanes` runs in which lanes vote, `runs/segments` images in version 2, also as `migrate` writes them, `runs/soaks` images of seeds, `runs/refusals` what
 //!   is not run, `runs/failing` the order of loads and puts, which also fail in turn, `runs/noting` notes them, and
 //!   `runs/texts` writes the text that is due;
 //! - `images`: an image that is read and written, faults of it, and images of seeds; in version 2 `images/segments` has

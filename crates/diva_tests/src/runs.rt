@@ -2,6 +2,7 @@
 mod failing;
 mod harts;
 mod hostile;
+mod lanes;
 mod noting;
 mod pipelined;
 mod ports;

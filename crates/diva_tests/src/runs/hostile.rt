@@ -77,15 +77,15 @@ const CORES: [&str; 8] = [
 ];
 
 /// What a program comes to that halts with status 0, and puts nothing.
-struct Outcome {
-    program: Program,
+pub(super) struct Outcome {
+    pub(super) program: Program,
     count: u32,
     /// The registers that are not 0 in the end.
     registers: &'static [(u8, u32)],
     pc: u32,
 }
 
-static OUTCOMES: [Outcome; 5] = [
+pub(super) static OUTCOMES: [Outcome; 5] = [
     Outcome {
         program: FIVE,
         count: 3,
@@ -167,7 +167,7 @@ fn drawn_file(alloc: Global) -> Result<Vec<u8>, Fail> {
 }
 
 /// The script that flips a bit of the claim of each of the first 4,096 cycles.
-fn spoiling_script(alloc: Global) -> Result<String, Fail> {
+pub(super) fn spoiling_script(alloc: Global) -> Result<String, Fail> {
     let mut script = String::new(alloc);
     for cycle in 1..=4096 {
         let row = format!(in alloc; "at {cycle} lane 0 flip next 2\n")?;

@@ -10,12 +10,14 @@ usage: diva run|tape|duo IMAGE, debug IMAGE COMMANDS, asm SRC, dis|migrate IMAGE
 ";
 
 /// Words that are not a valid command line.
-static MISUSED: [&str; 31] = [
+static MISUSED: [&str; 33] = [
     "",
     "run",
     "run a.diva --width 5",
     "run a.diva --port 7",
     "run a.diva --window 1",
+    "run a.diva --liar 3",
+    "tape a.diva --liar 0",
     "walk a.diva",
     "run a.diva --core tape",
     "run a.diva --tape a.tape",
