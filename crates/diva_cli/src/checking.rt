@@ -16,6 +16,7 @@ use diva_machine::{Drive, Machine, drive, drive_voted, turn, turn_voted};
 use diva_vote::Seat;
 
 /// Three lanes that vote, all honest but one.
+#[derive(Drop)]
 struct Lanes {
     first: Seat,
     second: Seat,
@@ -57,15 +58,31 @@ pub(crate) fn drive_checked<C: Core>(
 {
     match liar {
         None => drive(m, core, budget),
-        Some(place) => {
-            let Lanes {
-                mut first,
-                mut second,
-                mut third,
-            } = Lanes::with_liar(place);
-            drive_voted(m, core, &mut first, &mut second, &mut third, budget)
-        }
+        Some(place) => drive_with_liar(m, core, budget, place),
     }
+}
+
+/// Drives a machine for so many cycles at most, where three lanes vote, and the one in this place lies. It is called, so that
+/// the loop in which nothing is voted on is what it is without it.
+#[cold]
+#[inline(never)]
+fn drive_with_liar<C: Core>(m: &mut Machine, core: &mut C, budget: u64, place: LanePlace) -> Drive
+    requires { m.old.timed.cycles + budget ≤ 2 ^ 60 }
+    ensures drives { Drives C.gives m.old core.old m.new core.new }
+    ensures ended { (result ≡ Drive.Ended) ↔ (goes_on m.new.timed.arch ≡ false) }
+    ensures budget { (result ≡ Drive.Budget)
+        ↔ ((m.new.timed.cycles ≡ m.old.timed.cycles + budget) × (goes_on m.new.timed.arch ≡ true)) }
+    ensures within { m.new.timed.cycles ≤ m.old.timed.cycles + budget }
+{
+    let mut lanes = Lanes::with_liar(place);
+    drive_voted(
+        m,
+        core,
+        &mut lanes.first,
+        &mut lanes.second,
+        &mut lanes.third,
+        budget,
+    )
 }
 
 /// Takes a turn. Where a place is given, three lanes vote, and the one in that place lies.
@@ -85,12 +102,15 @@ pub(crate) fn turn_checked<C: Core>(
     match liar {
         None => turn(m, core, list),
         Some(place) => {
-            let Lanes {
-                mut first,
-                mut second,
-                mut third,
-            } = Lanes::with_liar(place);
-            turn_voted(m, core, list, &mut first, &mut second, &mut third);
+            let mut lanes = Lanes::with_liar(place);
+            turn_voted(
+                m,
+                core,
+                list,
+                &mut lanes.first,
+                &mut lanes.second,
+                &mut lanes.third,
+            );
         }
     }
 }
