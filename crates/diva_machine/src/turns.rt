@@ -46,6 +46,7 @@ pub fn turn<C: Core>(m: &mut Machine, core: &mut C, list: &mut Claims)
 }
 
 /// The same, whatever the stages are that a claim passes through.
+#[inline(always)]
 pub(crate) fn turn_by<C: Core, S: Stages>(
     m: &mut Machine,
     core: &mut C,
@@ -116,7 +117,9 @@ pub fn drive<C: Core>(m: &mut Machine, core: &mut C, budget: u64) -> Drive
     drive_by(m, core, &mut Checks, budget)
 }
 
-/// The same, whatever the stages are that a claim passes through.
+/// The same, whatever the stages are that a claim passes through. It is made part of what calls it, so that each loop is made
+/// for its stages.
+#[inline(always)]
 pub(crate) fn drive_by<C: Core, S: Stages>(
     m: &mut Machine,
     core: &mut C,
