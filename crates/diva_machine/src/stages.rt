@@ -71,7 +71,10 @@ pub(crate) trait Stages {
         ensures advanced { HasPassed arch.now.state age at pending.old.items pending.new.items };
 }
 
-/// The stages that are the checks. Nothing is asked but these.
+/// The stages that are the checks. No lane is asked.
+///
+/// Most claims agree. So each stage asks whether there is a difference, and only where there is one it is noted, by a call
+/// that looks for it once more.
 #[derive(Drop)]
 pub(crate) struct Checks;
 
@@ -91,32 +94,14 @@ impl Stages for Checks {
         arch: &Arch,
         age: u64,
     ) {
-        pass(pending, future, at, arch, age);
-    }
-}
-
-/// The claim at a place comes to an age, and passes through that age's stage.
-///
-/// Most claims agree. So each stage asks whether there is a difference, and only where there is one it is noted, by a call
-/// that looks for it once more.
-#[inline(always)]
-fn pass(pending: &mut Pending, future: &mut FutureFile, at: usize, arch: &Arch, age: u64)
-    requires place { at < length pending.old.items }
-    requires age { 1 ≤ age }
-    requires young { age ≤ last_stage }
-    requires future { IsFuture arch.now.state pending.old.items future.old }
-    ensures future { IsFuture arch.now.state pending.new.items future.new }
-    ensures waits { map pending_claim_of pending.new.items ≡ map pending_claim_of pending.old.items }
-    ensures capacity { pending.new.capacity ≡ pending.old.capacity }
-    ensures advanced { HasPassed arch.now.state age at pending.old.items pending.new.items }
-{
-    match age {
-        FETCH_STAGE => pass_fetch(pending, at, arch),
-        DECODE_STAGE => note_decoded(pending, at),
-        OPERANDS_STAGE => pass_operands(pending, future, at, arch),
-        EXECUTE_STAGE => pass_execute(pending, at, arch),
-        LAST_STAGE => pass_last(pending, at, arch),
-        _ => unreachable!(),
+        match age {
+            FETCH_STAGE => pass_fetch(pending, at, arch),
+            DECODE_STAGE => note_decoded(pending, at),
+            OPERANDS_STAGE => pass_operands(pending, future, at, arch),
+            EXECUTE_STAGE => pass_execute(pending, at, arch),
+            LAST_STAGE => pass_last(pending, at, arch),
+            _ => unreachable!(),
+        }
     }
 }
 

@@ -117,9 +117,9 @@ pub fn drive<C: Core>(m: &mut Machine, core: &mut C, budget: u64) -> Drive
     drive_by(m, core, &mut Checks, budget)
 }
 
-/// The same, whatever the stages are that a claim passes through. It is made part of what calls it, so that each loop is made
-/// for its stages.
-#[inline(always)]
+/// The same, whatever the stages are that a claim passes through. It is a function of its own, which is called once for a drive:
+/// so its loop is made for its core and its stages, and for nothing else.
+#[inline(never)]
 pub(crate) fn drive_by<C: Core, S: Stages>(
     m: &mut Machine,
     core: &mut C,
