@@ -8,15 +8,17 @@ use Rattle.diva_isa.specs.declared.record.Record.{Record}
 use Rattle.diva_core.specs.Timed.{Timed, PendingClaim}
 use Rattle.diva_core.specs.Cycle.{cycle_of}
 use Rattle.diva_core.specs.History.{Meaning, IsHistory, lists_of}
+use Rattle.diva_core.specs.Headline.{dues}
 use Rattle.diva_core.specs.Machine.{IsMachine}
+use Rattle.diva_machine.specs.Machine.{Machine}
 use Rattle.diva_core.specs.Told.{told_of}
 use Rattle.diva_vote.specs.Questions.{HeardAll, Hearing, Question}
-use Rattle.diva_machine.specs.Asked.{asked_at, asked_in, asked_of, asked_over}
+use Rattle.diva_machine.specs.Asked.{DrivesAsking, asked_at, asked_in, asked_of, asked_over}
 use Rattle.diva_machine.specs.Inner.{LedTurns}
 use Rattle.diva_machine.specs.Panels.{LedLane, LedLanes}
 use Rattle.diva_machine.specs.Staged.{IsStaged, Parts, last_stage, passed_by}
 use Rattle.diva_machine.specs.declared.panel.Panel.{Panel}
-use Rattle.diva_machine.proofs.Driving.{turns_more}
+use Rattle.diva_machine.proofs.Driving.{drives, no_turns, turn_more, turns_more}
 
 -- ---- claim by claim
 
@@ -76,30 +78,39 @@ asked_then gives m core (turn ∷ rest) mid between list after h =
     ap (λ more. asked_of m ++ more) (asked_then gives (cycle_of m turn.0) turn.1 rest mid between list after h.1.1)
     ∙ sym (append_assoc (asked_of m) (asked_over (cycle_of m turn.0) (lists_of rest)) (asked_of mid))
 
-pub led_none : {C S : Type 0} (gives : Meaning C) (m : Timed) (core : C) (led : S → List Question → S → Type 0) (stages : S)
+pub led_none : {C S : Type 0} (gives : Meaning C) (m : Machine) (core : C) (led : S → List Question → S → Type 0) (stages : S)
     → LedTurns gives m core m core led stages stages
+unfolding no_turns
 led_none gives m core led stages =
     record {
-      turns = record { history = []; good = (refl, refl); each = omega arith };
+      taken = no_turns gives m core;
       asked = λ first before h. rw (append-nil before) h;
     }
 
--- one turn more
-pub led_more :
-    {C S : Type 0} (gives : Meaning C) (m : Timed) (core : C) (last : Timed) (final : C) (led : S → List Question → S → Type 0) (stages after : S)
-    → LedTurns gives m core last final led stages after
-    → IsMachine m → (next : Timed) (list : List Record) (core-after : C) (stages-after : S) → goes_on last.arch ≡ true
-    → gives final (told_of last) last.arch list core-after → next ≡ cycle_of last list
-    → ((first : S) (before : List Question) → led first before after → led first (before ++ asked_of last) stages-after)
-    → LedTurns gives m core next core-after led stages stages-after
-unfolding turns_more
-led_more gives m core last final led stages after l inv next list core-after stages-after on asked cycled more =
-    rw cycled (record {
-      turns = turns_more gives m core last final l.turns inv list core-after on asked;
-      asked = λ first before h.
-          rw (asked_then gives m core l.turns.history last final list core-after l.turns.good)
-          (rw (← append_assoc before (asked_over m (lists_of l.turns.history)) (asked_of last)) (more first _ (l.asked first before h)));
-    })
+module _ {C S : Type 0} (gives : Meaning C) (m : Machine) (core : C) (last : Machine) (final : C) (led : S → List Question → S → Type 0) (stages after : S)
+    (l : LedTurns gives m core last final led stages after) (inv : IsMachine m.timed) where
+  -- one turn more
+  pub led_more :
+      (next : Machine) (list : List Record) (core-after : C) (stages-after : S)
+      → goes_on last.timed.arch ≡ true
+      → gives final (told_of last.timed) last.timed.arch list core-after
+      → next.timed ≡ cycle_of last.timed list
+      → next.last ≡ dues (next.timed.count - last.timed.count) last.timed.arch
+      → ((first : S) (before : List Question) → led first before after → led first (before ++ asked_of last.timed) stages-after)
+      → LedTurns gives m core next core-after led stages stages-after
+  unfolding turn_more turns_more
+  led_more next list core-after stages-after on asked cycled committed more =
+      subst (λ (z : Timed). LedTurns gives m core (record next { timed = z }) core-after led stages stages-after) (sym cycled)
+      (record {
+        taken = turn_more gives m core last final l.taken inv next list core-after on asked (committed ∙ ap (λ (z : Timed). dues (z.count - last.timed.count) last.timed.arch) cycled);
+        asked = λ first before h.
+            rw (asked_then gives m.timed core l.taken.turns.history last.timed final list core-after l.taken.turns.good)
+            (rw (← append_assoc before (asked_over m.timed (lists_of l.taken.turns.history)) (asked_of last.timed)) (more first _ (l.asked first before h)));
+      })
+
+  pub drives_asking : (this : List Question → Type 0) → this (asked_over m.timed (lists_of l.taken.turns.history)) → DrivesAsking gives m core last final this
+  unfolding drives
+  drives_asking this asked = record { drives = drives gives m core last final l.taken inv; asked = asked }
 
 -- ---- the lanes
 

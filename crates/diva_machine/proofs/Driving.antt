@@ -1,5 +1,5 @@
 -- What turns leave, and what a drive promises of them.
-use Rattle.std.proofs.Common.{◌≡◌, true, List, [], ◌∷◌, ◌++◌, ◌-◌, refl, ap, sym, ◌∙◌, arith, length-append}
+use Rattle.std.proofs.Common.{◌≡◌, true, List, [], ◌∷◌, ◌++◌, ◌-◌, refl, ap, sym, ◌∙◌, subst, arith, length-append}
 use Rattle.diva_isa.specs.State.{goes_on}
 use Rattle.diva_isa.specs.declared.record.Record.{Record}
 use Rattle.diva_core.specs.Timed.{Timed}
@@ -17,7 +17,7 @@ use Rattle.diva_machine.specs.Machine.{Machine}
 use Rattle.diva_machine.proofs.Counting.{IsHistory-then}
 
 -- behind one cycle more, it is what that commits
-last-more :
+pub last-more :
     {C : Type 0} (gives : Meaning C) (before : List Record) (m : Timed) (core : C) (history : List (List Record × C)) (mid : Timed) (between : C) (list : List Record) (after : C)
     → IsHistory gives m core history mid between
     → last_committed before m (lists_of (history ++ (list, after) ∷ [])) ≡ committed_in mid list
@@ -46,14 +46,14 @@ turns_more gives m core last final t inv list after on asked =
       each = rw length-append (let e = t.each in let n = cycle-cycles last list (turns-stay gives m core last final inv t) on in omega arith);
     }
 
-pub no_turns : {C : Type 0} (gives : Meaning C) (m : Machine) (core : C) → TakesTurns gives m core m core
+unfoldable pub no_turns : {C : Type 0} (gives : Meaning C) (m : Machine) (core : C) → TakesTurns gives m core m core
 no_turns gives m core = record { turns = record { history = []; good = (refl, refl); each = omega arith }; shows = refl }
 
 pub taken : {C : Type 0} (gives : Meaning C) (m : Machine) (core : C) (last : Machine) (final : C) → Drives gives m core last final → TakesTurns gives m core last final
 taken gives m core last final d = record { turns = d.turns; shows = d.shows }
 
 module _ {C : Type 0} (gives : Meaning C) (m : Machine) (core : C) (last : Machine) (final : C) (t : TakesTurns gives m core last final) where
-  pub drives : IsMachine m.timed → Drives gives m core last final
+  unfoldable pub drives : IsMachine m.timed → Drives gives m core last final
   drives inv = record {
     turns = t.turns;
     commits = turns-commit gives m.timed core last.timed final inv t.turns;
@@ -71,7 +71,21 @@ module _ {C : Type 0} (gives : Meaning C) (m : Machine) (core : C) (last : Machi
   pub paces : IsMachine m.timed → KeepsPace m.timed last.timed
   paces inv = turns-pace gives m.timed core last.timed final inv t.turns
 
-  -- one turn more
+  -- one turn more, to the machine that its cycle leaves
+  unfoldable pub turn_more :
+      IsMachine m.timed
+      → (next : Machine) (list : List Record) (after : C)
+      → goes_on last.timed.arch ≡ true
+      → gives final (told_of last.timed) last.timed.arch list after
+      → next.last ≡ dues ((cycle_of last.timed list).count - last.timed.count) last.timed.arch
+      → TakesTurns gives m core (record next { timed = cycle_of last.timed list }) after
+  unfolding turns_more
+  turn_more inv next list after on asked committed =
+      record {
+        turns = turns_more gives m.timed core last.timed final t.turns inv list after on asked;
+        shows = committed ∙ sym (last-more gives m.last m.timed core t.turns.history last.timed final list after t.turns.good);
+      }
+
   pub next_turn :
       IsMachine m.timed
       → (next : Machine) (list : List Record) (after : C)
@@ -80,13 +94,9 @@ module _ {C : Type 0} (gives : Meaning C) (m : Machine) (core : C) (last : Machi
       → next.timed ≡ cycle_of last.timed list
       → next.last ≡ dues (next.timed.count - last.timed.count) last.timed.arch
       → TakesTurns gives m core next after
-  unfolding turns_more
   next_turn inv next list after on asked cycled committed =
-      rw cycled (record {
-        turns = turns_more gives m.timed core last.timed final t.turns inv list after on asked;
-        shows = committed ∙ ap (λ (k : Timed). dues (k.count - last.timed.count) last.timed.arch) cycled
-            ∙ sym (last-more gives m.last m.timed core t.turns.history last.timed final list after t.turns.good);
-      })
+      subst (λ (z : Timed). TakesTurns gives m core (record next { timed = z }) after) (sym cycled)
+      (turn_more inv next list after on asked (committed ∙ ap (λ (z : Timed). dues (z.count - last.timed.count) last.timed.arch) cycled))
 
   -- turns one after another
   pub turns_then : (end : Machine) (after : C) → TakesTurns gives last final end after → TakesTurns gives m core end after

@@ -5,10 +5,12 @@ use Rattle.diva_isa.specs.State.{goes_on}
 use Rattle.diva_isa.specs.declared.record.Record.{Record}
 use Rattle.diva_core.specs.Timed.{Timed, PendingClaim}
 use Rattle.diva_core.specs.Cycle.{begun, commits_under, cycle_of, drained, stores_wait}
-use Rattle.diva_core.specs.History.{Meaning, Turns, lists_of}
+use Rattle.diva_core.specs.History.{Meaning, lists_of}
 use Rattle.diva_vote.specs.declared.stage.Stage.{Stage}
 use Rattle.diva_vote.specs.declared.stage.Stage.TheVariants.{Fetch, Operands, Execute, Memory}
-use Rattle.diva_vote.specs.Questions.{HeardAll, Hearing, Question}
+use Rattle.diva_vote.specs.Questions.{Question}
+use Rattle.diva_machine.specs.Drives.{Drives}
+use Rattle.diva_machine.specs.Machine.{Machine}
 
 -- the stage that compares a claim of an age: one, or none
 abbrev pub stages_at : (age : ℕ) → List Stage
@@ -37,8 +39,8 @@ abbrev pub asked_over : Timed → List (List Record) → List Question
 asked_over m [] = []
 asked_over m (list ∷ lists) = asked_of m ++ asked_over (cycle_of m list) lists
 
--- turns lead from a machine and a core to others, and in them a lane heard what was asked, and nothing else
-pub record HearsTurns {C L : Type 0} (gives : Meaning C) (m : Timed) (core : C) (last : Timed) (final : C)
-    (hears : Hearing L) (before after : L) : Type 0 where
-  pub turns : Turns gives m core last final
-  pub heard : HeardAll hears before (asked_over m (lists_of turns.history)) after
+-- a drive leads from a machine and a core to others, and this holds of what was asked in its turns
+pub record DrivesAsking {C : Type 0} (gives : Meaning C) (m : Machine) (core : C) (last : Machine) (final : C)
+    (this : List Question → Type 0) : Type 0 where
+  pub drives : Drives gives m core last final
+  pub asked : this (asked_over m.timed (lists_of drives.turns.history))

@@ -35,13 +35,13 @@ pub record TakesTurns {C : Type 0} (gives : Meaning C) (m : Machine) (core : C) 
   pub turns : Turns gives m.timed core last.timed final
   pub shows : last.last ≡ last_committed m.last m.timed (lists_of turns.history)
 
--- turns lead from a machine and a core to others, and from the stages that claims pass through to others, to which what was asked
--- in these turns was put in the end, and nothing else
-pub record LedTurns {C S : Type 0} (gives : Meaning C) (m : Timed) (core : C) (last : Timed) (final : C)
+-- so they do, and they lead from the stages that claims pass through to others, to which what was asked in these turns was put in the
+-- end, and nothing else
+pub record LedTurns {C S : Type 0} (gives : Meaning C) (m : Machine) (core : C) (last : Machine) (final : C)
     (led : S → List Question → S → Type 0) (stages after : S) : Type 0 where
-  pub turns : Turns gives m core last final
+  pub taken : TakesTurns gives m core last final
   pub asked : (first : S) (before : List Question) → led first before stages
-      → led first (before ++ asked_over m (lists_of turns.history)) after
+      → led first (before ++ asked_over m.timed (lists_of taken.turns.history)) after
 
 -- the committed state, the stores owed to memory, and how many may be owed
 pub record Arch : Type 0 where

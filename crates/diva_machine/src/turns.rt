@@ -10,7 +10,7 @@ ghost use Rattle.diva_core.specs.Right.{IsRight, IsCalm, StaysCalm};
 ghost use Rattle.diva_vote.specs.Questions.{Question};
 ghost use Rattle.diva_machine.specs.Asked.{asked_of};
 ghost use Rattle.diva_machine.specs.Drives.{Drives};
-ghost use Rattle.diva_machine.specs.Inner.{LedTurns, TakesTurns};
+ghost use Rattle.diva_machine.specs.Inner.{LedTurns};
 
 use crate::machine::Machine;
 use crate::stages::{Checks, Stages};
@@ -129,8 +129,7 @@ pub(crate) fn drive_by<C: Core, S: Stages>(
     requires cycles { m.old.timed.cycles + budget ≤ 2 ^ 60 }
     requires stages_sound { S.sound stages.old }
     ensures was { IsMachine m.old.timed }
-    ensures turns { TakesTurns C.gives m.old core.old m.new core.new }
-    ensures led { LedTurns C.gives m.old.timed core.old m.new.timed core.new S.led stages.old stages.new }
+    ensures led { LedTurns C.gives m.old core.old m.new core.new S.led stages.old stages.new }
     ensures ended { (result ≡ Drive.Ended) ↔ (goes_on m.new.timed.arch ≡ false) }
     ensures budget { (result ≡ Drive.Budget)
         ↔ ((m.new.timed.cycles ≡ m.old.timed.cycles + budget) × (goes_on m.new.timed.arch ≡ true)) }

@@ -8,7 +8,7 @@ ghost use Rattle.diva_core.specs.Headline.{AddsRow, ByClaims, BySolo, HasPace, K
 ghost use Rattle.diva_core.specs.Right.{IsRight, IsCalm, StaysCalm};
 ghost use Rattle.diva_vote.specs.Questions.{HeardAll};
 ghost use Rattle.diva_vote.specs.Votes.{AtLeastTwo};
-ghost use Rattle.diva_machine.specs.Asked.{HearsTurns, asked_of};
+ghost use Rattle.diva_machine.specs.Asked.{DrivesAsking, asked_of};
 ghost use Rattle.diva_machine.specs.Drives.{Drives};
 
 use crate::machine::Machine;
@@ -76,13 +76,12 @@ pub fn drive_voted<C: Core, A: Lane, B: Lane, L: Lane>(
 ) -> Drive
     requires cycles { m.old.timed.cycles + budget ≤ 2 ^ 60 }
     requires honest { AtLeastTwo (A.honest a.old) (B.honest b.old) (L.honest l.old) }
-    // Each lane that was honest is honest again, and it has heard each question of these turns.
+    // Each lane that was honest is honest again, and each has heard each question of the drive's turns.
     ensures first_stays { A.honest a.old → A.honest a.new }
     ensures second_stays { B.honest b.old → B.honest b.new }
     ensures third_stays { L.honest l.old → L.honest l.new }
-    ensures first_hears { HearsTurns C.gives m.old.timed core.old m.new.timed core.new A.hears a.old a.new }
-    ensures second_hears { HearsTurns C.gives m.old.timed core.old m.new.timed core.new B.hears b.old b.new }
-    ensures third_hears { HearsTurns C.gives m.old.timed core.old m.new.timed core.new L.hears l.old l.new }
+    ensures hears { DrivesAsking C.gives m.old core.old m.new core.new (λ asked.
+        HeardAll A.hears a.old asked a.new × (HeardAll B.hears b.old asked b.new × HeardAll L.hears l.old asked l.new)) }
 
     // Machine and core are reached by turns, one for each cycle. In each cycle equal claims committed,
     // or the checker's own instruction; the machine shows those of the last one. Each row of the log is
