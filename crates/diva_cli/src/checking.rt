@@ -86,6 +86,7 @@ fn drive_with_liar<C: Core>(m: &mut Machine, core: &mut C, budget: u64, place: L
 }
 
 /// Takes a turn. Where a place is given, three lanes vote, and the one in that place lies.
+#[inline(always)]
 pub(crate) fn turn_checked<C: Core>(
     m: &mut Machine,
     core: &mut C,
@@ -101,16 +102,28 @@ pub(crate) fn turn_checked<C: Core>(
 {
     match liar {
         None => turn(m, core, list),
-        Some(place) => {
-            let mut lanes = Lanes::with_liar(place);
-            turn_voted(
-                m,
-                core,
-                list,
-                &mut lanes.first,
-                &mut lanes.second,
-                &mut lanes.third,
-            );
-        }
+        Some(place) => turn_with_liar(m, core, list, place),
     }
+}
+
+/// Takes a turn, where three lanes vote, and the one in this place lies.
+#[cold]
+#[inline(never)]
+fn turn_with_liar<C: Core>(m: &mut Machine, core: &mut C, list: &mut Claims, place: LanePlace)
+    requires { m.old.timed.cycles < 2 ^ 60 }
+    ensures cycled { m.new.timed ≡ cycle_of m.old.timed list.new }
+    ensures asked { goes_on m.old.timed.arch ≡ true
+        → C.gives core.old (told_of m.old.timed) m.old.timed.arch list.new core.new }
+    ensures last { m.new.last ≡ dues (m.new.timed.count - m.old.timed.count) m.old.timed.arch }
+    ensures machine { IsMachine m.new.timed }
+{
+    let mut lanes = Lanes::with_liar(place);
+    turn_voted(
+        m,
+        core,
+        list,
+        &mut lanes.first,
+        &mut lanes.second,
+        &mut lanes.third,
+    );
 }
