@@ -27,7 +27,9 @@ fn programs_with_a_liar(rt: HostRuntime) -> Result<(), Fail> {
     for place in PLACES {
         let line = format!(in alloc; "run a.diva --core lockstep --liar {place}")?;
         compare(&rt, line.as_str(), five_files(alloc)?, 0, FIVE_TEXT)?;
-        let line = format!(in alloc; "run a.diva --liar {place} --core lockstep --script a.script")?;
+        let line = format!(in alloc;
+            "run a.diva --liar {place} --core lockstep --script a.script"
+        )?;
         let outside = five_files(alloc)?.with(What::Script, misled.script)?;
         let text = text_due(alloc, misled)?;
         compare(&rt, line.as_str(), outside, 0, text.as_str())?;
@@ -65,8 +67,16 @@ fn compare_places(
         let with_liar = format!(in alloc; "{options} --liar {place}")?;
         let answer = answer_of(alloc, program, script, core, with_liar.as_str())?;
         assert_eq!(rt; answer.status, plain.status, "{core} {with_liar}");
-        assert_eq!(rt; str::from_utf8(&answer.text)?, str::from_utf8(&plain.text)?, "{core} {with_liar}");
-        assert_eq!(rt; answer.puts.as_slice(), plain.puts.as_slice(), "{core} {with_liar}");
+        assert_eq!(rt;
+            str::from_utf8(&answer.text)?,
+            str::from_utf8(&plain.text)?,
+            "{core} {with_liar}"
+        );
+        assert_eq!(rt;
+            answer.puts.as_slice(),
+            plain.puts.as_slice(),
+            "{core} {with_liar}"
+        );
     }
     Ok(())
 }
