@@ -7,3 +7,4 @@ pub mod Room
 pub mod Ends
 pub mod Stored
 pub mod Unread
+pub mod Undoing

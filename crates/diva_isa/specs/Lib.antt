@@ -7,5 +7,6 @@ pub mod Regs
 pub mod Step
 pub mod Trap
 pub mod Plain
+pub mod Undo
 -- what only private contracts cite
 pub mod Inner

@@ -9,10 +9,12 @@
 //! - `due`: the record of a state's next instruction, and each part of it by itself.
 //! - `effect`: what a record does besides moving the pc and being counted.
 //! - `regs`: the 32 registers.
+//! - `undo`: what an instruction overwrites, so that it can be taken back.
 //! - `plain`: the machine that does one instruction after another.
 //!
 //! The definitions that contracts cite are in `specs/`: a state in `State`; the record and what it does in `Step`, with
-//! a table of it, kind by kind; what an operation computes in `Alu`; how a state ends in `End`. What follows from them is in `proofs/`.
+//! a table of it, kind by kind; what an operation computes in `Alu`; how a state
+//! ends in `End`; what an instruction overwrites, and putting it back, in `Undo`. What follows from them is in `proofs/`.
 //! (RISC-V Unprivileged ISA, chapters RV32I 2.1 and M 2.0.)
 #![tactic(auto)]
 
@@ -26,6 +28,7 @@ mod plain;
 mod record;
 mod regs;
 mod trap;
+mod undo;
 
 pub use arithmetic::{alu, branch_taken, load_value};
 pub use due::{
@@ -40,3 +43,4 @@ pub use plain::Plain;
 pub use record::{OUTPUT_LIMIT, Operands, Outcome, Record};
 pub use regs::Regs;
 pub use trap::Trap;
+pub use undo::{Undo, undo_of};
