@@ -9,7 +9,7 @@ use Rattle.diva_core.specs.Effects.{with_effects}
 use Rattle.diva_ahead.specs.Effects.{done_by}
 
 pub record Ahead : Type 0 where
-  -- the machine's flushes when the core last took its state, none before the first time
+  -- the machine's epoch when the core last took its state, none before the first time
   pub epoch : Option ℕ
   pub regs : List ℕ
   pub pc : ℕ

@@ -30,6 +30,7 @@ module _ (rule : Rule) where
   -- what each way has in common, after k commits
   pub record Base (b n : Timed) (k : ℕ) : Type 0 where
     pub config : n.config ≡ b.config
+    pub undos : n.undos ≡ b.undos
     pub cycles : n.cycles ≡ b.cycles + 1
     pub counted : n.count ≡ b.count + k
     pub stepped : n.arch ≡ steps k b.arch
@@ -161,7 +162,7 @@ module _ {rule : Rule} (keeps : Keeps rule) where
 
   base-mid : (b : Timed) (list : List Record) (k : ℕ) → Moved rule (drained (begun b)) (commits_under rule (drained (begun b))) k → Base rule b (mid b list) k
   unfolding drained accepts
-  base-mid b list k v = record { config = v.config; cycles = v.cycles; counted = v.counted; stepped = v.stepped; owes = v.owes; passed = v.passed; owed = v.owed; few = v.few }
+  base-mid b list k v = record { config = v.config; undos = v.undos; cycles = v.cycles; counted = v.counted; stepped = v.stepped; owes = v.owes; passed = v.passed; owed = v.owed; few = v.few }
 
   log-mid : (b : Timed) (list : List Record) → SameLog (drained (begun b)) (commits_under rule (drained (begun b))) → SameLog b (mid b list)
   unfolding drained accepts
@@ -185,7 +186,7 @@ module _ {rule : Rule} (keeps : Keeps rule) where
   Barked-mid b list was v log i late unjudged =
       let h = HasRow-flushed b (mid b list) (b.cycles + 1) (Silent b.config.limit) log v.cycles in
       record {
-        base = record { config = v.config; cycles = v.cycles; counted = v.counted; stepped = v.stepped; owes = v.owes; passed = v.passed; owed = v.owed; few = v.few };
+        base = record { config = v.config; undos = v.undos; cycles = v.cycles; counted = v.counted; stepped = v.stepped; owes = v.owes; passed = v.passed; owed = v.owed; few = v.few };
         log = record { rows = h.rows; newest = h.newest; flushes = h.flushes; silent = h.silent };
         was = was;
         solo = ap Some v.cycles;
@@ -328,7 +329,7 @@ module _ {rule : Rule} (keeps : Keeps rule) where
       }))
 
   Moved-same : (e m : Timed) → m ≡ e → e.owed ≤ e.config.stores → Moved rule e m 0
-  Moved-same e m same owed = subst (λ z. Moved rule e z 0) (sym same) (record { config = refl; cycles = refl; idle = refl; counted = omega arith; stepped = refl; owes = refl; passed = tt; owed = owed; few = omega arith })
+  Moved-same e m same owed = subst (λ z. Moved rule e z 0) (sym same) (record { config = refl; undos = refl; cycles = refl; idle = refl; counted = omega arith; stepped = refl; owes = refl; passed = tt; owed = owed; few = omega arith })
 
   SameLog-same : (e m : Timed) → m ≡ e → SameLog e m
   SameLog-same e m same = subst (SameLog e) (sym same) (record { rows = refl; newest = refl; flushes = refl; silent = refl })

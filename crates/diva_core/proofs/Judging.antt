@@ -35,6 +35,7 @@ module _ (rule : Rule) where
   -- what every part of phase 2 does, after k commits
   pub record Moved (b m : Timed) (k : ℕ) : Type 0 where
     pub config : m.config ≡ b.config
+    pub undos : m.undos ≡ b.undos
     pub cycles : m.cycles ≡ b.cycles
     pub idle : m.idle ≡ b.idle
     pub counted : m.count ≡ b.count + k
@@ -166,6 +167,7 @@ module _ {rule : Rule} (keeps : Keeps rule) where
   Moved-commit b m k v free on few =
       record {
         config = v.config;
+        undos = v.undos;
         cycles = v.cycles;
         idle = v.idle;
         counted = let e = v.counted in omega arith;
@@ -184,7 +186,7 @@ module _ {rule : Rule} (keeps : Keeps rule) where
   Still-start b none on owed =
       record {
         k = 0;
-        moved = record { config = refl; cycles = refl; idle = refl; counted = omega arith; stepped = refl; owes = refl; passed = tt; owed = owed; few = omega arith };
+        moved = record { config = refl; undos = refl; cycles = refl; idle = refl; counted = omega arith; stepped = refl; owes = refl; passed = tt; owed = owed; few = omega arith };
         log = record { rows = refl; newest = refl; flushes = refl; silent = refl };
         solo = none;
         claims = refl;
@@ -196,7 +198,7 @@ module _ {rule : Rule} (keeps : Keeps rule) where
   Flushing-from b m p rest d e ready differs r =
       record {
         k = r.k;
-        moved = record { config = r.moved.config; cycles = r.moved.cycles; idle = r.moved.idle; counted = r.moved.counted; stepped = r.moved.stepped; owes = r.moved.owes; passed = r.moved.passed; owed = r.moved.owed; few = r.moved.few };
+        moved = record { config = r.moved.config; undos = r.moved.undos; cycles = r.moved.cycles; idle = r.moved.idle; counted = r.moved.counted; stepped = r.moved.stepped; owes = r.moved.owes; passed = r.moved.passed; owed = r.moved.owed; few = r.moved.few };
         p = p;
         rest = rest;
         d = d;
@@ -243,7 +245,7 @@ module _ {rule : Rule} (keeps : Keeps rule) where
         let v = Moved-commit b m r.k r.moved free r.on few in
         record {
           k = r.k;
-          moved = record { config = v.config; cycles = v.cycles; idle = v.idle; counted = v.counted; stepped = v.stepped; owes = v.owes; passed = v.passed; owed = v.owed; few = v.few };
+          moved = record { config = v.config; undos = v.undos; cycles = v.cycles; idle = v.idle; counted = v.counted; stepped = v.stepped; owes = v.owes; passed = v.passed; owed = v.owed; few = v.few };
           log = record { rows = r.log.rows; newest = r.log.newest; flushes = r.log.flushes; silent = r.log.silent };
           rest = rest;
           claims = claims-commit b m p rest e ready same r;

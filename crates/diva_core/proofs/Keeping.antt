@@ -65,8 +65,8 @@ silent-fits b n h (inl s) = let f = s.flushes in let x = s.silent in omega arith
 silent-fits b n h (inr a) = let f = a.is.has.flushes in let x = a.is.has.silent in let one = number-least (is_silent a.row.cause) in omega arith
 
 module _ {rule : Rule} where
-  count-fits : (b n : Timed) (k : ℕ) → b.count ≤ b.config.width * b.cycles → Base rule b n k → n.count ≤ n.config.width * n.cycles
-  count-fits b n k h v = rw (v.config, v.cycles, v.counted) (let f = v.few in omega arith)
+  count-fits : (b n : Timed) (k : ℕ) → b.count + b.undos ≤ b.config.width * b.cycles → Base rule b n k → n.count + n.undos ≤ n.config.width * n.cycles
+  count-fits b n k h v = rw (v.config, v.cycles, v.counted, v.undos) (let f = v.few in omega arith)
 
   IsMachine-from :
       (b n : Timed) (k : ℕ)

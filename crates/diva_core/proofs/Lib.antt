@@ -16,6 +16,7 @@ pub mod Judging
 pub mod Keeping
 pub mod Laying
 pub mod Leaving
+pub mod Legging
 pub mod Listing
 pub mod Opened
 pub mod Opening
@@ -29,3 +30,4 @@ pub mod Stalling
 pub mod Starting
 pub mod Steps
 pub mod Turning
+pub mod Undoing

@@ -1,12 +1,12 @@
 -- What turns promise, whatever the core hands over.
-use Rattle.std.proofs.Common.{◌≡◌, List, [], ◌∷◌, sym, subst}
+use Rattle.std.proofs.Common.{◌≡◌, List, [], ◌∷◌, ap, sym, ◌∙◌, subst}
 use Rattle.diva_isa.specs.declared.record.Record.{Record}
 use Rattle.diva_core.specs.Timed.{Timed}
 use Rattle.diva_core.specs.Cycle.{cycle_of, run_of}
 use Rattle.diva_core.specs.History.{Meaning, Turns, lists_of}
 use Rattle.diva_core.specs.Machine.{IsMachine}
 use Rattle.diva_core.specs.Headline.{Rises, AddsRows, WillCount, KeepsPace, AreCommitted}
-use Rattle.diva_core.proofs.Progressing.{progress, run-rises, run-stays}
+use Rattle.diva_core.proofs.Progressing.{progress, run-rises, run-stays, run-undos}
 use Rattle.diva_core.proofs.Reaching.{run-pace}
 use Rattle.diva_core.specs.Right.{AreRight, IsCalm, StaysCalm}
 use Rattle.diva_core.proofs.Adding.{run-adds}
@@ -35,6 +35,10 @@ module _ {C : Type 0} (gives : Meaning C) (m : Timed) (core : C) (last : Timed) 
 
   pub turns-stay : IsMachine last
   turns-stay = subst IsMachine (sym reached) (run-stays m lists inv)
+
+  -- no instruction is taken back
+  pub turns-undos : last.undos ≡ m.undos
+  turns-undos = ap (λ (n : Timed). n.undos) reached ∙ run-undos m lists inv
 
   pub turns-pace : KeepsPace m last
   turns-pace = subst (KeepsPace m) (sym reached) (run-pace m lists inv)

@@ -57,6 +57,7 @@ module _ {rule : Rule} (keeps : Keeps rule) where
         sixth = sixth;
         moved = record {
           config = refl;
+          undos = refl;
           cycles = refl;
           idle = refl;
           counted = refl;

@@ -18,6 +18,9 @@ use Rattle.diva_core.proofs.Keeping.{stays}
 pub same-config : (m : Timed) (list : List Record) → IsMachine m → (cycle_of m list).config ≡ m.config
 same-config m list inv = by-cases (λ n. n.config ≡ m.config) m list inv (λ on c. (any-base m list _ c).base.config) (λ off. refl)
 
+pub same-undos : (m : Timed) (list : List Record) → IsMachine m → (cycle_of m list).undos ≡ m.undos
+same-undos m list inv = by-cases (λ n. n.undos ≡ m.undos) m list inv (λ on c. (any-base m list _ c).base.undos) (λ off. refl)
+
 pub run-stays : (m : Timed) (lists : List (List Record)) → IsMachine m → IsMachine (run_of m lists)
 run-stays m [] inv = inv
 run-stays m (list ∷ rest) inv = run-stays (cycle_of m list) rest (stays m list inv)
@@ -25,6 +28,10 @@ run-stays m (list ∷ rest) inv = run-stays (cycle_of m list) rest (stays m list
 pub run-config : (m : Timed) (lists : List (List Record)) → IsMachine m → (run_of m lists).config ≡ m.config
 run-config m [] inv = refl
 run-config m (list ∷ rest) inv = run-config (cycle_of m list) rest (stays m list inv) ∙ same-config m list inv
+
+pub run-undos : (m : Timed) (lists : List (List Record)) → IsMachine m → (run_of m lists).undos ≡ m.undos
+run-undos m [] inv = refl
+run-undos m (list ∷ rest) inv = run-undos (cycle_of m list) rest (stays m list inv) ∙ same-undos m list inv
 
 pub Rises-trans : (m mid last : Timed) → Rises m mid → Rises mid last → Rises m last
 Rises-trans m mid last a b =
@@ -71,8 +78,8 @@ progress m lists inv on long = elim (within lists m inv on) [ inl h ↦ h | inr 
 
 -- what the pace says of the count alone
 pub has_pace : (m : Timed) → IsMachine m → HasPace m
-has_pace m inv =
+has_pace m inv none =
     let top = most m inv in
-    let p = inv.pace in
+    let p = inv.pace none in
     let low : m.cycles / (m.config.limit + depth) < m.count + 1 = (div-lt_iff_lt-mul {k = m.config.limit + depth} (omega arith)).1 (omega arith) in
     omega arith

@@ -1,5 +1,5 @@
 -- How long a machine can be without a commit, and what that says of the pace.
-use Rattle.std.proofs.Common.{◌≡◌, ℕ, zero, suc, ◌+◌, ◌-◌, ◌*◌, ◌<◌, ◌≤◌, true, List, Option, Some, None, ap, ◌∙◌, arith, ◌⊎◌, inl, inr, subst}
+use Rattle.std.proofs.Common.{◌≡◌, ℕ, zero, suc, ◌+◌, ◌-◌, ◌*◌, ◌<◌, ◌≤◌, true, List, Option, Some, None, ap, sym, ◌∙◌, arith, ◌⊎◌, inl, inr, subst}
 use Rattle.std.proofs.Math.Nat.{mul-le-mul_right}
 use Rattle.diva_isa.specs.declared.record.Record.{Record}
 use Rattle.diva_isa.specs.State.{goes_on}
@@ -64,10 +64,15 @@ most m inv = stalled-most m m.solo inv.lives inv.config.limit_low
 
 -- ---- the pace
 
-abbrev pub Paces : Timed → Type 0
-Paces m = m.cycles ≤ m.count * (m.config.limit + depth) + stalled m
+-- each instruction took so many cycles at most
+abbrev pub IsPaced : Timed → Type 0
+IsPaced m = m.cycles ≤ m.count * (m.config.limit + depth) + stalled m
 
-pace-rise : (b n : Timed) → IsMachine b → n.config ≡ b.config → n.cycles ≡ b.cycles + 1 → b.count < n.count → Paces b → Paces n
+-- where no instruction was taken back
+abbrev pub Paces : Timed → Type 0
+Paces m = m.undos ≡ 0 → IsPaced m
+
+pace-rise : (b n : Timed) → IsMachine b → n.config ≡ b.config → n.cycles ≡ b.cycles + 1 → b.count < n.count → IsPaced b → IsPaced n
 pace-rise b n inv z c rise h =
     let l : n.config.limit ≡ b.config.limit = ap (λ x. x.limit) z in
     let top = most b inv in
@@ -77,9 +82,9 @@ pace-rise b n inv z c rise h =
 pace_numbers : (cycles count limit stalled cycles' count' limit' stalled' : ℕ) → limit' ≡ limit → cycles' ≡ cycles + 1 → count' ≡ count → stalled < stalled' → cycles ≤ count * (limit + depth) + stalled → cycles' ≤ count' * (limit' + depth) + stalled'
 pace_numbers cycles count limit stalled cycles' count' limit' stalled' l c n s h = rw (l, c, n) (omega arith)
 
-pace-stall : (b n : Timed) → n.config ≡ b.config → n.cycles ≡ b.cycles + 1 → Stalls b n → Paces b → Paces n
+pace-stall : (b n : Timed) → n.config ≡ b.config → n.cycles ≡ b.cycles + 1 → Stalls b n → IsPaced b → IsPaced n
 pace-stall b n z c s h = pace_numbers b.cycles b.count b.config.limit (stalled b) n.cycles n.count n.config.limit (stalled n) (ap (λ x. x.limit) z) c s.same s.longer h
 
 pub paces : {rule : Rule} (b n : Timed) (k : ℕ) → IsMachine b → Base rule b n k → (b.count < n.count) ⊎ Stalls b n → Paces n
-paces b n k inv v (inl rise) = pace-rise b n inv v.config v.cycles rise inv.pace
-paces b n k inv v (inr s) = pace-stall b n v.config v.cycles s inv.pace
+paces b n k inv v (inl rise) none = pace-rise b n inv v.config v.cycles rise (inv.pace (sym v.undos ∙ none))
+paces b n k inv v (inr s) none = pace-stall b n v.config v.cycles s (inv.pace (sym v.undos ∙ none))

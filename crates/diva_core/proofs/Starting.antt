@@ -7,12 +7,12 @@ use Rattle.diva_core.specs.Timed.{Config, new_timed, depth}
 use Rattle.diva_core.specs.Cycle.{run_of}
 use Rattle.diva_core.specs.Machine.{IsMachine, IsConfig}
 use Rattle.diva_core.specs.Headline.{Rises, HasPace}
-use Rattle.diva_core.proofs.Progressing.{run-stays, run-rises, run-config, has_pace}
+use Rattle.diva_core.proofs.Progressing.{run-stays, run-rises, run-config, run-undos, has_pace}
 
 -- so it begins with a state to which no instruction has led
 pub new-machine : (z : Config) (s : State) → IsConfig z → s.instret ≡ 0 → IsMachine (new_timed z s)
 new-machine z s ok none =
-    record { config = ok; counted = none; lives = (let l = ok.limit_low in omega arith); owed = omega arith; rows = omega arith; past = tt; window = omega arith; flushes = omega arith; silent = omega arith; count = omega arith; pace = omega arith }
+    record { config = ok; counted = none; lives = (let l = ok.limit_low in omega arith); owed = omega arith; rows = omega arith; past = tt; window = omega arith; flushes = omega arith; silent = omega arith; count = omega arith; pace = λ none. omega arith }
 
 pub headline : (z : Config) (s : State) (lists : List (List Record)) → IsConfig z → s.instret ≡ 0 → (run_of (new_timed z s) lists).arch ≡ steps (run_of (new_timed z s) lists).count s
 headline z s lists ok none =
@@ -22,4 +22,4 @@ headline z s lists ok none =
 pub pace_of_run : (z : Config) (s : State) (lists : List (List Record)) → IsConfig z → s.instret ≡ 0 → (run_of (new_timed z s) lists).cycles / (z.limit + depth) ≤ (run_of (new_timed z s) lists).count
 pace_of_run z s lists ok none =
     let p : HasPace (run_of (new_timed z s) lists) = has_pace _ (run-stays (new_timed z s) lists (new-machine z s ok none)) in
-    rw (run-config (new_timed z s) lists (new-machine z s ok none)) at p
+    rw (run-config (new_timed z s) lists (new-machine z s ok none)) at p (run-undos (new_timed z s) lists (new-machine z s ok none))

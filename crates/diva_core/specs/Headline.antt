@@ -181,6 +181,6 @@ WillCount m =
 abbrev pub KeepsPace : Timed → Timed → Type 0
 KeepsPace m last = (d : ℕ) → m.cycles + d * (m.config.limit + depth) ≤ last.cycles → m.count + d ≤ last.count
 
--- since a machine was new
+-- since a machine was new, where no instruction was taken back
 abbrev pub HasPace : Timed → Type 0
-HasPace m = m.cycles / (m.config.limit + depth) ≤ m.count
+HasPace m = m.undos ≡ 0 → m.cycles / (m.config.limit + depth) ≤ m.count

@@ -70,6 +70,6 @@ pub record IsMachine (m : Timed) : Type 0 where
   pub window : length m.pending ≤ m.config.window
   pub flushes : m.flushes ≤ m.cycles
   pub silent : m.silent ≤ m.flushes
-  pub count : m.count ≤ m.config.width * m.cycles
-  -- each instruction took W + depth cycles at most, W being the watchdog's limit
-  pub pace : m.cycles ≤ m.count * (m.config.limit + depth) + stalled m
+  pub count : m.count + m.undos ≤ m.config.width * m.cycles
+  -- each instruction took W + depth cycles at most, W being the watchdog's limit, where none was taken back
+  pub pace : m.undos ≡ 0 → m.cycles ≤ m.count * (m.config.limit + depth) + stalled m

@@ -51,6 +51,12 @@ pub record Timed : Type 0 where
   pub newest : Option FlushRow
   pub flushes : ℕ
   pub silent : ℕ
+  -- how often the last instruction was taken back
+  pub undos : ℕ
+
+-- the number of flushes and undos so far
+abbrev pub epoch_of : Timed → ℕ
+epoch_of m = m.flushes + m.undos
 
 -- how many claims the coming cycle accepts at most
 abbrev pub room_of : Timed → ℕ
@@ -79,4 +85,5 @@ new_timed config s =
       newest = None;
       flushes = 0;
       silent = 0;
+      undos = 0;
     }

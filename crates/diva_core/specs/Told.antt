@@ -1,7 +1,7 @@
 -- What a core is told before a cycle.
 use Rattle.std.specs.Prelude.{ℕ, ◌+◌, ◌≤◌, length, Bool, not}
 use Rattle.diva_isa.specs.State.{goes_on}
-use Rattle.diva_core.specs.Timed.{Timed, room_of, is_due}
+use Rattle.diva_core.specs.Timed.{Timed, epoch_of, room_of, is_due}
 
 pub record Told : Type 0 where
   -- the number of the coming cycle
@@ -9,7 +9,7 @@ pub record Told : Type 0 where
   -- the instructions committed, and the committed pc
   pub count : ℕ
   pub pc : ℕ
-  -- the flushes so far
+  -- the flushes and undos so far
   pub epoch : ℕ
   -- the claims pending, and how many more are accepted
   pub pending : ℕ
@@ -31,7 +31,7 @@ told_of m =
       cycle = m.cycles + 1;
       count = m.count;
       pc = m.arch.pc;
-      epoch = m.flushes;
+      epoch = epoch_of m;
       pending = length m.pending;
       room = room_of m;
       idle = m.idle;

@@ -1,5 +1,5 @@
 // The bytes that the program put.
-ghost use Rattle.std.specs.Prelude.{◌≡◌, ◌<◌, ◌≤◌, [], ◌∷◌, ◌++◌, length, IfOk};
+ghost use Rattle.std.specs.Prelude.{◌≡◌, ◌<◌, ◌≤◌, [], ◌∷◌, ◌++◌, length, take, IfOk};
 ghost use Rattle.diva_isa.specs.State.{output_limit};
 
 use diva_isa::OUTPUT_LIMIT;
@@ -55,5 +55,13 @@ impl Output {
         ensures { self.new ≡ self.old ++ byte ∷ [] }
     {
         let _ = self.bytes.push(byte);
+    }
+
+    /// Drops the bytes behind the first `len`.
+    pub fn cut(&mut self, len: u32)
+        requires { len ≤ length self.old }
+        ensures { self.new ≡ take len self.old }
+    {
+        self.bytes.truncate(len as usize);
     }
 }

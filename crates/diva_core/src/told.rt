@@ -10,7 +10,7 @@ pub struct Told {
     pub count: u64,
     /// The committed pc.
     pub pc: u32,
-    /// The flushes so far.
+    /// The flushes and undos so far.
     pub epoch: u64,
     /// The claims that are pending.
     pub pending: u32,

@@ -73,7 +73,7 @@ other_memory m s o few counts inv =
       flushes = inv.flushes;
       silent = inv.silent;
       count = inv.count;
-      pace = subst (λ k. m.cycles ≤ m.count * (m.config.limit + depth) + k) (stalled_same m s o m.solo) inv.pace;
+      pace = λ none. subst (λ k. m.cycles ≤ m.count * (m.config.limit + depth) + k) (stalled_same m s o m.solo) (inv.pace none);
     }
 
 -- the cycle is phase 1 and then the others
@@ -167,7 +167,8 @@ module _ (now : ℕ) (before memory : Bytes) (h : Hart) (inv : IsHart now before
         ap (λ (o : HartState). length o.buffer) state_is ∙ gone_on.owes ∙ ap (owed_after any.k (seen memory d.state)) (sym owes_now) ∙ sym any.base.owes in
         let c : now + 1 ≡ n.cycles = sym any.base.cycles in
         let counts : n.arch.instret ≡ n.count = after.counted in
-        λ i. record n { arch = sees i; owed = owes i; cycles = c i; count = counts i }
+        let undos : 0 ≡ n.undos = sym any.base.undos in
+        λ i. record n { arch = sees i; owed = owes i; cycles = c i; count = counts i; undos = undos i }
 
     pub moves_on : Moves (now + 1) memory list d
     moves_on =

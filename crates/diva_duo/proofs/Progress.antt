@@ -1,5 +1,5 @@
 -- Each hart that goes on counts an instruction within W + 6 cycles, W being the watchdog's limit.
-use Rattle.std.proofs.Common.{◌≡◌, ℕ, suc, ◌+◌, ◌<◌, ◌≤◌, List, [], ◌∷◌, length, ap, arith, subst, ◌⊎◌, inl, inr}
+use Rattle.std.proofs.Common.{◌≡◌, ℕ, suc, ◌+◌, ◌<◌, ◌≤◌, List, [], ◌∷◌, length, ap, arith, refl, subst, ◌⊎◌, inl, inr}
 use Rattle.std.proofs.lemmas.Bool.{eqb-true}
 use Rattle.diva_isa.specs.declared.record.Record.{Record}
 use Rattle.diva_core.specs.Timed.{depth}
@@ -18,7 +18,7 @@ machine_at w d inv on =
     let h = hart_holds w d inv in subst (λ a. IsMachine (timed a d.memory (hart_at w d))) (h.running on) h.machine
 
 pub has_gone : (w : Which) (d : Duo) → IsDuo d → HasGone w d
-has_gone w d inv on = has_pace (standing w d) (machine_at w d inv on)
+has_gone w d inv on = has_pace (standing w d) (machine_at w d inv on) refl
 
 abbrev Pair : Type 0
 Pair = List Record × List Record

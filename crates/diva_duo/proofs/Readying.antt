@@ -24,7 +24,7 @@ ready now memory h inv few =
     let w = inv.within in
     let wide : h.config.width ≤ 4 = m.config.width_high in
     let most : h.config.width * inv.at ≤ 4 * inv.at = mul-le-mul_right inv.at wide in
-    let c : h.state.instret ≤ h.config.width * inv.at = m.count in
+    let c : h.state.instret ≤ h.config.width * inv.at = (let counted = m.count in omega arith) in
     let f : h.flushes ≤ inv.at = m.flushes in
     let s : h.silent ≤ h.flushes = m.silent in
     record {
@@ -46,6 +46,14 @@ hart_holds Second d inv = inv.second
 pub tells : (w : Which) (d : Duo) → IsDuo d → (hart_at w d).config.width ≤ 4
 tells w d inv = (hart_holds w d inv).machine.config.width_high
 
+-- and it was flushed once in a cycle at most
+pub tells_flushes : (w : Which) (d : Duo) → IsDuo d → d.cycles ≤ 2 ^ 60 → (hart_at w d).flushes < 2 ^ 63
+tells_flushes w d inv few =
+    let h = hart_holds w d inv in
+    let flushed : (hart_at w d).flushes ≤ h.at = h.machine.flushes in
+    let within = h.within in
+    omega arith
+
 new_at : (z : Config) (s : State) (n : ℕ) → IsConfig z → z.port ≡ 1 → s.instret ≡ 0 → IsHart 0 (memory_of s) (new_hart z s n)
 new_at z s n ok port none =
     record {
@@ -63,7 +71,7 @@ new_at z s n ok port none =
         flushes = m.flushes;
         silent = m.silent;
         count = omega arith;
-        pace = omega arith;
+        pace = λ none. omega arith;
       };
       port = port;
       inside = tt;

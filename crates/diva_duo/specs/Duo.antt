@@ -15,7 +15,7 @@ use Rattle.diva_duo.specs.Harts.{Harts, first_state, may_drain, memory_drained, 
 use Rattle.diva_duo.specs.declared.action.Action.{Action}
 use Rattle.diva_duo.specs.declared.action.Action.TheVariants.{Go, Drain}
 
--- what a timed machine has, but for memory, for the number of cycles and for the number of stores that are owed
+-- what a timed machine has, but for memory, and for the numbers of cycles, of stores that are owed, and of undos
 pub record Hart : Type 0 where
   pub config : Config
   pub state : HartState
@@ -34,7 +34,8 @@ pub record Duo : Type 0 where
   pub first : Hart
   pub second : Hart
 
--- a hart as a timed machine: its state is what it sees, it has counted the instructions that led there, and it owes its buffer
+-- a hart as a timed machine: its state is what it sees, it has counted the instructions that led there, and it owes its buffer.
+-- Two harts take no instruction back
 abbrev pub timed : (cycles : ℕ) → Bytes → Hart → Timed
 timed cycles memory h =
     record {
@@ -50,6 +51,7 @@ timed cycles memory h =
       newest = h.newest;
       flushes = h.flushes;
       silent = h.silent;
+      undos = 0;
     }
 
 -- the other way round, with this buffer

@@ -219,7 +219,7 @@ impl Duo {
     }
 
     /// What the core of a hart, 0 or 1, is told before the coming cycle, whose number is that of both.
-    #[tactic(auto, using(crate::proofs::Readying::tells))]
+    #[tactic(auto, using(crate::proofs::Readying::tells, crate::proofs::Readying::tells_flushes))]
     pub fn told(&self, h: u8) -> Told
         requires { h < 2 }
         ensures { result ≡ told_of (standing (which h) self.now.duo) }

@@ -36,7 +36,7 @@ pub(crate) struct Hart {
 }
 
 impl Model for Hart {
-    ghost use Rattle.std.specs.Prelude.{map};
+    ghost use Rattle.std.specs.Prelude.{◌≡◌, map};
     ghost use Rattle.diva_core.specs.Entries.{pending_claim_of};
     ghost use Rattle.diva_watchdog.specs.Solo.{solo_of};
     ghost use Rattle.diva_duo.specs.Duo.{Hart};
@@ -54,6 +54,9 @@ impl Model for Hart {
       flushes = h.under.log.flushes;
       silent = h.under.log.silent;
     } };
+
+    // No instruction is taken back.
+    ghost invariant = { λ h. h.under.undos ≡ 0 };
 }
 
 impl Hart {
@@ -139,6 +142,7 @@ impl Hart {
     pub fn told(&self, cycles: u64) -> Told
         requires width { self.now.config.width ≤ 4 }
         requires cycles { cycles < 2 ^ 63 }
+        requires flushes { self.now.flushes < 2 ^ 63 }
         ensures { result ≡ told_of (timed cycles (record { base = 0; items = [] }) self.now) }
     {
         let always_open = Port::new(1);

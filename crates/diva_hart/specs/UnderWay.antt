@@ -1,4 +1,4 @@
--- What is under way: the pending claims, the instruction that runs solo, the watchdog and the log.
+-- What is under way: the pending claims, the instruction that runs solo, the watchdog, the log, and the number of undos.
 use Rattle.std.specs.Prelude.{ℕ, [], map}
 use Rattle.circular_buffer.specs.Buffer.{buffer}
 use Rattle.diva_isa.specs.State.{State}
@@ -26,6 +26,7 @@ timed_of s owed stores port cycles u =
       newest = u.log.newest;
       flushes = u.log.flushes;
       silent = u.log.silent;
+      undos = u.undos;
     }
 
 -- nothing is, on a machine with these numbers
@@ -37,6 +38,7 @@ new_under_way config =
       recover = Running;
       watchdog = record { limit = config.limit; idle = 0 };
       log = new_log;
+      undos = 0;
     }
 
 -- as much of a hart's state as a core is told: its pc, how many instructions led to it, and how it ended, if it has

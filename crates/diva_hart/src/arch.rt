@@ -1,11 +1,12 @@
 // The committed state of a hart but memory.
-ghost use Rattle.std.specs.Prelude.{◌≡◌, ◌≤◌, ◌<◌, ◌+◌, ◌^◌, ◌==◌, true, false, not, length, take, drop, None, IfOk};
+ghost use Rattle.std.specs.Prelude.{◌≡◌, ◌≤◌, ◌<◌, ◌+◌, ◌^◌, ◌==◌, [], true, false, not, length, take, drop, None, IfOk};
 ghost use Rattle.diva_decode.specs.Table.{row_of};
 ghost use Rattle.diva_storeq.specs.Stores.{laid};
 ghost use Rattle.diva_isa.specs.State.{output_limit};
 ghost use Rattle.diva_isa.specs.Regs.{with_reg};
 ghost use Rattle.diva_isa.specs.End.{end_of, end_number};
 ghost use Rattle.diva_isa.specs.Step.{apply, record_of};
+ghost use Rattle.diva_isa.specs.Undo.{IsUndo, restore};
 ghost use Rattle.diva_core.specs.Cycle.{number, puts_store};
 ghost use Rattle.diva_commit.specs.Committing.{answer, is_committed, AreInside};
 ghost use Rattle.diva_hart.specs.HartArch.{new_state, seen, went};
@@ -13,7 +14,7 @@ ghost use Rattle.diva_hart.specs.HartArch.{new_state, seen, went};
 use diva_commit::{Committed, commit_by};
 use diva_core::{Diff, Output, View};
 use diva_decode::Instr;
-use diva_isa::{End, Record, Regs};
+use diva_isa::{End, Record, Regs, Undo};
 use diva_memory::Memory;
 use diva_storeq::StoreQueue;
 use std::alloc::{AllocError, Global};
@@ -161,6 +162,37 @@ impl HartArch {
         ensures same { seen memory.new self.new.state ≡ seen memory.old self.old.state }
     {
         self.queue.drain(memory);
+    }
+
+    /// Puts all stores to memory that are not there yet.
+    fn drain_all(&mut self, memory: &mut Memory)
+        requires inside { AreInside memory.old self.old.state.buffer }
+        ensures memory { memory.new ≡ laid memory.old self.old.state.buffer }
+        ensures rest { self.new ≡ record self.old { state = record self.old.state { buffer = [] } } }
+    {
+        for _ in 0..self.owed() {
+            self.drain(memory);
+        }
+    }
+
+    /// Puts back what the last instruction overwrote. All stores that are not in memory yet are put there before.
+    #[tactic(auto, using(diva_isa::proofs::Undoing::last_bounds, diva_isa::proofs::Undoing::last_counted, diva_isa::proofs::Undoing::last_output, crate::proofs::Undoing::restored_size, crate::proofs::Undoing::restored_state))]
+    pub fn restore(&mut self, memory: &mut Memory, u: &Undo)
+        requires inside { AreInside memory.old self.old.state.buffer }
+        requires last { IsUndo (seen memory.old self.old.state) u.now }
+        ensures seen { seen memory.new self.new.state ≡ restore (seen memory.old self.old.state) u.now }
+        ensures empty { self.new.state.buffer ≡ [] }
+        ensures stores { self.new.stores ≡ self.old.stores }
+        ensures base { memory.new.base ≡ memory.old.base }
+        ensures size { length memory.new.items ≡ length memory.old.items }
+    {
+        self.drain_all(memory);
+        u.put_bytes(memory);
+        self.regs.set(u.reg, u.old);
+        self.pc = u.pc;
+        self.output.cut(u.out_len);
+        self.count -= 1;
+        self.end = 0;
     }
 
     /// Judges a record by its verdict, and commits it where there is none and its store has a place: `decoded` is what its

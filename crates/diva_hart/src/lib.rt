@@ -1,7 +1,7 @@
 //! What a machine and each hart of two have in common: the committed state but memory, what is under way, and memory's port.
 //!
 //! - `arch`: registers, pc, output, count, end and store queue, `HartArch`; memory is lent to each of its calls;
-//! - `under_way`: the pending claims, the solo instruction, the watchdog and the log, `UnderWay`;
+//! - `under_way`: the pending claims, the solo instruction, the watchdog, the log and the number of undos, `UnderWay`;
 //! - `log`: the flushes, as rows and as counts, `Log`;
 //! - `port`: when memory takes a store, `Port`;
 //! - `ends`: how a drive stopped, `Drive`.

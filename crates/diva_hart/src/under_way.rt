@@ -1,12 +1,12 @@
 // What is under way between two commits.
-ghost use Rattle.std.specs.Prelude.{◌≡◌, ◌≤◌, ◌<◌, ◌+◌, ◌-◌, ◌^◌, ◌&&◌, [], length, Some, IfOk, is_none, nat_le, not};
+ghost use Rattle.std.specs.Prelude.{◌≡◌, ◌≤◌, ◌<◌, ◌+◌, ◌-◌, ◌^◌, ◌&&◌, [], length, Some, IfOk, is_none, nat_le, not, true};
 ghost use Rattle.circular_buffer.specs.Buffer.{buffer};
 ghost use Rattle.diva_core.specs.Timed.{room_of};
 ghost use Rattle.diva_core.specs.Told.{told_of};
 ghost use Rattle.diva_core.specs.Cycle.{is_silent, kept, number};
 ghost use Rattle.diva_watchdog.specs.Solo.{solo_of};
 ghost use Rattle.diva_watchdog.specs.Watchdog.{ticked};
-ghost use Rattle.diva_watchdog.specs.declared.recover.Recover.TheVariants.{Solo};
+ghost use Rattle.diva_watchdog.specs.declared.recover.Recover.TheVariants.{Running, Solo};
 ghost use Rattle.diva_hart.specs.UnderWay.{new_under_way, told_machine};
 
 use crate::arch::HartArch;
@@ -33,6 +33,8 @@ pub struct UnderWay {
     pub watchdog: Watchdog,
     /// The flushes that came.
     pub log: Log,
+    /// How often the last instruction was taken back.
+    pub undos: u64,
 }
 
 impl UnderWay {
@@ -46,6 +48,7 @@ impl UnderWay {
             recover: Recover::Running,
             watchdog: Watchdog::new(config.limit()),
             log: Log::new(alloc)?,
+            undos: 0,
         })
     }
 
@@ -66,11 +69,21 @@ impl UnderWay {
         }
     }
 
+    /// The number of flushes and undos so far.
+    #[inline(always)]
+    pub fn epoch(&self) -> u64
+        requires { self.now.log.flushes + self.now.undos < 2 ^ 63 }
+        ensures { result ≡ self.now.log.flushes + self.now.undos }
+    {
+        self.log.flushes() + self.undos
+    }
+
     /// What a hart's core is told before the coming cycle, where so many have run, and memory has this port.
     #[inline(always)]
     pub fn told(&self, hart: &HartArch, port: &Port, cycles: u64) -> Told
         requires width { self.now.width ≤ 4 }
         requires cycles { cycles < 2 ^ 63 }
+        requires epoch { self.now.log.flushes + self.now.undos < 2 ^ 63 }
         ensures { result ≡ told_of (told_machine hart.now.state port.now cycles self.now) }
     {
         let room = self.room(hart) as u32;
@@ -81,7 +94,7 @@ impl UnderWay {
             cycle: cycles + 1,
             count: hart.count(),
             pc: hart.pc(),
-            epoch: self.log.flushes(),
+            epoch: self.epoch(),
             pending,
             room,
             idle,
@@ -104,6 +117,14 @@ impl UnderWay {
         self.watchdog.tick(false, alone)
     }
 
+    /// Drops what is pending, and goes on so.
+    fn restart(&mut self, recover: Recover)
+        ensures { self.new ≡ record self.old { pending = buffer [] self.old.pending.capacity; recover = recover } }
+    {
+        self.pending.clear();
+        self.recover = recover;
+    }
+
     /// Drops what is pending, and starts the next instruction on the checker alone: the flush comes in a cycle, so many
     /// instructions having committed by then.
     pub fn flush(&mut self, cycle: u64, at: u64, cause: Cause)
@@ -120,8 +141,22 @@ impl UnderWay {
           };
         } }
     {
-        self.pending.clear();
-        self.recover = Recover::Solo(cycle);
+        self.restart(Recover::Solo(cycle));
         self.log.add(FlushRow { cycle, at, cause });
+    }
+
+    /// Drops what is pending, since the last instruction is taken back: no instruction runs solo, and the watchdog counts anew.
+    pub fn undo(&mut self)
+        requires { self.old.undos < 2 ^ 63 }
+        ensures { self.new ≡ record self.old {
+          pending = buffer [] self.old.pending.capacity;
+          recover = Running;
+          watchdog = ticked self.old.watchdog true;
+          undos = self.old.undos + 1;
+        } }
+    {
+        self.restart(Recover::Running);
+        self.watchdog.rest();
+        self.undos += 1;
     }
 }

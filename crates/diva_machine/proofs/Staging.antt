@@ -21,6 +21,8 @@ use Rattle.diva_core.specs.Future.{FutureFile, IsFuture, committed_file}
 use Rattle.diva_core.specs.Older.{after, before_entry, older, with_claims}
 use Rattle.diva_core.specs.Stages.{Answers, HasVerdict}
 use Rattle.diva_core.specs.Timed.{Timed, PendingClaim}
+use Rattle.diva_core.specs.Undone.{undone}
+use Rattle.diva_isa.specs.declared.undo.Undo.{Undo}
 use Rattle.diva_core.proofs.Bypassing.{after_goes, before_is}
 use Rattle.diva_core.proofs.Leaving.{claims_alike, future_begun, older_more}
 use Rattle.diva_vote.specs.declared.stage.Stage.{Stage}
@@ -520,6 +522,20 @@ filled_young s (suc age) r h = absurd (omega arith)
 pub solo_flushed : (w : Parts) (cause : Cause) → (let z = record w { timed = flushed w.timed cause; entries = []; passed = 0; future = committed_file w.timed.arch.regs } in IsSoloFilled z.timed.cycles z)
 unfolding flushed
 solo_flushed w cause = filled_young w.timed.arch (w.timed.cycles - w.timed.cycles) w.filled (omega arith)
+
+-- the last instruction is taken back
+abbrev pub undone_parts : Parts → Undo → Parts
+undone_parts w u =
+    record w { timed = undone w.timed u; entries = []; passed = 0; future = committed_file (undone w.timed u).arch.regs }
+
+pub staged_undone : (now : ℕ) (w : Parts) (u : Undo) → IsStaged now (undone_parts w u)
+unfolding undone
+staged_undone now w u =
+    record { waits = refl; checked = checked_none (undone w.timed u).arch now; ordered = omega arith; passed = refl; future = future_begun (undone w.timed u).arch [] }
+
+pub solo_undone : (now : ℕ) (w : Parts) (u : Undo) → IsSoloFilled now (undone_parts w u)
+unfolding undone
+solo_undone now w u = tt
 
 -- a cycle begins, and the oldest store is drained
 pub staged_begun : (w : Parts) → IsStaged w.timed.cycles w → IsStaged ((drained (begun w.timed)).cycles - 1) (record w { timed = drained (begun w.timed); last = [] })

@@ -12,7 +12,7 @@
 //! - `reaching`: turns until so many instructions have committed, `drive_to`.
 //!
 //! How wide and deep the machine is, `Config`, is told by `diva_core`. The committed state but memory, and what is under way
-//! (pending claims, solo instruction, watchdog and log), are the parts that `diva_hart` has for a hart, as is memory's port.
+//! (pending claims, solo instruction, watchdog, log and number of undos), are the parts that `diva_hart` has for a hart, as is memory's port.
 //!
 //! What a cycle does is `cycle_of` of `diva_core`'s definitions; `specs/Start.antt` of `diva_hart` says in which
 //! state an image starts, `specs/Machine.antt` what contracts see of a machine, `specs/Drives.antt` what a

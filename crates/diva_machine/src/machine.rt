@@ -8,6 +8,7 @@ ghost use Rattle.diva_core.specs.Entries.{pending_claim_of};
 ghost use Rattle.diva_core.specs.Older.{before_entry};
 ghost use Rattle.diva_core.specs.Timed.{Timed, PendingClaim, depth, new_timed, room_of};
 ghost use Rattle.diva_core.specs.Told.{told_of};
+ghost use Rattle.diva_core.specs.Undone.{CanUndo, undone};
 ghost use Rattle.diva_core.specs.Cycle.{cycle_of};
 ghost use Rattle.diva_core.specs.Machine.{IsMachine};
 ghost use Rattle.diva_core.specs.Headline.{dues, Rises, ByClaims, BySolo, IsJudged, SameLog, AddsRow, HasPace, WillCount, WillJudge};
@@ -23,7 +24,7 @@ use crate::parts::Parts;
 use crate::stages::{Checks, Stages};
 use diva_core::{Claims, Config, Entry, FlushRow, Told, View};
 use diva_image::Image;
-use diva_isa::{End, Record};
+use diva_isa::{End, Record, Undo};
 use diva_vote::Lane;
 use std::alloc::{AllocError, Global};
 use std::marker::Model;
@@ -126,6 +127,13 @@ impl Machine {
         ensures { result ≡ self.now.timed.silent }
     {
         self.parts.under.log.silent()
+    }
+
+    /// How often the last instruction was taken back.
+    pub fn undos(&self) -> u64
+        ensures { result ≡ self.now.timed.undos }
+    {
+        self.parts.under.undos
     }
 
     /// The rows of the first flushes, 1,024 at most.
@@ -291,6 +299,24 @@ impl Machine {
     {
         let mut panel = Panel::new(a, b, l);
         self.cycle_by(list, &mut panel);
+    }
+
+    /// Takes the last instruction back, which overwrote `u`. All undrained stores are put to memory before. What the core has in
+    /// flight is dropped; cycles and log stay, and so do the records of the last cycle.
+    #[tactic(auto, using(diva_core::proofs::Undoing::undone_stays, diva_core::proofs::Undoing::undone_calm, diva_core::proofs::Pacing::will_count))]
+    pub fn undo(&mut self, u: &Undo)
+        requires { CanUndo self.old.timed u.now }
+        // It is the machine of the definition, in every part.
+        ensures undone { self.new.timed ≡ undone self.old.timed u.now }
+        ensures last { self.new.last ≡ self.old.last }
+        ensures entries { self.new.entries ≡ [] }
+
+        // Its numbers are within their bounds again, it goes on counting, and no right list leads to a flush.
+        ensures machine { IsMachine self.new.timed }
+        ensures counts { WillCount self.new.timed }
+        ensures calm { IsCalm self.new.timed }
+    {
+        self.parts.undo(u);
     }
 
     /// The same, whatever the stages are that a claim passes through.

@@ -9,8 +9,9 @@ ghost use Rattle.diva_isa.specs.State.{goes_on, GoesOn};
 ghost use Rattle.diva_isa.specs.Step.{apply, record_of, steps};
 ghost use Rattle.diva_image.specs.ImageLayout.{layout};
 ghost use Rattle.diva_decode.specs.Table.{row_of};
-ghost use Rattle.diva_core.specs.Timed.{Timed, depth, new_timed, room_of};
+ghost use Rattle.diva_core.specs.Timed.{Timed, depth, epoch_of, new_timed, room_of};
 ghost use Rattle.diva_core.specs.Told.{told_of};
+ghost use Rattle.diva_core.specs.Undone.{CanUndo, undone};
 ghost use Rattle.diva_core.specs.declared.pending.Entry.{Entry};
 ghost use Rattle.diva_core.specs.Entries.{pending_claim_of};
 ghost use Rattle.diva_core.specs.Future.{IsFuture, committed_file};
@@ -34,7 +35,7 @@ use diva_core::{Cause, Claim, Config, Entry, FutureFile, Records, Told};
 use diva_decode::decode;
 use diva_hart::{DEPTH, Port, UnderWay};
 use diva_image::Image;
-use diva_isa::Record;
+use diva_isa::{Record, Undo};
 use diva_watchdog::Recover;
 use std::alloc::{AllocError, Global};
 use std::marker::Model;
@@ -44,7 +45,7 @@ pub(crate) struct Parts {
     pub(crate) arch: Arch,
     port: Port,
     pub(crate) cycles: u64,
-    /// The pending claims, the solo instruction, the watchdog and the log.
+    /// The pending claims, the solo instruction, the watchdog, the log, and the number of undos.
     pub(crate) under: UnderWay,
     /// How many of the pending claims, the oldest, are past the last stage.
     passed: usize,
@@ -105,9 +106,28 @@ impl Parts {
     pub fn told(&self) -> Told
         requires width { self.now.timed.config.width ≤ 4 }
         requires cycles { self.now.timed.cycles < 2 ^ 63 }
+        requires epoch { epoch_of self.now.timed < 2 ^ 63 }
         ensures { result ≡ told_of self.now.timed }
     {
         self.under.told(self.arch.own(), &self.port, self.cycles)
+    }
+
+    /// Takes the last instruction back, which overwrote `u`.
+    #[tactic(auto, unfolding(diva_core::specs::Undone::undone, diva_isa::specs::Undo::restore))]
+    pub fn undo(&mut self, u: &Undo)
+        requires last { CanUndo self.old.timed u.now }
+        requires undos { self.old.timed.undos < 2 ^ 63 }
+        ensures { self.new ≡ record self.old {
+          timed = undone self.old.timed u.now;
+          entries = [];
+          passed = 0;
+          future = committed_file (undone self.old.timed u.now).arch.regs;
+        } }
+    {
+        self.arch.restore(u);
+        self.under.undo();
+        self.passed = 0;
+        self.future.reset(self.arch.regs());
     }
 
     /// The pending claim at a place, the oldest being at 0.

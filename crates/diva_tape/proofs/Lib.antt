@@ -7,6 +7,7 @@ pub mod Pacing
 pub mod Parting
 pub mod Playing
 pub mod ReadingBack
+pub mod Returning
 pub mod Righting
 pub mod Sounding
 pub mod Writing

@@ -3,7 +3,7 @@ use Rattle.std.specs.Prelude.{◌≡◌, ◌≤◌, ◌==◌, nat_lt, ◌&&◌, 
 use Rattle.diva_isa.specs.State.{State, goes_on}
 use Rattle.diva_isa.specs.Step.{record_of, steps}
 use Rattle.diva_isa.specs.declared.record.Record.{Record}
-use Rattle.diva_core.specs.Timed.{Timed, room_of}
+use Rattle.diva_core.specs.Timed.{Timed, epoch_of, room_of}
 use Rattle.diva_core.specs.Machine.{IsMachine}
 use Rattle.diva_core.specs.Right.{IsCalm}
 use Rattle.diva_core.specs.Told.{Told}
@@ -46,9 +46,9 @@ scalar_list m =
 -- calm and nothing is pending
 pub record MayLead (m : Timed) (core : Ahead) : Type 0 where
   pub machine : IsMachine m
-  pub epoch : is_epoch core.epoch m.flushes ≡ false
+  pub epoch : is_epoch core.epoch (epoch_of m) ≡ false
   pub rests : m.solo ≡ None → IsCalm m × (m.pending ≡ [])
 
 -- the epoch that Scalar has taken, if any, is the machine's or an earlier one
 abbrev pub IsPast : Ahead → Timed → Type 0
-IsPast core m = IfSome core.epoch (λ epoch. epoch ≤ m.flushes)
+IsPast core m = IfSome core.epoch (λ epoch. epoch ≤ epoch_of m)

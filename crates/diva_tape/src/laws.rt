@@ -1,11 +1,14 @@
 //! Laws of the simple cores over whole histories of turns. Each function has no body: its clause is
 //! about the definitions.
-ghost use Rattle.std.specs.Prelude.{ℕ, ◌≡◌, ◌≢◌, ◌+◌, ◌-◌, List, [], Some, length, true, false};
+ghost use Rattle.std.specs.Prelude.{ℕ, ◌≡◌, ◌≢◌, ◌+◌, ◌-◌, List, [], Some, length, map, true, false};
 ghost use Rattle.diva_isa.specs.declared.record.Record.{Record};
-ghost use Rattle.diva_core.specs.Timed.{Timed, Config, depth, new_timed};
+ghost use Rattle.diva_core.specs.Timed.{Timed, Config, depth, epoch_of, new_timed};
+ghost use Rattle.diva_core.specs.Undone.{CanUndo, undone};
+ghost use Rattle.diva_isa.specs.declared.undo.Undo.{Undo};
 ghost use Rattle.diva_ahead.specs.Ahead.{Ahead, is_epoch};
 ghost use Rattle.diva_core.specs.Cycle.{cycle_of};
 ghost use Rattle.diva_core.specs.History.{FollowRule, IsHistory, lists_of};
+ghost use Rattle.diva_core.specs.Legs.{AreLegs, EachPart, Leg, OfLists, part_of};
 ghost use Rattle.diva_core.specs.Machine.{IsMachine, IsConfig};
 ghost use Rattle.diva_core.specs.Right.{AreRight, IsCalm};
 ghost use Rattle.diva_core.specs.Told.{told_of};
@@ -38,9 +41,21 @@ pub fn scalar_is_right()
     ensures new { (config : Config) (s : State) → IsConfig config → s.instret ≡ 0 → MayLead (new_timed config s) new_scalar }
 {}
 
+/// `Scalar` is right as well from such a machine on where instructions are taken back between its turns, in each part of what it
+/// hands over, if the epoch that it has taken is not a later one than the machine's.
+#[tactic(auto, using(crate::proofs::Returning::scalar_legs, crate::proofs::Returning::scalar_legs_right))]
+pub fn scalar_is_right_behind_undos()
+    ensures lists { (m last : Timed) (before after : Ahead) (legs : List (Leg Ahead))
+        → MayLead m before → IsPast before m → AreLegs IsScalarCall m before legs last after
+        → EachPart (OfLists (FollowRule scalar_list)) m (map part_of legs) }
+    ensures right { (m last : Timed) (before after : Ahead) (legs : List (Leg Ahead))
+        → MayLead m before → IsPast before m → AreLegs IsScalarCall m before legs last after
+        → EachPart (OfLists AreRight) m (map part_of legs) }
+{}
+
 /// `Scalar` may lead again after each flush, whatever the machine was handed: at once, since while an instruction runs solo
 /// there is no room and `Scalar` takes no epoch; and where that instruction commits the machine is calm, with nothing
-/// pending, and its epoch is still not `Scalar`'s.
+/// pending, and its epoch is still not `Scalar`'s. So it may where the last instruction is taken back.
 pub fn scalar_may_lead_again()
     ensures flushed { (m : Timed) (before after : Ahead) (list handed : List Record)
         → IsMachine m → IsPast before m → IsScalarCall before (told_of m) m.arch list after
@@ -50,9 +65,10 @@ pub fn scalar_may_lead_again()
         → IsPast after (cycle_of m handed) }
     ensures committed { (m : Timed) (before after : Ahead) (list : List Record) (start : ℕ)
         → IsMachine m → goes_on m.arch ≡ true → m.solo ≡ Some start → m.cycles + 1 ≡ start + depth
-        → is_epoch before.epoch m.flushes ≡ false → IsScalarCall before (told_of m) m.arch list after
+        → is_epoch before.epoch (epoch_of m) ≡ false → IsScalarCall before (told_of m) m.arch list after
         → let last = cycle_of m list in
-        IsCalm last × (last.pending ≡ []) × (is_epoch after.epoch last.flushes ≡ false) }
+        IsCalm last × (last.pending ≡ []) × (is_epoch after.epoch (epoch_of last) ≡ false) }
+    ensures undone { (m : Timed) (core : Ahead) (u : Undo) → IsMachine m → CanUndo m u → IsPast core m → MayLead (undone m u) core }
 {}
 
 /// `Scalar` keeps a new machine as fast as it can be, whatever the program and the machine's other numbers, where its port

@@ -47,5 +47,8 @@ returns-clause-first_will_go g c = will_go First c.loop.duo.duo c.loop.invariant
 pub returns-clause-second_will_go : goal.returns-clause-second_will_go
 returns-clause-second_will_go g c = will_go Second c.loop.duo.duo c.loop.invariant.sound
 
+pub returns-clause-first_has_gone : goal.returns-clause-first_has_gone
+returns-clause-first_has_gone g c = has_gone First c.loop.duo.duo c.loop.invariant.sound
+
 pub returns-clause-second_has_gone : goal.returns-clause-second_has_gone
 returns-clause-second_has_gone g c = has_gone Second c.loop.duo.duo c.loop.invariant.sound
