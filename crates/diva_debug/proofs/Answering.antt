@@ -1,8 +1,7 @@
 -- What a reply tells.
-use Rattle.std.proofs.Common.{◌≡◌, ◌≢◌, ℕ, ◌+◌, ◌==◌, true, false, [], ◌∷◌, Option, Some, None, refl, ap, sym, ◌∙◌, arith, subst, inl, inr, IsNone}
+use Rattle.std.proofs.Common.{◌≡◌, ◌≢◌, ℕ, ◌+◌, ◌<◌, ◌==◌, true, false, [], ◌∷◌, Option, Some, None, refl, ap, sym, ◌∙◌, subst, inl, inr, IsNone}
 use Rattle.std.specs.Prelude.{◌↔◌}
-use Rattle.std.proofs.lemmas.Bool.{cases_Bool, eqb-true, eq-eqb, false_from_ne_true, true≢false}
-use Rattle.diva_isa.specs.End.{end_of}
+use Rattle.std.proofs.lemmas.Bool.{cases_Bool, cases_lt, eqb-true, eq-eqb, false_from_ne_true, le-leb, lt-leb, true≢false}
 use Rattle.diva_isa.specs.State.{State, goes_on}
 use Rattle.diva_isa.specs.declared.end.End.{End}
 use Rattle.diva_core.specs.Timed.{Timed}
@@ -10,27 +9,14 @@ use Rattle.diva_core.specs.declared.flushes.FlushRow.{FlushRow}
 use Rattle.diva_outside.specs.Text.{Text}
 use Rattle.diva_trace.specs.Lines.{flush_line}
 use Rattle.diva_debug.specs.declared.command.Command.{Command}
-use Rattle.diva_debug.specs.declared.command.Command.TheVariants.{Step, Until, Reg, Mem, Why}
+use Rattle.diva_debug.specs.declared.command.Command.TheVariants.{Back, Until}
 use Rattle.diva_debug.specs.Moves.{IsFar, Moves, steps_by}
-use Rattle.diva_debug.specs.Replies.{at_line, ended_line, far_line, no_flush, place_line, reply_at, stop_line, until_line, why_line}
-use Rattle.diva_debug.proofs.Stepping.{far-exactly, steps_in-off, until-off}
+use Rattle.diva_debug.specs.Replies.{at_line, back_line, ended_line, far_line, kept_line, no_flush, place_line, reply_at, stop_line, until_line, why_line}
+use Rattle.diva_debug.proofs.Stepping.{far-exactly}
 
 abbrev first_byte : Text → ℕ
 first_byte [] = 0
 first_byte (b ∷ text) = b
-
--- ---- an ended machine is not moved
-
-steps_by-off : (command : Command) (s : State) → goes_on s ≡ false → steps_by command s ≡ 0
-unfolding steps_by
-steps_by-off (Step k) s off = steps_in-off k s off
-steps_by-off (Until pc) s off = until-off 100000 pc s off
-steps_by-off (Reg n) s off = refl
-steps_by-off (Mem range) s off = refl
-steps_by-off Why s off = refl
-
-pub moves-none : (command : Command) (m : Timed) → goes_on m.arch ≡ false → Moves (steps_by command m.arch) m m
-moves-none command m off = rw (steps_by-off command m.arch off) (record { count = omega arith; arch = refl })
 
 -- ---- far
 
@@ -62,8 +48,8 @@ far-line pc place s on other =
     let f : (s.pc == pc) ≡ false = false_from_ne_true _ (λ t. other (eqb-true s.pc pc t)) in
     rw (on, f) refl
 
-module _ (pc : ℕ) (m last : Timed) (newest : Option FlushRow) where
-  by-until : Moves (steps_by (Until pc) m.arch) m last → (reply_at (Until pc) last.count last.arch newest ≡ far_line last.count last.arch.pc) ↔ IsFar pc m last
+module _ (pc kept : ℕ) (m last : Timed) (newest : Option FlushRow) where
+  by-until : Moves (steps_by (Until pc) m.arch) m last → (reply_at (Until pc) kept last.count last.arch newest ≡ far_line last.count last.arch.pc) ↔ IsFar pc m last
   unfolding reply_at steps_by
   by-until moved =
       let stepped = moved.count in (
@@ -79,14 +65,39 @@ module _ (pc : ℕ) (m last : Timed) (newest : Option FlushRow) where
       )
 
   pub tells_far : (command : Command) (line : Text)
-      → line ≡ reply_at command last.count last.arch newest
+      → line ≡ reply_at command kept last.count last.arch newest
       → Moves (steps_by command m.arch) m last
       → command ≡ Until pc
       → (line ≡ far_line last.count last.arch.pc) ↔ IsFar pc m last
   tells_far command line is moved until =
       let b = by-until (subst (λ (c : Command). Moves (steps_by c m.arch) m last) until moved) in
-      let same : line ≡ reply_at (Until pc) last.count last.arch newest = is ∙ ap (λ (c : Command). reply_at c last.count last.arch newest) until in
+      let same : line ≡ reply_at (Until pc) kept last.count last.arch newest = is ∙ ap (λ (c : Command). reply_at c kept last.count last.arch newest) until in
       (λ e. b.0 (sym same ∙ e), λ far. same ∙ b.1 far)
+
+-- ---- kept
+
+kept-not-at : (kept place pc : ℕ) → at_line place pc ≡ kept_line kept → ⊥
+unfolding at_line kept_line place_line
+kept-not-at kept place pc e = true≢false (ap (λ (t : Text). first_byte t == 97) e)
+
+back-kept : (k kept place pc : ℕ) → back_line k kept place pc ≡ kept_line kept → kept < k
+unfolding back_line
+back-kept k kept place pc e =
+    elim (cases_lt kept k) [
+      | inl few ↦ few
+      | inr enough ↦ absurd (kept-not-at kept place pc (rw (le-leb k kept enough) at e))
+    ]
+
+kept-back : (k kept place pc : ℕ) → kept < k → back_line k kept place pc ≡ kept_line kept
+unfolding back_line
+kept-back k kept place pc few = rw (lt-leb k kept few) refl
+
+pub tells_kept : (k kept place : ℕ) (s : State) (newest : Option FlushRow) (command : Command) (line : Text)
+    → line ≡ reply_at command kept place s newest → command ≡ Back k → (line ≡ kept_line kept) ↔ (kept < k)
+unfolding reply_at
+tells_kept k kept place s newest command line is back =
+    let same : line ≡ back_line k kept place s.pc = is ∙ ap (λ (c : Command). reply_at c kept place s newest) back in
+    (λ e. back-kept k kept place s.pc (sym same ∙ e), λ few. same ∙ kept-back k kept place s.pc few)
 
 -- ---- no flush
 

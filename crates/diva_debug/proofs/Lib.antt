@@ -1,2 +1,6 @@
-pub mod Answering
+pub mod Chains
 pub mod Stepping
+pub mod Advancing
+pub mod Backing
+pub mod Answering
+pub mod Leading

@@ -12,46 +12,45 @@ use Rattle.diva_machine.specs.declared.ends.Reach.{Reach}
 use Rattle.diva_machine.specs.declared.ends.Reach.TheVariants.{Reached, Ended, Budget}
 use Rattle.diva_debug.specs.Moves.{Moves, stands_at, steps_in, steps_until}
 
-pub steps_in-is :
-    (k d : ℕ) (s : State)
-    → d ≤ k
-    → ((j : ℕ) → j < d → goes_on (steps j s) ≡ true)
-    → (d < k → goes_on (steps d s) ≡ false)
-    → steps_in k s ≡ d
-steps_in-is zero d s h on off = omega arith
-steps_in-is (suc k) zero s h on off = rw (off (omega arith)) refl
-steps_in-is (suc k) (suc d) s h on off =
-    rw (on zero (omega arith))
-    (ap suc (steps_in-is k d (step s) (omega arith) (λ j l. ap goes_on (steps-shift j s) ∙ on (suc j) (omega arith)) (λ l. ap goes_on (steps-shift d s) ∙ off (omega arith))))
-
 -- a drive that had cycles enough
 pub reached_or_ended : {A B : Type 0} (r : Reach) → (r ≡ Reached → A) → (r ≡ Ended → B) → r ≢ Budget → A ⊎ B
 reached_or_ended Reached f g h = inl (f refl)
 reached_or_ended Ended f g h = inr (g refl)
 reached_or_ended Budget f g h = absurd (h refl)
 
--- it moved as far as there were instructions
-pub moves-on :
-    (k target : ℕ) (m last : Timed)
-    → target ≡ m.count + k
-    → Rises m last
-    → ((j : ℕ) → j < last.count - m.count → goes_on (steps j m.arch) ≡ true)
-    → (last.count ≡ target) ⊎ ((last.count < target) × (goes_on last.arch ≡ false))
-    → Moves (steps_in k m.arch) m last
-moves-on k target m last is r on ends =
+-- it moved by one instruction: it went on, so it did not end before
+pub moves-one :
+    (m last : Timed) → Rises m last → goes_on m.arch ≡ true
+    → (last.count ≡ m.count + 1) ⊎ ((last.count < m.count + 1) × (goes_on last.arch ≡ false))
+    → Moves 1 m last
+moves-one m last r on (inl e) =
+    let one : last.count - m.count ≡ 1 = omega arith in
+    record { count = e; arch = r.stepped ∙ ap (λ n. steps n m.arch) one }
+moves-one m last r on (inr e) =
     let up = r.counted in
-    let d : ℕ = last.count - m.count in
-    let all : steps_in k m.arch ≡ d = elim ends [
-      | inl e ↦ steps_in-is k d m.arch (omega arith) on (λ l. absurd (omega arith))
-      | inr e ↦ (let short = e.0 in steps_in-is k d m.arch (omega arith) on (λ l. ap goes_on (sym r.stepped) ∙ e.1))
-    ] in
-    record { count = rw all (omega arith); arch = rw all r.stepped }
+    let short = e.0 in
+    let none : last.count - m.count ≡ 0 = omega arith in
+    absurd (true≢false (sym on ∙ ap goes_on (sym (r.stepped ∙ ap (λ n. steps n m.arch) none)) ∙ e.1))
 
--- ---- until a pc is reached
+-- ---- as many as there are
+
+pub steps_in-most : (k : ℕ) (s : State) → steps_in k s ≤ k
+steps_in-most zero s = omega arith
+steps_in-most (suc k) s =
+    elim (cases_Bool (goes_on s)) [
+      | inl on ↦ rw on (let few = steps_in-most k (step s) in omega arith)
+      | inr off ↦ rw off (omega arith)
+    ]
 
 pub steps_in-off : (k : ℕ) (s : State) → goes_on s ≡ false → steps_in k s ≡ 0
 steps_in-off zero s off = refl
 steps_in-off (suc k) s off = rw off refl
+
+-- of those that are left, one is taken
+pub in-further : (k i : ℕ) (s : State) → i < k → goes_on s ≡ true → steps_in (k - i) s ≡ suc (steps_in (k - (i + 1)) (step s))
+in-further k i s h on = let e : k - i ≡ suc (k - (i + 1)) = omega arith in rw (e, on) refl
+
+-- ---- until a pc is reached
 
 pub until-off : (k pc : ℕ) (s : State) → goes_on s ≡ false → steps_until k pc s ≡ 0
 until-off zero pc s off = refl
@@ -63,17 +62,19 @@ until-there k i pc s h on there = let e : k - i ≡ suc (k - (i + 1)) = omega ar
 pub until-not : (k i pc : ℕ) (s : State) → i < k → goes_on s ≡ true → stands_at pc (step s) ≡ false → steps_until (k - i) pc s ≡ suc (steps_until (k - (i + 1)) pc (step s))
 until-not k i pc s h on there = let e : k - i ≡ suc (k - (i + 1)) = omega arith in rw (e, on, there) refl
 
--- one instruction of a state that goes on
-pub one-step : (m last : Timed) → goes_on m.arch ≡ true → Moves (steps_in 1 m.arch) m last → Moves 1 m last
-one-step m last on moved =
-    let one : steps_in 1 m.arch ≡ 1 = rw on refl in
-    subst (λ n. Moves n m last) one moved
+pub until-most : (k pc : ℕ) (s : State) → steps_until k pc s ≤ k
+until-most zero pc s = omega arith
+until-most (suc k) pc s =
+    elim (cases_Bool (goes_on s)) [
+      | inr off ↦ rw off (omega arith)
+      | inl on ↦ elim (cases_Bool (stands_at pc (step s))) [
+        | inl there ↦ rw (on, there) (omega arith)
+        | inr not ↦ rw (on, not) (let few = until-most k pc (step s) in omega arith)
+      ]
+    ]
 
 pub more-cycles : (i k per : ℕ) → i < k → (i + 1) * per ≤ k * per
 more-cycles i k per h = mul-le-mul_right per (omega arith)
-
-pub enough_cycles : (target count k l m n per : ℕ) → target ≡ count + k → m ≡ k → n ≡ l → (target - count) * (l + per) ≤ m * (n + per)
-enough_cycles target count k l m n per at same like = let e : target - count ≡ k = omega arith in rw (e, same, like) (omega arith)
 
 pub Moves-then : (a b : ℕ) (m mid last : Timed) → Moves a m mid → Moves b mid last → Moves (a + b) m last
 Moves-then a b m mid last v w =
@@ -82,25 +83,22 @@ Moves-then a b m mid last v w =
     record { count = omega arith; arch = rw steps-add (w.arch ∙ ap (steps b) v.arch) }
 
 -- a turn of the loop: from a state that goes on, one instruction
-module _ (k i pc : ℕ) (m mid last : Timed) (short : i < k) (so_far : Moves i m mid)
-    (left : steps_until k pc m.arch ≡ i + steps_until (k - i) pc mid.arch)
-    (on : goes_on mid.arch ≡ true) (moved : Moves (steps_in 1 mid.arch) mid last) where
-  one : Moves 1 mid last
-  one = one-step mid last on moved
-
-  pub further : Moves (i + 1) m last
-  further = Moves-then i 1 m mid last so_far one
-
-  pub stops-there : stands_at pc last.arch ≡ true → Moves (steps_until k pc m.arch) m last
-  stops-there there =
-      let e : steps_until k pc m.arch ≡ i + 1 = left ∙ ap (λ n. i + n) (until-there k i pc mid.arch short on (ap (stands_at pc) (sym one.arch) ∙ there)) in
-      rw e further
-
-  pub left-then : stands_at pc last.arch ≡ false → steps_until k pc m.arch ≡ i + 1 + steps_until (k - (i + 1)) pc last.arch
-  left-then not =
-      let e = until-not k i pc mid.arch short on (ap (stands_at pc) (sym one.arch) ∙ not) in
-      let f : steps_until (k - (i + 1)) pc last.arch ≡ steps_until (k - (i + 1)) pc (step mid.arch) = ap (steps_until (k - (i + 1)) pc) one.arch in
+module _ (k i : ℕ) (m mid last : Timed) (short : i < k) (on : goes_on mid.arch ≡ true) (one : Moves 1 mid last) where
+  pub in-then : steps_in k m.arch ≡ i + steps_in (k - i) mid.arch → steps_in k m.arch ≡ i + 1 + steps_in (k - (i + 1)) last.arch
+  in-then left =
+      let e = in-further k i mid.arch short on in
+      let f : steps_in (k - (i + 1)) last.arch ≡ steps_in (k - (i + 1)) (step mid.arch) = ap (steps_in (k - (i + 1))) one.arch in
       omega arith
+
+  module _ (pc : ℕ) (left : steps_until k pc m.arch ≡ i + steps_until (k - i) pc mid.arch) where
+    pub stops-there : stands_at pc last.arch ≡ true → steps_until k pc m.arch ≡ i + 1
+    stops-there there = left ∙ ap (λ n. i + n) (until-there k i pc mid.arch short on (ap (stands_at pc) (sym one.arch) ∙ there))
+
+    pub left-then : stands_at pc last.arch ≡ false → steps_until k pc m.arch ≡ i + 1 + steps_until (k - (i + 1)) pc last.arch
+    left-then not =
+        let e = until-not k i pc mid.arch short on (ap (stands_at pc) (sym one.arch) ∙ not) in
+        let f : steps_until (k - (i + 1)) pc last.arch ≡ steps_until (k - (i + 1)) pc (step mid.arch) = ap (steps_until (k - (i + 1)) pc) one.arch in
+        omega arith
 
 pub at-once-then : (m mid last : Timed) → m.count ≤ mid.count → StopsAtOnce m mid → StopsAtOnce mid last → StopsAtOnce m last
 at-once-then m mid last up a (inl same) = subst (StopsAtOnce m) (sym same) a

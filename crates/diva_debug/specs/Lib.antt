@@ -4,4 +4,7 @@ pub mod Kinds
 pub mod Reading
 pub mod Moves
 pub mod Replies
+pub mod Undos
+pub mod Rewindable
+pub mod Inner
 pub mod Sessions

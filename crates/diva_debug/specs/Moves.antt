@@ -1,10 +1,10 @@
 -- How far a command moves a machine along the table's steps, told from the state before it.
-use Rattle.std.specs.Prelude.{ℕ, zero, suc, ◌≡◌, ◌≢◌, ◌≤◌, ◌+◌, ◌*◌, ◌==◌, ◌&&◌, Bool, true, false}
+use Rattle.std.specs.Prelude.{ℕ, zero, suc, ◌≡◌, ◌≢◌, ◌≤◌, ◌+◌, ◌-◌, ◌*◌, ◌==◌, ◌&&◌, min, nat_le, Bool, true, false, if◌then◌else◌}
 use Rattle.diva_isa.specs.State.{State, goes_on}
 use Rattle.diva_isa.specs.Step.{step, steps}
 use Rattle.diva_core.specs.Timed.{Timed, depth}
 use Rattle.diva_debug.specs.declared.command.Command.{Command}
-use Rattle.diva_debug.specs.declared.command.Command.TheVariants.{Step, Until, Reg, Mem, Why}
+use Rattle.diva_debug.specs.declared.command.Command.TheVariants.{Step, Until, Back, Reg, Mem, Why}
 
 -- one step more and those that follow it, where the state goes on
 abbrev pub one_more : (State → ℕ) → Bool → State → ℕ
@@ -34,6 +34,7 @@ steps_until (suc k) pc s = one_more (λ t. unless (stands_at pc t) (steps_until 
 abbrev pub most_steps : Command → ℕ
 most_steps (Step k) = k
 most_steps (Until pc) = 100000
+most_steps (Back k) = 0
 most_steps (Reg n) = 0
 most_steps (Mem range) = 0
 most_steps Why = 0
@@ -46,13 +47,46 @@ IsShort command = most_steps command ≤ 1000000
 abbrev pub most_cycles : Command → Timed → ℕ
 most_cycles command m = most_steps command * (m.config.limit + depth)
 
--- how many steps a command takes
+-- how many steps a command takes; one that goes back takes none
 unfoldable pub steps_by : Command → State → ℕ
 steps_by (Step k) s = steps_in k s
 steps_by (Until pc) s = steps_until 100000 pc s
+steps_by (Back k) s = 0
 steps_by (Reg n) s = 0
 steps_by (Mem range) s = 0
 steps_by Why s = 0
+
+-- where a session stands: how many instructions have committed, less those that were taken back, and how many of them can be taken
+-- back
+pub record Standing : Type 0 where
+  pub place : ℕ
+  pub kept : ℕ
+
+-- n instructions on, where `keep` undos are kept at most
+abbrev pub steps_on : (keep n : ℕ) → Standing → Standing
+steps_on keep n w = record { place = w.place + n; kept = min keep (w.kept + n) }
+
+-- k instructions back, where so many undos are kept, and else it stands where it stood
+abbrev pub steps_back : (k : ℕ) → Standing → Standing
+steps_back k w = if nat_le k w.kept then record { place = w.place - k; kept = w.kept - k } else w
+
+-- where a command leads, the state at the place being s, where `keep` undos are kept at most
+unfoldable pub standing_after : (keep : ℕ) → Command → Standing → State → Standing
+standing_after keep (Step k) w s = steps_on keep (steps_by (Step k) s) w
+standing_after keep (Until pc) w s = steps_on keep (steps_by (Until pc) s) w
+standing_after keep (Back k) w s = steps_back k w
+standing_after keep (Reg n) w s = w
+standing_after keep (Mem range) w s = w
+standing_after keep Why w s = w
+
+-- the command is one that goes back
+abbrev pub goes_back : Command → Bool
+goes_back (Step k) = false
+goes_back (Until pc) = false
+goes_back (Back k) = true
+goes_back (Reg n) = false
+goes_back (Mem range) = false
+goes_back Why = false
 
 -- a machine has moved n steps on
 pub record Moves (n : ℕ) (m last : Timed) : Type 0 where

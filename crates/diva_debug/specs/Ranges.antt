@@ -1,7 +1,7 @@
 -- The numbers of commands, in their ranges.
 use Rattle.std.specs.Prelude.{ℕ, ◌≤◌, ◌+◌, ◌^◌}
 
--- the instructions that are stepped at once: 1 to 1,000,000
+-- the instructions that are stepped, or taken back, at once: 1 to 1,000,000
 pub record IsStepCount (n : ℕ) : Type 0 where
   pub low : 1 ≤ n
   pub high : n ≤ 1000000

@@ -7,7 +7,7 @@ use Rattle.diva_outside.specs.Lines.{LineFault}
 use Rattle.diva_outside.specs.NextWords.{and_no_more, hex_in, number_in, with_first}
 use Rattle.diva_outside.specs.Text.{Text}
 use Rattle.diva_debug.specs.declared.command.Command.{Command}
-use Rattle.diva_debug.specs.declared.command.Command.TheVariants.{Step, Until, Reg, Mem, Why}
+use Rattle.diva_debug.specs.declared.command.Command.TheVariants.{Step, Until, Back, Reg, Mem, Why}
 use Rattle.diva_debug.specs.declared.fault.Kind.{Kind}
 use Rattle.diva_debug.specs.declared.fault.Kind.TheVariants.{Unknown}
 use Rattle.diva_debug.specs.Kinds.{kind_of, command_kind_number}
@@ -25,6 +25,12 @@ unfoldable pub until_in : List Text → Result Command Kind
 until_in words =
     with_first (hex_in kind_of) words (λ pc words.
     and_no_more kind_of (Until pc) words)
+
+-- after back: K
+unfoldable pub back_in : List Text → Result Command Kind
+back_in words =
+    with_first (number_in kind_of 1 1000000) words (λ k words.
+    and_no_more kind_of (Back k) words)
 
 -- after reg: N
 unfoldable pub reg_in : List Text → Result Command Kind
@@ -48,10 +54,11 @@ unfoldable pub command_in : Text → List Text → Result Command Kind
 command_in word words =
     if bytes_eq word (codes "step") then step_in words
     else (if bytes_eq word (codes "until") then until_in words
+    else (if bytes_eq word (codes "back") then back_in words
     else (if bytes_eq word (codes "reg") then reg_in words
     else (if bytes_eq word (codes "mem") then mem_in words
     else (if bytes_eq word (codes "why") then and_no_more kind_of Why words
-    else Err Unknown))))
+    else Err Unknown)))))
 
 -- ---- all commands
 

@@ -1,5 +1,5 @@
 -- The reply to a command, a line.
-use Rattle.std.specs.Prelude.{ℕ, ◌+◌, ◌-◌, ◌==◌, ◌&&◌, not, List, ◌++◌, nat_lt, codes, Option, Some, None, if◌then◌else◌}
+use Rattle.std.specs.Prelude.{ℕ, ◌==◌, ◌&&◌, not, List, ◌++◌, nat_le, codes, Option, Some, None, if◌then◌else◌}
 use Rattle.std.specs.Fmt.{decimal}
 use Rattle.diva_outside.specs.Text.{Text, hex_word}
 use Rattle.diva_isa.specs.State.{State, goes_on, memory_of}
@@ -8,9 +8,9 @@ use Rattle.diva_isa.specs.declared.end.End.{End}
 use Rattle.diva_isa.specs.Step.{steps}
 use Rattle.diva_core.specs.declared.flushes.FlushRow.{FlushRow}
 use Rattle.diva_trace.specs.Lines.{end_text, flush_line, mem_line, register_text}
-use Rattle.diva_debug.specs.Moves.{steps_by}
+use Rattle.diva_debug.specs.Moves.{Standing, standing_after}
 use Rattle.diva_debug.specs.declared.command.Command.{Command}
-use Rattle.diva_debug.specs.declared.command.Command.TheVariants.{Step, Until, Reg, Mem, Why}
+use Rattle.diva_debug.specs.declared.command.Command.TheVariants.{Step, Until, Back, Reg, Mem, Why}
 
 -- ---- lines
 
@@ -38,6 +38,14 @@ stop_line place s = if goes_on s then at_line place s.pc else ended_line place (
 unfoldable pub until_line : (pc : ℕ) → ℕ → State → Text
 until_line pc place s = if goes_on s && not (s.pc == pc) then far_line place s.pc else stop_line place s
 
+-- how many undos are kept, which are too few
+unfoldable pub kept_line : (kept : ℕ) → Text
+kept_line kept = codes "kept " ++ decimal kept ++ codes "\n"
+
+-- where it stands after k instructions were taken back; where fewer undos were kept, how many
+unfoldable pub back_line : (k kept : ℕ) → (place pc : ℕ) → Text
+back_line k kept place pc = if nat_le k kept then at_line place pc else kept_line kept
+
 -- one register
 unfoldable pub register_line : List ℕ → ℕ → Text
 register_line regs n = register_text regs n ++ codes "\n"
@@ -52,14 +60,17 @@ why_line None = no_flush
 
 -- ---- the reply
 
--- at a place, where the state is s, and the newest flush is this one
-unfoldable pub reply_at : Command → (place : ℕ) → State → (newest : Option FlushRow) → Text
-reply_at (Step k) place s newest = stop_line place s
-reply_at (Until pc) place s newest = until_line pc place s
-reply_at (Reg n) place s newest = register_line s.regs n
-reply_at (Mem range) place s newest = mem_line (memory_of s) range.addr range.len
-reply_at Why place s newest = why_line newest
+-- at a place, where the state is s, and the newest flush is this one; `kept` undos were kept before the command
+unfoldable pub reply_at : Command → (kept place : ℕ) → State → (newest : Option FlushRow) → Text
+reply_at (Step k) kept place s newest = stop_line place s
+reply_at (Until pc) kept place s newest = until_line pc place s
+reply_at (Back k) kept place s newest = back_line k kept place s.pc
+reply_at (Reg n) kept place s newest = register_line s.regs n
+reply_at (Mem range) kept place s newest = mem_line (memory_of s) range.addr range.len
+reply_at Why kept place s newest = why_line newest
 
--- told from the place before the command, and the state there
-abbrev pub reply_of : Command → (place : ℕ) → State → (newest : Option FlushRow) → Text
-reply_of command place s newest = reply_at command (place + steps_by command s) (steps (steps_by command s) s) newest
+-- told from the state of place 0 and from where the session stood before the command: the state at a place is the table's
+abbrev pub reply_from : (start : State) → (keep : ℕ) → Command → Standing → (newest : Option FlushRow) → Text
+reply_from start keep command w newest =
+    let after = standing_after keep command w (steps w.place start) in
+    reply_at command w.kept after.place (steps after.place start) newest

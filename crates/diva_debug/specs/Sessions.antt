@@ -1,10 +1,15 @@
 -- What a session holds.
 use Rattle.std.specs.Prelude.{ℕ}
 use Rattle.diva_machine.specs.Machine.{Machine}
+use Rattle.diva_debug.specs.Rewindable.{Rewindable}
 use Rattle.diva_debug.specs.declared.session.Session.{Session}
 
+-- the machine with the undos of its newest instructions
+abbrev pub rewindable_of : {C : Type 0} → Session C → Rewindable
+rewindable_of s = s.rewindable
+
 abbrev pub machine_of : {C : Type 0} → Session C → Machine
-machine_of s = s.machine
+machine_of s = s.rewindable.machine
 
 -- the core, as it is now
 abbrev pub core_of : {C : Type 0} → Session C → C

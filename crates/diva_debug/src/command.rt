@@ -8,6 +8,8 @@ pub enum Command {
     Step(StepCount),
     /// `until PC`: one instruction at least, until the pc is PC or the end is reached, and 100,000 at most.
     Until(u32),
+    /// `back K`: K instructions back, where so many undos are kept, and else none.
+    Back(StepCount),
     /// `reg N`: a register.
     Reg(RegisterNumber),
     /// `mem ADDR LEN`: a part of memory.

@@ -4,7 +4,7 @@ ghost use Rattle.diva_debug.specs.Ranges.{IsMemRange, IsStepCount};
 
 use std::marker::Model;
 
-/// How many instructions are stepped at once: 1 to 1,000,000.
+/// How many instructions are stepped, or taken back, at once: 1 to 1,000,000.
 #[derive(Clone, Copy, Debug, PartialEq, Eq)]
 pub struct StepCount {
     number: u32,
@@ -24,7 +24,7 @@ impl Model for StepCount {
 }
 
 impl StepCount {
-    /// The number of steps, `None` exactly where it is out of its range.
+    /// The number of instructions, `None` exactly where it is out of its range.
     pub fn new(number: u32) -> Option<Self>
         ensures in_range { IsSome result ↔ IsStepCount number }
         ensures value { IfSome result (λ c. c ≡ number) }

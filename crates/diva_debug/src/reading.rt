@@ -3,7 +3,7 @@ ghost use Rattle.std.specs.Prelude.{◌≡◌, ◌≤◌, length, IfOk, IfErr, O
 ghost use Rattle.std.specs.List.{All};
 ghost use Rattle.diva_outside.specs.TextFaults.{IsFirstFault};
 ghost use Rattle.diva_debug.specs.Moves.{IsShort};
-ghost use Rattle.diva_debug.specs.Reading.{command_in, commands_of, mem_in, most_bytes, reg_in, step_in, until_in};
+ghost use Rattle.diva_debug.specs.Reading.{back_in, command_in, commands_of, mem_in, most_bytes, reg_in, step_in, until_in};
 
 use crate::command::Command;
 use crate::fault::{CommandFault, Kind};
@@ -13,8 +13,8 @@ use std::alloc::Global;
 
 /// The commands of a text in their order, or its first fault.
 ///
-/// Lines without words are skipped. Every other line is a command: `step K`, `until PC`, `reg N`, `mem ADDR LEN` or `why`. K
-/// is 1 to 1,000,000, N is 0 to 31, LEN is 1 to 32, all decimal; PC and ADDR are hex, and ADDR + LEN is 2^32 at most.
+/// Lines without words are skipped. Every other line is a command: `step K`, `until PC`, `back K`, `reg N`, `mem ADDR LEN` or
+/// `why`. K is 1 to 1,000,000, N is 0 to 31, LEN is 1 to 32, all decimal; PC and ADDR are hex, and ADDR + LEN is 2^32 at most.
 #[tactic(auto, unfolding(crate::specs::Reading::commands_of))]
 pub fn commands(alloc: Global, text: &[u8]) -> Result<Vec<Command>, CommandFault>
     ensures commands { IfOk result (λ commands. commands_of text.now ≡ Ok commands.items) }
@@ -61,6 +61,8 @@ fn command_in(word: &[u8], words: &mut LineWords<'_>) -> Result<Command, Kind>
         step_in(words)
     } else if is_word(word, b"until") {
         until_in(words)
+    } else if is_word(word, b"back") {
+        back_in(words)
     } else if is_word(word, b"reg") {
         reg_in(words)
     } else if is_word(word, b"mem") {
@@ -93,6 +95,17 @@ fn until_in(words: &mut LineWords<'_>) -> Result<Command, Kind>
     let pc = words.hex()?;
     words.end()?;
     Ok(Command::Until(pc))
+}
+
+/// After `back`: K.
+#[tactic(auto, unfolding(crate::specs::Reading::back_in))]
+fn back_in(words: &mut LineWords<'_>) -> Result<Command, Kind>
+    ensures command { result ≡ back_in words.old }
+    ensures short { IfOk result IsShort }
+{
+    let count = words.number(1, 1_000_000)?;
+    words.end()?;
+    Ok(Command::Back(StepCount::new(count).unwrap()))
 }
 
 /// After `reg`: N.

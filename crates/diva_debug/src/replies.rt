@@ -2,7 +2,7 @@
 ghost use Rattle.std.specs.Prelude.{◌≡◌, ◌↔◌, ◌≤◌, ◌<◌, ◌++◌, length, codes};
 ghost use Rattle.std.specs.Fmt.{decimal};
 ghost use Rattle.diva_debug.specs.declared.command.Command.TheVariants.{Why};
-ghost use Rattle.diva_debug.specs.Replies.{ended_line, no_flush, place_line, register_line, reply_at, stop_line, until_line, why_line};
+ghost use Rattle.diva_debug.specs.Replies.{back_line, ended_line, kept_line, no_flush, place_line, register_line, reply_at, stop_line, until_line, why_line};
 
 use crate::command::Command;
 use diva_core::FlushRow;
@@ -10,16 +10,17 @@ use diva_machine::{End, Machine};
 use diva_outside::Line;
 use diva_trace::{flush_line, mem_line, push_end};
 
-/// What a machine that was moved by a command replies to it.
+/// What a machine that was moved by a command replies to it; so many undos were kept before.
 #[tactic(auto, unfolding(crate::specs::Replies::reply_at))]
-pub(crate) fn reply_at(command: &Command, m: &Machine) -> Line
+pub(crate) fn reply_at(command: &Command, kept: u64, m: &Machine) -> Line
     ensures reply { result
-        ≡ reply_at command.now m.now.timed.count m.now.timed.arch m.now.timed.newest }
+        ≡ reply_at command.now kept m.now.timed.count m.now.timed.arch m.now.timed.newest }
     ensures no_flush { command.now ≡ Why → (result ≡ no_flush) ↔ (m.now.timed.flushes ≡ 0) }
 {
     match command {
         Command::Step(_) => stop_line(m),
         Command::Until(pc) => until_line(*pc, m),
+        Command::Back(count) => back_line(count.get(), kept, m),
         Command::Reg(number) => register_line(number.get(), m),
         Command::Mem(range) => mem_line(&m.view(), range.addr(), range.len()),
         Command::Why => why_line(m.newest()),
@@ -47,6 +48,30 @@ fn until_line(pc: u32, m: &Machine) -> Line
     } else {
         stop_line(m)
     }
+}
+
+/// Where the machine stands after so many instructions were taken back; where fewer undos were kept, how many.
+#[tactic(auto, unfolding(crate::specs::Replies::back_line, crate::specs::Replies::at_line))]
+fn back_line(count: u32, kept: u64, m: &Machine) -> Line
+    ensures { result ≡ back_line count kept m.now.timed.count m.now.timed.arch.pc }
+{
+    if u64::from(count) <= kept {
+        place_line(b"at ", m.count(), m.view().pc())
+    } else {
+        kept_line(kept)
+    }
+}
+
+/// How many undos are kept.
+#[tactic(auto, unfolding(crate::specs::Replies::kept_line))]
+fn kept_line(kept: u64) -> Line
+    ensures { result ≡ kept_line kept }
+{
+    let mut line = Line::new();
+    line.text(b"kept ");
+    line.decimal(kept);
+    line.text(b"\n");
+    line
 }
 
 /// A word of at most 8 letters, the place and the pc there.

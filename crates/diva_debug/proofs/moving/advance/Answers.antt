@@ -1,31 +1,28 @@
--- The drive had cycles enough, so it came to the count or to the end.
-use Rattle.std.proofs.Common.{◌≡◌, ◌≤◌, ◌+◌, ◌*◌, ◌^◌, ◌∙◌, arith}
-use Rattle.diva_debug.proofs.Stepping.{moves-on, reached_or_ended, enough_cycles}
+-- One instruction more.
+use Rattle.std.proofs.Common.{◌≡◌, ◌-◌, true, false, sym, subst, ◌∙◌, arith, rules}
+use Rattle.diva_isa.specs.State.{goes_on}
+use Rattle.diva_debug.specs.Inner.{Advances}
+use Rattle.diva_debug.specs.Moves.{steps_in}
+use Rattle.diva_debug.proofs.Advancing.{advances_none, advances_then}
+use Rattle.diva_debug.proofs.Stepping.{in-then, steps_in-off}
 use Rattle.diva_debug.proofs.moving.advance.Goals as goal
 
-pub returns-clause-moved : goal.returns-clause-moved
-returns-clause-moved g c =
-    let to = c.drive_to.ensures in
-    let first = c.count.ensures in
-    let k = c.from.ensures in
-    let target : c.count.result + c.from.result ≡ c.args.m.now.timed.count + c.args.count = omega arith in
-    let ends = reached_or_ended c.drive_to.result to.reached.0 to.ended.0 (to.enough (enough_cycles _ c.args.m.now.timed.count c.args.count c.args.m.now.timed.config.limit _ _ _ target c.from-2.ensures (c.from-3.ensures ∙ c.limit.ensures))) in
-    moves-on c.args.count (c.count.result + c.from.result) c.args.m.now.timed c.drive_to.new.m.timed target to.rises to.went_on ends
+pub loop-init : goal.loop-init
+loop-init g c = record { so_far = advances_none g.C.Core.gives _ _ c.requires.sound; left = search rules }
 
-pub returns-clause-at_once : goal.returns-clause-at_once
-returns-clause-at_once g c =
-    let to = c.drive_to.ensures in
-    let first = c.count.ensures in
-    let k = c.from.ensures in
-    let target : c.count.result + c.from.result ≡ c.args.m.now.timed.count + c.args.count = omega arith in
-    to.at_once (to.enough (enough_cycles _ c.args.m.now.timed.count c.args.count c.args.m.now.timed.config.limit _ _ _ target c.from-2.ensures (c.from-3.ensures ∙ c.limit.ensures)))
+pub returns-then-not-goes_on : goal.returns-then-not-goes_on
+returns-then-not-goes_on g c =
+    let inv = c.loop.invariant in
+    let off : goes_on c.loop.m.machine.timed.arch ≡ false = sym c.goes_on.ensures.value ∙ c.if-not-goes_on.true in
+    let none = steps_in-off (c.args.count - c.loop.counter) c.loop.m.machine.timed.arch off in
+    let all : steps_in c.args.count c.args.m.now.machine.timed.arch ≡ c.loop.counter = inv.left ∙ (omega arith) in
+    subst (λ n. Advances g.C.Core.gives n c.args.m.now c.args.core.now c.loop.m c.loop.core) (sym all) inv.so_far
 
-pub overflow_add-target : goal.overflow_add-target
-overflow_add-target g c =
-    let few : c.args.m.now.timed.count ≤ 1 * c.args.m.now.timed.cycles = rw c.requires.width at c.requires.machine.count in
-    let first = c.count.ensures in
-    let k = c.from.ensures in
-    let fits = c.requires.cycles in
-    let most = c.requires.few in
-    let small : c.args.m.now.timed.cycles ≤ 2 ^ 60 = omega arith in
-    omega arith
+pub loop-preserved : goal.loop-preserved
+loop-preserved g c =
+    let inv = c.loop.invariant in
+    let on : goes_on c.loop.m.machine.timed.arch ≡ true = sym c.goes_on.ensures.value ∙ c.if-not-goes_on.false in
+    record {
+      so_far = advances_then g.C.Core.gives c.loop.counter 1 _ _ _ _ _ _ inv.so_far c.step_one.ensures;
+      left = in-then c.args.count c.loop.counter c.args.m.now.machine.timed c.loop.m.machine.timed c.step_one.new.self.machine.timed c.loop-test.true on c.step_one.ensures.moved inv.left;
+    }
