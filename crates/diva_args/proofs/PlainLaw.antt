@@ -9,7 +9,7 @@ use Rattle.clap.specs.Walk.{Row, Text, nothing_held, walked}
 use Rattle.clap.specs.Simple.{Shape, argument_words, built}
 use Rattle.clap.proofs.WalkLemmas.{both}
 use Rattle.diva_core.specs.Timed.{default_config}
-use Rattle.diva_args.specs.Command.{Leaf, asm, debug, dis, diva, duo, leaves, migrate, run, soak, tape}
+use Rattle.diva_args.specs.Command.{Leaf, asm, campaign, debug, dis, diva, duo, leaves, migrate, run, soak, tape}
 use Rattle.diva_args.specs.Line.{command_of, config_from, config_with, cycles_from, job_from, room_from, run_from, run_with, setup_from, setup_with, taken, values_of}
 use Rattle.diva_args.specs.Options.{default_cycles, most_cycles}
 use Rattle.diva_args.specs.Plain.{IsPlainLine, PlainLine, Use, are_distinct, flagged, given_by, given_in, has_text, is_plain_word, is_use_of, job_on, name_of, names_in, use_words, value_in, valued, values_in}
@@ -153,8 +153,15 @@ soak_sound =
     (record { walk_is = refl; turn = refl; sub = refl; label = refl; bare = refl; negates = refl })
     (refl, refl, refl, (refl, refl, refl, tt)) refl
 
+campaign_sound : IsSound campaign
+unfolding diva walked
+campaign_sound =
+    sound_without_flags campaign refl
+    (record { walk_is = refl; turn = refl; sub = refl; label = refl; bare = refl; negates = refl })
+    (refl, refl, refl, (refl, refl, refl, tt)) refl
+
 each_sound : (l : Leaf) → Contains leaves l → IsSound l
-each_sound l listed = All-contains IsSound leaves l (All-from_recursion IsSound leaves (run_sound, (tape_sound, (duo_sound, (debug_sound, (asm_sound, (dis_sound, (migrate_sound, (soak_sound, tt))))))))) listed
+each_sound l listed = All-contains IsSound leaves l (All-from_recursion IsSound leaves (run_sound, (tape_sound, (duo_sound, (debug_sound, (asm_sound, (dis_sound, (migrate_sound, (soak_sound, (campaign_sound, tt)))))))))) listed
 
 -- ---- names and words
 

@@ -75,8 +75,16 @@ migrate = record { name = codes "migrate"; positionals = codes "IMAGE" ∷ []; o
 abbrev pub soak : Leaf
 soak = record { name = codes "soak"; positionals = codes "SEED" ∷ codes "LENGTH" ∷ []; options = []; flags = [] }
 
+abbrev pub campaign : Leaf
+campaign = record {
+  name = codes "campaign";
+  positionals = codes "IMAGE" ∷ codes "LAST" ∷ [];
+  options = codes "cycles" ∷ [];
+  flags = [];
+}
+
 abbrev pub leaves : List Leaf
-leaves = run ∷ tape ∷ duo ∷ debug ∷ asm ∷ dis ∷ migrate ∷ soak ∷ []
+leaves = run ∷ tape ∷ duo ∷ debug ∷ asm ∷ dis ∷ migrate ∷ soak ∷ campaign ∷ []
 
 -- ---- the same for `clap`
 

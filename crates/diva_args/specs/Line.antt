@@ -9,8 +9,9 @@ use Rattle.clap.specs.Kinds.{Kinds}
 use Rattle.diva_core.specs.Timed.{Config, default_config}
 use Rattle.diva_core.specs.Machine.{config_in_range}
 use Rattle.diva_args.specs.Command.{diva}
-use Rattle.diva_args.specs.Options.{DebugOptions, DumpRange, DuoOptions, MigrateOptions, RunOptions, Setup, SoakOptions, TapeOptions, default_cycles, longest_soak, most_cycles}
+use Rattle.diva_args.specs.Options.{DebugOptions, DumpRange, DuoOptions, MigrateOptions, RunOptions, Setup, SoakOptions, TapeOptions, default_campaign_cycles, default_cycles, latest_flip, longest_soak, most_campaign_cycles, most_cycles}
 use Rattle.diva_args.specs.Values.{core_of, dump_of, given_number, hart_core_of, is_set_by, liar_of, ranged_or, room_of, number_or}
+use Rattle.diva_args.specs.declared.campaign.CampaignOptions.{CampaignOptions}
 use Rattle.diva_args.specs.declared.job.CoreChoice.{CoreChoice}
 use Rattle.diva_args.specs.declared.job.HartCore.{HartCore}
 use Rattle.diva_args.specs.declared.job.LanePlace.{LanePlace}
@@ -147,6 +148,17 @@ soak_with seed instructions = option_and_then (λ s. option_map (λ n.
 unfoldable pub soak_from : (Text → Option Text) → Option SoakOptions
 soak_from value = soak_with (given_number 0 4294967295 (value (codes "SEED"))) (given_number 1 longest_soak (value (codes "LENGTH")))
 
+abbrev pub campaign_with : (image : Option Text) → (last cycles : Option ℕ) → Option CampaignOptions
+campaign_with image last cycles = option_and_then (λ i. option_and_then (λ l. option_map (λ c.
+    record { image = i; last = l; cycles = c }) cycles) last) image
+
+-- `campaign`
+unfoldable pub campaign_from : (Text → Option Text) → Option CampaignOptions
+campaign_from value = campaign_with
+    (value (codes "IMAGE"))
+    (given_number 1 latest_flip (value (codes "LAST")))
+    (ranged_or 1 most_campaign_cycles default_campaign_cycles (value (codes "cycles")))
+
 -- the job of the command of this name
 abbrev pub job_from : Text → (Text → Option Text) → Option Job
 job_from name value =
@@ -158,6 +170,7 @@ job_from name value =
     else if bytes_eq name (codes "dis") then option_map job.Dis (value (codes "IMAGE"))
     else if bytes_eq name (codes "migrate") then option_map job.Migrate (migrate_from value)
     else if bytes_eq name (codes "soak") then option_map job.Soak (soak_from value)
+    else if bytes_eq name (codes "campaign") then option_map job.Campaign (campaign_from value)
     else None
 
 -- the first value of each positional, option and flag in the matches

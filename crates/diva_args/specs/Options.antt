@@ -95,3 +95,24 @@ longest_soak = 65536
 pub record IsSoak (instructions : ℕ) : Type 0 where
   pub low : 1 ≤ instructions
   pub high : instructions ≤ longest_soak
+
+-- the latest cycle in which a campaign flips a bit
+abbrev pub latest_flip : ℕ
+latest_flip = 32
+
+-- the range of the last such cycle
+pub record IsLastCycle (cycle : ℕ) : Type 0 where
+  pub low : 1 ≤ cycle
+  pub high : cycle ≤ latest_flip
+
+-- the most cycles that each run of a campaign can be given, and those for which none are asked
+abbrev pub most_campaign_cycles : ℕ
+most_campaign_cycles = 100000
+
+abbrev pub default_campaign_cycles : ℕ
+default_campaign_cycles = 10000
+
+-- the range of the cycles of each run at most
+pub record IsCampaignCycles (cycles : ℕ) : Type 0 where
+  pub low : 1 ≤ cycles
+  pub high : cycles ≤ most_campaign_cycles

@@ -19,7 +19,7 @@ pub(crate) struct Leaf {
 }
 
 /// The commands of the program.
-static LEAVES: [Leaf; 8] = [
+static LEAVES: [Leaf; 9] = [
     Leaf {
         name: "run",
         positionals: &["IMAGE"],
@@ -76,6 +76,12 @@ static LEAVES: [Leaf; 8] = [
         name: "soak",
         positionals: &["SEED", "LENGTH"],
         options: &[],
+        flags: &[],
+    },
+    Leaf {
+        name: "campaign",
+        positionals: &["IMAGE", "LAST"],
+        options: &["cycles"],
         flags: &[],
     },
 ];

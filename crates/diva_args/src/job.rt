@@ -1,4 +1,5 @@
 // What a command line asks for.
+use crate::campaign::CampaignOptions;
 use crate::file_name::FileName;
 use diva_core::Config;
 use std::marker::Model;
@@ -37,6 +38,9 @@ pub enum Job {
     Migrate(MigrateOptions),
     /// `soak SEED LENGTH`: runs the image of a seed twice, under two cores.
     Soak(SoakOptions),
+    /// `campaign IMAGE LAST`: runs an image once as it is, and then once for each bit of each field of the claim of each
+    /// cycle up to `LAST`, with that bit flipped; and counts what became of these runs.
+    Campaign(CampaignOptions),
 }
 
 /// What commands have in common that run an image: the image, the memory that follows what an executable loads, the core,

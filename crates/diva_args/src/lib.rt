@@ -6,11 +6,12 @@
 //! - `read`: `read_words`, from words to a job.
 //! - `command`: the table of commands, and `clap`'s command of it.
 //! - `values`: the values of options as cores, numbers, parts of memory and places of voting lanes.
-//! - `job`: `Job` and its parts, whose types keep the ranges of the numbers.
+//! - `job`: `Job` and its parts, whose types keep the ranges of the numbers. `campaign`: those of the command `campaign`.
 //! - `file_name`: `FileName`, the name of a file.
 //! - `fault`: `ArgsFault`, why there is no job.
 #![tactic(auto)]
 
+mod campaign;
 mod command;
 mod fault;
 mod file_name;
@@ -18,6 +19,7 @@ mod job;
 mod read;
 mod values;
 
+pub use campaign::{CampaignCycles, CampaignOptions, LastCycle};
 pub use fault::ArgsFault;
 pub use file_name::FileName;
 pub use job::{

@@ -2,13 +2,17 @@
 ghost use Rattle.std.specs.Prelude.{◌≡◌, ◌≤◌, IfOk, IfSome, None, Some, codes, map, option_and_then, option_map};
 ghost use Rattle.clap.specs.Walk.{rows_of};
 ghost use Rattle.clap.specs.Words.{found_of, subcommand_rows_of};
-ghost use Rattle.diva_args.specs.Line.{command_of, config_from, cycles_from, debug_from, duo_from, job_of, migrate_from, port_from};
+ghost use Rattle.diva_args.specs.Line.{campaign_from, command_of, config_from, cycles_from, debug_from, duo_from, job_of, migrate_from, port_from};
 ghost use Rattle.diva_args.specs.Line.{room_from, run_from, setup_from, soak_from, taken, tape_from, values_of, width_from};
-ghost use Rattle.diva_args.specs.Options.{IsBudget, IsRoom};
+ghost use Rattle.diva_args.specs.Options.{IsBudget, IsRoom, default_campaign_cycles, latest_flip, most_campaign_cycles};
 ghost use Rattle.diva_args.specs.Plain.{IsPlainLine, PlainLine, job_on};
-ghost use Rattle.diva_args.specs.Values.{given_number, is_set_by, number_or};
+ghost use Rattle.diva_args.specs.Values.{given_number, is_set_by, number_or, ranged_or};
 ghost use Rattle.diva_core.specs.Machine.{IsConfig};
 
+use crate::campaign::{
+    CampaignCycles, CampaignOptions, DEFAULT_CAMPAIGN_CYCLES, LATEST_FLIP, LastCycle,
+    MOST_CAMPAIGN_CYCLES,
+};
 use crate::command::command;
 use crate::fault::ArgsFault;
 use crate::file_name::FileName;
@@ -69,6 +73,7 @@ fn job(alloc: Global, matches: &ArgMatches<'_>) -> Result<Job, ArgsFault>
         "dis" => Ok(Job::Dis(file_of(alloc, found, "IMAGE")?)),
         "migrate" => Ok(Job::Migrate(migrate(alloc, found)?)),
         "soak" => Ok(Job::Soak(soak(found)?)),
+        "campaign" => Ok(Job::Campaign(campaign(alloc, found)?)),
         _ => Err(ArgsFault::Usage),
     }
 }
@@ -209,6 +214,50 @@ fn soak(found: &ArgMatches<'_>) -> Result<SoakOptions, ArgsFault>
         return Err(ArgsFault::Usage);
     };
     Ok(SoakOptions { seed, instructions })
+}
+
+/// `campaign IMAGE LAST` with its option.
+#[tactic(auto, unfolding(crate::specs::Line::campaign_from))]
+fn campaign(alloc: Global, found: &ArgMatches<'_>) -> Result<CampaignOptions, ArgsFault>
+    ensures campaign { IfOk result (λ campaign.
+        campaign_from (values_of (rows_of (found_of found.now))) ≡ Some campaign) }
+    ensures usage { result ≡ Err ArgsFault.Usage
+        → campaign_from (values_of (rows_of (found_of found.now))) ≡ None }
+{
+    let image = file_of(alloc, found, "IMAGE")?;
+    let Some(last) = last_cycle(found) else {
+        return Err(ArgsFault::Usage);
+    };
+    let Some(cycles) = campaign_cycles(found) else {
+        return Err(ArgsFault::Usage);
+    };
+    Ok(CampaignOptions {
+        image,
+        last,
+        cycles,
+    })
+}
+
+/// The last cycle in which a campaign flips a bit.
+fn last_cycle(found: &ArgMatches<'_>) -> Option<LastCycle>
+    ensures { result ≡ given_number 1 latest_flip (values_of (rows_of (found_of found.now)) (codes "LAST")) }
+{
+    let number = number_of(found, "LAST", 1, LATEST_FLIP)?;
+    Some(LastCycle::new(number).unwrap())
+}
+
+/// The cycles of each run of a campaign at most.
+fn campaign_cycles(found: &ArgMatches<'_>) -> Option<CampaignCycles>
+    ensures { result ≡ ranged_or 1 most_campaign_cycles default_campaign_cycles
+        (values_of (rows_of (found_of found.now)) (codes "cycles")) }
+{
+    let number = number(
+        text_of(found, "cycles"),
+        1,
+        MOST_CAMPAIGN_CYCLES,
+        DEFAULT_CAMPAIGN_CYCLES,
+    )?;
+    Some(CampaignCycles::new(number).unwrap())
 }
 
 /// The number from `least` to `most` that a positional spells.

@@ -54,7 +54,7 @@ pub record TurnsWith {C : Type 0} (gives : Meaning C) (m : Timed) (core : C) (la
   pub same : lists_of turns.history ≡ lists
 
 module _ {A B : Type 0} (outer : Meaning A) (inner : Meaning B) (within : A → B) (Keeps : A → Type 0) (over : IsOver outer inner within Keeps) where
-  IsHistory-within : (m : Timed) (core : A) (history : List (List Record × A)) (last : Timed) (final : A)
+  pub IsHistory-within : (m : Timed) (core : A) (history : List (List Record × A)) (last : Timed) (final : A)
       → Keeps core → IsHistory outer m core history last final
       → IsLedWithin inner within Keeps m core history last final
   IsHistory-within m core [] last final keeps h =
@@ -86,11 +86,11 @@ module _ {A B : Type 0} (outer : Meaning A) (inner : Meaning B) (within : A → 
 -- ---- a core under a script
 
 -- what it keeps: the rows of its script, and the reference to the core that was lent
-record Keeps {C : Type 0} (rows : List Row) (name : ℕ) (f : Faulty C) : Type 0 where
-  script : rows_in f ≡ rows
-  core : lent_name f ≡ name
+pub record Keeps {C : Type 0} (rows : List Row) (name : ℕ) (f : Faulty C) : Type 0 where
+  pub script : rows_in f ≡ rows
+  pub core : lent_name f ≡ name
 
-one_call :
+pub one_call :
     {C : Type 0} (gives : Meaning C) (rows : List Row) (name : ℕ) (before : Faulty C) (told : Told) (s : State) (list : List Record) (after : Faulty C)
     → Keeps rows name before → spoiled_call gives before told s list after
     → Keeps rows name after × spoiled rows gives (inside before) told s list (inside after)

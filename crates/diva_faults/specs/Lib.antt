@@ -1,3 +1,4 @@
+pub mod Flips
 pub mod Kinds
 pub mod Lists
 pub mod Reading

@@ -3,15 +3,17 @@
 //! - `rows`: what a row of a script does, `Row` and `Change`.
 //! - `script`: the rows of a text, `Script`. `reading`: how they are read, line by line and word by word. `fault`: why a
 //!   text is no script, `ScriptFault`.
+//! - `flips`: the rows of a campaign, which flip one bit each.
 //! - `faulty`: a core under a script, `Faulty`. `laws`: what holds of every script.
 //! - `schedule`: the rows of a script by cycle. `lanes`: what a row makes of a list.
 //!
 //! `specs/Reading.antt` has the script of a text, `specs/Lists.antt` what a script makes of a list, `specs/Spoiled.antt`
-//! what a core under a script means.
+//! what a core under a script means, `specs/Flips.antt` the rows of a campaign.
 #![tactic(auto)]
 
 mod fault;
 mod faulty;
+mod flips;
 mod lanes;
 pub mod laws;
 mod reading;
@@ -21,5 +23,6 @@ mod script;
 
 pub use fault::ScriptFault;
 pub use faulty::Faulty;
+pub use flips::{FLIPS_IN_CYCLE, flip_at};
 pub use rows::{Change, Row};
 pub use script::Script;

@@ -1,5 +1,5 @@
 // A script, as it is read.
-ghost use Rattle.std.specs.Prelude.{◌≡◌, [], Ok, IfOk, IfErr};
+ghost use Rattle.std.specs.Prelude.{◌≡◌, [], ◌∷◌, Ok, IfOk, IfErr};
 ghost use Rattle.std.specs.List.{All};
 ghost use Rattle.diva_outside.specs.TextFaults.{IsFirstFault};
 ghost use Rattle.diva_faults.specs.Lists.{scripted};
@@ -16,7 +16,7 @@ use std::marker::Model;
 
 /// The rows of a script: at most 4,096, in the order of the file.
 ///
-/// No call but `read` takes memory.
+/// No call but `read` and `of_row` takes memory.
 #[derive(Debug, Drop)]
 pub struct Script {
     rows: Vec<Row>,
@@ -59,6 +59,16 @@ impl Script {
             rows: Vec::new(alloc),
             schedule: Schedule::none(alloc),
         }
+    }
+
+    /// The script that has just this row. The error: out of memory.
+    pub fn of_row(alloc: Global, row: Row) -> Result<Self, AllocError>
+        requires { IsRow row }
+        ensures { IfOk result (λ script. script ≡ row ∷ []) }
+    {
+        let mut rows = Vec::new(alloc);
+        rows.push(row)?;
+        Script::of(alloc, rows)
     }
 
     /// The rows, in the order of the file.

@@ -76,6 +76,19 @@ unfoldable pub soak_line : SoakCore → (count cycles flushes : ℕ) → List �
 soak_line core count cycles flushes =
     soak_core_name core ++ codes " count " ++ decimal count ++ codes " cycles " ++ decimal cycles ++ codes " flushes " ++ decimal flushes ++ codes "\n"
 
+-- of a campaign: its runs, and of these the ones that left what the first run left, those with a flush, and those with a silent one
+unfoldable pub runs_line : ℕ → List ℕ
+runs_line n = codes "runs " ++ decimal n ++ codes "\n"
+
+unfoldable pub same_line : ℕ → List ℕ
+same_line n = codes "same " ++ decimal n ++ codes "\n"
+
+unfoldable pub flushed_line : ℕ → List ℕ
+flushed_line n = codes "flushed " ++ decimal n ++ codes "\n"
+
+unfoldable pub silent_line : ℕ → List ℕ
+silent_line n = codes "silent " ++ decimal n ++ codes "\n"
+
 -- how many bytes the program put out
 unfoldable pub output_line : ℕ → List ℕ
 output_line n = codes "output " ++ decimal n ++ codes "\n"

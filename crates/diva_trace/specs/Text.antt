@@ -10,11 +10,12 @@ use Rattle.diva_isa.specs.declared.record.Record.{Record}
 use Rattle.diva_core.specs.Headline.{dues}
 use Rattle.diva_core.specs.Timed.{Timed}
 use Rattle.diva_core.specs.declared.flushes.FlushRow.{FlushRow}
-use Rattle.diva_trace.specs.Lines.{commit_line, flush_line, hart_line, end_line_of, count_line, cycles_line, flushes_line, soak_line, output_line, out_line, registers_line, pc_line, mem_line}
+use Rattle.diva_trace.specs.Lines.{commit_line, flush_line, hart_line, end_line_of, count_line, cycles_line, flushed_line, flushes_line, runs_line, same_line, silent_line, soak_line, output_line, out_line, registers_line, pc_line, mem_line}
 use Rattle.diva_trace.specs.declared.report.Dump.{Dump}
 use Rattle.diva_trace.specs.declared.report.HartReport.{HartReport}
 use Rattle.diva_trace.specs.declared.report.Report.{Report}
 use Rattle.diva_trace.specs.declared.report.SoakCore.TheVariants.{Scalar, Own}
+use Rattle.diva_trace.specs.declared.report.Tally.{Tally}
 
 -- ---- what was committed
 
@@ -156,3 +157,18 @@ soak_text first second =
     ++ end_line_of (end_of second.arch.end)
     ++ output_text second.arch.output
     ++ registers_text second.arch.regs second.arch.pc
+
+-- ---- the text of a campaign
+
+-- what was counted of its runs
+abbrev pub tally_text : Tally → List ℕ
+tally_text tally = runs_line tally.runs ++ same_line tally.same ++ flushed_line tally.flushed ++ silent_line tally.silent
+
+-- the same, and how its first run ended, with its count, output, registers and pc
+abbrev pub campaign_text : Tally → (first : Timed) → List ℕ
+campaign_text tally first =
+    tally_text tally
+    ++ end_line_of (end_of first.arch.end)
+    ++ count_line first.count
+    ++ output_text first.arch.output
+    ++ registers_text first.arch.regs first.arch.pc

@@ -1,4 +1,4 @@
-// What a run's text is made of, and those of two harts and of two runs.
+// What a run's text is made of, and those of two harts, of two runs and of a campaign.
 use diva_core::{FlushRow, View};
 use diva_isa::End;
 
@@ -49,6 +49,19 @@ pub struct HartReport<'a> {
     pub output: &'a [u8],
     /// The registers and the pc.
     pub view: &'a View<'a>,
+}
+
+/// What is counted of the runs of a campaign, each of which has one bit flipped.
+#[derive(Clone, Copy, Debug, Default, PartialEq, Eq)]
+pub struct Tally {
+    /// The runs.
+    pub runs: u32,
+    /// Those that left what the first run left, in which no bit is flipped.
+    pub same: u32,
+    /// Those with a flush.
+    pub flushed: u32,
+    /// Those with a silent one.
+    pub silent: u32,
 }
 
 /// The cores under which `soak` runs its image.

@@ -3,13 +3,14 @@ ghost use Rattle.std.specs.Prelude.{◌≡◌, ◌+◌, ◌^◌, ◌≤◌, ◌<
 ghost use Rattle.std.specs.Option.{ForSome};
 ghost use Rattle.diva_core.specs.Timed.{Timed};
 ghost use Rattle.diva_outside.specs.Sink.{Puts};
-ghost use Rattle.diva_trace.specs.Text.{commits_text, rows_text, summary_text, output_text, registers_text, dump_text, text_in, text_of, IsReportOf};
+ghost use Rattle.diva_trace.specs.Text.{commits_text, rows_text, summary_text, output_text, registers_text, dump_text, tally_text, text_in, text_of, IsReportOf};
 
 use crate::lines::{
-    count_line, cycles_line, end_line_of, fill_commit, flush_line, flushes_line, mem_line,
-    out_line, output_len_line, pc_line, registers_line,
+    count_line, cycles_line, end_line_of, fill_commit, flush_line, flushed_line, flushes_line,
+    mem_line, out_line, output_len_line, pc_line, registers_line, runs_line, same_line,
+    silent_line,
 };
-use crate::report::{Dump, Report};
+use crate::report::{Dump, Report, Tally};
 use diva_core::{FlushRow, View};
 use diva_isa::Record;
 use diva_memory::Readable;
@@ -129,6 +130,22 @@ pub fn write_summary<S: Sink>(report: &Report<'_>, sink: &mut S) -> Result<(), S
             count_line(report.count),
             cycles_line(report.cycles),
             flushes_line(report.flushes, report.silent),
+        ],
+        sink,
+    )
+}
+
+/// Puts what is counted of the runs of a campaign. Where a put fails, a prefix of that text was appended.
+pub fn write_tally<S: Sink>(tally: &Tally, sink: &mut S) -> Result<(), SinkFailed>
+    ensures { Puts (tally_text tally.now)
+        (S.contents sink.old) (S.contents sink.new) (S.faults sink.old) (S.faults sink.new) result }
+{
+    put_lines(
+        &[
+            runs_line(tally.runs),
+            same_line(tally.same),
+            flushed_line(tally.flushed),
+            silent_line(tally.silent),
         ],
         sink,
     )
