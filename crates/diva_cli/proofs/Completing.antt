@@ -12,7 +12,7 @@ use Rattle.diva_isa.specs.declared.end.End.TheVariants.{GoesOn, Halt, Trap}
 use Rattle.diva_core.specs.History.{Meaning}
 use Rattle.diva_core.specs.Timed.{Timed}
 use Rattle.diva_args.specs.declared.job.Job.{Job}
-use Rattle.diva_args.specs.declared.job.Job.TheVariants.{Run, Tape, Duo as Harts, Debug, Asm, Dis, Migrate, Soak}
+use Rattle.diva_args.specs.declared.job.Job.TheVariants.{Run, Tape, Duo as Harts, Debug, Asm, Dis, Migrate, Soak, Campaign}
 use Rattle.diva_cli.specs.declared.stop.Failure.{Failure}
 use Rattle.diva_cli.specs.declared.stop.Failure.TheVariants.{Cut, Memory}
 use Rattle.diva_cli.specs.Asked.{Asked}
@@ -20,6 +20,7 @@ use Rattle.diva_cli.specs.Changes.{Change, FileFaults, HasFailed, SinkChange, Ta
 use Rattle.diva_cli.specs.Wanted.{Wanted, FileBytes, wanted, IsFaultless, HasFault}
 use Rattle.diva_cli.specs.Stops.{StopsAt, StopsLoading, IsUnread, IsRefused, IsTooLong, HasFirstFault}
 use Rattle.diva_duo.specs.Duo.{Duo, is_over}
+use Rattle.diva_cli.specs.CampaignTexts.{campaign_start, first_run}
 use Rattle.diva_cli.specs.DuoTexts.{duo_status}
 use Rattle.diva_cli.specs.Runs.{EndsWith, end_status}
 use Rattle.diva_cli.specs.Texts.{HasText, CanEnd, IsDone}
@@ -69,6 +70,8 @@ can_end gives (Asm name) bytes core status text h = h.alone.whole
 can_end gives (Dis name) bytes core status text h = h.alone.whole
 can_end gives (Migrate options) bytes core status text h = h.alone.whole
 can_end gives (Soak options) bytes core status text h = h.whole
+can_end gives (Campaign options) bytes core status text h =
+    ends_done (first_run options.cycles (campaign_start bytes)) options.cycles status h.status
 
 -- ---- a file that is held is no cause to stop
 

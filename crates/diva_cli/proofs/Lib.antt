@@ -14,6 +14,9 @@ pub mod Completing
 pub mod Refusing
 pub mod Determining
 pub mod Commanding
+pub mod Sessions
 pub mod Soaking
+pub mod Counting
+pub mod Campaigning
 pub mod DuoRunning
 pub mod Voting

@@ -62,7 +62,7 @@ no_flush z s lists last ok none led right =
     subst IsUnflushed (sym led) (record { flushes = c.flushes; silent = c.silent })
 
 -- lists that follow a rule follow another that gives the same
-follow_same : (rule other : Timed → List Record) → ((m : Timed) → rule m ≡ other m) → (m : Timed) (lists : List (List Record)) → FollowRule rule m lists → FollowRule other m lists
+pub follow_same : (rule other : Timed → List Record) → ((m : Timed) → rule m ≡ other m) → (m : Timed) (lists : List (List Record)) → FollowRule rule m lists → FollowRule other m lists
 follow_same rule other same m [] h = tt
 follow_same rule other same m (list ∷ rest) h = (h.0 ∙ same m, follow_same rule other same (cycle_of m list) rest h.1)
 
@@ -112,11 +112,11 @@ by_calls its calls none more first script m core lists last after inv by =
       same = by.same;
     }
 
-noise_goes_on : (before after : ℕ) (told : Told) (s : State) (list : List Record) (n : ℕ) → noise_call before told s list after → list ∷ noise_lists n after ≡ noise_lists (suc n) before
+pub noise_goes_on : (before after : ℕ) (told : Told) (s : State) (list : List Record) (n : ℕ) → noise_call before told s list after → list ∷ noise_lists n after ≡ noise_lists (suc n) before
 noise_goes_on before after told s list n h =
     ap (λ (l : List Record). l ∷ noise_lists n after) h.lists ∙ ap (λ x. (noise_claim before ∷ []) ∷ noise_lists n x) h.keeps
 
-tape_goes_on : (before after : List (List Record)) (told : Told) (s : State) (list : List Record) (n : ℕ) → tape_call before told s list after → list ∷ played n after ≡ played (suc n) before
+pub tape_goes_on : (before after : List (List Record)) (told : Told) (s : State) (list : List Record) (n : ℕ) → tape_call before told s list after → list ∷ played n after ≡ played (suc n) before
 tape_goes_on before after told s list n h =
     ap (λ (l : List Record). l ∷ played n after) h.next ∙ ap (λ (t : List (List Record)). next_list before ∷ played n t) h.later ∙ played-next n before
 

@@ -37,7 +37,7 @@ use Rattle.diva_cli.specs.Parts.{Soaks, WritesPart, WritesWhole}
 use Rattle.diva_cli.proofs.Handing.{went_far}
 use Rattle.diva_cli.proofs.Running.{handed_for, run_from_start}
 
-sizes_fit : IsConfig default_config
+pub sizes_fit : IsConfig default_config
 sizes_fit = record {
   width_low = omega arith;
   width_high = omega arith;

@@ -2,7 +2,6 @@
 use Rattle.std.specs.Prelude.{ℕ, ◌≡◌, List, [], ◌++◌, length, Result, Ok, IfOk, IfErr}
 use Rattle.diva_outside.specs.Text.{Text}
 use Rattle.diva_outside.specs.declared.files.What.TheVariants.{Commands}
-use Rattle.diva_isa.specs.declared.record.Record.{Record}
 use Rattle.diva_core.specs.Timed.{Timed, new_timed}
 use Rattle.diva_core.specs.History.{Meaning}
 use Rattle.diva_args.specs.Options.{DebugOptions}
@@ -10,12 +9,13 @@ use Rattle.diva_debug.specs.Reading.{commands_of}
 use Rattle.diva_debug.specs.declared.command.Command.{Command}
 use Rattle.diva_cli.specs.Changes.{Change}
 use Rattle.diva_cli.specs.Wanted.{FileBytes}
-use Rattle.diva_cli.specs.Runs.{IsRunOver, start_in}
+use Rattle.diva_cli.specs.Runs.{start_in}
+use Rattle.diva_cli.specs.Sessions.{IsSessionOver}
 use Rattle.diva_cli.specs.Cuts.{BeforeLast}
-use Rattle.diva_cli.specs.Replies.{AreLed, cycles_of, joined, newest_after, replies_of}
+use Rattle.diva_cli.specs.Replies.{AreLed, at_start, cycles_of, newest_after, replies_of}
 
 -- the text of `debug` over files with these bytes, and how the writing of it ended. Each reply is told from the table's state at
--- its place, but for the newest flush; that is the machine's, which runs as any other does
+-- its place, but for the newest flush; that is the machine's, which is driven as in any run, with undos between what is handed over
 pub record HasReplies {C : Type 0} (gives : Meaning C) (options : DebugOptions) (bytes : FileBytes) (core : Change C)
     (ended : Result ℕ Text) (text : Text) : Type 0 where
   pub done : List Command
@@ -23,12 +23,12 @@ pub record HasReplies {C : Type 0} (gives : Meaning C) (options : DebugOptions) 
   pub read : commands_of (bytes Commands) ≡ Ok (done ++ left)
   pub whole : IfOk ended (λ s. (s ≡ 0) × (left ≡ []))
   pub last : Timed
-  pub over : IsRunOver gives options.setup (cycles_of (length done) options.setup.config.limit) bytes core last
-  pub parts : List (List (List Record))
-  pub together : over.run.driven.lists ≡ joined parts
-  pub led : AreLed done (new_timed options.setup.config (start_in options.setup bytes)) parts
-  pub lines : text ≡ replies_of done 0 (start_in options.setup bytes)
-      (newest_after (new_timed options.setup.config (start_in options.setup bytes)) parts)
+  pub over : IsSessionOver gives options.setup (cycles_of (length done) options.setup.config.limit) bytes core last
+  -- a part for each command
+  pub led : AreLed (start_in options.setup bytes) done at_start (new_timed options.setup.config (start_in options.setup bytes))
+      over.session.driven.parts
+  pub lines : text ≡ replies_of (start_in options.setup bytes) done at_start
+      (newest_after (new_timed options.setup.config (start_in options.setup bytes)) over.session.driven.parts)
   -- where the sink failed, it did so at the last of these replies; those before it had been put
-  pub cut : IfErr ended (λ put. BeforeLast done (λ earlier. put ≡ replies_of earlier 0 (start_in options.setup bytes)
-      (newest_after (new_timed options.setup.config (start_in options.setup bytes)) parts)))
+  pub cut : IfErr ended (λ put. BeforeLast done (λ earlier. put ≡ replies_of (start_in options.setup bytes) earlier at_start
+      (newest_after (new_timed options.setup.config (start_in options.setup bytes)) over.session.driven.parts)))

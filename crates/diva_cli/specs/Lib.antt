@@ -8,11 +8,13 @@ pub mod Driven
 pub mod Cuts
 pub mod Runs
 pub mod TapeTexts
+pub mod Sessions
 pub mod Replies
 pub mod DebugTexts
 pub mod ImageTexts
 pub mod SoakTexts
 pub mod DuoTexts
+pub mod CampaignTexts
 pub mod Texts
 pub mod Answers
 pub mod Statuses

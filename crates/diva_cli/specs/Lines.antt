@@ -5,7 +5,7 @@ use Rattle.diva_outside.specs.declared.files.What.{What}
 use Rattle.diva_outside.specs.declared.files.What.TheVariants.{Image, Script, Tape, Source, Commands}
 
 unfoldable pub usage_line : List ℕ
-usage_line = codes "usage: diva run|tape|duo IMAGE, debug IMAGE COMMANDS, asm SRC, dis|migrate IMAGE, soak SEED LENGTH\n"
+usage_line = codes "usage: diva run|tape|duo IMAGE, debug IMAGE COMMANDS, asm SRC, dis|migrate IMAGE, soak SEED LENGTH, campaign IMAGE LAST\n"
 
 -- what a file is for, in a word
 abbrev pub word_for : What → List ℕ

@@ -23,7 +23,9 @@ use Rattle.diva_args.specs.declared.job.CoreChoice.TheVariants as choice
 use Rattle.diva_args.specs.declared.job.HartCore.{HartCore}
 use Rattle.diva_args.specs.declared.job.HartCore.TheVariants as hart
 use Rattle.diva_args.specs.declared.job.Job.{Job}
-use Rattle.diva_args.specs.declared.job.Job.TheVariants.{Duo}
+use Rattle.diva_args.specs.declared.campaign.CampaignOptions.{CampaignOptions}
+use Rattle.diva_args.specs.declared.job.Job.TheVariants.{Campaign, Duo}
+use Rattle.diva_cli.specs.declared.campaign.CampaignRuns.{CampaignRuns}
 use Rattle.diva_cli.specs.declared.driving.CoreInUse.{CoreInUse}
 use Rattle.diva_cli.specs.declared.driving.CoreInUse.TheVariants.{Own, Lockstep, Scalar, Silent, Flood, Echo, Noise, Tape}
 use Rattle.diva_cli.specs.declared.duo.DuoReady.{DuoReady}
@@ -42,6 +44,7 @@ use Rattle.diva_cli.specs.Lines.{unreadable_line, refused_line}
 use Rattle.diva_cli.specs.Wanted.{Wanted, FileBytes, HasFault, IsSound, AreSound, file_if, machine_files, session_files, tape_name, wanted}
 use Rattle.diva_cli.specs.Runs.{AreRows, AreLists, start_in}
 use Rattle.diva_cli.specs.DuoTexts.{duo_start}
+use Rattle.diva_cli.specs.CampaignTexts.{campaign_start, campaign_tally, first_run}
 use Rattle.diva_cli.specs.SoakTexts.{soak_cycles, soak_start}
 use Rattle.diva_cli.specs.Stops.{StopsAt, IsUnread, StopsLoading}
 use Rattle.diva_cli.specs.Texts.{HasText}
@@ -162,6 +165,17 @@ pub record HoldsDuo (contents : Contents) (options : DuoOptions) (ready : DuoRea
   pub bytes : FileBytes
   pub sound : AreSound contents (wanted (Duo options)) bytes
   pub is : IsDuoReady options bytes ready
+
+-- the runs are those of the image of these bytes
+pub record AreCampaignRuns (options : CampaignOptions) (bytes : FileBytes) (runs : CampaignRuns) : Type 0 where
+  pub first : runs.first.timed ≡ first_run options.cycles (campaign_start bytes)
+  pub tally : runs.tally ≡ campaign_tally options.last options.cycles (campaign_start bytes)
+
+-- the same, of the bytes of a sound file with the image's name
+pub record HoldsCampaign (contents : Contents) (options : CampaignOptions) (runs : CampaignRuns) : Type 0 where
+  pub bytes : FileBytes
+  pub sound : AreSound contents (wanted (Campaign options)) bytes
+  pub are : AreCampaignRuns options bytes runs
 
 -- ---- writing
 

@@ -1,6 +1,6 @@
 -- What is done with a machine and a core, and what is written of it as it goes.
 -- Only private contracts of this crate cite this: a reader of its promises can pass over it.
-use Rattle.std.specs.Prelude.{ℕ, ◌≡◌, ◌≤◌, ◌+◌, ◌^◌, List, [], ◌∷◌, ◌++◌, length, Bool, true, false, Option, Result, Ok, OnOk, OnErr, ⊤}
+use Rattle.std.specs.Prelude.{ℕ, ◌≡◌, ◌≤◌, ◌+◌, ◌^◌, List, [], ◌∷◌, ◌++◌, length, map, Bool, true, false, Option, Result, Ok, OnOk, OnErr, ⊤}
 use Rattle.std.specs.List.{All}
 use Rattle.diva_outside.specs.Text.{Text}
 use Rattle.diva_outside.specs.declared.sink.SinkFailed.{SinkFailed}
@@ -9,6 +9,7 @@ use Rattle.diva_isa.specs.declared.record.Record.{Record}
 use Rattle.diva_core.specs.Timed.{Timed}
 use Rattle.diva_core.specs.Cycle.{cycle_of, run_of}
 use Rattle.diva_core.specs.History.{Meaning, Turns, lists_of}
+use Rattle.diva_core.specs.Legs.{AreLegs, Leg, Part, handed_in, part_of, run_parts}
 use Rattle.diva_core.specs.Headline.{committed_in}
 use Rattle.diva_faults.specs.declared.rows.Row.{Row}
 use Rattle.diva_faults.specs.Spoiled.{spoiled}
@@ -23,11 +24,13 @@ use Rattle.diva_cli.specs.Driven.{ByTurns, ByRule, ByOther, scripted_rule}
 use Rattle.diva_cli.specs.declared.driving.CoreInUse.{CoreInUse}
 use Rattle.diva_cli.specs.declared.driving.CoreInUse.TheVariants.{Own, Lockstep, Scalar, Silent, Flood, Echo, Noise, Tape as OfTape}
 use Rattle.diva_cli.specs.declared.tasks.Task.{Task}
-use Rattle.diva_cli.specs.declared.tasks.Task.TheVariants.{Quiet, Trace, Tape, Debug}
+use Rattle.diva_cli.specs.declared.tasks.Task.TheVariants.{Quiet, Trace, Tape}
 use Rattle.diva_trace.specs.Text.{commits_text}
-use Rattle.diva_cli.specs.Replies.{AreLed, cycles_of, joined, newest_after, replies_of}
+use Rattle.diva_cli.specs.Replies.{AreLed, at_start, cycles_of, keep, newest_after, replies_of}
+use Rattle.diva_cli.specs.Sessions.{ByLegs, ByOtherLegs, ByRuleInParts}
 use Rattle.diva_args.specs.declared.job.LanePlace.{LanePlace}
 use Rattle.diva_debug.specs.Moves.{IsShort}
+use Rattle.diva_debug.specs.Rewindable.{Rewindable}
 use Rattle.diva_debug.specs.declared.command.Command.{Command}
 
 -- ---- texts that are written cycle by cycle
@@ -74,41 +77,41 @@ pub record IsWritten {S : Type 0} (text : CycleText) (says : List Record → Typ
   pub cut : OnErr result (BeforeLast lists (λ earlier. TakesPast sink
       (cycles_text text machine.before earlier) (cycles_text text machine.before lists)))
 
--- the machine stops at any count, and has cycles for all commands
-pub record CanReply (commands : List Command) (m : Timed) : Type 0 where
-  pub narrow : m.config.width ≡ 1
+-- ---- what is done in a session
+
+-- nothing was done yet, and there are cycles for all commands
+pub record CanReply (commands : List Command) (r : Rewindable) : Type 0 where
+  pub new : r.machine.timed.count ≡ 0
+  pub none : r.undos ≡ []
+  pub keeps : r.keep ≡ keep
   pub short : All IsShort commands
-  pub cycles : m.cycles + cycles_of (length commands) m.config.limit ≤ 2 ^ 60
+  pub cycles : r.machine.timed.cycles + cycles_of (length commands) r.machine.timed.config.limit ≤ 2 ^ 60
 
 -- the first of the commands were replied to: all of them, or those up to one whose reply could not be put
-pub record IsReplied {S : Type 0} (commands : List Command) (m : Timed) (lists : List (List Record)) (sink : SinkChange S)
+pub record IsReplied {S : Type 0} (commands : List Command) (m : Timed) (parts : List Part) (sink : SinkChange S)
     (result : Result (Unit {0}) SinkFailed) : Type 0 where
   pub done : List Command
   pub left : List Command
   pub in_order : commands ≡ done ++ left
   pub whole : OnOk result (left ≡ [])
-  pub parts : List (List (List Record))
-  pub together : lists ≡ joined parts
-  pub led : AreLed done m parts
-  pub most : length lists ≤ cycles_of (length done) m.config.limit
-  pub put : PutsTo sink (replies_of done m.count m.arch (newest_after m parts)) result
+  pub led : AreLed m.arch done at_start m parts
+  pub most : length (handed_in parts) ≤ cycles_of (length done) m.config.limit
+  pub put : PutsTo sink (replies_of m.arch done at_start (newest_after m parts)) result
   -- where the sink failed, it did so at the last of these replies; those before it had been put
   pub cut : OnErr result (BeforeLast done (λ earlier. TakesPast sink
-      (replies_of earlier m.count m.arch (newest_after m parts)) (replies_of done m.count m.arch (newest_after m parts))))
+      (replies_of m.arch earlier at_start (newest_after m parts)) (replies_of m.arch done at_start (newest_after m parts))))
 
 -- ---- a line for each task, which asks something of a machine, and does something with it, whether lanes vote or not
 abbrev pub Allows : Task → Timed → Type 0
 Allows (Quiet cycles liar) m = m.cycles + cycles ≤ 2 ^ 60
 Allows (Trace cycles liar) m = m.cycles + cycles ≤ 2 ^ 60
 Allows (Tape cycles) m = m.cycles + cycles ≤ 2 ^ 60
-Allows (Debug commands) m = CanReply commands.now m
 
 abbrev pub Does : {S : Type 0} → Task → (machine : Change Timed) → List (List Record) → SinkChange S
     → Result (Unit {0}) SinkFailed → Type 0
 Does (Quiet cycles liar) machine lists sink result = IsQuiet cycles machine lists sink result
 Does (Trace cycles liar) machine lists sink result = IsWritten trace_lines (λ list. ⊤) cycles machine lists sink result
 Does (Tape cycles) machine lists sink result = IsWritten tape_line IsList cycles machine lists sink result
-Does (Debug commands) machine lists sink result = IsReplied commands.now machine.before lists sink result
 
 -- what is done for a run, with commit lines or without, and whether lanes vote, of which one lies
 abbrev pub run_task : (trace : Bool) → (cycles : ℕ) → (liar : Option LanePlace) → Task
@@ -143,3 +146,33 @@ pub record PerformsBy {C : Type 0} (gives : Meaning C) (used : CoreInUse) (scrip
   pub each : machine.after.cycles ≡ machine.before.cycles + length lists
   pub handed : AreHandedBy gives used script machine core lists
   pub done : this lists
+
+-- ---- a session by a core
+
+-- legs lead from a machine and a core to others, with one list for each cycle, and this holds of the parts
+pub record Plays {D : Type 0} (gives : Meaning D) (machine : Change Timed) (core : Change D) (this : List Part → Type 0) : Type 0 where
+  pub legs : List (Leg D)
+  pub good : AreLegs gives machine.before core.before legs machine.after core.after
+  pub each : machine.after.cycles ≡ machine.before.cycles + length (handed_in (map part_of legs))
+  pub done : this (map part_of legs)
+
+-- where the lists of the parts come from, by the core in use
+abbrev pub AreHandedInPartsBy : {C : Type 0} → Meaning C → CoreInUse → (script : List Row) → (machine : Change Timed) → (core : Change C)
+    → List Part → Type 0
+AreHandedInPartsBy gives Own script machine core parts = ByLegs (spoiled script gives) machine core parts
+AreHandedInPartsBy gives Lockstep script machine core parts = ByRuleInParts (scripted_rule script lockstep_list) machine.before core parts
+AreHandedInPartsBy gives (Scalar first) script machine core parts = ByOtherLegs IsScalarCall first script machine core parts
+AreHandedInPartsBy gives Silent script machine core parts = ByRuleInParts (scripted_rule script silent_list) machine.before core parts
+AreHandedInPartsBy gives Flood script machine core parts = ByRuleInParts (scripted_rule script flood_list) machine.before core parts
+AreHandedInPartsBy gives Echo script machine core parts = ByRuleInParts (scripted_rule script echo_list) machine.before core parts
+AreHandedInPartsBy gives (Noise first) script machine core parts = ByOtherLegs noise_call first script machine core parts
+AreHandedInPartsBy gives (OfTape tape) script machine core parts = ByOtherLegs tape_call tape script machine core parts
+
+-- the core in use drove a machine in parts under a script, and this holds of the parts
+pub record PlaysBy {C : Type 0} (gives : Meaning C) (used : CoreInUse) (script : List Row) (machine : Change Timed)
+    (core : Change C) (this : List Part → Type 0) : Type 0 where
+  pub parts : List Part
+  pub ran : machine.after ≡ run_parts machine.before parts
+  pub each : machine.after.cycles ≡ machine.before.cycles + length (handed_in parts)
+  pub handed : AreHandedInPartsBy gives used script machine core parts
+  pub done : this parts

@@ -4,7 +4,7 @@ use Rattle.std.specs.Prelude.{◌≡◌, ◌⊎◌, ℕ, Result}
 use Rattle.diva_outside.specs.Text.{Text}
 use Rattle.diva_core.specs.History.{Meaning}
 use Rattle.diva_args.specs.declared.job.Job.{Job}
-use Rattle.diva_args.specs.declared.job.Job.TheVariants.{Run, Tape, Duo, Debug, Asm, Dis, Migrate, Soak}
+use Rattle.diva_args.specs.declared.job.Job.TheVariants.{Run, Tape, Duo, Debug, Asm, Dis, Migrate, Soak, Campaign}
 use Rattle.diva_cli.specs.Changes.{Change}
 use Rattle.diva_cli.specs.Wanted.{FileBytes}
 use Rattle.diva_cli.specs.Runs.{HasRun}
@@ -13,6 +13,7 @@ use Rattle.diva_cli.specs.DebugTexts.{HasReplies}
 use Rattle.diva_cli.specs.ImageTexts.{HasAssembled, HasListing, HasMigrated}
 use Rattle.diva_cli.specs.SoakTexts.{HasSoaked}
 use Rattle.diva_cli.specs.DuoTexts.{HasDuo}
+use Rattle.diva_cli.specs.CampaignTexts.{HasCampaign}
 
 -- ---- a line for each command
 
@@ -25,6 +26,7 @@ HasText gives (Asm name) bytes core ended text = HasAssembled bytes core ended t
 HasText gives (Dis name) bytes core ended text = HasListing bytes core ended text
 HasText gives (Migrate options) bytes core ended text = HasMigrated options.room bytes core ended text
 HasText gives (Soak options) bytes core ended text = HasSoaked gives options core ended text
+HasText gives (Campaign options) bytes core ended text = HasCampaign gives options bytes core ended text
 
 -- the statuses of commands whose text was written whole
 abbrev pub IsDone : ℕ → Type 0
@@ -40,3 +42,4 @@ CanEnd (Asm name) status = status ≡ 0
 CanEnd (Dis name) status = status ≡ 0
 CanEnd (Migrate options) status = status ≡ 0
 CanEnd (Soak options) status = status ≡ 0
+CanEnd (Campaign options) status = IsDone status

@@ -1,21 +1,22 @@
 // The command `debug`: it reads its files with neither core nor sink in its hands, and then replies to the commands.
-ghost use Rattle.std.specs.Prelude.{◌≡◌, ◌≤◌, length};
+ghost use Rattle.std.specs.Prelude.{◌≡◌, ◌≤◌, [], length};
 ghost use Rattle.std.specs.List.{All};
 ghost use Rattle.diva_args.specs.declared.job.Job.TheVariants.{Debug};
 ghost use Rattle.diva_core.specs.Machine.{IsConfig};
 ghost use Rattle.diva_debug.specs.Moves.{IsShort};
 ghost use Rattle.diva_cli.specs.Asked.{asked_for};
+ghost use Rattle.diva_cli.specs.Replies.{keep};
 ghost use Rattle.diva_cli.specs.Changes.{change, file_faults, sink_change};
 ghost use Rattle.diva_cli.specs.Wanted.{FileBytes, file_limit};
 ghost use Rattle.diva_cli.specs.Parts.{Answers, IsSession, WritesText};
 
-use crate::driving::perform_by;
+use crate::driving::reply_by;
 use crate::loading::{Ready, SessionReady, make_session};
 use crate::stop::Failure;
-use crate::tasks::Task;
 use crate::writing::write_stop;
 use diva_args::DebugOptions;
 use diva_core::Core;
+use diva_debug::Rewindable;
 use diva_outside::{Files, Sink};
 use std::alloc::Global;
 
@@ -46,6 +47,8 @@ fn debug_ready<S: Sink, C: Core>(
 ) -> Result<u8, Failure>
     requires fits { IsConfig options.setup.config }
     requires new { session.ready.machine.timed.cycles ≡ 0 }
+    requires none { session.ready.machine.timed.count ≡ 0 }
+    requires undos { session.undos ≡ record { rows = []; keep = keep } }
     requires narrow { session.ready.machine.timed.config.width ≡ 1 }
     requires few { length session.commands.items ≤ file_limit }
     requires short { All IsShort session.commands.items }
@@ -53,13 +56,17 @@ fn debug_ready<S: Sink, C: Core>(
         → WritesText C.gives (Debug options) bytes
         (change core.old core.new) (sink_change S.contents S.faults sink.old sink.new) result }
 {
-    let SessionReady { ready, commands } = session;
+    let SessionReady {
+        ready,
+        undos,
+        commands,
+    } = session;
     let Ready {
-        mut machine,
+        machine,
         core: mut in_use,
         script,
     } = ready;
-    let task = Task::Debug(&commands);
-    perform_by(&mut machine, &mut in_use, &script, core, task, sink)?;
+    let mut rewindable = Rewindable::new(machine, undos);
+    reply_by(&mut rewindable, &mut in_use, &script, core, &commands, sink)?;
     Ok(0)
 }

@@ -1,9 +1,11 @@
 // The core that drives a machine, and what is done with them.
 ghost use Rattle.diva_cli.specs.Changes.{change, sink_change};
-ghost use Rattle.diva_cli.specs.Tasks.{Allows, Does, PerformsBy};
+ghost use Rattle.diva_cli.specs.Tasks.{Allows, CanReply, Does, IsReplied, PerformsBy, PlaysBy};
 
+use crate::replying::reply_under;
 use crate::tasks::{Task, perform_under};
 use diva_core::Core;
+use diva_debug::{Command, Rewindable};
 use diva_faults::Script;
 use diva_machine::Machine;
 use diva_outside::{Sink, SinkFailed};
@@ -29,12 +31,12 @@ pub(crate) fn perform_by<C: Core, S: Sink>(
     core: &mut CoreInUse,
     script: &Script,
     own: &mut C,
-    task: Task<'_>,
+    task: Task,
     sink: &mut S,
 ) -> Result<(), SinkFailed>
     requires { Allows task m.old.timed }
     ensures { PerformsBy C.gives core.old script.now (change m.old.timed m.new.timed) (change own.old own.new)
-        (λ lists. Does task.entry (change m.old.timed m.new.timed) lists
+        (λ lists. Does task (change m.old.timed m.new.timed) lists
         (sink_change S.contents S.faults sink.old sink.new) result) }
 {
     match core {
@@ -46,5 +48,31 @@ pub(crate) fn perform_by<C: Core, S: Sink>(
         CoreInUse::Echo => perform_under(script, m, &mut Echo, task, sink),
         CoreInUse::Noise(noise) => perform_under(script, m, noise, task, sink),
         CoreInUse::Tape(tape) => perform_under(script, m, tape, task, sink),
+    }
+}
+
+/// Does each of the commands with a machine and a core, under a script, and writes the reply to it; `own` is the core handed in.
+pub(crate) fn reply_by<C: Core, S: Sink>(
+    session: &mut Rewindable,
+    core: &mut CoreInUse,
+    script: &Script,
+    own: &mut C,
+    commands: &[Command],
+    sink: &mut S,
+) -> Result<(), SinkFailed>
+    requires { CanReply commands.now session.old }
+    ensures { PlaysBy C.gives core.old script.now (change session.old.machine.timed session.new.machine.timed)
+        (change own.old own.new) (λ parts. IsReplied commands.now session.old.machine.timed parts
+        (sink_change S.contents S.faults sink.old sink.new) result) }
+{
+    match core {
+        CoreInUse::Own => reply_under(script, session, own, commands, sink),
+        CoreInUse::Lockstep => reply_under(script, session, &mut Lockstep, commands, sink),
+        CoreInUse::Scalar(scalar) => reply_under(script, session, scalar, commands, sink),
+        CoreInUse::Silent => reply_under(script, session, &mut Silent, commands, sink),
+        CoreInUse::Flood => reply_under(script, session, &mut Flood, commands, sink),
+        CoreInUse::Echo => reply_under(script, session, &mut Echo, commands, sink),
+        CoreInUse::Noise(noise) => reply_under(script, session, noise, commands, sink),
+        CoreInUse::Tape(tape) => reply_under(script, session, tape, commands, sink),
     }
 }

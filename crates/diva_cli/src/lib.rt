@@ -1,7 +1,7 @@
 //! The whole program, over the files, the sink and the core that it is handed.
 //!
 //! - `program`: `top`, from the words to the status; `work` has an arm for each command;
-//! - `run` (with `tape`), `duo`, `debug`, `asm`, `dis`, `migrate`, `soak`: these commands;
+//! - `run` (with `tape`), `duo`, `debug`, `asm`, `dis`, `migrate`, `soak`, `campaign`: these commands;
 //! - `files`: the kinds of files, and how a file of any kind is loaded and read; `loading`: the files of a job, one after another;
 //! - `driving`: the core that the command line chose, and what is done with it and a machine;
 //! - `tasks`: the things that are done with a core and a machine, under a script;
@@ -21,7 +21,8 @@
 //! - `Wanted`: which files a job wants, and what is wrong with their bytes; `Stops`: at which of them loading stops;
 //! - `Texts`: the text of each command; `Runs`: that of `run`, with what holds of the machine; `Driven`: what drove it;
 //! - `TapeTexts`: the text of `tape`; `DebugTexts`, with `Replies`: that of `debug`; `ImageTexts`: those of `asm`, `dis` and `migrate`;
-//!   `SoakTexts`: that of `soak`; `DuoTexts`: that of `duo`; `Cuts`: in which part of a text a sink failed;
+//!   `SoakTexts`: that of `soak`; `DuoTexts`: that of `duo`; `CampaignTexts`: that of `campaign`; `Cuts`: in which part of a
+//!   text a sink failed;
 //! - `Determined`: what is determined of a run.
 //!
 //! `Tasks` and `Parts` are what the parts of the program promise one another. What each command promises, and so the whole
@@ -29,6 +30,7 @@
 #![tactic(auto)]
 
 mod asm;
+mod campaign;
 mod checking;
 mod debug;
 mod dis;

@@ -11,7 +11,7 @@ pub(crate) fn usage_line() -> Line
 {
     let mut line = Line::new();
     line.text(
-        b"usage: diva run|tape|duo IMAGE, debug IMAGE COMMANDS, asm SRC, dis|migrate IMAGE, soak SEED LENGTH\n",
+        b"usage: diva run|tape|duo IMAGE, debug IMAGE COMMANDS, asm SRC, dis|migrate IMAGE, soak SEED LENGTH, campaign IMAGE LAST\n",
     );
     line
 }

@@ -1,10 +1,11 @@
 // What the files of a job come to: they are loaded and read one after another.
-ghost use Rattle.std.specs.Prelude.{◌≡◌, ◌≢◌, ◌≤◌, length, IfOk, IfErr, Ok};
+ghost use Rattle.std.specs.Prelude.{◌≡◌, ◌≢◌, ◌≤◌, [], length, IfOk, IfErr, Ok};
 ghost use Rattle.std.specs.List.{All};
 ghost use Rattle.diva_image.specs.ImageLayout.{layout};
 ghost use Rattle.diva_image.specs.Programs.{image_in};
 ghost use Rattle.diva_core.specs.Machine.{IsConfig};
 ghost use Rattle.diva_debug.specs.Moves.{IsShort};
+ghost use Rattle.diva_cli.specs.Replies.{keep};
 ghost use Rattle.diva_cli.specs.Wanted.{file_if, file_limit, file_with, machine_files, session_files, tape_name};
 ghost use Rattle.diva_cli.specs.Parts.{Stops, Holds, HoldsCore, HoldsReady, HoldsRows, HoldsSession};
 
@@ -12,7 +13,7 @@ use crate::driving::CoreInUse;
 use crate::files::{CommandsFile, ImageFile, ScriptFile, TapeFile, load};
 use crate::stop::Stop;
 use diva_args::{CoreChoice, DebugOptions, FileName, Setup};
-use diva_debug::Command;
+use diva_debug::{Command, Undos};
 use diva_faults::Script;
 use diva_image::Image;
 use diva_machine::Machine;
@@ -61,11 +62,16 @@ pub(crate) fn make_ready<F: Files>(
     })
 }
 
+/// How many undos a session keeps at most.
+const KEPT_UNDOS: usize = 4096;
+
 /// What the command `debug` needs.
 #[derive(Drop)]
 pub(crate) struct SessionReady {
     /// The machine, the core and the script.
     pub ready: Ready,
+    /// Room for the undos of its newest instructions.
+    pub undos: Undos,
     /// The commands, in order.
     pub commands: Vec<Command>,
 }
@@ -81,6 +87,7 @@ pub(crate) fn make_session<F: Files>(
     ensures session { IfOk result (HoldsSession (F.contents files.old) options.now) }
     ensures config { IsConfig options.now.setup.config }
     ensures narrow { IfOk result (λ session. session.ready.machine.timed.config.width ≡ 1) }
+    ensures undos { IfOk result (λ session. session.undos ≡ record { rows = []; keep = keep }) }
     ensures few { IfOk result (λ session. length session.commands.items ≤ file_limit) }
     ensures short { IfOk result (λ session. All IsShort session.commands.items) }
     ensures stopped { IfErr result (λ stop. Stops (F.contents files.old) (F.faults files.old)
@@ -88,7 +95,12 @@ pub(crate) fn make_session<F: Files>(
 {
     let ready = make_ready(alloc, files, &options.setup)?;
     let commands = load(alloc, files, &CommandsFile, &options.commands)?;
-    Ok(SessionReady { ready, commands })
+    let undos = Undos::new(alloc, KEPT_UNDOS)?;
+    Ok(SessionReady {
+        ready,
+        undos,
+        commands,
+    })
 }
 
 /// What was read of the files of a machine.

@@ -13,6 +13,7 @@ ghost use Rattle.diva_cli.specs.Wanted.{wanted};
 ghost use Rattle.diva_cli.specs.Parts.{Answers, status_of};
 
 use crate::asm::asm;
+use crate::campaign::campaign;
 use crate::debug::debug;
 use crate::dis::dis;
 use crate::duo::duo;
@@ -152,5 +153,6 @@ fn work<F: Files, S: Sink, C: Core>(
         Job::Dis(image) => dis(alloc, image, files, sink, core),
         Job::Migrate(options) => migrate(alloc, options, files, sink, core),
         Job::Soak(options) => soak(alloc, options, files, sink, core),
+        Job::Campaign(options) => campaign(alloc, options, files, sink, core),
     }
 }

@@ -1,25 +1,63 @@
-// Commands that move a machine, and the replies to them.
+// Commands that move a machine, forth and back, and the replies to them.
+ghost use Rattle.diva_faults.specs.Spoiled.{spoiled};
 ghost use Rattle.diva_cli.specs.Changes.{change, sink_change};
-ghost use Rattle.diva_cli.specs.Tasks.{CanReply, IsReplied, Performs};
+ghost use Rattle.diva_cli.specs.Tasks.{CanReply, IsReplied, Plays};
 
 use diva_core::Core;
-use diva_debug::{Command, reply_to};
-use diva_machine::Machine;
+use diva_debug::{Command, Rewindable, reply_to};
+use diva_faults::{Faulty, Script};
 use diva_outside::{Sink, SinkFailed, put_line};
 
-/// Does each of the commands and writes the reply to it, until the sink fails.
-pub(crate) fn reply_each<D: Core, S: Sink>(
-    m: &mut Machine,
+/// Does each of the commands with a machine and a core under a script, and writes the reply to it, until the sink fails.
+pub(crate) fn reply_under<D: Core, S: Sink>(
+    script: &Script,
+    session: &mut Rewindable,
     core: &mut D,
     commands: &[Command],
     sink: &mut S,
 ) -> Result<(), SinkFailed>
-    requires { CanReply commands.now m.old.timed }
-    ensures { Performs D.gives (change m.old.timed m.new.timed) (change core.old core.new)
-        (λ lists. IsReplied commands.now m.old.timed lists (sink_change S.contents S.faults sink.old sink.new) result) }
+    requires { CanReply commands.now session.old }
+    ensures { Plays (spoiled script.now D.gives) (change session.old.machine.timed session.new.machine.timed)
+        (change core.old core.new) (λ parts. IsReplied commands.now session.old.machine.timed parts
+        (sink_change S.contents S.faults sink.old sink.new) result) }
+{
+    if script.rows().is_empty() {
+        reply_each(session, core, commands, sink)
+    } else {
+        reply_faulty(script, session, core, commands, sink)
+    }
+}
+
+fn reply_faulty<D: Core, S: Sink>(
+    script: &Script,
+    session: &mut Rewindable,
+    core: &mut D,
+    commands: &[Command],
+    sink: &mut S,
+) -> Result<(), SinkFailed>
+    requires { CanReply commands.now session.old }
+    ensures { Plays (spoiled script.now D.gives) (change session.old.machine.timed session.new.machine.timed)
+        (change core.old core.new) (λ parts. IsReplied commands.now session.old.machine.timed parts
+        (sink_change S.contents S.faults sink.old sink.new) result) }
+{
+    let mut faulty = Faulty::new(core, script);
+    reply_each(session, &mut faulty, commands, sink)
+}
+
+/// Does each of the commands with a machine and a core.
+fn reply_each<D: Core, S: Sink>(
+    session: &mut Rewindable,
+    core: &mut D,
+    commands: &[Command],
+    sink: &mut S,
+) -> Result<(), SinkFailed>
+    requires { CanReply commands.now session.old }
+    ensures { Plays D.gives (change session.old.machine.timed session.new.machine.timed) (change core.old core.new)
+        (λ parts. IsReplied commands.now session.old.machine.timed parts
+        (sink_change S.contents S.faults sink.old sink.new) result) }
 {
     for command in commands {
-        let line = reply_to(m, core, command);
+        let line = reply_to(session, core, command);
         put_line(&line, sink)?;
     }
     Ok(())

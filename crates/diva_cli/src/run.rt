@@ -63,7 +63,7 @@ fn run_ready<S: Sink, C: Core>(
 }
 
 /// What is done for a run. Nothing watches the turns of one without commit lines.
-fn run_task<'a>(trace: bool, cycles: u64, liar: Option<LanePlace>) -> Task<'a>
+fn run_task(trace: bool, cycles: u64, liar: Option<LanePlace>) -> Task
     ensures { result ≡ run_task trace cycles liar }
 {
     if trace {

@@ -4,18 +4,16 @@ ghost use Rattle.diva_cli.specs.Changes.{change, sink_change};
 ghost use Rattle.diva_cli.specs.Tasks.{Allows, Does, Performs};
 
 use crate::checking::drive_checked;
-use crate::replying::reply_each;
 use crate::streaming::{TapeWriter, TraceWriter, drive_writing};
 use diva_args::LanePlace;
 use diva_core::Core;
-use diva_debug::Command;
 use diva_faults::{Faulty, Script};
 use diva_machine::Machine;
 use diva_outside::{Sink, SinkFailed};
 
 /// What is done with a machine and a core.
 #[derive(Clone, Copy, Debug)]
-pub(crate) enum Task<'a> {
+pub(crate) enum Task {
     /// It is driven for so many cycles at most, and nothing is written. Where a place is given, three lanes vote, and the one
     /// in that place lies.
     Quiet(u64, Option<LanePlace>),
@@ -23,8 +21,6 @@ pub(crate) enum Task<'a> {
     Trace(u64, Option<LanePlace>),
     /// It is driven for so many cycles at most, and each list that is handed over is written as a line of a tape.
     Tape(u64),
-    /// It is moved by these commands, and a reply to each is written.
-    Debug(&'a [Command]),
 }
 
 /// Does a task with a machine and a core under a script. A script that has no rows costs nothing: it
@@ -34,12 +30,12 @@ pub(crate) fn perform_under<D: Core, S: Sink>(
     script: &Script,
     m: &mut Machine,
     core: &mut D,
-    task: Task<'_>,
+    task: Task,
     sink: &mut S,
 ) -> Result<(), SinkFailed>
     requires { Allows task m.old.timed }
     ensures { Performs (spoiled script.now D.gives) (change m.old.timed m.new.timed) (change core.old core.new)
-        (λ lists. Does task.entry (change m.old.timed m.new.timed) lists
+        (λ lists. Does task (change m.old.timed m.new.timed) lists
         (sink_change S.contents S.faults sink.old sink.new) result) }
 {
     if script.rows().is_empty() {
@@ -53,12 +49,12 @@ fn perform_faulty<D: Core, S: Sink>(
     script: &Script,
     m: &mut Machine,
     core: &mut D,
-    task: Task<'_>,
+    task: Task,
     sink: &mut S,
 ) -> Result<(), SinkFailed>
     requires { Allows task m.old.timed }
     ensures { Performs (spoiled script.now D.gives) (change m.old.timed m.new.timed) (change core.old core.new)
-        (λ lists. Does task.entry (change m.old.timed m.new.timed) lists
+        (λ lists. Does task (change m.old.timed m.new.timed) lists
         (sink_change S.contents S.faults sink.old sink.new) result) }
 {
     let mut faulty = Faulty::new(core, script);
@@ -70,12 +66,12 @@ fn perform_faulty<D: Core, S: Sink>(
 fn perform<D: Core, S: Sink>(
     m: &mut Machine,
     core: &mut D,
-    task: Task<'_>,
+    task: Task,
     sink: &mut S,
 ) -> Result<(), SinkFailed>
     requires { Allows task m.old.timed }
     ensures { Performs D.gives (change m.old.timed m.new.timed) (change core.old core.new)
-        (λ lists. Does task.entry (change m.old.timed m.new.timed) lists
+        (λ lists. Does task (change m.old.timed m.new.timed) lists
         (sink_change S.contents S.faults sink.old sink.new) result) }
 {
     match task {
@@ -85,6 +81,5 @@ fn perform<D: Core, S: Sink>(
         }
         Task::Trace(cycles, liar) => drive_writing(m, core, cycles, liar, &TraceWriter, sink),
         Task::Tape(cycles) => drive_writing(m, core, cycles, None, &TapeWriter, sink),
-        Task::Debug(commands) => reply_each(m, core, commands, sink),
     }
 }

@@ -13,8 +13,8 @@ use Rattle.diva_cli.proofs.loading.make_session.Goals as goal
 pub returns-clause-session : goal.returns-clause-session
 returns-clause-session g c =
     let k = subst (λ (t : Contents). Holds t (file Commands c.options.inside.commands) (λ bytes. AreCommands bytes c.in_ok-commands.commands.items)) c.make_ready.ensures.stays c.in_ok-commands.ensures.holds in
-    subst (λ (o : DebugOptions). HoldsSession (g.F.Files.contents c.args.files.now) o (record { ready = c.in_ok-ready.ready; commands = c.in_ok-commands.commands })) c.options.view_is
-    (session_held (g.F.Files.contents c.args.files.now) (record { setup = c.options.inside.setup; commands = c.options.inside.commands }) (record { ready = c.in_ok-ready.ready; commands = c.in_ok-commands.commands }) c.in_ok-ready.ensures.ready k)
+    subst (λ (o : DebugOptions). HoldsSession (g.F.Files.contents c.args.files.now) o (record { ready = c.in_ok-ready.ready; undos = c.in_ok-undos.undos; commands = c.in_ok-commands.commands })) c.options.view_is
+    (session_held (g.F.Files.contents c.args.files.now) (record { setup = c.options.inside.setup; commands = c.options.inside.commands }) (record { ready = c.in_ok-ready.ready; undos = c.in_ok-undos.undos; commands = c.in_ok-commands.commands }) c.in_ok-ready.ensures.ready k)
 
 pub returns-in_err-commands-clause-stopped : goal.returns-in_err-commands-clause-stopped
 returns-in_err-commands-clause-stopped g c =

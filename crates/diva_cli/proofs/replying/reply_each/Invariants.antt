@@ -6,7 +6,7 @@ use Rattle.diva_cli.proofs.replying.reply_each.Given as goal
 
 abbrev pub invariant-loop-command : goal.invariant-loop-command
 invariant-loop-command g l = record {
-  replies : RepliesSoFar g.D.Core.gives l.commands l.command-index l.fn.m.timed l.fn.core l.m.timed l.core (g.S.Sink.contents l.fn.sink) (g.S.Sink.contents l.sink) (g.S.Sink.faults l.fn.sink) (g.S.Sink.faults l.sink) (Ok tt);
-  within : l.m.timed.cycles ≤ l.fn.m.timed.cycles + cycles_of l.command-index l.fn.m.timed.config.limit;
-  config : l.m.timed.config ≡ l.fn.m.timed.config;
+  replies : RepliesSoFar g.D.Core.gives l.commands l.command-index l.fn.session.machine.timed l.fn.core l.session l.core (g.S.Sink.contents l.fn.sink) (g.S.Sink.contents l.sink) (g.S.Sink.faults l.fn.sink) (g.S.Sink.faults l.sink) (Ok tt);
+  within : l.session.machine.timed.cycles ≤ l.fn.session.machine.timed.cycles + cycles_of l.command-index l.fn.session.machine.timed.config.limit;
+  config : l.session.machine.timed.config ≡ l.fn.session.machine.timed.config;
 }

@@ -10,6 +10,3 @@ returns-in-Trace g c = rw c.in-Trace.is c.drive_writing.ensures
 
 pub returns-in-Tape : goal.returns-in-Tape
 returns-in-Tape g c = rw c.in-Tape.is c.drive_writing-in-Tape.ensures
-
-pub returns-in-Debug : goal.returns-in-Debug
-returns-in-Debug g c = rw c.in-Debug.is c.reply_each.ensures
