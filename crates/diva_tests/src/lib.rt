@@ -9,8 +9,8 @@
 //!   checker, `runs/tapes` tapes that are played, written and refused, `runs/ports` stores that
 //!   memory takes in some cycles only, `runs/staged` tapes whose claims are
 //!   checked while older ones are pending, `runs/scripts` scripts that are refused, `runs/traces` commit lines,
-//!   `runs/sessions` the commands of the debugger, `runs/sources` sources that are assembled and images that are listed,
-//!   `runs/harts` runs on two harts, `runs/lanes` runs in which lanes vote, `runs/segments` images in version 2, also as `migrate` writes them, `runs/soaks` images of seeds, `runs/refusals` what
+//!   `runs/sessions` the commands of the debugger, `runs/backwards` those that go back, `runs/sources` sources that are assembled and images that are listed,
+//!   `runs/harts` runs on two harts, `runs/campaigns` campaigns of flips, `runs/lanes` runs in which lanes vote, `runs/segments` images in version 2, also as `migrate` writes them, `runs/soaks` images of seeds, `runs/refusals` what
 //!   is not run, `runs/failing` the order of loads and puts, which also fail in turn, `runs/noting` notes them, and
 //!   `runs/texts` writes the text that is due;
 //! - `images`: an image that is read and written, faults of it, and images of seeds; in version 2 `images/segments` has
@@ -24,8 +24,10 @@
 //!   `lists/tables` has the lists;
 //! - `out_of_order`: what the out-of-order core hands over, call by call: `out_of_order/tables` has the
 //!   programs;
+//! - `sessions`: sessions that go back, call by call;
 //! - `stages`: what each stage of the checker answers of a claim behind older ones: `stages/tables`
 //!   has the claims;
+//! - `undo`: the last instruction is taken back, and the machine goes on: `undo/tables` has the moments;
 //! - `vectors`: what arithmetic, branches and loads came to in an emulator that is not of this
 //!   repository: operations on two `registers` and on `immediates`, `branches` and `loads`.
 //!
@@ -50,6 +52,10 @@ mod programs;
 #[cfg(test)]
 mod runs;
 #[cfg(test)]
+mod sessions;
+#[cfg(test)]
 mod stages;
+#[cfg(test)]
+mod undo;
 #[cfg(test)]
 mod vectors;

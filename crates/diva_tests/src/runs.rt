@@ -1,4 +1,6 @@
 // Command lines over files and a sink in memory, with the status and the text that are due.
+mod backwards;
+mod campaigns;
 mod failing;
 mod harts;
 mod hostile;

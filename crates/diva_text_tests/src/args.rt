@@ -1,7 +1,7 @@
 // Lines that are taken, and lines that are refused. A line is one string, whose words blanks part.
 use diva_args::{
-    ArgsFault, DebugOptions, DuoOptions, Job, MigrateOptions, RunOptions, Setup, SoakOptions,
-    TapeOptions, read_words,
+    ArgsFault, CampaignCycles, CampaignOptions, DebugOptions, DuoOptions, Job, LastCycle,
+    MigrateOptions, RunOptions, Setup, SoakOptions, TapeOptions, read_words,
 };
 use diva_core::Config;
 use std::alloc::{AllocError, Global};
@@ -9,8 +9,9 @@ use std::test::Fail;
 
 /// Lines with what they ask for: the command, then the names and numbers. Behind an image stand its room, its core, its script,
 /// width, window, stores, limit and port; last come of `run` the cycles, the commit lines, the dump and the place of the voting
-/// lane that lies, and of `tape` the cycles. `duo` has no script, no commit lines and no such place.
-static TAKEN: [(&str, &str); 66] = [
+/// lane that lies, and of `tape` the cycles. `duo` has no script, no commit lines and no such place. Behind the image of `campaign`
+/// stand the last cycle and the cycles of each run.
+static TAKEN: [(&str, &str); 71] = [
     (
         "run p1.diva",
         r#"run "p1.diva" 0 Own None 2 16 4 64 1 1000000 false None None"#,
@@ -37,6 +38,11 @@ static TAKEN: [(&str, &str); 66] = [
     ("soak 7 65536", "soak 7 65536"),
     ("soak 4294967295 0000000002", "soak 4294967295 2"),
     ("soak -- 0 3", "soak 0 3"),
+    ("campaign p1.diva 1", r#"campaign "p1.diva" 1 10000"#),
+    ("campaign p 32 --cycles 100000", r#"campaign "p" 32 100000"#),
+    ("campaign --cycles=1 p 0000000007", r#"campaign "p" 7 1"#),
+    ("campaign '' 2", r#"campaign "" 2 10000"#),
+    ("campaign -- -x 3", r#"campaign "-x" 3 10000"#),
     ("debug p c", r#"debug "p" 0 Own None 1 16 4 64 1 "c""#),
     (
         "debug p c --watchdog 16 --core silent",
@@ -244,7 +250,7 @@ static TAKEN: [(&str, &str); 66] = [
 ];
 
 /// Lines that are refused.
-static REFUSED: [&str; 113] = [
+static REFUSED: [&str; 131] = [
     // No command, and no help.
     "",
     "walk a",
@@ -273,6 +279,9 @@ static REFUSED: [&str; 113] = [
     "soak",
     "soak 1",
     "soak 1 1 1",
+    "campaign",
+    "campaign a",
+    "campaign a 1 1",
     // Options of another command.
     "tape a --trace",
     "debug a b --width 1",
@@ -296,6 +305,11 @@ static REFUSED: [&str; 113] = [
     "soak 1 1 --port 1",
     "soak 1 1 --room 4096",
     "soak 1 1 --liar 0",
+    "campaign a 1 --core lockstep",
+    "campaign a 1 --script b",
+    "campaign a 1 --width 2",
+    "campaign a 1 --room 4096",
+    "campaign a 1 --liar 0",
     // Options twice, or without a value.
     "run a --trace --trace",
     "run a --trace true",
@@ -365,6 +379,16 @@ static REFUSED: [&str; 113] = [
     "soak -1 1",
     "soak 1 0x1",
     "soak '' 1",
+    "campaign a 0",
+    "campaign a 33",
+    "campaign a 0x1",
+    "campaign a -1",
+    "campaign a ''",
+    "campaign a 00000000001",
+    "campaign a 1 --cycles 0",
+    "campaign a 1 --cycles 100001",
+    "campaign a 1 --cycles",
+    "campaign a 1 --cycles 2 --cycles 2",
 ];
 
 #[test]
@@ -395,6 +419,25 @@ fn words_of(alloc: Global, line: &str) -> Result<Vec<&str>, AllocError> {
     Ok(words)
 }
 
+/// The ends of the ranges of a campaign's numbers, and what is next to them.
+#[test]
+fn numbers_of_a_campaign(rt: HostRuntime) {
+    for (number, is_last, is_cycles) in [
+        (0, false, false),
+        (1, true, true),
+        (32, true, true),
+        (33, false, true),
+        (100_000, false, true),
+        (100_001, false, false),
+        (u32::MAX, false, false),
+    ] {
+        let last = LastCycle::new(number).map(|last| last.get());
+        assert_eq!(rt; last, is_last.then_some(number), "{number}");
+        let cycles = CampaignCycles::new(number).map(|cycles| cycles.get());
+        assert_eq!(rt; cycles, is_cycles.then_some(number), "{number}");
+    }
+}
+
 /// What a job asks for, as `TAKEN` shows it.
 fn text_of(alloc: Global, job: &Job) -> Result<String, AllocError> {
     match job {
@@ -415,6 +458,16 @@ fn text_of(alloc: Global, job: &Job) -> Result<String, AllocError> {
         }
         Job::Soak(SoakOptions { seed, instructions }) => {
             format!(in alloc; "soak {seed} {instructions}")
+        }
+        Job::Campaign(
+            CampaignOptions {
+                image,
+                last,
+                cycles,
+            },
+        ) => {
+            let (last, cycles) = (last.get(), cycles.get());
+            format!(in alloc; "campaign {:?} {last} {cycles}", image.as_str())
         }
     }
 }

@@ -5,8 +5,8 @@ use diva_memory::Memory;
 use diva_outside::{MemSink, SinkFailed, put_line, put_lines};
 use diva_storeq::StoreQueue;
 use diva_trace::{
-    Dump, HartReport, Report, SoakCore, commit_line, cycles_line, end_line, flushes_line,
-    soak_line, write_dump, write_hart, write_run,
+    Dump, HartReport, Report, SoakCore, Tally, commit_line, cycles_line, end_line, flushes_line,
+    soak_line, write_dump, write_hart, write_run, write_tally,
 };
 use std::test::Fail;
 
@@ -221,5 +221,20 @@ fn other_lines(rt: HostRuntime) -> Result<(), Fail> {
     ];
     assert_eq!(rt; put_lines(&made, &mut lines), Ok(()));
     assert_eq!(rt; lines.bytes(), LINES.as_bytes());
+    Ok(())
+}
+
+#[test]
+fn tallies(rt: HostRuntime) -> Result<(), Fail> {
+    let mut lines = MemSink::new(rt.alloc(), 64, Vec::new(rt.alloc()))?;
+    let tally = Tally {
+        runs: 8192,
+        same: 1000,
+        flushed: 999,
+        silent: 0,
+    };
+    assert_eq!(rt; write_tally(&tally, &mut lines), Ok(()));
+    let due = "runs 8192\nsame 1000\nflushed 999\nsilent 0\n";
+    assert_eq!(rt; lines.bytes(), due.as_bytes());
     Ok(())
 }

@@ -1,7 +1,7 @@
 // Scripts, and lists under them. What is due is taken from the text of the format.
 use crate::cores::list_of;
 use diva_core::{Claim, Claims, Core, Field, Told, View};
-use diva_faults::{Change, Faulty, Row, Script, ScriptFault};
+use diva_faults::{Change, Faulty, Row, Script, ScriptFault, flip_at};
 use std::alloc::{AllocError, Global};
 use std::process::Abort;
 use std::test::Fail;
@@ -47,6 +47,28 @@ fn faults_of_a_line(rt: HostRuntime) -> Result<(), Fail> {
         let answer = read_behind(rt.alloc(), BEFORE, line)?;
         let due = Err(ScriptFault::Bad { line: 4, kind });
         assert_eq!(rt; answer, due, "{line}");
+    }
+    Ok(())
+}
+
+/// Places of a campaign's flips, with the line of a script that says the same.
+static FLIPS: [(u32, &[u8]); 7] = [
+    (0, b"at 1 lane 0 flip pc 0"),
+    (31, b"at 1 lane 0 flip pc 31"),
+    (32, b"at 1 lane 0 flip word 0"),
+    (165, b"at 1 lane 0 flip value 5"),
+    (255, b"at 1 lane 0 flip end 31"),
+    (256, b"at 2 lane 0 flip pc 0"),
+    (8191, b"at 32 lane 0 flip end 31"),
+];
+
+#[test]
+fn rows_of_flips(rt: HostRuntime) -> Result<(), Fail> {
+    let alloc = rt.alloc();
+    for &(place, line) in &FLIPS {
+        let due = Script::read(alloc, line)?;
+        let script = Script::of_row(alloc, flip_at(place))?;
+        assert_eq!(rt; script.rows(), due.rows(), "{place}");
     }
     Ok(())
 }

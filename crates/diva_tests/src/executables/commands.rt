@@ -137,8 +137,28 @@ const THREE_TAPE: &str = "\
 
 ";
 
+/// What is written of the three instructions where each bit of the first claim is flipped in turn.
+const THREE_CAMPAIGN: &str = "\
+runs 256
+same 256
+flushed 256
+silent 0
+end halt 0
+count 3
+output 0
+x0 00000000 x1 00000005 x2 00000000 x3 00000000
+x4 00000000 x5 00000000 x6 00000000 x7 00000000
+x8 00000000 x9 00000000 x10 00000000 x11 00000000
+x12 00000000 x13 00000000 x14 00000000 x15 00000000
+x16 00000000 x17 0000005d x18 00000000 x19 00000000
+x20 00000000 x21 00000000 x22 00000000 x23 00000000
+x24 00000000 x25 00000000 x26 00000000 x27 00000000
+x28 00000000 x29 00000000 x30 00000000 x31 00000000
+pc 0001005c
+";
+
 /// Command lines over the three instructions, and what they write.
-static THREE_TEXTS: [(&str, &str); 5] = [
+static THREE_TEXTS: [(&str, &str); 6] = [
     (
         "dis a.elf",
         "\
@@ -147,6 +167,7 @@ static THREE_TEXTS: [(&str, &str); 5] = [
 0001005c 00000073 ecall
 ",
     ),
+    ("campaign a.elf 1", THREE_CAMPAIGN),
     ("tape a.elf --core lockstep", THREE_TAPE),
     ("tape a.elf --core lockstep --room 64", THREE_TAPE),
     ("debug a.elf a.commands --core scalar", REPLIES),
@@ -154,7 +175,7 @@ static THREE_TEXTS: [(&str, &str); 5] = [
 ];
 
 #[test]
-fn listings_tapes_and_replies(rt: HostRuntime) -> Result<(), Fail> {
+fn listings_campaigns_tapes_and_replies(rt: HostRuntime) -> Result<(), Fail> {
     for &(line, text) in &THREE_TEXTS {
         let answer = run_program(rt.alloc(), &mut Flipped, line, &THREE)?;
         assert_eq!(rt; answer.status, 0, "{line}");
@@ -201,7 +222,7 @@ fn images_of_executables(rt: HostRuntime) -> Result<(), Fail> {
 }
 
 /// Words that are not a valid command line.
-static MISUSED: [&str; 11] = [
+static MISUSED: [&str; 12] = [
     "run a.elf --room 2",
     "run a.elf --room 16777216",
     "tape a.elf --room 2",
@@ -213,6 +234,7 @@ static MISUSED: [&str; 11] = [
     "dis a.elf --room 4",
     "asm a.commands --room 4",
     "soak 1 1 --room 4",
+    "campaign a.elf 1 --room 4",
 ];
 
 #[test]

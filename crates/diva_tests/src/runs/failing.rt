@@ -1,4 +1,5 @@
 // The order of loads and of puts, and what follows where each of them in turn fails.
+use super::campaigns::FIVE_CAMPAIGN;
 use super::harts::PAIR_TEXT;
 use super::noting::Load;
 use super::refusals::USAGE;
@@ -17,7 +18,7 @@ use std::process::Abort;
 use std::test::Fail;
 
 /// Command lines, and the kinds of the files that they load, in order.
-static LOADS: [(&str, &[What]); 13] = [
+static LOADS: [(&str, &[What]); 14] = [
     ("run a.diva", &[What::Image]),
     ("run a.diva --script a.script", &[What::Image, What::Script]),
     (
@@ -43,6 +44,7 @@ static LOADS: [(&str, &[What]); 13] = [
     ("dis a.diva", &[What::Image]),
     ("migrate a.diva", &[What::Image]),
     ("soak 1 1", &[]),
+    ("campaign a.diva 1", &[What::Image]),
 ];
 
 /// Each file is loaded once, in order, and no other.
@@ -107,9 +109,10 @@ fn stops_at(alloc: Global, call: u64, what: What) -> Result<[(Outside, u8, Strin
 }
 
 /// Command lines, with the status and the text that are due where no put fails.
-static TEXTS: [(&str, u8, &str); 7] = [
+static TEXTS: [(&str, u8, &str); 8] = [
     ("run a.diva --core lockstep", 0, FIVE_TEXT),
     ("duo a.diva --core lockstep", 0, PAIR_TEXT),
+    ("campaign a.diva 1", 0, FIVE_CAMPAIGN),
     ("debug a.diva a.commands --core scalar", 0, STEPS_TEXT),
     ("dis a.diva", 0, FIVE_LISTING),
     ("run", 2, USAGE),

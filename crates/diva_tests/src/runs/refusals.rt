@@ -6,11 +6,11 @@ use std::test::Fail;
 
 /// What is written where the words are not a valid command line.
 pub(crate) const USAGE: &str = "\
-usage: diva run|tape|duo IMAGE, debug IMAGE COMMANDS, asm SRC, dis|migrate IMAGE, soak SEED LENGTH
+usage: diva run|tape|duo IMAGE, debug IMAGE COMMANDS, asm SRC, dis|migrate IMAGE, soak SEED LENGTH, campaign IMAGE LAST
 ";
 
 /// Words that are not a valid command line.
-static MISUSED: [&str; 33] = [
+static MISUSED: [&str; 41] = [
     "",
     "run",
     "run a.diva --width 5",
@@ -44,6 +44,14 @@ static MISUSED: [&str; 33] = [
     "soak 1 1 1",
     "soak 1 1 --core own",
     "soak 1 1 --cycles 9",
+    "campaign",
+    "campaign a.diva",
+    "campaign a.diva 0",
+    "campaign a.diva 33",
+    "campaign a.diva 1 1",
+    "campaign a.diva 1 --cycles 0",
+    "campaign a.diva 1 --cycles 100001",
+    "campaign a.diva 1 --core lockstep",
 ];
 
 /// No file is loaded.
@@ -59,7 +67,7 @@ fn lines_that_are_misused(rt: HostRuntime) -> Result<(), Fail> {
 
 /// Command lines that name files that are not there, with their statuses and texts. A name may be any word: the last four are
 /// odd ones.
-static NOT_RUN: [(&str, u8, &str); 14] = [
+static NOT_RUN: [(&str, u8, &str); 16] = [
     ("run b.diva", 8, "unreadable image\n"),
     ("run a.diva --script b.script", 8, "unreadable script\n"),
     ("run b.diva --script b.script", 8, "unreadable image\n"),
@@ -82,6 +90,8 @@ static NOT_RUN: [(&str, u8, &str); 14] = [
     ("tape b.diva", 8, "unreadable image\n"),
     ("duo b.diva", 8, "unreadable image\n"),
     ("duo a.script", 5, "refused image 1 at 0\n"),
+    ("campaign b.diva 1", 8, "unreadable image\n"),
+    ("campaign a.script 1", 5, "refused image 1 at 0\n"),
     ("run ''", 8, "unreadable image\n"),
     ("run -", 8, "unreadable image\n"),
     ("run -- -x", 8, "unreadable image\n"),

@@ -88,7 +88,11 @@ static SESSIONS: [Session; 8] = [
 ];
 
 /// An image and commands.
-fn with_commands(alloc: Global, program: Program, commands: &str) -> Result<Outside, Fail> {
+pub(super) fn with_commands(
+    alloc: Global,
+    program: Program,
+    commands: &str,
+) -> Result<Outside, Fail> {
     Ok(Outside {
         commands: Vec::from_slice(alloc, commands.as_bytes())?,
         ..Outside::sound(alloc, image_file(alloc, program)?)

@@ -1,0 +1,145 @@
+// Campaigns: an image is run once as it is, and once with each flip.
+use super::compare_row;
+use super::tables::Row;
+use crate::cores::Counting;
+use crate::programs::{FIVE, LOOP, Program};
+use std::test::Fail;
+
+/// `ebreak`, which traps.
+const BREAK: Program = Program {
+    size: 64,
+    words: &[0x0010_0073],
+};
+
+/// `addi x17, x0, 1`, `addi x10, x0, 65`, `ecall`, which puts a byte, and the halt, whose status is 65.
+const PUTS: Program = Program {
+    size: 64,
+    words: &[
+        0x0010_0893,
+        0x0410_0513,
+        0x0000_0073,
+        0x05d0_0893,
+        0x0000_0073,
+    ],
+};
+
+/// What a campaign of `FIVE` writes of the first cycle, to the letter.
+pub(super) const FIVE_CAMPAIGN: &str = "\
+runs 256
+same 256
+flushed 256
+silent 0
+end halt 0
+count 3
+output 0
+x0 00000000 x1 00000005 x2 00000000 x3 00000000
+x4 00000000 x5 00000000 x6 00000000 x7 00000000
+x8 00000000 x9 00000000 x10 00000000 x11 00000000
+x12 00000000 x13 00000000 x14 00000000 x15 00000000
+x16 00000000 x17 0000005d x18 00000000 x19 00000000
+x20 00000000 x21 00000000 x22 00000000 x23 00000000
+x24 00000000 x25 00000000 x26 00000000 x27 00000000
+x28 00000000 x29 00000000 x30 00000000 x31 00000000
+pc 00000008
+";
+
+/// A campaign of `FIVE` over the first cycle: each flip is of its first claim, which is refused in cycle 7.
+const FIRST_CYCLE: Row = Row {
+    line: "campaign a.diva 1",
+    script: b"",
+    tape: b"",
+    program: FIVE,
+    status: 0,
+    counts: "runs 256\nsame 256\nflushed 256\nsilent 0\nend halt 0\ncount 3\noutput 0\n",
+    registers: &[(1, 5), (17, 0x5d)],
+    rest: "pc 00000008\n",
+};
+
+/// Campaigns with their statuses and texts.
+static ROWS: [Row; 11] = [
+    FIRST_CYCLE,
+    // While the first claim is pending, in the cycles 2 to 7, nothing is handed over that could be flipped.
+    Row {
+        line: "campaign a.diva 2",
+        counts: "runs 512\nsame 512\nflushed 256\nsilent 0\nend halt 0\ncount 3\noutput 0\n",
+        ..FIRST_CYCLE
+    },
+    // The three claims are of the cycles 1, 8 and 15, and the run ends in cycle 21.
+    Row {
+        line: "campaign a.diva 32 --cycles 100000",
+        counts: "runs 8192\nsame 8192\nflushed 768\nsilent 0\nend halt 0\ncount 3\noutput 0\n",
+        ..FIRST_CYCLE
+    },
+    // A flush costs 6 cycles, so those with one end in cycle 27, and not within 26.
+    Row {
+        line: "campaign a.diva 8 --cycles 27",
+        counts: "runs 2048\nsame 2048\nflushed 512\nsilent 0\nend halt 0\ncount 3\noutput 0\n",
+        ..FIRST_CYCLE
+    },
+    Row {
+        line: "campaign a.diva 8 --cycles 26",
+        counts: "runs 2048\nsame 1536\nflushed 512\nsilent 0\nend halt 0\ncount 3\noutput 0\n",
+        ..FIRST_CYCLE
+    },
+    Row {
+        line: "campaign --cycles 21 a.diva 2",
+        counts: "runs 512\nsame 256\nflushed 256\nsilent 0\nend halt 0\ncount 3\noutput 0\n",
+        ..FIRST_CYCLE
+    },
+    // In one cycle nothing is judged.
+    Row {
+        line: "campaign a.diva 1 --cycles 1",
+        status: 4,
+        counts: "runs 256\nsame 256\nflushed 0\nsilent 0\nend none\ncount 0\noutput 0\n",
+        registers: &[],
+        rest: "pc 00000000\n",
+        ..FIRST_CYCLE
+    },
+    // One commits in each 7 cycles; with a flush the first in cycle 13, and the 19th in cycle 139.
+    Row {
+        line: "campaign a.diva 2 --cycles 140",
+        program: LOOP,
+        status: 4,
+        counts: "runs 512\nsame 256\nflushed 256\nsilent 0\nend none\ncount 20\noutput 0\n",
+        registers: &[],
+        rest: "pc 00000000\n",
+        ..FIRST_CYCLE
+    },
+    // The first run has counted 2 in cycle 14, and the others have in cycle 20.
+    Row {
+        line: "campaign a.diva 1 --cycles 14",
+        program: LOOP,
+        status: 4,
+        counts: "runs 256\nsame 0\nflushed 256\nsilent 0\nend none\ncount 2\noutput 0\n",
+        registers: &[],
+        rest: "pc 00000000\n",
+        ..FIRST_CYCLE
+    },
+    Row {
+        program: BREAK,
+        status: 3,
+        counts: "runs 256\nsame 256\nflushed 256\nsilent 0\nend trap 3\ncount 1\noutput 0\n",
+        registers: &[],
+        rest: "pc 00000000\n",
+        ..FIRST_CYCLE
+    },
+    Row {
+        program: PUTS,
+        counts: "\
+            runs 256\nsame 256\nflushed 256\nsilent 0\nend halt 65\ncount 5\noutput 1\nout 41\n",
+        registers: &[(10, 0x41), (17, 0x5d)],
+        rest: "pc 00000010\n",
+        ..FIRST_CYCLE
+    },
+];
+
+/// The program's own core is not asked.
+#[test]
+fn images_with_flips(rt: HostRuntime) -> Result<(), Fail> {
+    for row in &ROWS {
+        let mut core = Counting { calls: 0 };
+        compare_row(&rt, rt.alloc(), &mut core, row)?;
+        assert_eq!(rt; core.calls, 0, "{}", row.line);
+    }
+    Ok(())
+}
