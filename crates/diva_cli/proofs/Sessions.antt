@@ -4,7 +4,7 @@ use Rattle.diva_isa.specs.State.{State}
 use Rattle.diva_isa.specs.declared.record.Record.{Record}
 use Rattle.diva_core.specs.Cycle.{cycle_of, run_of}
 use Rattle.diva_core.specs.History.{Meaning, FollowRule, IsHistory, lists_of}
-use Rattle.diva_core.specs.Headline.{AddsRows, AreCommitted}
+use Rattle.diva_core.specs.Headline.{AddsRows, AreCommitted, HasPace, KeepsPace}
 use Rattle.diva_core.specs.Legs.{AreLegs, EachPart, Handed, Leg, OfLists, Part, TakenBack, Turned, WentBack, core_behind, handed_in, part_of, run_parts}
 use Rattle.diva_core.specs.Machine.{IsConfig, IsMachine}
 use Rattle.diva_core.specs.Right.{AreRight}
@@ -13,11 +13,12 @@ use Rattle.diva_core.specs.Told.{Told, told_of}
 use Rattle.diva_core.specs.Undone.{undone_all}
 use Rattle.diva_core.proofs.Adding.{run-adds}
 use Rattle.diva_core.proofs.Keeping.{stays}
-use Rattle.diva_core.proofs.Legging.{AreLegs-rule, AreLegs-run, IsGood, each_part, each_then, parts_calm, undone_all_cycles, undone_all_stays}
+use Rattle.diva_core.proofs.Legging.{AreLegs-rule, AreLegs-run, IsGood, each_part, each_then, parts_calm, parts_stay, undone_all_cycles, undone_all_stays}
 use Rattle.diva_core.proofs.Listing.{new_calm}
 use Rattle.diva_core.proofs.Outcomes.{cycle-cycles}
 use Rattle.diva_core.proofs.Pacing.{are_committed}
-use Rattle.diva_core.proofs.Progressing.{run-stays}
+use Rattle.diva_core.proofs.Progressing.{has_pace, run-stays}
+use Rattle.diva_core.proofs.Reaching.{run-pace}
 use Rattle.diva_core.proofs.Starting.{new-machine}
 use Rattle.diva_faults.specs.declared.faulty.Faulty.{Faulty}
 use Rattle.diva_faults.specs.declared.rows.Row.{Row}
@@ -298,6 +299,8 @@ session_from_start gives setup cycles tape script start core last after ok zero 
       driven = d;
       committed = each_part AreCommitted are_committed first d.parts inv good;
       rows = each_part (λ m lists. AddsRows m lists (run_of m lists)) (λ m lists is. run-adds lists m is) first d.parts inv good;
+      keeps_pace = each_part (λ m lists. KeepsPace m (run_of m lists)) (λ m lists is. run-pace m lists is) first d.parts inv good;
+      paced = subst HasPace (sym d.ran) (has_pace (run_parts first d.parts) (parts_stay first d.parts inv good));
       calm = unflushed;
       unflushed = λ is none. unflushed (right_in_parts gives setup.core tape script first core d.parts last after (new_leads setup.config start ok zero) tt is none d.handed);
     }

@@ -7,7 +7,7 @@ use Rattle.diva_core.specs.Timed.{Timed, new_timed}
 use Rattle.diva_core.specs.Cycle.{run_of}
 use Rattle.diva_core.specs.History.{Meaning, FollowRule}
 use Rattle.diva_core.specs.Legs.{AreLegs, EachPart, Leg, OfLists, Part, handed_in, part_of, run_parts}
-use Rattle.diva_core.specs.Headline.{AddsRows, AreCommitted}
+use Rattle.diva_core.specs.Headline.{AddsRows, AreCommitted, HasPace, KeepsPace}
 use Rattle.diva_core.specs.Right.{AreRight}
 use Rattle.diva_faults.specs.declared.rows.Row.{Row}
 use Rattle.diva_faults.specs.Spoiled.{spoiled}
@@ -84,6 +84,10 @@ pub record IsSessionFrom {C : Type 0} (gives : Meaning C) (setup : Setup) (cycle
   pub committed : EachPart (OfLists AreCommitted) (new_timed setup.config start) driven.parts
   -- each row that a part added is that of a cycle in which a claim differed from the due record, or idle stood at the limit
   pub rows : EachPart (OfLists (λ m lists. AddsRows m lists (run_of m lists))) (new_timed setup.config start) driven.parts
+  -- until the end every W + 6 cycles of each part counted at least one instruction, W being the watchdog's limit
+  pub keeps_pace : EachPart (OfLists (λ m lists. KeepsPace m (run_of m lists))) (new_timed setup.config start) driven.parts
+  -- and so did every W + 6 cycles of the session, where nothing was taken back
+  pub paced : HasPace last
   -- where each list was right for its machine, nothing was flushed
   pub calm : EachPart (OfLists AreRight) (new_timed setup.config start) driven.parts → IsUnflushed last
   -- so it is under lockstep and under scalar where there is no script, or one without rows

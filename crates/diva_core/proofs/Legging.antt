@@ -93,6 +93,10 @@ part_stays : (m : Timed) (part : Part) → IsMachine m → IsGood m part → IsM
 part_stays m (Handed lists) inv good = run-stays m lists inv
 part_stays m (TakenBack undos) inv good = undone_all_stays m undos inv good
 
+pub parts_stay : (m : Timed) (parts : List Part) → IsMachine m → EachPart IsGood m parts → IsMachine (run_parts m parts)
+parts_stay m [] inv good = inv
+parts_stay m (part ∷ parts) inv good = parts_stay (run_part m part) parts (part_stays m part inv good.0) good.1
+
 -- what each run promises holds of the lists of each part
 of_lists : (this : Timed → List (List Record) → Type 0) → ((m : Timed) (lists : List (List Record)) → IsMachine m → this m lists)
     → (m : Timed) (part : Part) → IsMachine m → OfLists this m part
