@@ -1,5 +1,5 @@
 // The machine between cycles.
-ghost use Rattle.std.specs.Prelude.{◌≡◌, ◌⊎◌, ◌↔◌, ◌+◌, ◌-◌, ◌*◌, ◌<◌, ◌≤◌, ◌^◌, ◌∷◌, ◌++◌, ℕ, [], List, length, slice_get, None, Some, IsNone, IfOk, true, false};
+ghost use Rattle.std.specs.Prelude.{◌≡◌, ◌⊎◌, ◌↔◌, ◌+◌, ◌-◌, ◌*◌, ◌<◌, ◌≤◌, ◌^◌, ◌∷◌, ◌++◌, ℕ, [], List, length, map, slice_get, None, Some, IsNone, IfOk, true, false};
 ghost use Rattle.diva_isa.specs.State.{goes_on, GoesOn, output_limit};
 ghost use Rattle.diva_isa.specs.End.{end_of, end_number};
 ghost use Rattle.diva_isa.specs.Step.{steps};
@@ -26,6 +26,7 @@ use diva_core::{Claims, Config, Entry, FlushRow, Told, View};
 use diva_image::Image;
 use diva_isa::{End, Record, Undo};
 use diva_vote::Lane;
+use diva_watchdog::Recover;
 use std::alloc::{AllocError, Global};
 use std::marker::Model;
 
@@ -108,6 +109,16 @@ impl Machine {
         self.parts.arch.count()
     }
 
+    /// The cycle in which the instruction was started that runs solo; `None` exactly where none does.
+    pub fn solo(&self) -> Option<u64>
+        ensures { result ≡ self.now.timed.solo }
+    {
+        match self.parts.under.recover {
+            Recover::Running => None,
+            Recover::Solo(start) => Some(start),
+        }
+    }
+
     /// How many cycles have run.
     pub fn cycles(&self) -> u64
         ensures { result ≡ self.now.timed.cycles }
@@ -187,6 +198,14 @@ impl Machine {
         ensures machine { IsMachine self.now.timed }
     {
         self.parts.goes_on()
+    }
+
+    /// Recalls for a proof what is noted of the pending claims, each by its age. It does nothing.
+    pub fn recall(&self)
+        ensures waits { self.now.timed.pending ≡ map pending_claim_of self.now.entries }
+        ensures checked { AreChecked self.now.timed.arch self.now.timed.cycles self.now.entries }
+    {
+        let _ = self.parts.cycles;
     }
 
     /// Runs one cycle on what a core handed over. On an ended machine nothing changes but `last`,

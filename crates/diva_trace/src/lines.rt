@@ -58,7 +58,7 @@ pub fn flush_line(row: &FlushRow) -> Line
 }
 
 /// The field in which a claim differed, with what was claimed and what was due; or the watchdog's limit.
-fn push_cause(line: &mut Line, cause: &Cause)
+pub fn push_cause(line: &mut Line, cause: &Cause)
     requires { length line.old + 60 ≤ 128 }
     ensures bytes { line.new ≡ line.old ++ cause_text cause.now }
     ensures len { length line.new ≤ length line.old + 60 }
