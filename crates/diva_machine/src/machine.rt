@@ -205,7 +205,7 @@ impl Machine {
         ensures waits { self.now.timed.pending ≡ map pending_claim_of self.now.entries }
         ensures checked { AreChecked self.now.timed.arch self.now.timed.cycles self.now.entries }
     {
-        let _ = self.parts.cycles;
+        let _ = self.parts.goes_on();
     }
 
     /// Runs one cycle on what a core handed over. On an ended machine nothing changes but `last`,
