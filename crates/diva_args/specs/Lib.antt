@@ -2,6 +2,7 @@
 pub mod Command
 pub mod Fault
 pub mod Line
+pub mod Drawn
 pub mod Options
 pub mod Plain
 pub mod Values

@@ -41,6 +41,9 @@ pub enum Job {
     /// `campaign IMAGE LAST`: runs an image once as it is, and then once for each bit of each field of the claim of each
     /// cycle up to `LAST`, with that bit flipped; and counts what became of these runs.
     Campaign(CampaignOptions),
+    /// `log IMAGE` and `draw IMAGE` of the program that draws runs: runs an image, and shows what becomes of each claim in each
+    /// cycle.
+    Draw(DrawOptions),
 }
 
 /// What commands have in common that run an image: the image, the memory that follows what an executable loads, the core,
@@ -101,6 +104,24 @@ impl Model for RunOptions {
     ghost view = { λ r. record { setup = r.setup; cycles = r.cycles; trace = r.trace; dump = r.dump; liar = r.liar } };
 
     ghost invariant = { λ r. IsBudget r.cycles };
+}
+
+/// `log IMAGE` or `draw IMAGE`, with the options of `run` but `--trace` and `--dump`.
+#[derive(Debug, Drop)]
+pub struct DrawOptions {
+    /// The run.
+    pub run: RunOptions,
+    /// How it is drawn.
+    pub format: Format,
+}
+
+/// How a run is drawn.
+#[derive(Clone, Copy, Debug, PartialEq, Eq)]
+pub enum Format {
+    /// `log`: as a log for the Konata viewer.
+    Log,
+    /// `draw`: as a drawing in text.
+    Drawing,
 }
 
 /// `tape IMAGE` with its options.

@@ -3,7 +3,7 @@
 //! The commands, their words and their options stand in one table, in the code and in the definitions; `clap` reads
 //! the words by it. The rules on the values of options, such as the range of a number, are this crate's own.
 //!
-//! - `read`: `read_words`, from words to a job.
+//! - `read`: `read_words`, from words to a job. `drawn`: `read_pipeline_words`, the same for the program that draws runs.
 //! - `command`: the table of commands, and `clap`'s command of it.
 //! - `values`: the values of options as cores, numbers, parts of memory and places of voting lanes.
 //! - `job`: `Job` and its parts, whose types keep the ranges of the numbers. `campaign`: those of the command `campaign`.
@@ -13,6 +13,7 @@
 
 mod campaign;
 mod command;
+mod drawn;
 mod fault;
 mod file_name;
 mod job;
@@ -20,10 +21,11 @@ mod read;
 mod values;
 
 pub use campaign::{CampaignCycles, CampaignOptions, LastCycle};
+pub use drawn::read_pipeline_words;
 pub use fault::ArgsFault;
 pub use file_name::FileName;
 pub use job::{
-    CoreChoice, DebugOptions, DumpRange, DuoOptions, HartCore, Job, LanePlace, MigrateOptions,
-    RunOptions, Setup, SoakOptions, TapeOptions,
+    CoreChoice, DebugOptions, DrawOptions, DumpRange, DuoOptions, Format, HartCore, Job, LanePlace,
+    MigrateOptions, RunOptions, Setup, SoakOptions, TapeOptions,
 };
 pub use read::read_words;
