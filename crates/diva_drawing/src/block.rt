@@ -1,0 +1,58 @@
+// A text of some lines.
+ghost use Rattle.std.specs.Prelude.{◌≡◌, ◌≤◌, ◌<◌, ◌+◌, ◌++◌, length, []};
+ghost use Rattle.diva_outside.specs.Sink.{Puts};
+
+use arrayvec::ArrayVec;
+use diva_outside::{Line, Sink, SinkFailed};
+use std::marker::Model;
+
+/// The lines of a cycle, of at most 65,536 bytes, written one behind the other, and then put at once. What is appended has to fit.
+#[derive(Drop)]
+pub struct Block {
+    text: ArrayVec<u8, 65536>,
+}
+
+impl Model for Block {
+    ghost use Rattle.std.specs.Prelude.{List, ℕ, length, ◌≤◌};
+
+    ghost Value = { List ℕ };
+
+    ghost view = { λ block. block.text.items };
+
+    ghost invariant = { λ block. length block.text.items ≤ 65536 };
+}
+
+impl Block {
+    /// No line.
+    pub fn new() -> Self
+        ensures { result ≡ [] }
+    {
+        Block {
+            text: ArrayVec::new(),
+        }
+    }
+
+    /// Appends a line.
+    pub(crate) fn line(&mut self, line: &Line)
+        requires { length self.old + 128 ≤ 65536 }
+        ensures bytes { self.new ≡ self.old ++ line.now }
+        ensures len { length self.new ≤ length self.old + 128 }
+    {
+        self.text.try_extend_from_slice(line.bytes()).unwrap();
+    }
+
+    /// Drops all lines.
+    pub(crate) fn clear(&mut self)
+        ensures { self.new ≡ [] }
+    {
+        self.text.clear();
+    }
+
+    /// Puts all lines at once. Where that fails, a prefix of them was appended.
+    pub(crate) fn put<S: Sink>(&self, sink: &mut S) -> Result<(), SinkFailed>
+        ensures { Puts self.now
+            (S.contents sink.old) (S.contents sink.new) (S.faults sink.old) (S.faults sink.new) result }
+    {
+        sink.put(self.text.as_slice())
+    }
+}

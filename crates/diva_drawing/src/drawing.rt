@@ -1,0 +1,325 @@
+// A run as a drawing in text.
+ghost use Rattle.std.specs.Prelude.{◌≡◌, ◌≤◌, length, map};
+ghost use Rattle.diva_outside.specs.Sink.{Puts};
+ghost use Rattle.diva_drawing.specs.Drawing.{cell, claim_row, committed_claims, drawn_cycle, drawn_end, dropped_claim_rows, dropped_claims, ended_solo, first_drop, last_letter, letter, listed_in, name_text, number_cell, padded, row_text, rows_text, scale_text, solo_rows};
+
+use crate::rows::{Ending, Row, committed_rows, dropped_rows};
+use crate::seen::{Alone, Seen, SeenClaim};
+use diva_asm::list_line;
+use diva_core::Cause;
+use diva_isa::Record;
+use diva_outside::{Line, LineList, Sink, SinkFailed, put_line, put_lines};
+
+/// As many blanks as the name of a row has bytes.
+const BLANKS: &[u8; 26] = b"                          ";
+
+/// Puts the rows that end in a cycle, before and behind which this was seen of a machine. Where a put fails, a prefix of them was
+/// appended.
+pub(crate) fn put_drawn<S: Sink>(
+    before: &Seen,
+    after: &Seen,
+    sink: &mut S,
+) -> Result<(), SinkFailed>
+    ensures { Puts (drawn_cycle before.now after.now)
+        (S.contents sink.old) (S.contents sink.new) (S.faults sink.old) (S.faults sink.new) result }
+{
+    let last = after.cycles();
+    let solo = ended_solo(before, after);
+    let commits = committed_claims(before, after);
+    let drops = dropped_claims(before, after);
+    let first = first_drop(before, after);
+    put_solo(solo, last, Ending::Commits, sink)?;
+    put_claims(commits, last, Ending::Commits, sink)?;
+    put_dropped(drops, last, first, sink)
+}
+
+/// The instruction that ran solo and committed in a cycle, if one did.
+fn ended_solo(before: &Seen, after: &Seen) -> Option<Alone>
+    ensures { result ≡ ended_solo before.now after.now }
+{
+    if committed_rows(before, after) == 0 {
+        None
+    } else {
+        before.solo()
+    }
+}
+
+/// The claims that committed in a cycle.
+#[tactic(auto, using(std::proofs::lemmas::List::take_min))]
+fn committed_claims<'a>(before: &'a Seen, after: &Seen) -> &'a [SeenClaim]
+    ensures { result.now ≡ committed_claims before.now after.now }
+{
+    let claims = before.claims();
+    let committed = committed_rows(before, after) as usize;
+    &claims[..committed.min(claims.len())]
+}
+
+/// The claims that were dropped in a cycle.
+#[tactic(auto, using(std::proofs::lemmas::List::take_min))]
+fn dropped_claims<'a>(before: &'a Seen, after: &Seen) -> &'a [SeenClaim]
+    ensures { result.now ≡ dropped_claims before.now after.now }
+{
+    let committed = committed_rows(before, after) as usize;
+    let others = before.claims().get(committed..).unwrap_or(&[]);
+    let dropped = dropped_rows(before, after) as usize;
+    &others[..dropped.min(others.len())]
+}
+
+/// Puts the rows that are open at last, and the scale. Where a put fails, a prefix of them was appended.
+pub(crate) fn put_stopped<S: Sink>(last: &Seen, sink: &mut S) -> Result<(), SinkFailed>
+    ensures { Puts (drawn_end last.now)
+        (S.contents sink.old) (S.contents sink.new) (S.faults sink.old) (S.faults sink.new) result }
+{
+    let cycles = last.cycles();
+    put_solo(last.solo(), cycles, Ending::Stays, sink)?;
+    put_claims(last.claims(), cycles, Ending::Stays, sink)?;
+    put_scale(cycles, sink)
+}
+
+/// How the first of the claims that are dropped in a cycle ends: it flushes, where it is the one that differed.
+fn first_drop(before: &Seen, after: &Seen) -> Ending
+    ensures { result ≡ first_drop before.now after.now }
+{
+    let has_differed = after
+        .newest
+        .is_some_and(|flush| matches!(flush.cause, Cause::Differs(_)));
+    if after.flushes != before.flushes && has_differed {
+        Ending::Flushes
+    } else {
+        Ending::Drops
+    }
+}
+
+/// Puts the row of an instruction that ran solo, if one did.
+fn put_solo<S: Sink>(
+    solo: Option<Alone>,
+    last: u64,
+    ending: Ending,
+    sink: &mut S,
+) -> Result<(), SinkFailed>
+    ensures { Puts (rows_text (solo_rows last ending solo))
+        (S.contents sink.old) (S.contents sink.new) (S.faults sink.old) (S.faults sink.new) result }
+{
+    match solo {
+        Some(solo) => put_row(
+            &Row {
+                claim: solo.due,
+                since: solo.since,
+                solo: true,
+                last,
+                ending,
+            },
+            sink,
+        ),
+        None => Ok(()),
+    }
+}
+
+/// Puts the rows of some claims that end alike.
+fn put_claims<S: Sink>(
+    claims: &[SeenClaim],
+    last: u64,
+    ending: Ending,
+    sink: &mut S,
+) -> Result<(), SinkFailed>
+    ensures { Puts (rows_text (map (claim_row last ending) claims.now))
+        (S.contents sink.old) (S.contents sink.new) (S.faults sink.old) (S.faults sink.new) result }
+{
+    for claim in claims {
+        put_row(&claim_row(claim, last, ending), sink)?;
+    }
+    Ok(())
+}
+
+/// Puts the rows of claims that are dropped, the first of which ends so.
+fn put_dropped<S: Sink>(
+    claims: &[SeenClaim],
+    last: u64,
+    first: Ending,
+    sink: &mut S,
+) -> Result<(), SinkFailed>
+    ensures { Puts (rows_text (dropped_claim_rows last first claims.now))
+        (S.contents sink.old) (S.contents sink.new) (S.faults sink.old) (S.faults sink.new) result }
+{
+    match claims {
+        [] => Ok(()),
+        [claim, others @ ..] => {
+            put_row(&claim_row(claim, last, first), sink)?;
+            put_claims(others, last, Ending::Drops, sink)
+        }
+    }
+}
+
+/// The row of a claim.
+fn claim_row(claim: &SeenClaim, last: u64, ending: Ending) -> Row
+    ensures { result ≡ claim_row last ending claim.now }
+{
+    Row {
+        claim: claim.claim,
+        since: claim.cycle,
+        solo: false,
+        last,
+        ending,
+    }
+}
+
+/// Puts a row: the listed instruction, and its cells.
+#[tactic(auto, unfolding(crate::specs::Drawing::row_text))]
+fn put_row<S: Sink>(row: &Row, sink: &mut S) -> Result<(), SinkFailed>
+    ensures { Puts (row_text row.now)
+        (S.contents sink.old) (S.contents sink.new) (S.faults sink.old) (S.faults sink.new) result }
+{
+    put_line(&name_line(&row.claim), sink)?;
+    let cells = Cells {
+        row,
+        last: row.last,
+    };
+    put_lines(&cells, sink)?;
+    sink.put(b"\n")
+}
+
+/// The name of a row: what the listing has of the word, without its address and its digits.
+fn name_line(record: &Record) -> Line
+    ensures { result ≡ name_text record.now }
+{
+    let listed = list_line(record.pc, record.word);
+    padded(listed_text(&listed))
+}
+
+/// What a line of the listing has behind the address and the digits, without its line feed.
+fn listed_text(line: &Line) -> &[u8]
+    ensures text { result.now ≡ listed_in line.now }
+    ensures short { length result.now ≤ 110 }
+{
+    let text = line.bytes();
+    let text = &text[..text.len().saturating_sub(1)];
+    text.get(18..).unwrap_or(b"")
+}
+
+/// A text with blanks behind it, as wide as the name of a row.
+#[tactic(auto, unfolding(crate::specs::Drawing::blanks))]
+fn padded(text: &[u8]) -> Line
+    requires { length text.now ≤ 110 }
+    ensures { result ≡ padded text.now }
+{
+    let mut line = Line::new();
+    line.text(text);
+    line.text(BLANKS.get(text.len()..).unwrap_or(b""));
+    line
+}
+
+/// The cells of a row, up to its last one.
+#[derive(Drop)]
+struct Cells<'a> {
+    row: &'a Row,
+    /// The row's last cycle.
+    last: u64,
+    ghost same: { last ≡ row.now.last },
+}
+
+impl LineList for Cells<'_> {
+    ghost use Rattle.diva_drawing.specs.Drawing.{cells};
+
+    ghost lines = { λ s. cells s.row.now };
+
+    #[tactic(auto, using(diva_trace::proofs::Numbered::length_numbered))]
+    fn count(&self) -> usize {
+        self.last as usize
+    }
+
+    #[tactic(auto, using(diva_trace::proofs::Numbered::length_numbered, diva_trace::proofs::Numbered::line_numbered))]
+    fn line(&self, at: usize) -> Line {
+        cell(self.row, at as u64 + 1)
+    }
+}
+
+/// The cell of a row in a cycle.
+fn cell(row: &Row, cycle: u64) -> Line
+    ensures { result ≡ cell row.now cycle }
+{
+    let mut line = Line::new();
+    if cycle < row.since {
+        line.text(b"   ");
+        return line;
+    }
+    let stays = letter(row.solo, cycle - row.since);
+    line.text(b"  ");
+    line.push(if cycle == row.last {
+        last_letter(stays, row.ending)
+    } else {
+        stays
+    });
+    line
+}
+
+/// The letter of a row at an age.
+fn letter(solo: bool, age: u64) -> u8
+    ensures { result ≡ letter solo age }
+{
+    match age {
+        0 if solo => b'S',
+        0 => b'A',
+        1 => b'F',
+        2 => b'D',
+        3 => b'O',
+        4 => b'X',
+        5 => b'M',
+        _ => b'.',
+    }
+}
+
+/// The letter of a row in its last cycle.
+fn last_letter(stays: u8, ending: Ending) -> u8
+    ensures { result ≡ last_letter stays ending }
+{
+    match ending {
+        Ending::Commits => b'C',
+        Ending::Flushes => b'!',
+        Ending::Drops => b'-',
+        Ending::Stays => stays,
+    }
+}
+
+/// Puts the scale: the last two digits of each cycle's number.
+#[tactic(auto, unfolding(crate::specs::Drawing::scale_text))]
+fn put_scale<S: Sink>(last: u64, sink: &mut S) -> Result<(), SinkFailed>
+    ensures { Puts (scale_text last)
+        (S.contents sink.old) (S.contents sink.new) (S.faults sink.old) (S.faults sink.new) result }
+{
+    put_line(&padded(b"cycle"), sink)?;
+    put_lines(&Scale { last }, sink)?;
+    sink.put(b"\n")
+}
+
+/// The numbers of the cycles up to a last one.
+#[derive(Drop)]
+struct Scale {
+    last: u64,
+}
+
+impl LineList for Scale {
+    ghost use Rattle.diva_drawing.specs.Drawing.{scale};
+
+    ghost lines = { λ s. scale s.last };
+
+    #[tactic(auto, using(diva_trace::proofs::Numbered::length_numbered))]
+    fn count(&self) -> usize {
+        self.last as usize
+    }
+
+    #[tactic(auto, using(diva_trace::proofs::Numbered::length_numbered, diva_trace::proofs::Numbered::line_numbered))]
+    fn line(&self, at: usize) -> Line {
+        number_cell(at as u64 + 1)
+    }
+}
+
+/// The last two digits of a cycle's number.
+fn number_cell(cycle: u64) -> Line
+    ensures { result ≡ number_cell cycle }
+{
+    let digits = cycle % 100;
+    let mut line = Line::new();
+    line.text(if digits < 10 { b"  " } else { b" " });
+    line.decimal(digits);
+    line
+}

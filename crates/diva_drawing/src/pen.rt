@@ -1,0 +1,120 @@
+// What draws a run, cycle by cycle.
+ghost use Rattle.std.specs.Prelude.{◌≡◌, ◌≤◌, ◌<◌, ◌+◌, ◌++◌, ◌^◌};
+ghost use Rattle.diva_outside.specs.Sink.{Puts};
+ghost use Rattle.diva_drawing.specs.Drawing.{drawn_cycle, drawn_end};
+ghost use Rattle.diva_drawing.specs.Log.{ended_text, log_cycle};
+ghost use Rattle.diva_drawing.specs.Rows.{begun_rows};
+ghost use Rattle.diva_drawing.specs.Seen.{IsSeen};
+
+use crate::block::Block;
+use crate::drawing::{put_drawn, put_stopped};
+use crate::log::{push_open, put_ended};
+use crate::rows::{begun_rows, open_rows};
+use crate::seen::Seen;
+use diva_core::Claims;
+use diva_machine::Machine;
+use diva_outside::{Sink, SinkFailed};
+use std::marker::Model;
+
+/// What draws a run: it is shown the machine behind each cycle, and keeps what it saw of it last. It takes no memory.
+#[derive(Drop)]
+pub struct Pen {
+    /// How many rows have begun.
+    rows: u64,
+    /// What was seen of the machine last.
+    seen: Seen,
+    /// The lines of a cycle, before they are put.
+    block: Block,
+}
+
+impl Model for Pen {
+    ghost use Rattle.diva_drawing.specs.Rows.{Pen};
+
+    ghost Value = { Pen };
+
+    ghost view = { λ p. record { rows = p.rows; seen = p.seen } };
+}
+
+impl Pen {
+    /// A pen that has drawn nothing yet, and sees a machine before its first cycle.
+    pub fn new(m: &Machine) -> Pen
+        ensures rows { result.rows ≡ 0 }
+        ensures seen { IsSeen m.now.timed result.seen }
+    {
+        Pen {
+            rows: 0,
+            seen: Seen::of(m),
+            block: Block::new(),
+        }
+    }
+
+    /// Puts the lines of the log for a cycle, in which the machine was handed this list; it is shown as the cycle has left it. Where
+    /// a put fails, a prefix of the lines was appended.
+    pub fn log_cycle<S: Sink>(
+        &mut self,
+        m: &Machine,
+        handed: &Claims,
+        sink: &mut S,
+    ) -> Result<(), SinkFailed>
+        requires rows { self.old.rows < 2 ^ 62 }
+        requires count { m.now.timed.count ≤ 2 ^ 62 }
+        ensures seen { IsSeen m.now.timed self.new.seen }
+        ensures rows { self.new.rows ≡ self.old.rows + begun_rows self.old.seen self.new.seen }
+        ensures few { self.new.rows ≤ self.old.rows + 65 }
+        ensures put { Puts (log_cycle self.old.rows self.old.seen self.new.seen handed.now)
+            (S.contents sink.old) (S.contents sink.new) (S.faults sink.old) (S.faults sink.new) result }
+    {
+        let after = Seen::of(m);
+        let rows = self.rows + begun_rows(&self.seen, &after);
+        let oldest = rows.saturating_sub(open_rows(&after));
+        self.block.clear();
+        push_open(&mut self.block, oldest, &self.seen, &after, handed);
+        let first = self.rows.saturating_sub(open_rows(&self.seen));
+        let put = put_logged(&self.block, first, &self.seen, &after, sink);
+        self.rows = rows;
+        self.seen = after;
+        put
+    }
+
+    /// Puts the rows of the drawing that end in a cycle; the machine is shown as the cycle has left it. Where a put fails, a prefix
+    /// of them was appended.
+    pub fn draw_cycle<S: Sink>(&mut self, m: &Machine, sink: &mut S) -> Result<(), SinkFailed>
+        requires rows { self.old.rows < 2 ^ 62 }
+        ensures seen { IsSeen m.now.timed self.new.seen }
+        ensures rows { self.new.rows ≡ self.old.rows + begun_rows self.old.seen self.new.seen }
+        ensures few { self.new.rows ≤ self.old.rows + 65 }
+        ensures put { Puts (drawn_cycle self.old.seen self.new.seen)
+            (S.contents sink.old) (S.contents sink.new) (S.faults sink.old) (S.faults sink.new) result }
+    {
+        let after = Seen::of(m);
+        let put = put_drawn(&self.seen, &after, sink);
+        self.rows += begun_rows(&self.seen, &after);
+        self.seen = after;
+        put
+    }
+
+    /// Puts the rows of the drawing that are open at last, and the scale below them. Where a put fails, a prefix of them was appended.
+    pub fn end_drawing<S: Sink>(&self, sink: &mut S) -> Result<(), SinkFailed>
+        ensures { Puts (drawn_end self.now.seen)
+            (S.contents sink.old) (S.contents sink.new) (S.faults sink.old) (S.faults sink.new) result }
+    {
+        put_stopped(&self.seen, sink)
+    }
+}
+
+/// Puts the lines of what is open behind a cycle, which the block has, and then those of the rows that ended in it.
+fn put_logged<S: Sink>(
+    block: &Block,
+    first: u64,
+    before: &Seen,
+    after: &Seen,
+    sink: &mut S,
+) -> Result<(), SinkFailed>
+    requires row { first < 2 ^ 62 }
+    requires count { after.now.count ≤ 2 ^ 62 }
+    ensures { Puts (block.now ++ ended_text first before.now after.now)
+        (S.contents sink.old) (S.contents sink.new) (S.faults sink.old) (S.faults sink.new) result }
+{
+    block.put(sink)?;
+    put_ended(first, before, after, sink)
+}
