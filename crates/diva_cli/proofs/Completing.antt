@@ -12,7 +12,7 @@ use Rattle.diva_isa.specs.declared.end.End.TheVariants.{GoesOn, Halt, Trap}
 use Rattle.diva_core.specs.History.{Meaning}
 use Rattle.diva_core.specs.Timed.{Timed}
 use Rattle.diva_args.specs.declared.job.Job.{Job}
-use Rattle.diva_args.specs.declared.job.Job.TheVariants.{Run, Tape, Duo as Harts, Debug, Asm, Dis, Migrate, Soak, Campaign}
+use Rattle.diva_args.specs.declared.job.Job.TheVariants.{Run, Tape, Duo as Harts, Debug, Asm, Dis, Migrate, Soak, Campaign, Draw}
 use Rattle.diva_cli.specs.declared.stop.Failure.{Failure}
 use Rattle.diva_cli.specs.declared.stop.Failure.TheVariants.{Cut, Memory}
 use Rattle.diva_cli.specs.Asked.{Asked}
@@ -72,6 +72,14 @@ can_end gives (Migrate options) bytes core status text h = h.alone.whole
 can_end gives (Soak options) bytes core status text h = h.whole
 can_end gives (Campaign options) bytes core status text h =
     ends_done (first_run options.cycles (campaign_start bytes)) options.cycles status h.status
+can_end gives (Draw options) bytes core status text h =
+    elim h.written [
+      | inl w ↦ ends_done h.last options.run.cycles status w.says
+      | inr p ↦ elim p.cut [
+        | inl none ↦ absurd (let e = none.1 in cc)
+        | inr b ↦ absurd (let e = b.holds in cc)
+      ]
+    ]
 
 -- ---- a file that is held is no cause to stop
 

@@ -23,7 +23,7 @@ use Rattle.diva_cli.specs.Tasks.{CycleText, cycles_text, IsWritten, Performs}
 
 -- ---- one cycle more
 
-lists_more : {C : Type 0} (history : List (List Record × C)) (list : List Record) (after : C)
+pub lists_more : {C : Type 0} (history : List (List Record × C)) (list : List Record) (after : C)
     → lists_of (history ++ (list, after) ∷ []) ≡ lists_of history ++ list ∷ []
 lists_more [] list after = refl
 lists_more (turn ∷ history) list after = ap (λ (lists : List (List Record)). turn.0 ∷ lists) (lists_more history list after)

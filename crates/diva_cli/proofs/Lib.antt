@@ -1,6 +1,7 @@
 -- The lemmas of this crate.
 pub mod Handing
 pub mod Cycling
+pub mod DrawRunning
 pub mod Pieces
 pub mod Running
 pub mod Replaying

@@ -101,10 +101,10 @@ module _ (bytes_of : List ℕ → Option (List ℕ)) where
 
 -- ---- what is answered
 
-module _ {C S : Type 0} (gives : Meaning C) (command : Option Job) (bytes_of : List ℕ → Option (List ℕ)) (files : FileFaults) (core : Change C) (sink : SinkChange S)
+module _ {C S : Type 0} (gives : Meaning C) (command : Option Job) (usage : List ℕ) (bytes_of : List ℕ → Option (List ℕ)) (files : FileFaults) (core : Change C) (sink : SinkChange S)
     (job : Job) (named : command ≡ Some job) where
   abbrev pub asked : Asked
-  asked = record { command = command; contents = Some bytes_of }
+  asked = record { command = command; usage = usage; contents = Some bytes_of }
 
   first_of : (this : Wanted → List Wanted → Type 0) (other : Job) → command ≡ Some other → StopsAt (Some bytes_of) this (wanted job) → StopsAt (Some bytes_of) this (wanted other)
   first_of this other e s = subst (λ (j : Job). StopsAt (Some bytes_of) this (wanted j)) (some_same command job other named e) s
@@ -161,22 +161,22 @@ nothing-stops [] s = s
 nothing-stops (w ∷ ws) (inl here) = here
 nothing-stops (w ∷ ws) (inr later) = nothing-stops ws later.1
 
-module _ {C S : Type 0} (gives : Meaning C) (command : Option Job) (contents : Contents) (files : FileFaults) (core : Change C) (sink : SinkChange S)
-    (result : Result ℕ Failure) (answers : Answers gives (record { command = command; contents = contents }) files core sink result) where
-  pub refuses : (text : List ℕ) → MustRefuse (record { command = command; contents = contents }) text → ((status_of result ≡ 5) × Takes sink text) ⊎ IsHindered (status_of result)
+module _ {C S : Type 0} (gives : Meaning C) (command : Option Job) (usage : List ℕ) (contents : Contents) (files : FileFaults) (core : Change C) (sink : SinkChange S)
+    (result : Result ℕ Failure) (answers : Answers gives (record { command = command; usage = usage; contents = contents }) files core sink result) where
+  pub refuses : (text : List ℕ) → MustRefuse (record { command = command; usage = usage; contents = contents }) text → ((status_of result ≡ 5) × Takes sink text) ⊎ IsHindered (status_of result)
   refuses text must = go contents must.known must.refused.first answers
     where
       go : (told : Contents) → IsSome told → StopsAt told (λ w behind. IsRefused told text w) (wanted must.refused.job)
-          → Answers gives (record { command = command; contents = told }) files core sink result → ((status_of result ≡ 5) × Takes sink text) ⊎ IsHindered (status_of result)
+          → Answers gives (record { command = command; usage = usage; contents = told }) files core sink result → ((status_of result ≡ 5) × Takes sink text) ⊎ IsHindered (status_of result)
       go None known first a = absurd (true≢false (sym known))
       go (Some bytes_of) known first a =
-          refuses_known gives command bytes_of files core sink must.refused.job must.refused.named text first result a
+          refuses_known gives command usage bytes_of files core sink must.refused.job must.refused.named text first result a
 
-  pub misses : HasMissing (record { command = command; contents = contents }) → IsHindered (status_of result)
+  pub misses : HasMissing (record { command = command; usage = usage; contents = contents }) → IsHindered (status_of result)
   misses missing = go contents missing.first answers
     where
       go : (told : Contents) → StopsAt told (λ w behind. IsMissing told w.name) (wanted missing.job)
-          → Answers gives (record { command = command; contents = told }) files core sink result → IsHindered (status_of result)
+          → Answers gives (record { command = command; usage = usage; contents = told }) files core sink result → IsHindered (status_of result)
       go None first a = absurd (nothing-stops (wanted missing.job) first)
       go (Some bytes_of) first a =
-          misses_known gives command bytes_of files core sink missing.job missing.named first result a
+          misses_known gives command usage bytes_of files core sink missing.job missing.named first result a

@@ -7,7 +7,6 @@ use Rattle.diva_core.specs.History.{Meaning}
 use Rattle.diva_args.specs.declared.job.Job.{Job}
 use Rattle.diva_cli.specs.Asked.{Asked}
 use Rattle.diva_cli.specs.Changes.{Change, FileFaults}
-use Rattle.diva_cli.specs.Lines.{usage_line}
 use Rattle.diva_cli.specs.Wanted.{Wanted, FileBytes, AreSound, wanted}
 use Rattle.diva_cli.specs.Stops.{StopsAt, IsUnread, StopsLoading}
 use Rattle.diva_cli.specs.Texts.{HasText}
@@ -15,7 +14,7 @@ use Rattle.diva_cli.specs.Texts.{HasText}
 -- the words are not a valid command line, and no file's fault was counted
 pub record IsMisused (asked : Asked) (files : FileFaults) (text : Text) : Type 0 where
   pub none : asked.command ≡ None
-  pub line : text ≡ usage_line
+  pub line : text ≡ asked.usage
   pub uncounted : (what : What) → files.after what ≡ files.before what
 
 -- the loading of the job's files stopped at one; of it, and of those behind it, this holds

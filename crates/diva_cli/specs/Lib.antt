@@ -15,6 +15,7 @@ pub mod ImageTexts
 pub mod SoakTexts
 pub mod DuoTexts
 pub mod CampaignTexts
+pub mod DrawTexts
 pub mod Texts
 pub mod Answers
 pub mod Statuses

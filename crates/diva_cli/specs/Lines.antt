@@ -7,6 +7,10 @@ use Rattle.diva_outside.specs.declared.files.What.TheVariants.{Image, Script, Ta
 unfoldable pub usage_line : List ℕ
 usage_line = codes "usage: diva run|tape|duo IMAGE, debug IMAGE COMMANDS, asm SRC, dis|migrate IMAGE, soak SEED LENGTH, campaign IMAGE LAST\n"
 
+-- of the program that draws runs
+unfoldable pub pipeline_usage_line : List ℕ
+pipeline_usage_line = codes "usage: diva_pipeline log|draw IMAGE, with the options of run, or the words of diva\n"
+
 -- what a file is for, in a word
 abbrev pub word_for : What → List ℕ
 word_for Image = codes "image"

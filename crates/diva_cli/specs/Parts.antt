@@ -1,6 +1,6 @@
 -- What the parts of the program promise one another.
 -- Only private contracts of this crate cite this: a reader of its promises can pass over it.
-use Rattle.std.specs.Prelude.{◌≡◌, ◌≤◌, ℕ, true, List, length, Option, Result, Ok, Err}
+use Rattle.std.specs.Prelude.{◌≡◌, ◌≤◌, ℕ, true, List, length, Option, Some, None, Result, Ok, Err, IfOk, IfErr}
 use Rattle.std.specs.List.{All}
 use Rattle.diva_outside.specs.Files.{Contents}
 use Rattle.diva_outside.specs.Text.{Text}
@@ -20,6 +20,8 @@ use Rattle.diva_debug.specs.Reading.{commands_of}
 use Rattle.diva_debug.specs.declared.command.Command.{Command}
 use Rattle.diva_args.specs.declared.job.CoreChoice.{CoreChoice}
 use Rattle.diva_args.specs.declared.job.CoreChoice.TheVariants as choice
+use Rattle.diva_args.specs.declared.fault.ArgsFault.{ArgsFault}
+use Rattle.diva_args.specs.declared.fault.ArgsFault.TheVariants.{Usage, Memory as NoWords}
 use Rattle.diva_args.specs.declared.job.HartCore.{HartCore}
 use Rattle.diva_args.specs.declared.job.HartCore.TheVariants as hart
 use Rattle.diva_args.specs.declared.job.Job.{Job}
@@ -191,6 +193,11 @@ WritesStop Memory sink result = (result ≡ Err NoMemory) × (sink.after ≡ sin
 WritesStop (Unread what) sink result = WritesLine (unreadable_line what) 8 sink result
 WritesStop (Refused what kind place) sink result = WritesLine (refused_line what kind place) 5 sink result
 
+-- the usage line was written where the words are not a valid command line; and none where memory ran out, where nothing was put to the sink
+abbrev pub WritesMisused : {S : Type 0} → ArgsFault → (usage : Text) → SinkChange S → Result ℕ Failure → Type 0
+WritesMisused Usage usage sink result = WritesLine usage 2 sink result
+WritesMisused NoWords usage sink result = (result ≡ Err NoMemory) × (sink.after ≡ sink.before)
+
 pub record WritesWhole {C S : Type 0} (gives : Meaning C) (job : Job) (bytes : FileBytes) (core : Change C) (sink : SinkChange S)
     (status : ℕ) : Type 0 where
   pub text : Text
@@ -224,6 +231,14 @@ abbrev pub Answers : {C S : Type 0} → Meaning C → Asked → FileFaults → C
 Answers gives asked files core sink (Ok status) = WritesAnswer gives asked files core sink status
 Answers gives asked files core sink (Err Cut) = IsCut gives asked files core sink
 Answers gives asked files core sink (Err NoMemory) = HasNoMemory core sink
+
+-- what was asked is what was read of the words: a job; or none, which is answered by this line; or memory ran out, which says nothing
+-- of the words
+pub record IsRead (asked : Asked) (contents : Contents) (usage : Text) (read : Result Job ArgsFault) : Type 0 where
+  pub files : asked.contents ≡ contents
+  pub line : asked.usage ≡ usage
+  pub job : IfOk read (λ job. asked.command ≡ Some job)
+  pub none : IfErr read (λ fault. fault ≡ Usage → asked.command ≡ None)
 
 -- the status that the program ends with
 abbrev pub status_of : Result ℕ Failure → ℕ

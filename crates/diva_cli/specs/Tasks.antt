@@ -1,6 +1,6 @@
 -- What is done with a machine and a core, and what is written of it as it goes.
 -- Only private contracts of this crate cite this: a reader of its promises can pass over it.
-use Rattle.std.specs.Prelude.{ℕ, ◌≡◌, ◌≤◌, ◌+◌, ◌^◌, List, [], ◌∷◌, ◌++◌, length, map, Bool, true, false, Option, Result, Ok, OnOk, OnErr, ⊤}
+use Rattle.std.specs.Prelude.{ℕ, ◌≡◌, ◌≤◌, ◌+◌, ◌^◌, List, [], ◌∷◌, ◌++◌, ◌⊎◌, length, map, Bool, true, false, Option, Result, Ok, OnOk, OnErr, ⊤}
 use Rattle.std.specs.List.{All}
 use Rattle.diva_outside.specs.Text.{Text}
 use Rattle.diva_outside.specs.declared.sink.SinkFailed.{SinkFailed}
@@ -18,17 +18,21 @@ use Rattle.diva_tape.specs.Noise.{noise_call}
 use Rattle.diva_tape.specs.Scalar.{IsScalarCall}
 use Rattle.diva_tape.specs.TapeCalls.{tape_call}
 use Rattle.diva_tape.specs.TapeText.{IsList, list_text}
-use Rattle.diva_cli.specs.Changes.{Change, PutsTo, SinkChange, TakesPast}
+use Rattle.diva_cli.specs.Changes.{Change, HasFailed, PutsTo, SinkChange, Takes, TakesPart, TakesPast}
 use Rattle.diva_cli.specs.Cuts.{BeforeLast}
+use Rattle.diva_cli.specs.DrawTexts.{begin_text, cycles_drawn, drawn_text, front_text, pen_behind}
 use Rattle.diva_cli.specs.Driven.{ByTurns, ByRule, ByOther, scripted_rule}
 use Rattle.diva_cli.specs.declared.driving.CoreInUse.{CoreInUse}
 use Rattle.diva_cli.specs.declared.driving.CoreInUse.TheVariants.{Own, Lockstep, Scalar, Silent, Flood, Echo, Noise, Tape as OfTape}
 use Rattle.diva_cli.specs.declared.tasks.Task.{Task}
-use Rattle.diva_cli.specs.declared.tasks.Task.TheVariants.{Quiet, Trace, Tape}
+use Rattle.diva_cli.specs.declared.tasks.Task.TheVariants.{Quiet, Trace, Tape, Draw}
 use Rattle.diva_trace.specs.Text.{commits_text}
 use Rattle.diva_cli.specs.Replies.{AreLed, at_start, cycles_of, keep, newest_after, replies_of}
 use Rattle.diva_cli.specs.Sessions.{ByLegs, ByOtherLegs, ByRuleInParts}
+use Rattle.diva_args.specs.declared.job.Format.{Format}
 use Rattle.diva_args.specs.declared.job.LanePlace.{LanePlace}
+use Rattle.diva_drawing.specs.Rows.{Pen}
+use Rattle.diva_drawing.specs.Seen.{AreSeen, IsSeen, Seen}
 use Rattle.diva_debug.specs.Moves.{IsShort}
 use Rattle.diva_debug.specs.Rewindable.{Rewindable}
 use Rattle.diva_debug.specs.declared.command.Command.{Command}
@@ -77,6 +81,39 @@ pub record IsWritten {S : Type 0} (text : CycleText) (says : List Record → Typ
   pub cut : OnErr result (BeforeLast lists (λ earlier. TakesPast sink
       (cycles_text text machine.before earlier) (cycles_text text machine.before lists)))
 
+-- ---- what is drawn
+
+-- it is driven for these cycles, until it ends, or until the sink fails, and each cycle is drawn with a pen
+pub record IsDrawnIn {S : Type 0} (format : Format) (cycles : ℕ) (machine : Change Timed) (pen : Change Pen)
+    (lists : List (List Record)) (sink : SinkChange S) (result : Result (Unit {0}) SinkFailed) : Type 0 where
+  pub most : length lists ≤ cycles
+  pub whole : OnOk result (goes_on machine.after.arch ≡ true → length lists ≡ cycles)
+  pub seen : List Seen
+  pub are : AreSeen machine.before lists seen
+  pub behind : pen.after ≡ pen_behind pen.before seen
+  pub put : PutsTo sink (cycles_drawn format pen.before lists seen) result
+  -- where the sink failed, it did so in the last cycle; the text of those before it had been put
+  pub cut : OnErr result (BeforeLast lists (λ earlier. TakesPast sink
+      (cycles_drawn format pen.before earlier seen) (cycles_drawn format pen.before lists seen)))
+
+-- where the sink failed: in the first lines, in the last of the cycles, or behind the cycles, where all were run
+abbrev pub IsCutDrawing : {S : Type 0} → Format → (cycles : ℕ) → (last : Timed) → (first : Seen) → List (List Record) → List Seen → SinkChange S → Type 0
+IsCutDrawing format cycles last first lists seen sink =
+    ((lists ≡ []) × TakesPart sink (begin_text format))
+    ⊎ (BeforeLast lists (λ earlier. TakesPast sink (front_text format first earlier seen) (front_text format first lists seen))
+    ⊎ ((goes_on last.arch ≡ true → length lists ≡ cycles) × TakesPast sink (front_text format first lists seen) (drawn_text format first lists seen)))
+
+-- it is driven for these cycles, until it ends, or until the sink fails, and the run is drawn
+pub record IsDrawn {S : Type 0} (format : Format) (cycles : ℕ) (machine : Change Timed) (lists : List (List Record))
+    (sink : SinkChange S) (result : Result (Unit {0}) SinkFailed) : Type 0 where
+  pub most : length lists ≤ cycles
+  pub first : Seen
+  pub saw : IsSeen machine.before first
+  pub seen : List Seen
+  pub are : AreSeen machine.before lists seen
+  pub whole : OnOk result ((goes_on machine.after.arch ≡ true → length lists ≡ cycles) × Takes sink (drawn_text format first lists seen))
+  pub cut : OnErr result (HasFailed sink × IsCutDrawing format cycles machine.after first lists seen sink)
+
 -- ---- what is done in a session
 
 -- nothing was done yet, and there are cycles for all commands
@@ -106,12 +143,14 @@ abbrev pub Allows : Task → Timed → Type 0
 Allows (Quiet cycles liar) m = m.cycles + cycles ≤ 2 ^ 60
 Allows (Trace cycles liar) m = m.cycles + cycles ≤ 2 ^ 60
 Allows (Tape cycles) m = m.cycles + cycles ≤ 2 ^ 60
+Allows (Draw format cycles liar) m = (m.cycles + cycles ≤ 2 ^ 60) × (cycles ≤ 2 ^ 32)
 
 abbrev pub Does : {S : Type 0} → Task → (machine : Change Timed) → List (List Record) → SinkChange S
     → Result (Unit {0}) SinkFailed → Type 0
 Does (Quiet cycles liar) machine lists sink result = IsQuiet cycles machine lists sink result
 Does (Trace cycles liar) machine lists sink result = IsWritten trace_lines (λ list. ⊤) cycles machine lists sink result
 Does (Tape cycles) machine lists sink result = IsWritten tape_line IsList cycles machine lists sink result
+Does (Draw format cycles liar) machine lists sink result = IsDrawn format cycles machine lists sink result
 
 -- what is done for a run, with commit lines or without, and whether lanes vote, of which one lies
 abbrev pub run_task : (trace : Bool) → (cycles : ℕ) → (liar : Option LanePlace) → Task

@@ -4,7 +4,7 @@ use Rattle.std.specs.Prelude.{◌≡◌, ◌⊎◌, ℕ, Result}
 use Rattle.diva_outside.specs.Text.{Text}
 use Rattle.diva_core.specs.History.{Meaning}
 use Rattle.diva_args.specs.declared.job.Job.{Job}
-use Rattle.diva_args.specs.declared.job.Job.TheVariants.{Run, Tape, Duo, Debug, Asm, Dis, Migrate, Soak, Campaign}
+use Rattle.diva_args.specs.declared.job.Job.TheVariants.{Run, Tape, Duo, Debug, Asm, Dis, Migrate, Soak, Campaign, Draw}
 use Rattle.diva_cli.specs.Changes.{Change}
 use Rattle.diva_cli.specs.Wanted.{FileBytes}
 use Rattle.diva_cli.specs.Runs.{HasRun}
@@ -14,6 +14,7 @@ use Rattle.diva_cli.specs.ImageTexts.{HasAssembled, HasListing, HasMigrated}
 use Rattle.diva_cli.specs.SoakTexts.{HasSoaked}
 use Rattle.diva_cli.specs.DuoTexts.{HasDuo}
 use Rattle.diva_cli.specs.CampaignTexts.{HasCampaign}
+use Rattle.diva_cli.specs.DrawTexts.{HasDrawing}
 
 -- ---- a line for each command
 
@@ -27,6 +28,7 @@ HasText gives (Dis name) bytes core ended text = HasListing bytes core ended tex
 HasText gives (Migrate options) bytes core ended text = HasMigrated options.room bytes core ended text
 HasText gives (Soak options) bytes core ended text = HasSoaked gives options core ended text
 HasText gives (Campaign options) bytes core ended text = HasCampaign gives options bytes core ended text
+HasText gives (Draw options) bytes core ended text = HasDrawing gives options bytes core ended text
 
 -- the statuses of commands whose text was written whole
 abbrev pub IsDone : ℕ → Type 0
@@ -43,3 +45,4 @@ CanEnd (Dis name) status = status ≡ 0
 CanEnd (Migrate options) status = status ≡ 0
 CanEnd (Soak options) status = status ≡ 0
 CanEnd (Campaign options) status = IsDone status
+CanEnd (Draw options) status = IsDone status

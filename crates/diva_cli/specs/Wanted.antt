@@ -13,7 +13,7 @@ use Rattle.diva_args.specs.Options.{DebugOptions, Setup}
 use Rattle.diva_args.specs.declared.job.CoreChoice.{CoreChoice}
 use Rattle.diva_args.specs.declared.job.CoreChoice.TheVariants.{Own, Lockstep, Scalar, Silent, Flood, Echo, Noise, Tape as OfTape}
 use Rattle.diva_args.specs.declared.job.Job.{Job}
-use Rattle.diva_args.specs.declared.job.Job.TheVariants.{Run, Tape, Duo, Debug, Asm, Dis, Migrate, Soak, Campaign}
+use Rattle.diva_args.specs.declared.job.Job.TheVariants.{Run, Tape, Duo, Debug, Asm, Dis, Migrate, Soak, Campaign, Draw}
 use Rattle.diva_asm.specs.Sources.{source_of}
 use Rattle.diva_debug.specs.Reading.{commands_of}
 
@@ -71,6 +71,7 @@ wanted (Dis name) = file Image name ∷ []
 wanted (Migrate options) = file_with options.room Image options.image ∷ []
 wanted (Soak options) = []
 wanted (Campaign options) = file Image options.image ∷ []
+wanted (Draw options) = machine_files options.run.setup
 
 -- ---- the first fault of a file's bytes, by what the file is for, and by its room where it is taken for an image
 

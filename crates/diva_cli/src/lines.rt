@@ -1,6 +1,6 @@
 // The lines that are written where no job is done.
 ghost use Rattle.std.specs.Prelude.{◌≡◌, ◌≤◌, length};
-ghost use Rattle.diva_cli.specs.Lines.{word_for, usage_line, unreadable_line, refused_line};
+ghost use Rattle.diva_cli.specs.Lines.{word_for, pipeline_usage_line, usage_line, unreadable_line, refused_line};
 
 use diva_outside::{Line, What};
 
@@ -12,6 +12,18 @@ pub(crate) fn usage_line() -> Line
     let mut line = Line::new();
     line.text(
         b"usage: diva run|tape|duo IMAGE, debug IMAGE COMMANDS, asm SRC, dis|migrate IMAGE, soak SEED LENGTH, campaign IMAGE LAST\n",
+    );
+    line
+}
+
+/// The line for words that are not a valid command line of the program that draws runs.
+#[tactic(auto, unfolding(crate::specs::Lines::pipeline_usage_line))]
+pub(crate) fn pipeline_usage_line() -> Line
+    ensures { result ≡ pipeline_usage_line }
+{
+    let mut line = Line::new();
+    line.text(
+        b"usage: diva_pipeline log|draw IMAGE, with the options of run, or the words of diva\n",
     );
     line
 }

@@ -3,19 +3,20 @@ ghost use Rattle.std.specs.Prelude.{◌≡◌, ◌⊎◌, [], None};
 ghost use Rattle.diva_outside.specs.Causes.{Rose};
 ghost use Rattle.diva_outside.specs.Text.{Text};
 ghost use Rattle.diva_outside.specs.declared.files.What.{What};
-ghost use Rattle.diva_cli.specs.Asked.{asked_by, asked_for, command_in};
+ghost use Rattle.diva_cli.specs.Asked.{Asked, asked_by, asked_for, command_in};
 ghost use Rattle.diva_cli.specs.Changes.{HasFailed, Takes, change, file_faults, sink_change};
 ghost use Rattle.diva_cli.specs.Texts.{IsDone};
 ghost use Rattle.diva_cli.specs.Answers.{IsMisused, HasUnread, HasRefused};
 ghost use Rattle.diva_cli.specs.Statuses.{HasWorked, HasLine, IsCut, HasNoMemory, MustRefuse, HasMissing, IsHindered};
 ghost use Rattle.diva_cli.specs.Statuses.{CanWork, HasEnded, IsStatus, LoadsNothing};
 ghost use Rattle.diva_cli.specs.Wanted.{wanted};
-ghost use Rattle.diva_cli.specs.Parts.{Answers, status_of};
+ghost use Rattle.diva_cli.specs.Parts.{Answers, IsRead, WritesMisused, status_of};
 
 use crate::asm::asm;
 use crate::campaign::campaign;
 use crate::debug::debug;
 use crate::dis::dis;
+use crate::drawing::draw;
 use crate::duo::duo;
 use crate::lines::usage_line;
 use crate::migrate::migrate;
@@ -25,7 +26,7 @@ use crate::stop::Failure;
 use crate::writing::write_line;
 use diva_args::{ArgsFault, Job, read_words};
 use diva_core::Core;
-use diva_outside::{Files, Sink};
+use diva_outside::{Files, Line, Sink};
 use std::alloc::Global;
 
 /// Runs the program on the words of its command line (without its name) over the files, the sink
@@ -103,7 +104,7 @@ pub fn top<F: Files, S: Sink, C: Core>(
 }
 
 /// The status that the program ends with.
-fn status_of(answered: Result<u8, Failure>) -> u8
+pub(crate) fn status_of(answered: Result<u8, Failure>) -> u8
     ensures { result ≡ status_of answered }
 {
     match answered {
@@ -125,15 +126,43 @@ fn answer<F: Files, S: Sink, C: Core>(
         (change core.old core.new) (sink_change S.contents S.faults sink.old sink.new) result }
     ensures unloaded { LoadsNothing (command_in words.now) → files.new ≡ files.old }
 {
-    match read_words(alloc, words) {
+    let read = read_words(alloc, words);
+    answer_read(alloc, read, &usage_line(), files, sink, core)
+}
+
+/// Does the job that the words ask for, where one was read of them, or writes the usage line.
+pub(crate) fn answer_read<F: Files, S: Sink, C: Core>(
+    alloc: Global,
+    read: Result<Job, ArgsFault>,
+    usage: &Line,
+    files: &mut F,
+    sink: &mut S,
+    core: &mut C,
+) -> Result<u8, Failure>
+    ensures answers { (asked : Asked) → IsRead asked (F.contents files.old) usage.now read
+        → Answers C.gives asked (file_faults F.faults files.old files.new)
+        (change core.old core.new) (sink_change S.contents S.faults sink.old sink.new) result }
+    ensures unloaded { (asked : Asked) → IsRead asked (F.contents files.old) usage.now read
+        → LoadsNothing asked.command → files.new ≡ files.old }
+{
+    match read {
         Ok(job) => work(alloc, job, files, sink, core),
-        Err(ArgsFault::Usage) => write_line(&usage_line(), 2, sink),
-        Err(ArgsFault::Memory) => Err(Failure::Memory),
+        Err(fault) => write_misused(fault, usage, sink),
+    }
+}
+
+/// Writes the usage line where the words are not a valid command line.
+fn write_misused<S: Sink>(fault: ArgsFault, usage: &Line, sink: &mut S) -> Result<u8, Failure>
+    ensures { WritesMisused fault usage.now (sink_change S.contents S.faults sink.old sink.new) result }
+{
+    match fault {
+        ArgsFault::Usage => write_line(usage, 2, sink),
+        ArgsFault::Memory => Err(Failure::Memory),
     }
 }
 
 /// Does a job: an arm for each command.
-fn work<F: Files, S: Sink, C: Core>(
+pub(crate) fn work<F: Files, S: Sink, C: Core>(
     alloc: Global,
     job: Job,
     files: &mut F,
@@ -154,5 +183,6 @@ fn work<F: Files, S: Sink, C: Core>(
         Job::Migrate(options) => migrate(alloc, options, files, sink, core),
         Job::Soak(options) => soak(alloc, options, files, sink, core),
         Job::Campaign(options) => campaign(alloc, options, files, sink, core),
+        Job::Draw(options) => draw(alloc, options, files, sink, core),
     }
 }

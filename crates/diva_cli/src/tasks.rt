@@ -4,8 +4,9 @@ ghost use Rattle.diva_cli.specs.Changes.{change, sink_change};
 ghost use Rattle.diva_cli.specs.Tasks.{Allows, Does, Performs};
 
 use crate::checking::drive_checked;
+use crate::drawing::drive_drawing;
 use crate::streaming::{TapeWriter, TraceWriter, drive_writing};
-use diva_args::LanePlace;
+use diva_args::{Format, LanePlace};
 use diva_core::Core;
 use diva_faults::{Faulty, Script};
 use diva_machine::Machine;
@@ -21,6 +22,8 @@ pub(crate) enum Task {
     Trace(u64, Option<LanePlace>),
     /// It is driven for so many cycles at most, and each list that is handed over is written as a line of a tape.
     Tape(u64),
+    /// The same as `Quiet`, and what becomes of each claim in each cycle is drawn.
+    Draw(Format, u64, Option<LanePlace>),
 }
 
 /// Does a task with a machine and a core under a script. A script that has no rows costs nothing: it
@@ -81,5 +84,6 @@ fn perform<D: Core, S: Sink>(
         }
         Task::Trace(cycles, liar) => drive_writing(m, core, cycles, liar, &TraceWriter, sink),
         Task::Tape(cycles) => drive_writing(m, core, cycles, None, &TapeWriter, sink),
+        Task::Draw(format, cycles, liar) => drive_drawing(m, core, cycles, liar, format, sink),
     }
 }

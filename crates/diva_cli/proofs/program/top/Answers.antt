@@ -9,8 +9,8 @@ returns-clause-complete g c = λ can files_well sink_well.
 
 pub returns-clause-refuses : goal.returns-clause-refuses
 returns-clause-refuses g c = λ text must.
-    rw c.status_of.ensures (refuses g.C.Core.gives _ _ _ _ _ c.answer.result c.answer.ensures.answers text must)
+    rw c.status_of.ensures (refuses g.C.Core.gives _ _ _ _ _ _ c.answer.result c.answer.ensures.answers text must)
 
 pub returns-clause-misses : goal.returns-clause-misses
 returns-clause-misses g c = λ missing.
-    rw c.status_of.ensures (misses g.C.Core.gives _ _ _ _ _ c.answer.result c.answer.ensures.answers missing)
+    rw c.status_of.ensures (misses g.C.Core.gives _ _ _ _ _ _ c.answer.result c.answer.ensures.answers missing)

@@ -10,3 +10,6 @@ returns-in-Trace g c = rw c.in-Trace.is c.drive_writing.ensures
 
 pub returns-in-Tape : goal.returns-in-Tape
 returns-in-Tape g c = rw c.in-Tape.is c.drive_writing-in-Tape.ensures
+
+pub returns-in-Draw : goal.returns-in-Draw
+returns-in-Draw g c = rw c.in-Draw.is c.drive_drawing.ensures

@@ -1,0 +1,16 @@
+-- What is answered of files that are known: sound ones, and the first that can't be used.
+use Rattle.diva_cli.proofs.Completing.{complete}
+use Rattle.diva_cli.proofs.Refusing.{refuses, misses}
+use Rattle.diva_cli.proofs.pipeline.pipeline_top.Goals as goal
+
+pub returns-clause-complete : goal.returns-clause-complete
+returns-clause-complete g c = λ can files_well sink_well.
+    rw c.status_of.ensures (complete g.C.Core.gives _ _ _ _ can files_well sink_well c.answer.result c.answer.ensures.answers)
+
+pub returns-clause-refuses : goal.returns-clause-refuses
+returns-clause-refuses g c = λ text must.
+    rw c.status_of.ensures (refuses g.C.Core.gives _ _ _ _ _ _ c.answer.result c.answer.ensures.answers text must)
+
+pub returns-clause-misses : goal.returns-clause-misses
+returns-clause-misses g c = λ missing.
+    rw c.status_of.ensures (misses g.C.Core.gives _ _ _ _ _ _ c.answer.result c.answer.ensures.answers missing)
