@@ -1,6 +1,7 @@
 // Command lines over files and a sink in memory, with the status and the text that are due.
 mod backwards;
 mod campaigns;
+mod drawings;
 mod failing;
 mod harts;
 mod hostile;

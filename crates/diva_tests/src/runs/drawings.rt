@@ -1,0 +1,181 @@
+// Runs that are drawn: in text, and as a log for a viewer.
+use crate::cores::Counting;
+use crate::programs::FIVE_FILE;
+use diva_cli::pipeline_top;
+use diva_outside::{Fail as SinkFail, MemFile, MemFiles, MemSink};
+use std::alloc::Global;
+use std::process::Abort;
+use std::test::Fail;
+
+/// A line of the program that draws runs on the image `FIVE`, with this script, and the status and the text that are due.
+struct Drawn {
+    line: &'static str,
+    script: &'static [u8],
+    status: u8,
+    text: &'static str,
+}
+
+/// The usage line of that program.
+const PIPELINE_USAGE: &str = "\
+usage: diva_pipeline log|draw IMAGE, with the options of run, or the words of diva
+";
+
+/// The claim of cycle 1 has a wrong value, which the stage that executes finds in cycle 5. It flushes in cycle 7, and its
+/// instruction runs solo.
+const LOGGED: &str = "\
+Kanata\t0004
+C=\t0
+C\t1
+I\t0\t0\t0
+L\t0\t0\t0: 00000000 00500093 addi x1, x0, 5
+L\t0\t1\trecord src1 00000000 src2 00000000 addr 00000000 value 00000004 next 00000004 end 00000000
+S\t0\t0\taccepted
+C\t1
+S\t0\t0\tfetch
+C\t1
+S\t0\t0\tdecode
+C\t1
+S\t0\t0\toperands
+C\t1
+S\t0\t0\texecute
+L\t0\t1\t\\nvalue claimed 00000004 due 00000005
+C\t1
+S\t0\t0\tmemory
+C\t1
+I\t1\t1\t0
+L\t1\t0\t0: 00000000 00500093 addi x1, x0, 5
+L\t1\t1\trecord src1 00000000 src2 00000000 addr 00000000 value 00000005 next 00000004 end 00000000
+S\t1\t0\tsolo
+L\t1\t1\t\\nvalue claimed 00000004 due 00000005
+R\t0\t0\t1
+C\t1
+S\t1\t0\tfetch
+";
+
+/// Each row as it is drawn where it ends, and the scale.
+static ROWS: [Drawn; 8] = [
+    Drawn {
+        line: "draw a.diva --core scalar",
+        script: b"",
+        status: 0,
+        text: "\
+addi x1, x0, 5              A  F  D  O  X  M  C
+addi x17, x0, 93               A  F  D  O  X  M  C
+ecall                             A  F  D  O  X  M  C
+cycle                       1  2  3  4  5  6  7  8  9
+",
+    },
+    // The first claim flushes, and drops those that are pending behind it.
+    Drawn {
+        line: "draw a.diva --core scalar --cycles 15",
+        script: b"at 1 lane 0 flip value 0\n",
+        status: 4,
+        text: "\
+addi x1, x0, 5              A  F  D  O  X  M  !
+addi x17, x0, 93               A  F  D  O  X  -
+ecall                             A  F  D  O  -
+addi x1, x0, 5                                S  F  D  O  X  M  C
+addi x17, x0, 93                                                   A  F
+ecall                                                                 A
+cycle                       1  2  3  4  5  6  7  8  9 10 11 12 13 14 15
+",
+    },
+    // Eight claims of zeros are handed over in each cycle, of which two are accepted; a voting lane that lies changes nothing.
+    Drawn {
+        line: "draw a.diva --core flood --cycles 3 --liar 1",
+        script: b"",
+        status: 4,
+        text: "\
+.word 0x00000000            A  F  D
+.word 0x00000000            A  F  D
+.word 0x00000000               A  F
+.word 0x00000000               A  F
+.word 0x00000000                  A
+.word 0x00000000                  A
+cycle                       1  2  3
+",
+    },
+    Drawn {
+        line: "log a.diva --core lockstep --cycles 8",
+        script: b"at 1 lane 0 flip value 0\n",
+        status: 4,
+        text: LOGGED,
+    },
+    // It does what the other program does too.
+    Drawn {
+        line: "dis a.diva",
+        script: b"",
+        status: 0,
+        text: "00000000 00500093 addi x1, x0, 5\n00000004 05d00893 addi x17, x0, 93\n00000008 00000073 ecall\n",
+    },
+    Drawn {
+        line: "draw a.diva --trace",
+        script: b"",
+        status: 2,
+        text: PIPELINE_USAGE,
+    },
+    Drawn {
+        line: "log a.diva --dump 0:4",
+        script: b"",
+        status: 2,
+        text: PIPELINE_USAGE,
+    },
+    Drawn {
+        line: "log b.diva",
+        script: b"",
+        status: 8,
+        text: "unreadable image\n",
+    },
+];
+
+/// What the program answers on a row, over a sink that fails so.
+fn answer(alloc: Global, row: &Drawn, fails: Vec<SinkFail>) -> Result<(u8, Vec<u8>), Fail> {
+    let mut words = Vec::new(alloc);
+    for word in row.line.split_whitespace() {
+        words.push(word)?;
+    }
+    if !row.script.is_empty() {
+        words.push("--script")?;
+        words.push("a.script")?;
+    }
+    let mut there = Vec::new(alloc);
+    for (name, bytes) in [("a.diva", &FIVE_FILE[..]), ("a.script", row.script)] {
+        there.push(MemFile::new(
+            String::from_str(alloc, name)?,
+            Vec::from_slice(alloc, bytes)?,
+        ))?;
+    }
+    let mut files = MemFiles::new(there, Vec::new(alloc));
+    let mut sink = MemSink::new(alloc, 1 << 16, fails)?;
+    let mut core = Counting { calls: 0 };
+    let status = pipeline_top(alloc, &words, &mut files, &mut sink, &mut core);
+    Ok((status, Vec::from_slice(alloc, sink.bytes())?))
+}
+
+#[test]
+fn runs_that_are_drawn(rt: HostRuntime) -> Result<(), Fail> {
+    let alloc = rt.alloc();
+    for row in &ROWS {
+        let (status, text) = answer(alloc, row, Vec::new(alloc))?;
+        assert_eq!(rt; status, row.status, "{}", row.line);
+        assert_eq!(rt; str::from_utf8(&text)?, row.text, "{}", row.line);
+    }
+    Ok(())
+}
+
+/// The drawing of the first row is 41 puts: the name, the cells and the line feed of each of its rows, and of the scale.
+#[test]
+fn drawings_that_are_cut(rt: HostRuntime) -> Result<(), Fail> {
+    let alloc = rt.alloc();
+    let row = &ROWS[0];
+    for call in 1..=42 {
+        let mut fails = Vec::new(alloc);
+        fails.push(SinkFail { call, takes: 0 })?;
+        let (status, text) = answer(alloc, row, fails)?;
+        let due = row.text.as_bytes();
+        assert!(rt; due.starts_with(&text), "put {call}");
+        assert_eq!(rt; status, if call <= 41 { 9 } else { 0 }, "put {call}");
+        assert_eq!(rt; text.len() < due.len(), call <= 41, "put {call}");
+    }
+    Ok(())
+}
