@@ -58,7 +58,7 @@ class LogReader {
   }
 
   read(bytes) {
-    const lines = (this.rest + String.fromCharCode.apply(null, bytes)).split("\n");
+    const lines = (this.rest + new TextDecoder("latin1").decode(bytes)).split("\n");
     this.rest = lines.pop();
     for (const [place, line] of lines.entries()) {
       if (!this.readLine(line)) {

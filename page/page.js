@@ -33,8 +33,7 @@ const LEGEND = {
 
 const find = (id) => document.getElementById(id);
 const page = document.documentElement;
-const examples = JSON.parse(find("examples").textContent);
-const faults = JSON.parse(find("faults").textContent);
+const { examples, faults } = parts;
 const utf8 = (text) => new TextEncoder().encode(text);
 const spoken = (number) => number.toLocaleString("en");
 
@@ -46,15 +45,8 @@ const shown = {
 
 // ---- asking the program
 
-/** The module, as the page has it: packed, and in letters. */
-async function openModule() {
-  const packed = Uint8Array.from(atob(find("packed").textContent), (letter) => letter.charCodeAt(0));
-  const bytes = new Blob([packed]).stream().pipeThrough(new DecompressionStream("gzip"));
-  return WebAssembly.compile(await new Response(bytes).arrayBuffer());
-}
-
 const workerAddress = URL.createObjectURL(
-  new Blob(["host", "log", "worker"].map((id) => find(id).textContent), { type: "text/javascript" }),
+  new Blob([parts.host, parts.log, parts.worker], { type: "text/javascript" }),
 );
 
 /** Has a worker, which does one job at a time. */
@@ -139,18 +131,30 @@ async function run(look = firstLook) {
   Object.assign(shown, { image, room: wanted.numbers.room ? ["--room", wanted.numbers.room] : [], log: null, rowOf: [] });
   const files = { image, script: utf8(wanted.script) };
   const words = ["image", ...optionsOf(wanted)];
-  const log = logger.run(["log", ...words], files, ROWS, (news) => turn === shown.turn && newsOfLog(news));
+  const log = logOfRun(words, files, turn);
   const text = await runner.run(["run", ...words], files);
   if (text === null || turn !== shown.turn) return;
   showText(text);
   if (!RAN.includes(text.status)) return endAll();
-  // Once the picture has its rows there is nothing more to wait for.
-  const rest = shown.log?.isFull ? null : await log;
+  const rest = await log;
   if (turn !== shown.turn) return;
   logger.end();
-  if (rest && rest.status === -1) return broken(rest);
-  if (rest?.log) showLog(rest.log);
+  if (rest?.status === -1) return broken(rest);
+  if (rest) showLog(rest.log);
+  if (rest && !RAN.includes(rest.status)) find("kept").textContent = `There is no picture: ${new TextDecoder().decode(rest.bytes)}`;
   runIsOver(look);
+}
+
+/** Shows a run's log as it comes. Answers what is left of it when it is over; or null, once the picture has all the rows that are kept. */
+function logOfRun(words, files, turn) {
+  return new Promise((resolve) => {
+    const hear = (news) => {
+      if (turn !== shown.turn) return;
+      newsOfLog(news);
+      if (shown.log?.isFull) resolve(null);
+    };
+    logger.run(["log", ...words], files, ROWS, hear).then(resolve);
+  });
 }
 
 function newsOfLog({ cycles, log }) {
@@ -301,14 +305,14 @@ function showNothing() {
   picture.show(null);
   showClaim();
   for (const id of ["registers", "memory", "letters"]) find(id).replaceChildren();
-  for (const id of ["state-line", "kept"]) find(id).textContent = "";
+  for (const id of ["state-line", "change", "kept"]) find(id).textContent = "";
 }
 
 /** The picture as a text, while somebody wants it and it is of a size to be read. */
 function showLetters() {
   const { log } = shown;
   if (!log || !find("letters").parentElement.open) return;
-  find("letters").textContent = log.shown * log.rows.length <= 100000
+  find("letters").textContent = log.shown * log.rows.length <= 250000
     ? pictureText(log) : `It is too large for a text: ${spoken(log.rows.length)} rows in ${spoken(log.shown)} cycles.`;
 }
 
@@ -501,7 +505,8 @@ function addressAt(place) {
     const address = shown.log.rows[shown.rowOf[number]]?.fields.addr;
     if (address && address !== "00000000") return windowAt(parseInt(address, 16));
   }
-  return shown.log.rows.length ? windowAt(parseInt(shown.log.rows[0].pc, 16)) : 0;
+  const first = shown.log.rows[shown.rowOf[0]];
+  return first ? windowAt(parseInt(first.pc, 16)) : 0;
 }
 
 const windowAt = (address) => Math.min(address - (address % BYTES), 2 ** 32 - BYTES);
@@ -539,20 +544,23 @@ function showReplies(text, place, cycle) {
     + (place > 0 && end ? `ended by ${end.slice(2).join(" ")}, pc ${pc}` : `pc ${pc}`);
   showRegisters(registers.slice(0, 32), registers.slice(-32));
   showMemory(memory.slice(0, BYTES / PIECE).join(""), memory.slice(-BYTES / PIECE).join(""));
+  const changes = [...document.querySelectorAll("#registers .changed, #memory .changed")].map(({ title }) => title);
+  find("change").textContent = changes.length > 0 ? `Last change: ${changes.join(", ")}.` : "";
 }
 
 function showRegisters(before, now) {
   find("registers").replaceChildren(...now.map((value, number) => {
     const line = document.createElement("span");
     line.textContent = `x${number}`.padEnd(4) + value;
-    if (value !== before[number]) markChanged(line, `was ${before[number]}`);
+    if (value !== before[number]) markChanged(line, `x${number} from ${before[number]} to ${value}`);
     return line;
   }));
 }
 
-function markChanged(element, was) {
+/** Marks what the last instruction has changed, and says in the element's title from what. */
+function markChanged(element, change) {
   element.className = "changed";
-  element.title = was;
+  element.title = change;
 }
 
 /** Memory in lines of bytes, with the letters that they are; on a small screen a line has half as many. */
@@ -564,18 +572,18 @@ function showMemory(before, now) {
   const parts = [];
   for (let place = 0; place < bytes.length; place += wide) {
     parts.push(`${hex(shown.address + place)} `);
-    for (let number = place; number < place + wide; number++) parts.push(" ", byteOf(bytes[number], were[number]));
+    for (let number = place; number < place + wide; number++) parts.push(" ", byteOf(shown.address + number, bytes[number], were[number]));
     parts.push(`  ${bytes.slice(place, place + wide).map(letterOf).join("")}\n`);
   }
   find("memory").replaceChildren(...parts);
   if (document.activeElement !== find("address")) find("address").value = hex(shown.address);
 }
 
-function byteOf(now, before) {
+function byteOf(address, now, before) {
   if (now === before) return now;
   const mark = document.createElement("span");
   mark.textContent = now;
-  markChanged(mark, `was ${before}`);
+  markChanged(mark, `the byte at ${hex(address)} from ${before} to ${now}`);
   return mark;
 }
 
@@ -717,7 +725,7 @@ function listenToForm() {
 }
 
 function listenToPicture() {
-  find("scroller").addEventListener("keydown", keyInPicture);
+  for (const place of [find("scroller"), document.querySelector(".bar")]) place.addEventListener("keydown", keyInPicture);
   for (const button of document.querySelectorAll("[data-go]")) button.addEventListener("click", () => go(button.dataset.go));
   for (const button of document.querySelectorAll("[data-zoom]")) {
     button.addEventListener("click", () => picture.zoom(Number(button.dataset.zoom)));
@@ -746,7 +754,7 @@ function listenToFiles() {
   });
 }
 
-async function begin() {
+async function beginPage() {
   fillLists();
   listenToForm();
   listenToPicture();
@@ -754,7 +762,7 @@ async function begin() {
   const look = readAddress();
   addEventListener("hashchange", () => run(readAddress()));
   try {
-    shown.module = await openModule();
+    shown.module = await WebAssembly.compile(await opened("packed-module").arrayBuffer());
   } catch (fault) {
     stateIs("broken");
     find("status").textContent = `This browser does not open the program, which is WebAssembly of 64 bits: ${fault}`;
@@ -763,4 +771,4 @@ async function begin() {
   run(look);
 }
 
-begin();
+beginPage();

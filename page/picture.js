@@ -124,7 +124,7 @@ class Picture {
   // ---- what is shown
 
   show(log) {
-    const isNew = this.log === null;
+    const isNew = this.log === null && log !== null;
     this.log = log;
     this.layOut();
     if (isNew) this.scrollTo(0, 0);
