@@ -239,13 +239,15 @@ function refused(text, status) {
   const [, what, kind, place] = text.match(/^refused (\w+) (\d+) at (\d+)$/m) ?? [];
   const words = faults[what]?.[kind];
   find("status").textContent = status in STATUSES ? `Status ${status}: ${STATUSES[status]}.` : "";
-  for (const id of ["text", "output"]) find(id).textContent = id === "text" ? text : "";
+  find("text").textContent = text;
+  find("output").textContent = "";
   stateIs("refused");
   find("progress").textContent = "refused";
   showNothing();
   if (what === "source" || what === "script") faultAt(what, Number(place), words);
   else if (what) find("source-fault").textContent = `The file is no image or executable that runs here: ${words} (at byte ${place}).`;
-  else find("numbers-fault").textContent = `${STATUSES[status] ?? "refused"}: a number is out of its range, or no number.`;
+  else if (status === 2) find("numbers-fault").textContent = "A number is out of its range, or no number: the program takes no such words.";
+  else find("numbers-fault").textContent = `Status ${status}: ${STATUSES[status] ?? text}`;
 }
 
 function faultAt(what, line, words) {
