@@ -9,6 +9,9 @@ const STAGE_LETTERS = {
 /** How a row ends: it commits, it was the cause of a flush, or it was dropped. */
 const ENDS = { commits: "C", flushes: "!", dropped: "-" };
 
+/** A log has plain letters alone, so each byte is one. */
+const LETTERS_OF_BYTES = new TextDecoder("latin1");
+
 /** A row as it begins: a claim that was accepted, or an instruction that runs solo. */
 function newRow(number, cycle) {
   return {
@@ -58,7 +61,7 @@ class LogReader {
   }
 
   read(bytes) {
-    const lines = (this.rest + new TextDecoder("latin1").decode(bytes)).split("\n");
+    const lines = (this.rest + LETTERS_OF_BYTES.decode(bytes)).split("\n");
     this.rest = lines.pop();
     for (const [place, line] of lines.entries()) {
       if (!this.readLine(line)) {

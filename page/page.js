@@ -470,10 +470,12 @@ function flipBit(flip, row) {
   else lines.push(flip);
   script.value = lines.map((line) => `${line}\n`).join("");
   // The rows before it are as they were, so it has its number again.
-  run(() => {
+  const look = () => {
     const again = shown.log.rows[row.number];
     return again ? atCell(row.number, lastCycle(shown.log, again)) : firstLook();
-  });
+  };
+  const focus = () => [...find("bits").children].find(({ title }) => title === flip)?.focus({ preventScroll: true });
+  run(look).then(focus);
 }
 
 // ---- registers and memory
