@@ -76,22 +76,12 @@ class LogReader {
   /** Reads a line; false where it would begin a row more than are kept. */
   readLine(line) {
     const words = line.split("\t");
-    switch (words[0]) {
-      case "C":
-        return this.nextCycle(Number(words[1]));
-      case "I":
-        this.rows.push(newRow(Number(words[1]), this.cycles));
-        break;
-      case "S":
-        this.enter(this.rows[words[1]], words[3]);
-        break;
-      case "L":
-        this.label(this.rows[words[1]], words[2], words.slice(3).join("\t"));
-        break;
-      case "R":
-        this.retire(this.rows[words[1]], Number(words[2]), words[3] === "0");
-        break;
-    }
+    if (words[0] === "C") return this.nextCycle(Number(words[1]));
+    if (words[0] === "I") this.rows.push(newRow(Number(words[1]), this.cycles));
+    const row = this.rows[words[1]];
+    if (row && words[0] === "S") this.enter(row, words[3]);
+    if (row && words[0] === "L") this.label(row, words[2], words.slice(3).join("\t"));
+    if (row && words[0] === "R") this.retire(row, Number(words[2]), words[3] === "0");
     return true;
   }
 

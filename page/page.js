@@ -35,11 +35,12 @@ const find = (id) => document.getElementById(id);
 const page = document.documentElement;
 const { examples, faults } = parts;
 const utf8 = (text) => new TextEncoder().encode(text);
+const textIn = ({ bytes }) => new TextDecoder().decode(bytes);
 const spoken = (number) => number.toLocaleString("en");
 
 /** What the page shows: the file that stands in the place of a source, the image that runs, and what became of it. */
 const shown = {
-  module: null, file: null, image: null, room: [], text: "", log: null, rowOf: [], address: 0, memory: null,
+  module: null, file: null, files: {}, wanted: null, text: "", put: [], log: null, rowOf: [], address: 0, memory: null,
   at: { cycle: 0, place: 0, row: null }, field: "value", turn: 0,
 };
 
@@ -112,7 +113,7 @@ async function imageOf({ file, source }) {
   const made = await runner.run(["asm", "source"], { source: utf8(source) });
   if (made === null) return null;
   if (made.status === 0) return made.bytes;
-  refused(new TextDecoder().decode(made.bytes), made.status);
+  refused(textIn(made), made.status);
   return null;
 }
 
@@ -128,8 +129,8 @@ async function run(look = firstLook) {
   writeAddress();
   const image = await imageOf(wanted);
   if (image === null || turn !== shown.turn) return;
-  Object.assign(shown, { image, room: wanted.numbers.room ? ["--room", wanted.numbers.room] : [], log: null, rowOf: [] });
   const files = { image, script: utf8(wanted.script) };
+  Object.assign(shown, { files, wanted, text: "", put: bytesPut(""), log: null, rowOf: [] });
   const words = ["image", ...optionsOf(wanted)];
   const log = logOfRun(words, files, turn);
   const text = await runner.run(["run", ...words], files);
@@ -141,7 +142,7 @@ async function run(look = firstLook) {
   logger.end();
   if (rest?.status === -1) return broken(rest);
   if (rest) showLog(rest.log);
-  if (rest && !RAN.includes(rest.status)) find("kept").textContent = `There is no picture: ${new TextDecoder().decode(rest.bytes)}`;
+  if (rest && !RAN.includes(rest.status)) find("kept").textContent = `There is no picture: ${textIn(rest)}`;
   runIsOver(look);
 }
 
@@ -195,6 +196,11 @@ function endRun() {
   endAll();
   stateIs("ended");
   find("progress").textContent += ": ended";
+  if (shown.text === "") {
+    find("status").textContent = "The run was ended, so it has no text.";
+    find("text").textContent = "";
+    showOutput(0);
+  }
   if (shown.log) pointAt(firstLook());
 }
 
@@ -206,13 +212,15 @@ function stateIs(state) {
 
 // ---- the texts of a run, and faults
 
-function showText({ status, bytes }) {
-  shown.text = new TextDecoder().decode(bytes);
-  if (status === -1) return broken({ bytes });
+function showText(run) {
+  const { status } = run;
+  shown.text = textIn(run);
+  if (status === -1) return broken(run);
   if (!RAN.includes(status)) return refused(shown.text, status);
   find("status").textContent = `Status ${status}: ${STATUSES[status]}.`;
   find("text").replaceChildren(...shown.text.split(/(?<=\n)/).map(lineOfText));
-  find("output").textContent = outputOf(shown.text);
+  shown.put = bytesPut(shown.text);
+  showOutput(shown.put.length);
 }
 
 /** A line of a run's text; one of a flush is a button that leads there. */
@@ -228,10 +236,21 @@ function lineOfText(line) {
   return whole;
 }
 
-/** What was put: the bytes of the lines `out`, as a text. */
-function outputOf(text) {
-  const hex = [...text.matchAll(/^out (\S+)$/gm)].map(([, bytes]) => bytes).join("");
-  return new TextDecoder().decode(Uint8Array.from(hex.match(/../g) ?? [], (byte) => parseInt(byte, 16)));
+/** What was put: the bytes of the lines `out` of a run's text. */
+function bytesPut(text) {
+  const letters = [...text.matchAll(/^out (\S+)$/gm)].map(([, bytes]) => bytes).join("");
+  return Uint8Array.from(letters.match(/../g) ?? [], (byte) => parseInt(byte, 16));
+}
+
+/** Shows the output as a text, with what is put only later told apart. */
+function showOutput(length, cycle = null) {
+  const letters = (bytes) => new TextDecoder().decode(bytes);
+  const later = document.createElement("span");
+  later.className = "later";
+  later.textContent = letters(shown.put.subarray(length));
+  find("output").replaceChildren(letters(shown.put.subarray(0, length)), ...(later.textContent ? [later] : []));
+  find("output-line").textContent = cycle === null || shown.put.length === 0
+    ? "" : `${spoken(length)} of ${spoken(shown.put.length)} bytes are put by cycle ${spoken(cycle)}.`;
 }
 
 /** Shows why the program refused a file, at its line and in words. */
@@ -240,7 +259,8 @@ function refused(text, status) {
   const words = faults[what]?.[kind];
   find("status").textContent = status in STATUSES ? `Status ${status}: ${STATUSES[status]}.` : "";
   find("text").textContent = text;
-  find("output").textContent = "";
+  shown.put = bytesPut("");
+  showOutput(0);
   stateIs("refused");
   find("progress").textContent = "refused";
   showNothing();
@@ -259,10 +279,10 @@ function faultAt(what, line, words) {
   text.setSelectionRange(line > 1 ? before + 1 : 0, line > 1 ? before + 1 : 0);
 }
 
-function broken({ bytes }) {
+function broken(run) {
   stateIs("broken");
   find("progress").textContent = "";
-  find("status").textContent = `The program could not be run: ${new TextDecoder().decode(bytes)}`;
+  find("status").textContent = `The program could not be run: ${textIn(run)}`;
 }
 
 function clearFaults() {
@@ -524,14 +544,28 @@ async function showState() {
   page.dataset.asked = "asking";
   do {
     shown.asksAgain = false;
-    const { place, cycle } = shown.at;
-    shown.address = addressAt(place);
-    const commands = utf8(commandsAt(place, shown.address).join("\n"));
-    const files = { image: shown.image, commands };
-    const answer = await asker.run(["debug", "image", "commands", "--core", "scalar", ...shown.room], files);
-    if (answer?.status === 0) showReplies(new TextDecoder().decode(answer.bytes), place, cycle);
-  } while (shown.asksAgain);
+    await askPlace(shown.at);
+  } while (shown.asksAgain && shown.log);
   page.dataset.asked = "told";
+}
+
+async function askPlace({ place, cycle }) {
+  shown.address = addressAt(place);
+  const commands = utf8(commandsAt(place, shown.address).join("\n"));
+  const { room } = shown.wanted.numbers;
+  const words = ["debug", "image", "commands", "--core", "scalar", ...(room ? ["--room", room] : [])];
+  const answer = await asker.run(words, { ...shown.files, commands });
+  // Another run may have begun meanwhile.
+  if (shown.log && answer?.status === 0) showReplies(textIn(answer), place, cycle);
+  if (shown.log && shown.put.length > 0) await askOutput(cycle);
+}
+
+/** Asks what is put by a cycle: a run that is cut short there says so. */
+async function askOutput(cycle) {
+  const { wanted, files } = shown;
+  const cut = { ...wanted, numbers: { ...wanted.numbers, cycles: String(cycle) } };
+  const answer = cycle > 0 ? await asker.run(["run", "image", ...optionsOf(cut)], files) : null;
+  showOutput(answer ? bytesPut(textIn(answer)).length : 0, cycle);
 }
 
 /** The replies of a session: each is a line. */
