@@ -583,7 +583,7 @@ function showReplies(text, place, cycle) {
   showRegisters(registers.slice(0, 32), registers.slice(-32));
   showMemory(memory.slice(0, BYTES / PIECE).join(""), memory.slice(-BYTES / PIECE).join(""));
   const changes = [...document.querySelectorAll("#registers .changed, #memory .changed")].map(({ title }) => title);
-  find("change").textContent = changes.length > 0 ? `Last change: ${changes.join(", ")}.` : "";
+  find("change").textContent = place > 0 ? `Last change: ${changes.join(", ") || "none of what is shown here"}.` : "";
 }
 
 function showRegisters(before, now) {

@@ -142,9 +142,11 @@ class Picture {
     const x = this.names + (cycle - 1) * this.cell;
     const y = RULER + (row ?? 0) * this.cell;
     const margin = 2 * this.cell;
+    // On the right there is room for the stages to come.
+    const behind = Math.min(8 * this.cell, (clientWidth - this.names) / 3);
     let { left, top } = this;
     if (x - margin < left + this.names) left = x - margin - this.names;
-    if (x + margin + this.cell > left + clientWidth) left = x + margin + this.cell - clientWidth;
+    if (x + behind + this.cell > left + clientWidth) left = x + behind + this.cell - clientWidth;
     if (row !== null && y - margin < top + RULER) top = y - margin - RULER;
     if (row !== null && y + margin + this.cell > top + clientHeight) top = y + margin + this.cell - clientHeight;
     this.scrollTo(left, top);
