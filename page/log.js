@@ -21,9 +21,9 @@ function newRow(number, cycle) {
   };
 }
 
-/** The pairs of a line such as `src1 00000000 src2 00000000`, as an object. */
+/** The pairs of a line such as `record src1 00000000 src2 00000000`, as an object. */
 function pairsOf(text) {
-  const words = text.split(" ");
+  const words = text.split(" ").slice(1);
   const pairs = {};
   for (let place = 0; place + 1 < words.length; place += 2) pairs[words[place]] = words[place + 1];
   return pairs;

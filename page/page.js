@@ -413,7 +413,8 @@ function fateOf(row) {
   const ends = {
     C: `commits in cycle ${row.end?.cycle}`, "!": `differs, and flushes in cycle ${row.end?.cycle}`, "-": `is dropped in cycle ${row.end?.cycle}`,
   };
-  const verdict = row.verdict ? ` Verdict, noted in cycle ${row.noted}: ${row.verdict}.` : "";
+  const noted = row.solo ? "The flush that started it" : `Verdict, noted in cycle ${row.noted}`;
+  const verdict = row.verdict ? ` ${noted}: ${row.verdict}.` : "";
   return `${begin}; it ${row.end ? ends[row.end.letter] : "is pending where the picture ends"}.${verdict}`;
 }
 
@@ -450,7 +451,7 @@ function fieldButton(row, field) {
   button.type = "button";
   button.append(field, " ", valueOf(row, field) ?? "-");
   button.setAttribute("aria-pressed", String(field === shown.field && !row.solo));
-  if (row.verdict?.split(" ")[0] === field) button.className = "wrong";
+  if (!row.solo && row.verdict?.split(" ")[0] === field) button.className = "wrong";
   button.addEventListener("click", () => {
     shown.field = field;
     showClaim();
