@@ -1,7 +1,8 @@
 // Lines that are taken, and lines that are refused. A line is one string, whose words blanks part.
 use diva_args::{
-    ArgsFault, CampaignCycles, CampaignOptions, DebugOptions, DuoOptions, Job, LastCycle,
-    MigrateOptions, RunOptions, Setup, SoakOptions, TapeOptions, read_words,
+    ArgsFault, CampaignCycles, CampaignOptions, DebugOptions, DrawOptions, DuoOptions, Job,
+    LastCycle, MigrateOptions, RunOptions, Setup, SoakOptions, TapeOptions, read_pipeline_words,
+    read_words,
 };
 use diva_core::Config;
 use std::alloc::{AllocError, Global};
@@ -410,6 +411,53 @@ fn lines_that_are_refused(rt: HostRuntime) -> Result<(), Fail> {
     Ok(())
 }
 
+/// Lines of the program that draws runs, with what they ask for.
+static DRAWN: [(&str, &str); 4] = [
+    (
+        "log p1.diva",
+        r#"Log of run "p1.diva" 0 Own None 2 16 4 64 1 1000000 false None None"#,
+    ),
+    (
+        "draw --cycles 9 p1.diva --core silent --script faults.txt",
+        r#"Drawing of run "p1.diva" 0 Silent Some(FileName { text: "faults.txt" }) 2 16 4 64 1 9 false None None"#,
+    ),
+    (
+        "run --trace p",
+        r#"run "p" 0 Own None 2 16 4 64 1 1000000 true None None"#,
+    ),
+    ("tape p --cycles 9", r#"tape "p" 0 Own None 2 16 4 64 1 9"#),
+];
+
+/// Lines that the program that draws runs refuses.
+static NOT_DRAWN: [&str; 8] = [
+    "",
+    "log",
+    "log p --trace",
+    "draw p --dump 0:4",
+    "log draw p",
+    "Log p",
+    "draw p --cycles 0",
+    "draw p --core silent --cycles 9 q",
+];
+
+#[test]
+fn lines_of_the_program_that_draws(rt: HostRuntime) -> Result<(), Fail> {
+    for &(line, due) in &DRAWN {
+        let job = read_pipeline_words(rt.alloc(), &words_of(rt.alloc(), line)?)?;
+        let text = text_of(rt.alloc(), &job)?;
+        assert_eq!(rt; text.as_str(), due, "{line}");
+    }
+    for line in &NOT_DRAWN {
+        let fault = read_pipeline_words(rt.alloc(), &words_of(rt.alloc(), line)?).err();
+        assert_eq!(rt; fault, Some(ArgsFault::Usage), "{line}");
+    }
+    for line in ["log p", "draw p"] {
+        let fault = read_words(rt.alloc(), &words_of(rt.alloc(), line)?).err();
+        assert_eq!(rt; fault, Some(ArgsFault::Usage), "{line}");
+    }
+    Ok(())
+}
+
 /// The words of a line, in which an empty word is written `''`.
 fn words_of(alloc: Global, line: &str) -> Result<Vec<&str>, AllocError> {
     let mut words = Vec::new(alloc);
@@ -468,6 +516,10 @@ fn text_of(alloc: Global, job: &Job) -> Result<String, AllocError> {
         ) => {
             let (last, cycles) = (last.get(), cycles.get());
             format!(in alloc; "campaign {:?} {last} {cycles}", image.as_str())
+        }
+        Job::Draw(DrawOptions { run, format }) => {
+            let run = run_text(alloc, run)?;
+            format!(in alloc; "{format:?} of {run}")
         }
     }
 }
