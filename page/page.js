@@ -34,57 +34,16 @@ const LEGEND = {
 const find = (id) => document.getElementById(id);
 const page = document.documentElement;
 const { examples, faults } = parts;
-const utf8 = (text) => new TextEncoder().encode(text);
 const textIn = ({ bytes }) => new TextDecoder().decode(bytes);
 const spoken = (number) => number.toLocaleString("en");
 
 /** What the page shows: the file that stands in the place of a source, the image that runs, and what became of it. */
 const shown = {
-  module: null, file: null, files: {}, wanted: null, text: "", put: [], log: null, rowOf: [], address: 0, memory: null,
+  file: null, files: {}, wanted: null, text: "", put: [], log: null, rowOf: [], address: 0, memory: null,
   at: { cycle: 0, place: 0, row: null }, field: "value", turn: 0,
 };
 
 // ---- asking the program
-
-const workerAddress = URL.createObjectURL(
-  new Blob([parts.host, parts.log, parts.worker], { type: "text/javascript" }),
-);
-
-/** Has a worker, which does one job at a time. */
-class Helper {
-  constructor() {
-    this.end();
-  }
-
-  /** Runs the program on the words and files; answers null where it is ended before. `progress` hears what comes meanwhile. */
-  run(words, files, rows = 0, progress = () => {}) {
-    this.end();
-    this.worker ??= new Worker(workerAddress);
-    return new Promise((resolve) => {
-      this.settle = resolve;
-      this.worker.onmessage = ({ data }) => {
-        if (data.result || data.broken) this.answer(data.result ?? { status: -1, bytes: utf8(data.broken) });
-        else progress(data);
-      };
-      this.worker.onerror = (event) => this.answer({ status: -1, bytes: utf8(event.message ?? "the worker has stopped") });
-      this.worker.postMessage({ module: shown.module, words, files, rows });
-    });
-  }
-
-  answer(result) {
-    const { settle } = this;
-    this.settle = null;
-    settle?.(result);
-  }
-
-  /** Ends the job, if there is one, and its worker with it. */
-  end() {
-    if (!this.settle) return;
-    this.worker.terminate();
-    this.worker = null;
-    this.answer(null);
-  }
-}
 
 const runner = new Helper();
 const logger = new Helper();
@@ -801,7 +760,7 @@ async function beginPage() {
   const look = readAddress();
   addEventListener("hashchange", () => run(readAddress()));
   try {
-    shown.module = await WebAssembly.compile(await opened("packed-module").arrayBuffer());
+    Helper.module = await WebAssembly.compile(await opened("packed-module").arrayBuffer());
   } catch (fault) {
     stateIs("broken");
     find("status").textContent = `This browser does not open the program, which is WebAssembly of 64 bits: ${fault}`;

@@ -1,5 +1,5 @@
 -- What is seen of a machine between two cycles, by its observers.
-use Rattle.std.specs.Prelude.{ℕ, ◌≡◌, Bool, true, List, [], ◌∷◌, map, Option, None, option_map, ⊤}
+use Rattle.std.specs.Prelude.{ℕ, ◌≡◌, Bool, List, [], ◌∷◌, map, Option, option_map, ⊤}
 use Rattle.diva_isa.specs.State.{State, goes_on}
 use Rattle.diva_isa.specs.Step.{record_of}
 use Rattle.diva_isa.specs.declared.record.Record.{Record}
@@ -51,7 +51,3 @@ AreSeen m [] [] = ⊤
 AreSeen m [] (s ∷ seen) = ⊥
 AreSeen m (list ∷ lists) [] = ⊥
 AreSeen m (list ∷ lists) (s ∷ seen) = IsSeen (cycle_of m list) s × AreSeen (cycle_of m list) lists seen
-
--- of a new machine, which goes on
-abbrev pub at_first : Seen
-at_first = record { count = 0; cycles = 0; flushes = 0; newest = None; on = true; solo = None; claims = [] }

@@ -179,10 +179,10 @@ fn put_row<S: Sink>(row: &Row, sink: &mut S) -> Result<(), SinkFailed>
 }
 
 /// The name of a row: what the listing has of the word, without its address and its digits.
-fn name_line(record: &Record) -> Line
-    ensures { result ≡ name_text record.now }
+fn name_line(claim: &Record) -> Line
+    ensures { result ≡ name_text claim.now }
 {
-    let listed = list_line(record.pc, record.word);
+    let listed = list_line(claim.pc, claim.word);
     padded(listed_text(&listed))
 }
 

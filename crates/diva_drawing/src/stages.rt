@@ -21,17 +21,17 @@ pub(crate) fn push_stage(
     block: &mut Block,
     first: &'static [u8],
     numbers: Numbers,
-    record: &Record,
+    claim: &Record,
     age: u64,
 )
     requires room { length block.old + 640 ≤ 65536 }
     requires short { length first.now ≤ 8 }
-    ensures bytes { block.new ≡ block.old ++ stage_text first.now numbers.row numbers.place record.now age }
+    ensures bytes { block.new ≡ block.old ++ stage_text first.now numbers.row numbers.place claim.now age }
     ensures len { length block.new ≤ length block.old + 640 }
 {
     let stage: &'static [u8] = match age {
         0 => {
-            push_begun(block, first, numbers, record);
+            push_begun(block, first, numbers, claim);
             return;
         }
         1 => b"fetch",
@@ -46,16 +46,16 @@ pub(crate) fn push_stage(
 }
 
 /// Appends the lines with which a row begins.
-fn push_begun(block: &mut Block, stage: &'static [u8], numbers: Numbers, record: &Record)
+fn push_begun(block: &mut Block, stage: &'static [u8], numbers: Numbers, claim: &Record)
     requires room { length block.old + 640 ≤ 65536 }
     requires short { length stage.now ≤ 8 }
-    ensures bytes { block.new ≡ block.old ++ begun_text stage.now numbers.row numbers.place record.now }
+    ensures bytes { block.new ≡ block.old ++ begun_text stage.now numbers.row numbers.place claim.now }
     ensures len { length block.new ≤ length block.old + 640 }
 {
     block.line(&row_line(numbers.row));
     block.line(&place_lead(numbers.row, numbers.place));
-    block.line(&list_line(record.pc, record.word));
-    block.line(&fields_line(numbers.row, record));
+    block.line(&list_line(claim.pc, claim.word));
+    block.line(&fields_line(numbers.row, claim));
     block.line(&stage_line(numbers.row, stage));
 }
 
@@ -102,27 +102,27 @@ pub(crate) fn note_lead(row: u64) -> Line
 
 /// The fields of a row's record but pc and word.
 #[tactic(auto, unfolding(crate::specs::Log::fields_line))]
-fn fields_line(row: u64, record: &Record) -> Line
-    ensures { result ≡ fields_line row record.now }
+fn fields_line(row: u64, claim: &Record) -> Line
+    ensures { result ≡ fields_line row claim.now }
 {
     let mut line = note_lead(row);
     line.text(b"record");
-    push_named(&mut line, &Field::ALL[2..], record);
+    push_named(&mut line, &Field::ALL[2..], claim);
     line.text(b"\n");
     line
 }
 
 /// Appends some fields, each with its name.
-fn push_named(line: &mut Line, fields: &[Field], record: &Record)
+fn push_named(line: &mut Line, fields: &[Field], claim: &Record)
     requires { length line.old + 15 * length fields.now ≤ 128 }
-    ensures bytes { line.new ≡ line.old ++ named_fields fields.now record.now }
+    ensures bytes { line.new ≡ line.old ++ named_fields fields.now claim.now }
     ensures len { length line.new ≤ length line.old + 15 * length fields.now }
 {
     for field in fields {
         line.text(b" ");
         line.text(field.name());
         line.text(b" ");
-        line.hex_word(field.of(record));
+        line.hex_word(field.of(claim));
     }
 }
 
