@@ -9,7 +9,6 @@
 //! - `fields`: the fields of a word that stand in one place in all formats.
 //! - `immediates`: the immediate of a word, by its format.
 //! - `opcodes`: the opcodes by their names.
-//! - `tests`: words that an assembler made.
 //!
 //! What [`decode`] gives is the definition `row_of` of `specs/Table.antt`: the table as 50 lines in the order of the
 //! manual's listing. What [`encode`] gives is `encoding_of` of the same file: the fields of each format in their places.
@@ -24,8 +23,6 @@ mod immediates;
 mod instr;
 mod op;
 mod opcodes;
-#[cfg(test)]
-mod tests;
 mod validity;
 
 pub use decoding::decode;

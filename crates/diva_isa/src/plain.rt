@@ -216,37 +216,3 @@ impl Plain {
         let _ = self.output.push(byte);
     }
 }
-
-#[cfg(test)]
-mod tests {
-    use super::Plain;
-    use crate::record::Record;
-    use std::test::Fail;
-
-    /// `addi x1, x0, 5`, `addi x17, x0, 93` and `ecall`, which halts with what x10 holds.
-    const PROGRAM: [u8; 12] = [
-        0x93, 0x00, 0x50, 0x00, 0x93, 0x08, 0xd0, 0x05, 0x73, 0x00, 0x00, 0x00,
-    ];
-
-    #[test]
-    fn three_instructions(rt: HostRuntime) -> Result<(), Fail> {
-        let mut plain = Plain::new(rt.alloc(), 0, 64, 0, &PROGRAM)?;
-        let first = Record {
-            word: 0x0050_0093,
-            value: 5,
-            next: 4,
-            ..Record::default()
-        };
-        assert_eq!(rt; plain.record(), Some(first));
-        plain.step();
-        assert_eq!(rt; plain.reg(1), 5);
-        plain.run(8);
-        assert_eq!(rt; plain.record(), None);
-        assert_eq!(rt; plain.ended(), 256);
-        assert_eq!(rt; plain.count(), 3);
-        assert_eq!(rt; plain.byte(8), Some(0x73));
-        assert_eq!(rt; plain.byte(64), None);
-        assert!(rt; plain.output().is_empty());
-        Ok(())
-    }
-}

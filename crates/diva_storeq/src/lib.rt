@@ -3,7 +3,6 @@
 //! - `store`: `Store`, one of them.
 //! - `masked`: `Masked`, what it writes to the word of memory in which it lies.
 //! - `queue`: `StoreQueue`, all of them in order, and how memory is read through them.
-//! - `tests`: a half word and a byte over a word.
 //!
 //! Memory with the stores laid over it is `laid` of `specs/Stores.antt`.
 #![tactic(auto)]
@@ -11,8 +10,6 @@
 mod masked;
 mod queue;
 mod store;
-#[cfg(test)]
-mod tests;
 
 pub use masked::Masked;
 pub use queue::StoreQueue;

@@ -2,7 +2,7 @@
 
 mod encodings;
 
-use super::*;
+use diva_decode::{Instr, Op, decode, encode, valid};
 use encodings::{ENCODINGS, Encoding, OUTSIDE};
 use std::test::Fail;
 

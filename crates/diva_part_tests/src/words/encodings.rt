@@ -2,7 +2,7 @@
 // and immediates, and some that stand outside the table. Beside each row stands the statement that was assembled, a
 // branch or a jump by its offset from pc.
 
-use crate::Op;
+use diva_decode::Op;
 
 /// A word, and the operation, rd, rs1, rs2 and immediate of its instruction.
 pub(super) struct Encoding(

@@ -1,6 +1,6 @@
 // A byte over a word, and a half word and then a byte.
-use crate::{Masked, Store, StoreQueue};
 use diva_memory::Memory;
+use diva_storeq::{Masked, Store, StoreQueue};
 use std::test::Fail;
 
 const HALF_WORD: Store = Store {
