@@ -1,5 +1,5 @@
 -- What only private contracts of this crate cite. A reader of its promises can pass over it.
-use Rattle.std.specs.Prelude.{ℕ, ◌==◌, if◌then◌else◌, ◌≡◌, ◌≤◌, ◌+◌, ◌^◌, ◌&&◌, Bool, true, false, List, length, Some, ◌-◌, ◌<◌, [], ◌++◌, map, drop, slice_get}
+use Rattle.std.specs.Prelude.{ℕ, ◌==◌, if◌then◌else◌, ◌≡◌, ◌≤◌, ◌+◌, ◌^◌, ◌&&◌, Bool, List, length, Some, ◌-◌, ◌<◌, [], ◌++◌, map, drop, slice_get, is_none}
 use Rattle.diva_isa.specs.State.{goes_on, State}
 use Rattle.diva_core.specs.Timed.{Timed}
 use Rattle.diva_machine.specs.declared.ends.Reach.{Reach}
@@ -13,8 +13,6 @@ use Rattle.diva_memory.specs.Bytes.{Bytes}
 use Rattle.diva_storeq.specs.declared.masked.Masked.{Masked}
 use Rattle.diva_commit.specs.Committing.{AreInside}
 use Rattle.diva_core.specs.Cycle.{Judgement, Commit, Flush, Wait, judged_under, judgement_under, stores_wait}
-use Rattle.diva_machine.specs.declared.phases.CommitPhase.{CommitPhase}
-use Rattle.diva_machine.specs.declared.phases.CommitPhase.TheVariants.{Open, Closed}
 use Rattle.diva_machine.specs.declared.phases.Judged.{Judged}
 use Rattle.diva_machine.specs.declared.phases.Judged.TheVariants.{Committed, Ended, Flushed, Waits}
 use Rattle.diva_core.specs.declared.pending.Entry.{Entry}
@@ -77,14 +75,13 @@ judged_by Commit goes = if goes then Committed else Ended
 judged_by (Flush d) goes = Flushed
 judged_by Wait goes = Waits
 
--- claims may be accepted behind a commit phase
-abbrev pub is_open : CommitPhase → Bool
-is_open Open = true
-is_open Closed = false
+-- claims may be accepted behind the commit phase, if there was room before it: the machine goes on, and no instruction runs solo
+abbrev pub is_open : Timed → Bool
+is_open m = goes_on m.arch && is_none m.solo
 
--- it is open exactly where the machine goes on and has not flushed, m being the one before it and n the one behind it
-abbrev pub Tells : CommitPhase → (m n : Timed) → Type 0
-Tells phase m n = is_open phase ≡ (goes_on n.arch && (n.flushes == m.flushes))
+-- that is so exactly where the machine goes on and has not flushed, m being the one before that phase and n the one behind it
+abbrev pub Tells : (m n : Timed) → Type 0
+Tells m n = is_open n ≡ (goes_on n.arch && (n.flushes == m.flushes))
 
 -- the age at which a claim passes through a stage that compares
 abbrev pub age_of : Stage → ℕ

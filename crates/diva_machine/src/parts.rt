@@ -3,7 +3,7 @@
 //
 // In most cycles nothing is ready. So what each cycle does stands in the loop that drives the
 // machine (`inline(always)`), and what few cycles do is called (`inline(never)`, `cold`).
-ghost use Rattle.std.specs.Prelude.{◌≡◌, ◌+◌, ◌-◌, ◌<◌, ◌≤◌, ◌^◌, ◌++◌, [], ◌∷◌, ℕ, List, length, map, take, slice_get, None, Some, IfOk, true, false, not, ◌==◌, ◌&&◌};
+ghost use Rattle.std.specs.Prelude.{◌≡◌, ◌+◌, ◌-◌, ◌<◌, ◌≤◌, ◌^◌, ◌++◌, [], ◌∷◌, ℕ, List, length, map, take, slice_get, None, Some, IfOk, true, false, not, ◌==◌, ◌&&◌, if◌then◌else◌};
 ghost use Rattle.diva_isa.specs.declared.record.Record.{Record};
 ghost use Rattle.diva_isa.specs.State.{goes_on, GoesOn};
 ghost use Rattle.diva_isa.specs.Step.{apply, record_of, steps};
@@ -25,10 +25,10 @@ ghost use Rattle.diva_vote.specs.Questions.{Question};
 ghost use Rattle.diva_machine.specs.Asked.{asked_at, asked_in, asked_of};
 ghost use Rattle.diva_machine.specs.Inner.{judged, judged_by, judgement_of, KeepsBounds, Tells};
 ghost use Rattle.diva_machine.specs.Staged.{last_stage, IsFilled, IsSoloFilled, IsStaged};
-ghost use Rattle.diva_machine.specs.Inner.{left, IsAdvanced};
+ghost use Rattle.diva_machine.specs.Inner.{is_open, left, IsAdvanced};
 
 use crate::arch::Arch;
-use crate::phases::{CommitPhase, Judged};
+use crate::phases::Judged;
 use crate::stages::{LAST_STAGE, Stages, fill};
 use diva_commit::Committed;
 use diva_core::{Cause, Claim, Config, Entry, FutureFile, Records, Told};
@@ -153,14 +153,13 @@ impl Parts {
         self.last.clear();
     }
 
-    /// The claims of a list that the coming cycle accepts, unless it flushes or ends, where it accepts so many at most.
+    /// Recalls for a proof that nothing is pending in as many places as there is room for. It does nothing.
     #[inline(always)]
-    fn admitted<'a>(&self, list: &'a [Claim], room: usize) -> &'a [Claim]
+    fn recall_room(&self, room: usize)
         requires { room ≡ room_of self.now.timed }
-        ensures value { result.now ≡ take (room_of self.now.timed) list.now }
-        ensures fits { length result.now ≤ self.now.timed.config.window - length self.now.timed.pending }
+        ensures { room ≤ self.now.timed.config.window - length self.now.timed.pending }
     {
-        &list[..room.min(list.len())]
+        let _ = room;
     }
 
     /// Phase 1: where the port opens, the oldest undrained store goes to memory.
@@ -292,7 +291,7 @@ impl Parts {
     /// Judges at most `n` ready claims, oldest first.
     #[inline(always)]
     #[tactic(auto, using(crate::proofs::Fronts::judged_less))]
-    fn judge(&mut self, n: u32) -> CommitPhase
+    fn judge(&mut self, n: u32)
         requires width { n ≤ 4 }
         requires goes_on { GoesOn self.old.timed.arch }
         requires owed { self.old.timed.owed ≤ self.old.timed.config.stores }
@@ -304,7 +303,7 @@ impl Parts {
         requires running { self.old.timed.solo ≡ None }
         requires staged { IsStaged (self.old.timed.cycles - 1) self.old }
         ensures judged { self.new.timed ≡ judged n self.old.timed }
-        ensures tells { Tells result self.old.timed self.new.timed }
+        ensures tells { Tells self.old.timed self.new.timed }
         ensures counted { self.old.timed.count ≤ self.new.timed.count }
         ensures last { self.new.last
             ≡ dues (self.new.timed.count - self.old.timed.count) self.old.timed.arch }
@@ -316,18 +315,17 @@ impl Parts {
         while self.passed > 0 && at < n {
             match self.judge_front() {
                 Judged::Committed => at += 1,
-                Judged::Ended => return CommitPhase::Closed,
-                Judged::Flushed => return CommitPhase::Closed,
-                Judged::Waits => return CommitPhase::Open,
+                Judged::Ended => return,
+                Judged::Flushed => return,
+                Judged::Waits => return,
             }
         }
-        CommitPhase::Open
     }
 
     /// Phase 2: what is ready commits, at most `width` claims or the solo instruction.
     #[inline(always)]
     #[tactic(auto, unfolding(diva_core::specs::Cycle::commits_under, diva_core::specs::Cycle::committed))]
-    fn commits(&mut self) -> CommitPhase
+    fn commits(&mut self)
         requires width { self.old.timed.config.width ≤ 4 }
         requires goes_on { GoesOn self.old.timed.arch }
         requires owed { self.old.timed.owed ≤ self.old.timed.config.stores }
@@ -343,7 +341,7 @@ impl Parts {
         requires staged { IsStaged (self.old.timed.cycles - 1) self.old }
         requires solo { IsSoloFilled (self.old.timed.cycles - 1) self.old }
         ensures timed { self.new.timed ≡ commits_under stores_wait self.old.timed }
-        ensures tells { Tells result self.old.timed self.new.timed }
+        ensures tells { self.old.timed.solo ≡ None → Tells self.old.timed self.new.timed }
         ensures counted { self.old.timed.count ≤ self.new.timed.count }
         ensures last { self.new.last
             ≡ dues (self.new.timed.count - self.old.timed.count) self.old.timed.arch }
@@ -353,15 +351,13 @@ impl Parts {
     {
         match self.under.recover {
             Recover::Running if self.passed > 0 => self.judge(self.under.width),
-            Recover::Running => CommitPhase::Open,
+            Recover::Running => {}
             Recover::Solo(start) => {
                 let age = self.cycles.saturating_sub(start);
                 if age == DEPTH {
                     self.commit_solo();
-                    CommitPhase::open_if(self.arch.goes_on())
                 } else {
                     self.fill_solo(age);
-                    CommitPhase::Open
                 }
             }
         }
@@ -474,7 +470,32 @@ impl Parts {
         }
     }
 
-    /// Phase 4: claims become pending.
+    /// Whether claims may be accepted behind the commit phase, if there was room before it.
+    #[inline(always)]
+    fn is_open(&self) -> bool
+        ensures { result ≡ is_open self.now.timed }
+    {
+        self.arch.goes_on() && matches!(self.under.recover, Recover::Running)
+    }
+
+    /// Phase 4: the claims of a list become pending, so many at most, where any may. In most cycles there is none.
+    #[inline(always)]
+    fn accept_within(&mut self, list: &[Claim], most: usize)
+        requires { length self.old.timed.pending + most ≤ self.old.timed.config.window }
+        ensures timed { self.new.timed ≡ record self.old.timed {
+          pending = self.old.timed.pending
+              ++ map (accepted_in self.old.timed.cycles) (if is_open self.old.timed then take most list.now else []);
+        } }
+        ensures rest { self.new ≡ record self.old { timed = self.new.timed; entries = self.new.entries } }
+        ensures staged { IsStaged self.old.timed.cycles self.old → IsStaged self.new.timed.cycles self.new }
+        ensures solo { IsSoloFilled self.old.timed.cycles self.old → IsSoloFilled self.new.timed.cycles self.new }
+    {
+        if !list.is_empty() && self.is_open() {
+            self.accept(&list[..most.min(list.len())]);
+        }
+    }
+
+    /// The same, where it is known which.
     fn accept(&mut self, accepted: &[Claim])
         requires { length self.old.timed.pending + length accepted.now ≤ self.old.timed.config.window }
         ensures timed { self.new.timed ≡ record self.old.timed {
@@ -545,24 +566,25 @@ impl Parts {
         ensures staged { IsStaged self.new.timed.cycles self.new }
         ensures solo { IsSoloFilled self.new.timed.cycles self.new }
     {
-        let admitted = self.admitted(list, room);
+        self.recall_room(room);
         self.forget_last();
         self.cycles += 1;
         self.drain();
-        let phase = self.commits();
-        let accepted = phase.accepted(admitted);
+        self.commits();
         self.advance(stages);
-        self.accept(accepted);
+        self.accept_within(list, room);
         let committed = !self.last.is_empty();
         self.watch(committed);
     }
 }
 
-/// The age, in a cycle, of a claim that was accepted in an earlier one.
+/// The age, in a cycle, of a claim that was accepted in an earlier one, and is not past the last stage. It is below 8 for the
+/// compiler too, which then looks a stage up by it without a test.
 #[inline(always)]
 fn age_in(cycle: u64, accepted: u64) -> u64
-    requires { accepted < cycle }
+    requires earlier { accepted < cycle }
+    requires young { cycle ≤ accepted + last_stage }
     ensures { result + accepted ≡ cycle }
 {
-    cycle - accepted
+    (cycle - accepted) % 8
 }

@@ -100,6 +100,10 @@ impl Stages for Checks {
             OPERANDS_STAGE => pass_operands(pending, future, at, arch),
             EXECUTE_STAGE => pass_execute(pending, at, arch),
             LAST_STAGE => pass_last(pending, at, arch),
+            // No claim comes to these. The compiler knows that an age is below 8: with an arm for each number it needs no test.
+            0 => {}
+            6 => {}
+            7 => {}
             _ => unreachable!(),
         }
     }

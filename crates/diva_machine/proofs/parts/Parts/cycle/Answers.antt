@@ -1,30 +1,29 @@
-use Rattle.std.proofs.Common.{ℕ, ◌≡◌, ◌+◌, ◌-◌, ◌==◌, ◌&&◌, Some, true, false, not, subst, ap, sym, ◌∙◌, List, [], ◌++◌, map, refl, length, arith}
+use Rattle.std.proofs.Common.{ℕ, ◌≡◌, ◌+◌, ◌-◌, ◌==◌, ◌&&◌, if◌then◌else◌, None, Some, true, false, not, subst, ap, sym, ◌∙◌, List, [], ◌++◌, map, take, refl, length, arith}
 use Rattle.std.proofs.Math.Bool.{not-not}
 use Rattle.diva_isa.specs.State.{goes_on}
-use Rattle.diva_isa.specs.declared.record.Record.{Record}
 use Rattle.diva_isa.specs.Step.{record_of}
 use Rattle.diva_core.specs.Timed.{PendingClaim, Timed, depth}
 use Rattle.diva_core.specs.Cycle.{accepted_in, accepts, begun, commits_under, cycle_under, drained, watched, stores_wait}
 use Rattle.diva_core.specs.Headline.{dues}
 use Rattle.diva_core.proofs.Passing.{alone_stores}
 use Rattle.diva_machine.specs.Asked.{asked_in, asked_of}
-use Rattle.diva_machine.specs.Inner.{is_open}
+use Rattle.diva_machine.specs.Inner.{is_open, Tells}
 use Rattle.diva_machine.specs.Staged.{Parts}
 use Rattle.diva_machine.proofs.Staging.{staged_begun}
 use Rattle.diva_machine.proofs.Fronts.{watched-count, accepts-count, none-due}
-use Rattle.diva_machine.proofs.Telling.{accepts_is}
+use Rattle.diva_machine.proofs.Telling.{accepts_open}
 use Rattle.diva_machine.proofs.parts.Parts.cycle.Given as given
 use Rattle.diva_machine.proofs.parts.Parts.cycle.Goals as goal
 
-pub commits-phase-requires-clause-staged : goal.commits-phase-requires-clause-staged
-commits-phase-requires-clause-staged g c =
+pub commits-requires-clause-staged : goal.commits-requires-clause-staged
+commits-requires-clause-staged g c =
     let next = λ (z : Parts). record z { timed = drained (begun z.timed) } in
     let is : c.drain.new.self ≡ record c.args.self.now { timed = drained (begun c.args.self.now.timed); last = [] } = c.drain.ensures ∙ ap next c.self.view_is ∙ ap next c.forget_last.ensures in
     rw is (staged_begun c.args.self.now c.requires.staged)
 
-pub commits-phase-requires-clause-passes : goal.commits-phase-requires-clause-passes
+pub commits-requires-clause-passes : goal.commits-requires-clause-passes
 unfolding drained
-commits-phase-requires-clause-passes g c =
+commits-requires-clause-passes g c =
     let next = λ (z : Parts). record z { timed = drained (begun z.timed) } in
     let is : c.drain.new.self ≡ record c.args.self.now { timed = drained (begun c.args.self.now.timed); last = [] } = c.drain.ensures ∙ ap next c.self.view_is ∙ ap next c.forget_last.ensures in
     subst (λ (z : Parts). (start : ℕ) → z.timed.solo ≡ Some start → z.timed.cycles ≡ start + depth → stores_wait z.timed.config.stores z.timed.owed (record_of z.timed.arch) ≡ false)
@@ -36,46 +35,47 @@ begins g c =
     let next = λ (z : Parts). drained (begun z.timed) in ap (λ (z : Parts). z.timed) c.drain.ensures ∙ ap next c.self.view_is ∙ ap next c.forget_last.ensures
 
 -- the cycle keeps its number
-runs_on : (g : given.Over) (c : goal.After-watch g) → c.commits-phase.new.self.timed.cycles ≡ c.args.self.now.timed.cycles + 1
+runs_on : (g : given.Over) (c : goal.After-watch g) → c.commits.new.self.timed.cycles ≡ c.args.self.now.timed.cycles + 1
 unfolding drained
-runs_on g c = c.commits-phase.ensures.bounds.cycles ∙ ap (λ (m : Timed). m.cycles) (begins g c)
+runs_on g c = c.commits.ensures.bounds.cycles ∙ ap (λ (m : Timed). m.cycles) (begins g c)
 
 -- phase 2 has told whether claims are accepted
-opens : (g : given.Over) (c : goal.After-watch g) → is_open c.commits-phase.result ≡ (goes_on c.commits-phase.new.self.timed.arch && (c.commits-phase.new.self.timed.flushes == c.args.self.now.timed.flushes))
+tells : (g : given.Over) (c : goal.After-watch g) → c.args.self.now.timed.solo ≡ None → Tells c.args.self.now.timed c.commits.new.self.timed
 unfolding drained
-opens g c =
-    c.commits-phase.ensures.tells
-    ∙ ap (λ (m : Timed). goes_on c.commits-phase.new.self.timed.arch && (c.commits-phase.new.self.timed.flushes == m.flushes)) (begins g c)
+tells g c none =
+    c.commits.ensures.tells (ap (λ (m : Timed). m.solo) (begins g c) ∙ none)
+    ∙ ap (λ (m : Timed). goes_on c.commits.new.self.timed.arch && (c.commits.new.self.timed.flushes == m.flushes)) (begins g c)
 
-admits : (g : given.Over) (c : goal.After-watch g) → c.accept.new.self.timed ≡ accepts c.args.self.now.timed c.args.list.now c.commits-phase.new.self.timed
+admits : (g : given.Over) (c : goal.After-watch g) → c.accept_within.new.self.timed ≡ accepts c.args.self.now.timed c.args.list.now c.commits.new.self.timed
 admits g c =
-    let n : Timed = c.commits-phase.new.self.timed in
-    c.accept.ensures.timed
-    ∙ ap (λ (z : Parts). record z.timed { pending = z.timed.pending ++ map (accepted_in z.timed.cycles) c.accepted-accepted.result.now }) c.advance.ensures.rest
-    ∙ ap (λ (claims : List Record). record n { pending = n.pending ++ map (accepted_in n.cycles) claims }) c.accepted-accepted.ensures.accepted
-    ∙ accepts_is c.args.self.now.timed n c.admitted-admitted.result.now c.args.list.now (is_open c.commits-phase.result) c.admitted-admitted.ensures.value (opens g c)
+    let n : Timed = c.commits.new.self.timed in
+    let within = λ (m : Timed) (room : ℕ). record m { pending = m.pending ++ map (accepted_in m.cycles) (if is_open m then take room c.args.list.now else []) } in
+    c.accept_within.ensures.timed
+    ∙ ap (λ (z : Parts). within z.timed c.args.room) c.advance.ensures.rest
+    ∙ ap (within n) c.requires.room
+    ∙ accepts_open c.args.self.now.timed n c.args.list.now (tells g c)
 
 -- the instructions that were counted are those whose records came due
-comes-due : (g : given.Over) (c : goal.After-watch g) → c.accept.new.self.last ≡ dues (c.accept.new.self.timed.count - c.args.self.now.timed.count) c.args.self.now.timed.arch
+comes-due : (g : given.Over) (c : goal.After-watch g) → c.accept_within.new.self.last ≡ dues (c.accept_within.new.self.timed.count - c.args.self.now.timed.count) c.args.self.now.timed.arch
 unfolding drained
 comes-due g c =
     let old : Timed = c.args.self.now.timed in
-    let after : c.accept.new.self.timed.count ≡ c.commits-phase.new.self.timed.count = ap (λ z. z.count) (admits g c) ∙ accepts-count old c.commits-phase.new.self.timed c.args.list.now in
-    ap (λ (z : Parts). z.last) c.accept.ensures.rest ∙ ap (λ (z : Parts). z.last) c.advance.ensures.rest ∙ c.commits-phase.ensures.last
-    ∙ ap (λ (z : Timed). dues (c.commits-phase.new.self.timed.count - z.count) z.arch) (begins g c)
+    let after : c.accept_within.new.self.timed.count ≡ c.commits.new.self.timed.count = ap (λ z. z.count) (admits g c) ∙ accepts-count old c.commits.new.self.timed c.args.list.now in
+    ap (λ (z : Parts). z.last) c.accept_within.ensures.rest ∙ ap (λ (z : Parts). z.last) c.advance.ensures.rest ∙ c.commits.ensures.last
+    ∙ ap (λ (z : Timed). dues (c.commits.new.self.timed.count - z.count) z.arch) (begins g c)
     ∙ ap (λ n. dues (n - old.count) old.arch) (sym after)
 
-counts : (g : given.Over) (c : goal.After-watch g) → (c.accept.new.self.timed.count == c.args.self.now.timed.count) ≡ not (not c.is_empty-committed.result)
+counts : (g : given.Over) (c : goal.After-watch g) → (c.accept_within.new.self.timed.count == c.args.self.now.timed.count) ≡ not (not c.is_empty-committed.result)
 unfolding drained
 counts g c =
     let old : Timed = c.args.self.now.timed in
-    let after : c.accept.new.self.timed.count ≡ c.commits-phase.new.self.timed.count = ap (λ z. z.count) (admits g c) ∙ accepts-count old c.commits-phase.new.self.timed c.args.list.now in
+    let after : c.accept_within.new.self.timed.count ≡ c.commits.new.self.timed.count = ap (λ z. z.count) (admits g c) ∙ accepts-count old c.commits.new.self.timed c.args.list.now in
     let before : c.drain.new.self.timed.count ≡ old.count = ap (λ z. z.count) (begins g c) in
-    let more = c.commits-phase.ensures.counted in
-    none-due old.count c.accept.new.self.timed.count old.arch c.accept.new.self.last (omega arith) (comes-due g c)
+    let more = c.commits.ensures.counted in
+    none-due old.count c.accept_within.new.self.timed.count old.arch c.accept_within.new.self.last (omega arith) (comes-due g c)
     ∙ ap (λ (z : Parts). length z.last == 0) (sym c.self-2.view_is) ∙ sym c.is_empty-committed.ensures ∙ sym (not-not c.is_empty-committed.result)
 
-watches : (g : given.Over) (c : goal.After-watch g) → c.watch.new.self.timed ≡ watched c.args.self.now.timed c.accept.new.self.timed
+watches : (g : given.Over) (c : goal.After-watch g) → c.watch.new.self.timed ≡ watched c.args.self.now.timed c.accept_within.new.self.timed
 watches g c = c.watch.ensures.timed c.args.self.now.timed (counts g c)
 
 pub returns-clause-timed : goal.returns-clause-timed
@@ -83,13 +83,13 @@ unfolding cycle_under
 returns-clause-timed g c =
     let old : Timed = c.args.self.now.timed in
     let on : goes_on old.arch ≡ true = ap (λ n. n == 0) c.requires.goes_on in
-    watches g c ∙ ap (watched old) (admits g c) ∙ ap (λ z. watched old (accepts old c.args.list.now z)) (c.commits-phase.ensures.timed ∙ ap (commits_under stores_wait) (begins g c))
+    watches g c ∙ ap (watched old) (admits g c) ∙ ap (λ z. watched old (accepts old c.args.list.now z)) (c.commits.ensures.timed ∙ ap (commits_under stores_wait) (begins g c))
     ∙ rw on refl
 
 pub returns-clause-last : goal.returns-clause-last
 returns-clause-last g c =
     let old : Timed = c.args.self.now.timed in
-    let same : c.watch.new.self.timed.count ≡ c.accept.new.self.timed.count = ap (λ z. z.count) (watches g c) ∙ watched-count old c.accept.new.self.timed in
+    let same : c.watch.new.self.timed.count ≡ c.accept_within.new.self.timed.count = ap (λ z. z.count) (watches g c) ∙ watched-count old c.accept_within.new.self.timed in
     c.watch.ensures.last ∙ comes-due g c ∙ ap (λ n. dues (n - old.count) old.arch) (sym same)
 
 pub returns-clause-led : goal.returns-clause-led
@@ -97,6 +97,6 @@ unfolding asked_of
 returns-clause-led g c = λ first before h.
     let old : Timed = c.args.self.now.timed in
     let on : goes_on old.arch ≡ true = ap (λ n. n == 0) c.requires.goes_on in
-    let left : c.commits-phase.new.self.timed ≡ commits_under stores_wait (drained (begun old)) = c.commits-phase.ensures.timed ∙ ap (commits_under stores_wait) (begins g c) in
+    let left : c.commits.new.self.timed ≡ commits_under stores_wait (drained (begun old)) = c.commits.ensures.timed ∙ ap (commits_under stores_wait) (begins g c) in
     rw on (subst (λ (ps : List PendingClaim). g.S.Stages.led first (before ++ asked_in (old.cycles + 1) ps) c.advance.new.stages) (ap (λ (m : Timed). m.pending) left)
-    (subst (λ (n : ℕ). g.S.Stages.led first (before ++ asked_in n c.commits-phase.new.self.timed.pending) c.advance.new.stages) (runs_on g c) (c.advance.ensures.led first before h)))
+    (subst (λ (n : ℕ). g.S.Stages.led first (before ++ asked_in n c.commits.new.self.timed.pending) c.advance.new.stages) (runs_on g c) (c.advance.ensures.led first before h)))
