@@ -29,7 +29,7 @@ impl<'a, C: Core> Core for Faulty<'a, C> {
 
     ghost gives = { spoiled_call C.gives };
 
-    #[inline]
+    #[inline(always)]
     fn cycle(&mut self, told: &Told, view: &View<'_>, out: &mut Claims) {
         self.inner.cycle(told, view, out);
         self.script.lay(told.cycle, out);

@@ -70,7 +70,7 @@ impl Schedule {
     }
 
     /// Lays the rows of a cycle over a list.
-    #[inline]
+    #[inline(always)]
     pub(crate) fn lay(&self, cycle: u64, list: &mut Claims)
         ensures { list.new ≡ scripted self.now cycle list.old }
     {

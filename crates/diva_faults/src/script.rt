@@ -80,7 +80,7 @@ impl Script {
     }
 
     /// Lays the rows of a cycle over the list of that cycle.
-    #[inline]
+    #[inline(always)]
     pub(crate) fn lay(&self, cycle: u64, list: &mut Claims)
         ensures { list.new ≡ scripted self.now cycle list.old }
     {
