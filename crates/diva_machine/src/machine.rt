@@ -1,5 +1,5 @@
 // The machine between cycles.
-ghost use Rattle.std.specs.Prelude.{◌≡◌, ◌⊎◌, ◌↔◌, ◌+◌, ◌-◌, ◌*◌, ◌<◌, ◌≤◌, ◌^◌, ◌∷◌, ◌++◌, ℕ, [], List, length, map, slice_get, None, Some, IsNone, IfOk, true, false};
+ghost use Rattle.std.specs.Prelude.{◌≡◌, ◌⊎◌, ◌↔◌, ◌+◌, ◌-◌, ◌*◌, ◌<◌, ◌≤◌, ◌^◌, ◌∷◌, ◌++◌, ℕ, [], List, length, map, min, not, slice_get, None, Some, IsNone, IfOk, true, false};
 ghost use Rattle.diva_isa.specs.State.{goes_on, GoesOn, output_limit};
 ghost use Rattle.diva_isa.specs.End.{end_of, end_number};
 ghost use Rattle.diva_isa.specs.Step.{steps};
@@ -355,19 +355,27 @@ impl Machine {
         ensures stays { goes_on self.old.timed.arch ≡ false → self.new.entries ≡ self.old.entries }
     {
         if self.parts.goes_on() {
-            let room = self.parts.room();
-            self.parts.cycle(list.as_slice(), room, stages);
+            let count = self.admits(list.len());
+            self.parts.cycle(list.as_slice(), count, stages);
         } else {
             self.parts.forget_last();
         }
     }
 
-    /// The same for a machine that goes on, where it is known how many claims the cycle accepts at most.
+    /// How many of so many claims the coming cycle accepts.
     #[inline(always)]
-    pub(crate) fn cycle_within<S: Stages>(&mut self, list: &Claims, room: u32, stages: &mut S)
+    pub(crate) fn admits(&self, claims: usize) -> usize
+        ensures { result ≡ min (room_of self.now.timed) claims }
+    {
+        self.parts.admits(claims)
+    }
+
+    /// The same for a machine that goes on, where it is known for how many claims of the list there is room.
+    #[inline(always)]
+    pub(crate) fn cycle_within<S: Stages>(&mut self, list: &Claims, count: usize, stages: &mut S)
         requires goes_on { goes_on self.old.timed.arch ≡ true }
         requires cycles { self.old.timed.cycles < 2 ^ 60 }
-        requires room { room ≡ room_of self.old.timed }
+        requires count { count ≡ min (room_of self.old.timed) (length list.now) }
         requires stages_sound { S.sound stages.old }
         ensures stages_sound { S.sound stages.new }
         ensures led { (first : S) (before : List Question) → S.led first before stages.old
@@ -376,6 +384,15 @@ impl Machine {
         ensures last { self.new.last
             ≡ dues (self.new.timed.count - self.old.timed.count) self.old.timed.arch }
     {
-        self.parts.cycle(list.as_slice(), room as usize, stages);
+        self.parts.cycle(list.as_slice(), count, stages);
+    }
+
+    /// Whether the last cycle has ended the machine: only one in which an instruction committed can.
+    #[inline(always)]
+    pub(crate) fn has_just_ended(&self) -> bool
+        requires { self.now.last ≡ [] → goes_on self.now.timed.arch ≡ true }
+        ensures { result ≡ not (goes_on self.now.timed.arch) }
+    {
+        !self.parts.last.is_empty() && !self.parts.goes_on()
     }
 }

@@ -3,7 +3,7 @@
 //
 // In most cycles nothing is ready. So what each cycle does stands in the loop that drives the
 // machine (`inline(always)`), and what few cycles do is called (`inline(never)`, `cold`).
-ghost use Rattle.std.specs.Prelude.{◌≡◌, ◌+◌, ◌-◌, ◌<◌, ◌≤◌, ◌^◌, ◌++◌, [], ◌∷◌, ℕ, List, length, map, take, slice_get, None, Some, IfOk, true, false, not, ◌==◌, ◌&&◌, if◌then◌else◌};
+ghost use Rattle.std.specs.Prelude.{◌≡◌, ◌+◌, ◌-◌, ◌<◌, ◌≤◌, ◌^◌, ◌++◌, [], ◌∷◌, ℕ, List, length, map, min, take, slice_get, None, Some, IfOk, true, false, not, ◌==◌, ◌&&◌, if◌then◌else◌};
 ghost use Rattle.diva_isa.specs.declared.record.Record.{Record};
 ghost use Rattle.diva_isa.specs.State.{goes_on, GoesOn};
 ghost use Rattle.diva_isa.specs.Step.{apply, record_of, steps};
@@ -101,6 +101,14 @@ impl Parts {
         self.under.room(self.arch.own())
     }
 
+    /// How many of so many claims the coming cycle accepts.
+    #[inline(always)]
+    pub fn admits(&self, claims: usize) -> usize
+        ensures { result ≡ min (room_of self.now.timed) claims }
+    {
+        self.under.admits(self.arch.own(), claims)
+    }
+
     /// What a core is told before the coming cycle.
     #[inline(always)]
     pub fn told(&self) -> Told
@@ -155,11 +163,11 @@ impl Parts {
 
     /// Recalls for a proof that nothing is pending in as many places as there is room for. It does nothing.
     #[inline(always)]
-    fn recall_room(&self, room: usize)
-        requires { room ≡ room_of self.now.timed }
-        ensures { room ≤ self.now.timed.config.window - length self.now.timed.pending }
+    fn recall_room(&self, count: usize)
+        requires { count ≤ room_of self.now.timed }
+        ensures { count ≤ self.now.timed.config.window - length self.now.timed.pending }
     {
-        let _ = room;
+        let _ = count;
     }
 
     /// Phase 1: where the port opens, the oldest undrained store goes to memory.
@@ -478,20 +486,21 @@ impl Parts {
         self.arch.goes_on() && matches!(self.under.recover, Recover::Running)
     }
 
-    /// Phase 4: the claims of a list become pending, so many at most, where any may. In most cycles there is none.
+    /// Phase 4: so many claims of a list, the first, become pending, where any may. In most cycles there is none.
     #[inline(always)]
-    fn accept_within(&mut self, list: &[Claim], most: usize)
-        requires { length self.old.timed.pending + most ≤ self.old.timed.config.window }
+    fn accept_within(&mut self, list: &[Claim], count: usize)
+        requires list { count ≤ length list.now }
+        requires room { length self.old.timed.pending + count ≤ self.old.timed.config.window }
         ensures timed { self.new.timed ≡ record self.old.timed {
           pending = self.old.timed.pending
-              ++ map (accepted_in self.old.timed.cycles) (if is_open self.old.timed then take most list.now else []);
+              ++ map (accepted_in self.old.timed.cycles) (if is_open self.old.timed then take count list.now else []);
         } }
         ensures rest { self.new ≡ record self.old { timed = self.new.timed; entries = self.new.entries } }
         ensures staged { IsStaged self.old.timed.cycles self.old → IsStaged self.new.timed.cycles self.new }
         ensures solo { IsSoloFilled self.old.timed.cycles self.old → IsSoloFilled self.new.timed.cycles self.new }
     {
-        if !list.is_empty() && self.is_open() {
-            self.accept(&list[..most.min(list.len())]);
+        if count > 0 && self.is_open() {
+            self.accept(&list[..count]);
         }
     }
 
@@ -524,7 +533,9 @@ impl Parts {
         ensures staged { IsStaged self.old.timed.cycles self.old → IsStaged self.new.timed.cycles self.new }
         ensures solo { IsSoloFilled self.old.timed.cycles self.old → IsSoloFilled self.new.timed.cycles self.new }
     {
-        if self.under.tick(committed) && self.arch.goes_on() {
+        if committed {
+            self.under.watchdog.rest();
+        } else if self.under.watchdog.wait() && self.is_open() {
             self.bark();
         }
     }
@@ -546,12 +557,12 @@ impl Parts {
         self.flush(Cause::Silent(limit));
     }
 
-    /// One cycle of a machine that goes on, and accepts so many claims at most.
+    /// One cycle of a machine that goes on, and has room for so many claims of the list.
     #[inline(always)]
     #[tactic(auto, unfolding(diva_core::specs::Cycle::cycle_under, diva_core::specs::Cycle::drained, diva_core::specs::Cycle::accepts))]
-    pub fn cycle<S: Stages>(&mut self, list: &[Claim], room: usize, stages: &mut S)
+    pub fn cycle<S: Stages>(&mut self, list: &[Claim], count: usize, stages: &mut S)
         requires goes_on { GoesOn self.old.timed.arch }
-        requires room { room ≡ room_of self.old.timed }
+        requires count { count ≡ min (room_of self.old.timed) (length list.now) }
         requires machine { IsMachine self.old.timed }
         requires cycles { self.old.timed.cycles < 2 ^ 60 }
         requires staged { IsStaged self.old.timed.cycles self.old }
@@ -566,13 +577,13 @@ impl Parts {
         ensures staged { IsStaged self.new.timed.cycles self.new }
         ensures solo { IsSoloFilled self.new.timed.cycles self.new }
     {
-        self.recall_room(room);
+        self.recall_room(count);
         self.forget_last();
         self.cycles += 1;
         self.drain();
         self.commits();
         self.advance(stages);
-        self.accept_within(list, room);
+        self.accept_within(list, count);
         let committed = !self.last.is_empty();
         self.watch(committed);
     }

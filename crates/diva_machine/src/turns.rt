@@ -1,5 +1,5 @@
 // A machine and a core, turn by turn.
-ghost use Rattle.std.specs.Prelude.{◌≡◌, ◌+◌, ◌-◌, ◌≤◌, ◌<◌, ◌^◌, ◌↔◌, ◌⊎◌, ◌++◌, List, [], true, false};
+ghost use Rattle.std.specs.Prelude.{◌≡◌, ◌+◌, ◌-◌, ◌≤◌, ◌<◌, ◌^◌, ◌↔◌, ◌⊎◌, ◌++◌, List, [], length, min, true, false};
 ghost use Rattle.diva_isa.specs.State.{goes_on};
 ghost use Rattle.diva_core.specs.Told.{told_of};
 ghost use Rattle.diva_core.specs.Cycle.{cycle_of};
@@ -67,26 +67,29 @@ pub(crate) fn turn_by<C: Core, S: Stages>(
     ensures last { m.new.last ≡ dues (m.new.timed.count - m.old.timed.count) m.old.timed.arch }
 {
     if m.goes_on() {
-        let room = ask(m, core, list);
-        m.cycle_within(list, room, stages);
+        let count = ask(m, core, list);
+        m.cycle_within(list, count, stages);
     } else {
         list.clear();
         m.cycle_by(list, stages);
     }
 }
 
-/// The first half of a turn of a machine that goes on: the core is asked. Gives how many claims the cycle that follows
-/// accepts at most.
+/// The first half of a turn of a machine that goes on: the core is asked. Gives for how many claims of the list there is room in
+/// the cycle that follows.
 #[inline(always)]
-fn ask<C: Core>(m: &Machine, core: &mut C, list: &mut Claims) -> u32
+fn ask<C: Core>(m: &Machine, core: &mut C, list: &mut Claims) -> usize
     requires { goes_on m.now.timed.arch ≡ true }
     ensures asked { C.gives core.old (told_of m.now.timed) m.now.timed.arch list.new core.new }
-    ensures room { result ≡ room_of m.now.timed }
+    ensures count { result ≡ min (room_of m.now.timed) (length list.new) }
 {
     list.clear();
-    let told = m.told();
-    core.cycle(&told, &m.view(), list);
-    told.room
+    core.cycle(&m.told(), &m.view(), list);
+    if list.is_empty() {
+        0
+    } else {
+        m.admits(list.len())
+    }
 }
 
 /// Takes turns until the machine ends or the budget's cycles are run. On an ended machine nothing
@@ -141,11 +144,12 @@ pub(crate) fn drive_by<C: Core, S: Stages>(
         return Drive::Ended;
     }
     let mut list = Claims::new();
+    let last = m.cycles() + budget;
     // Each half of a turn is made part of the loop: as one function they would be too large for that.
-    for _ in 0..budget {
-        let room = ask(m, core, &mut list);
-        m.cycle_within(&list, room, stages);
-        if !m.goes_on() {
+    while m.cycles() < last {
+        let count = ask(m, core, &mut list);
+        m.cycle_within(&list, count, stages);
+        if m.has_just_ended() {
             return Drive::Ended;
         }
     }

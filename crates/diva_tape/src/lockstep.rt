@@ -1,4 +1,7 @@
 // A core that does one instruction at a time.
+ghost use Rattle.std.specs.Prelude.{◌≡◌, [], ◌∷◌, nat_lt, if◌then◌else◌};
+ghost use Rattle.diva_isa.specs.Step.{record_of};
+
 use diva_core::{Claims, Core, Told, View};
 use diva_isa::record_of;
 
@@ -14,8 +17,19 @@ impl Core for Lockstep {
 
     #[inline(always)]
     fn cycle(&mut self, told: &Told, view: &View<'_>, out: &mut Claims) {
-        if told.pending == 0 && told.room > 0 {
-            out.push(record_of(view));
+        if told.pending == 0 {
+            hand_over(told.room, &view.copied(), out);
         }
+    }
+}
+
+/// Hands over the due record, where there is room. Most calls find a claim pending, so this is called.
+#[inline(never)]
+fn hand_over(room: u32, view: &View<'_>, out: &mut Claims)
+    requires { out.old ≡ [] }
+    ensures { out.new ≡ (if nat_lt 0 room then record_of view.now ∷ [] else []) }
+{
+    if room > 0 {
+        out.push(record_of(view));
     }
 }

@@ -1,5 +1,5 @@
 // The count of cycles without a commit.
-ghost use Rattle.std.specs.Prelude.{◌≡◌, ◌≤◌, ◌↔◌, IsTrue, false, true};
+ghost use Rattle.std.specs.Prelude.{◌≡◌, ◌≤◌, ◌<◌, ◌-◌, ◌^◌, ◌↔◌, IsTrue, nat_le, false, true};
 
 use std::marker::Model;
 
@@ -49,6 +49,17 @@ impl Watchdog {
         ensures { self.new ≡ ticked self.old true }
     {
         self.idle = 0;
+    }
+
+    /// Ends a cycle in which no instruction committed, where the count is not at its last value: as [`tick`](Self::tick) does, but
+    /// the answer is whether the count has reached the limit.
+    pub fn wait(&mut self) -> bool
+        requires { self.old.idle < 2 ^ 32 - 1 }
+        ensures ticked { self.new ≡ ticked self.old false }
+        ensures value { result ≡ nat_le self.new.limit self.new.idle }
+    {
+        self.idle += 1;
+        self.idle >= self.limit
     }
 
     /// Ends a cycle: `committed` says whether an instruction committed in it, and `solo` whether one

@@ -1,8 +1,10 @@
-use Rattle.std.proofs.Common.{◌≡◌, true, sym, ◌∙◌, arith}
+use Rattle.std.proofs.Common.{◌≡◌, ◌+◌, true, sym, ◌∙◌, ap, not, arith}
+use Rattle.std.proofs.Math.Bool.{not-not}
 use Rattle.diva_isa.specs.State.{goes_on}
 use Rattle.diva_core.proofs.Outcomes.{cycle-cycles}
 use Rattle.diva_core.proofs.Pacing.{turns-stay}
 use Rattle.diva_machine.proofs.Asking.{led_more, led_none}
+use Rattle.diva_machine.proofs.Laws.{idle_goes_on}
 use Rattle.diva_machine.proofs.turns.drive_by.Goals as goal
 
 -- ---- a machine that had ended
@@ -10,12 +12,12 @@ use Rattle.diva_machine.proofs.turns.drive_by.Goals as goal
 pub returns-then-not-goes_on-clause-led : goal.returns-then-not-goes_on-clause-led
 returns-then-not-goes_on-clause-led g c = led_none g.C.Core.gives _ _ g.S.Stages.led _
 
-pub loop-init : goal.loop-init
-loop-init g c =
+pub loop-list-init : goal.loop-list-init
+loop-list-init g c =
     record {
       on = sym c.goes_on.ensures.value ∙ c.if-not-goes_on.false;
       began = sym c.goes_on.ensures.value ∙ c.if-not-goes_on.false;
-      cycles = omega arith;
+      within = omega arith;
       sound = c.goes_on.ensures.machine;
       stages = c.requires.stages_sound;
       led = led_none g.C.Core.gives _ _ g.S.Stages.led _;
@@ -23,31 +25,49 @@ loop-init g c =
 
 -- ---- a turn
 
+pub has_just_ended-requires : goal.has_just_ended-requires
+has_just_ended-requires g c =
+    let inv = c.loop-list.invariant in
+    idle_goes_on c.loop-list.m.timed c.cycle_within.new.self.timed c.ask-count.new.list c.cycle_within.new.self.last (turns-stay g.C.Core.gives _ _ _ _ inv.sound inv.led.taken.turns) c.cycle_within.ensures.cycled inv.on c.cycle_within.ensures.last
+
 -- one that ended it
 
-pub returns-then-not-goes_on-2-clause-led : goal.returns-then-not-goes_on-2-clause-led
-returns-then-not-goes_on-2-clause-led g c =
-    let inv = c.loop.invariant in
-    led_more g.C.Core.gives _ _ _ _ g.S.Stages.led _ _ inv.led inv.sound c.cycle_within.new.self c.ask-room.new.list c.ask-room.new.core c.cycle_within.new.stages inv.on c.ask-room.ensures.asked c.cycle_within.ensures.cycled c.cycle_within.ensures.last c.cycle_within.ensures.led
+pub returns-then-has_just_ended-clause-led : goal.returns-then-has_just_ended-clause-led
+returns-then-has_just_ended-clause-led g c =
+    let inv = c.loop-list.invariant in
+    led_more g.C.Core.gives _ _ _ _ g.S.Stages.led _ _ inv.led inv.sound c.cycle_within.new.self c.ask-count.new.list c.ask-count.new.core c.cycle_within.new.stages inv.on c.ask-count.ensures.asked c.cycle_within.ensures.cycled c.cycle_within.ensures.last c.cycle_within.ensures.led
 
-pub returns-then-not-goes_on-2-clause-within : goal.returns-then-not-goes_on-2-clause-within
-returns-then-not-goes_on-2-clause-within g c =
-    let inv = c.loop.invariant in
-    let next = cycle-cycles c.loop.m.timed c.ask-room.new.list (turns-stay g.C.Core.gives _ _ _ _ inv.sound inv.led.taken.turns) inv.on in
-    rw c.cycle_within.ensures.cycled (let l = c.loop-test.true in omega arith)
+pub returns-then-has_just_ended-clause-within : goal.returns-then-has_just_ended-clause-within
+returns-then-has_just_ended-clause-within g c =
+    let inv = c.loop-list.invariant in
+    let next = ap (λ m. m.cycles) c.cycle_within.ensures.cycled ∙ cycle-cycles c.loop-list.m.timed c.ask-count.new.list (turns-stay g.C.Core.gives _ _ _ _ inv.sound inv.led.taken.turns) inv.on in
+    let l = c.loop-list-test.true in
+    let first = c.cycles.ensures in
+    let now = c.cycles-in-loop-list.ensures in omega arith
 
 -- one after which it goes on
 
-pub loop-preserved : goal.loop-preserved
-loop-preserved g c =
-    let inv = c.loop.invariant in
-    let next = cycle-cycles c.loop.m.timed c.ask-room.new.list (turns-stay g.C.Core.gives _ _ _ _ inv.sound inv.led.taken.turns) inv.on in
-    let on : goes_on c.cycle_within.new.self.timed.arch ≡ true = sym c.goes_on-in-loop.ensures.value ∙ c.if-not-goes_on-2.false in
+pub loop-list-smaller : goal.loop-list-smaller
+loop-list-smaller g c =
+    let inv = c.loop-list.invariant in
+    let next = ap (λ m. m.cycles) c.cycle_within.ensures.cycled ∙ cycle-cycles c.loop-list.m.timed c.ask-count.new.list (turns-stay g.C.Core.gives _ _ _ _ inv.sound inv.led.taken.turns) inv.on in
+    let l = c.loop-list-test.true in
+    let first = c.cycles.ensures in
+    let now = c.cycles-in-loop-list.ensures in omega arith
+
+pub loop-list-preserved : goal.loop-list-preserved
+loop-list-preserved g c =
+    let inv = c.loop-list.invariant in
+    let next = ap (λ m. m.cycles) c.cycle_within.ensures.cycled ∙ cycle-cycles c.loop-list.m.timed c.ask-count.new.list (turns-stay g.C.Core.gives _ _ _ _ inv.sound inv.led.taken.turns) inv.on in
+    let l = c.loop-list-test.true in
+    let first = c.cycles.ensures in
+    let now = c.cycles-in-loop-list.ensures in
+    let on : goes_on c.cycle_within.new.self.timed.arch ≡ true = sym (not-not _) ∙ ap not (sym c.has_just_ended.ensures ∙ c.if-has_just_ended.false) in
     record {
       on = on;
       began = inv.began;
-      cycles = rw c.cycle_within.ensures.cycled (omega arith);
+      within = omega arith;
       sound = inv.sound;
       stages = c.cycle_within.ensures.stages_sound;
-      led = led_more g.C.Core.gives _ _ _ _ g.S.Stages.led _ _ inv.led inv.sound c.cycle_within.new.self c.ask-room.new.list c.ask-room.new.core c.cycle_within.new.stages inv.on c.ask-room.ensures.asked c.cycle_within.ensures.cycled c.cycle_within.ensures.last c.cycle_within.ensures.led;
+      led = led_more g.C.Core.gives _ _ _ _ g.S.Stages.led _ _ inv.led inv.sound c.cycle_within.new.self c.ask-count.new.list c.ask-count.new.core c.cycle_within.new.stages inv.on c.ask-count.ensures.asked c.cycle_within.ensures.cycled c.cycle_within.ensures.last c.cycle_within.ensures.led;
     }

@@ -1,8 +1,10 @@
 use Rattle.std.proofs.Common.{ℕ, ◌≡◌, ◌+◌, ◌-◌, ◌==◌, ◌&&◌, if◌then◌else◌, None, Some, true, false, not, subst, ap, sym, ◌∙◌, List, [], ◌++◌, map, take, refl, length, arith}
 use Rattle.std.proofs.Math.Bool.{not-not}
 use Rattle.diva_isa.specs.State.{goes_on}
+use Rattle.std.proofs.lemmas.List.{take_min}
+use Rattle.diva_isa.specs.declared.record.Record.{Record}
 use Rattle.diva_isa.specs.Step.{record_of}
-use Rattle.diva_core.specs.Timed.{PendingClaim, Timed, depth}
+use Rattle.diva_core.specs.Timed.{PendingClaim, Timed, depth, room_of}
 use Rattle.diva_core.specs.Cycle.{accepted_in, accepts, begun, commits_under, cycle_under, drained, watched, stores_wait}
 use Rattle.diva_core.specs.Headline.{dues}
 use Rattle.diva_core.proofs.Passing.{alone_stores}
@@ -49,10 +51,11 @@ tells g c none =
 admits : (g : given.Over) (c : goal.After-watch g) → c.accept_within.new.self.timed ≡ accepts c.args.self.now.timed c.args.list.now c.commits.new.self.timed
 admits g c =
     let n : Timed = c.commits.new.self.timed in
-    let within = λ (m : Timed) (room : ℕ). record m { pending = m.pending ++ map (accepted_in m.cycles) (if is_open m then take room c.args.list.now else []) } in
+    let within = λ (m : Timed) (claims : List Record). record m { pending = m.pending ++ map (accepted_in m.cycles) (if is_open m then claims else []) } in
     c.accept_within.ensures.timed
-    ∙ ap (λ (z : Parts). within z.timed c.args.room) c.advance.ensures.rest
-    ∙ ap (within n) c.requires.room
+    ∙ ap (λ (z : Parts). within z.timed (take c.args.count c.args.list.now)) c.advance.ensures.rest
+    ∙ ap (λ (k : ℕ). within n (take k c.args.list.now)) c.requires.count
+    ∙ ap (within n) (take_min (room_of c.args.self.now.timed) c.args.list.now)
     ∙ accepts_open c.args.self.now.timed n c.args.list.now (tells g c)
 
 -- the instructions that were counted are those whose records came due
