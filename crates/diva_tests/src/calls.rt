@@ -2,14 +2,14 @@
 ghost use Rattle.std.specs.Prelude.{◌≡◌, ◌≤◌, IfOk};
 
 use crate::cores::{Flipped, Late, Prompted};
-use crate::programs::{
-    ADDS, FIVE, FIVE_FILE, FOUR_STORES, HALTS, LOOP, NOTHING, Program, image_file,
-};
 use diva_core::{Cause, Core, Diff, Field, FlushRow};
 use diva_isa::{Look, Plain, Record, Regs, record_of};
 use diva_machine::{Config, Drive, End, Machine, drive};
 use diva_memory::Memory;
 use diva_tape::Silent;
+use diva_test_programs::{
+    ADDS, FIVE, FIVE_FILE, FOUR_STORES, HALTS, LOOP, NOTHING, Program, image_file,
+};
 use std::alloc::Global;
 use std::process::Abort;
 use std::test::Fail;

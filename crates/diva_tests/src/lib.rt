@@ -1,7 +1,6 @@
 //! Tests that go across crates: whole runs of the program, calls of the machine with cores of the
 //! tests' own, and the answers of outside tools.
 //!
-//! - `programs`: small programs, the image files that they are, and the records of one of them;
 //! - `cores`: a core that claims a wrong value once, one that counts its calls, one that begins late, and
 //!   one that hands over the lists that it is given;
 //! - `runs`: command lines over files and a sink in memory, with the status and the text that are
@@ -47,8 +46,6 @@ mod images;
 mod lists;
 #[cfg(test)]
 mod out_of_order;
-#[cfg(test)]
-mod programs;
 #[cfg(test)]
 mod runs;
 #[cfg(test)]

@@ -22,11 +22,11 @@ mod texts;
 mod traces;
 
 use crate::cores::{Counting, Flipped, Lists};
-use crate::programs::{ASKS, FIVE_FILE, HALTS, Program, image_file};
 use diva_cli::top;
 use diva_core::Core;
 use diva_isa::Record;
 use diva_outside::{Fail as SinkFail, MemFile, MemFiles, MemSink, What};
+use diva_test_programs::{ASKS, FIVE_FILE, HALTS, Program, image_file};
 use noting::{Load, NotingFiles, NotingSink};
 use std::alloc::{AllocError, Global};
 use std::process::Abort;

@@ -4,11 +4,11 @@ ghost use Rattle.diva_core.specs.Undone.{CanUndo};
 
 mod tables;
 
-use crate::programs::image_file;
 use diva_core::{Claims, Core, Told, View};
 use diva_isa::{Record, Undo, undo_of};
 use diva_machine::{Config, Drive, Machine, drive, turn};
 use diva_tape::{Lockstep, Scalar};
+use diva_test_programs::image_file;
 use std::alloc::Global;
 use std::process::Abort;
 use std::test::Fail;
