@@ -18,17 +18,13 @@
 //!   by field, `executables/headers` changes their headers, `executables/loads` their program headers and
 //!   `executables/memory` what memory they have; `executables/files` has small ones that other tools laid, and
 //!   `executables/commands` has command lines over those;
-//! - `calls`: calls of a machine's parts, of a machine that is driven, and of what needs no machine;
+//! - `calls`: calls of a machine's parts, and of a machine that is driven;
 //! - `lists`: several claims in a cycle, right and wrong ones, and what each cycle commits:
 //!   `lists/tables` has the lists;
 //! - `out_of_order`: what the out-of-order core hands over, call by call: `out_of_order/tables` has the
 //!   programs;
 //! - `sessions`: sessions that go back, call by call;
-//! - `stages`: what each stage of the checker answers of a claim behind older ones: `stages/tables`
-//!   has the claims;
-//! - `undo`: the last instruction is taken back, and the machine goes on: `undo/tables` has the moments;
-//! - `vectors`: what arithmetic, branches and loads came to in an emulator that is not of this
-//!   repository: operations on two `registers` and on `immediates`, `branches` and `loads`.
+//! - `undo`: the last instruction is taken back, and the machine goes on: `undo/tables` has the moments.
 //!
 //! What is due was worked out by hand from the rules, or came from the outside tool; none of it is
 //! taken from what this repository's code answered.
@@ -51,8 +47,4 @@ mod runs;
 #[cfg(test)]
 mod sessions;
 #[cfg(test)]
-mod stages;
-#[cfg(test)]
 mod undo;
-#[cfg(test)]
-mod vectors;
