@@ -9,15 +9,10 @@
 //!   memory takes in some cycles only, `runs/staged` tapes whose claims are
 //!   checked while older ones are pending, `runs/scripts` scripts that are refused, `runs/traces` commit lines,
 //!   `runs/sessions` the commands of the debugger, `runs/backwards` those that go back, `runs/sources` sources that are assembled and images that are listed,
-//!   `runs/harts` runs on two harts, `runs/campaigns` campaigns of flips, `runs/lanes` runs in which lanes vote, `runs/segments` images in version 2, also as `migrate` writes them, `runs/soaks` images of seeds, `runs/refusals` what
+//!   `runs/harts` runs on two harts, `runs/campaigns` campaigns of flips, `runs/lanes` runs in which lanes vote, `runs/segments` images in version 2, also as `migrate` writes them, `runs/executables` small executables, which `runs/executables/files` has as other tools laid them, `runs/soaks` images of seeds, `runs/refusals` what
 //!   is not run, `runs/failing` the order of loads and puts, which also fail in turn, `runs/noting` notes them, and
 //!   `runs/texts` writes the text that is due;
-//! - `images`: an image that is read and written, faults of it, and images of seeds; in version 2 `images/segments` has
-//!   images that are read or refused, and `images/migrated` images that are written and read again;
-//! - `executables`: what is read of executables, and what the program makes of small ones: `executables/rows` writes them field
-//!   by field, `executables/headers` changes their headers, `executables/loads` their program headers and
-//!   `executables/memory` what memory they have; `executables/files` has small ones that other tools laid, and
-//!   `executables/commands` has command lines over those;
+//! - `soaks`: images of seeds;
 //! - `calls`: calls of a machine's parts, and of a machine that is driven;
 //! - `lists`: several claims in a cycle, right and wrong ones, and what each cycle commits:
 //!   `lists/tables` has the lists;
@@ -35,10 +30,6 @@ mod calls;
 #[cfg(test)]
 mod cores;
 #[cfg(test)]
-mod executables;
-#[cfg(test)]
-mod images;
-#[cfg(test)]
 mod lists;
 #[cfg(test)]
 mod out_of_order;
@@ -46,5 +37,7 @@ mod out_of_order;
 mod runs;
 #[cfg(test)]
 mod sessions;
+#[cfg(test)]
+mod soaks;
 #[cfg(test)]
 mod undo;

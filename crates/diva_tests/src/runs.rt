@@ -2,6 +2,7 @@
 mod backwards;
 mod campaigns;
 mod drawings;
+mod executables;
 mod failing;
 mod harts;
 mod hostile;
@@ -9,7 +10,7 @@ mod lanes;
 mod noting;
 mod pipelined;
 mod ports;
-pub(crate) mod refusals;
+mod refusals;
 mod scripts;
 mod segments;
 mod sessions;
