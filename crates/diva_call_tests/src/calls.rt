@@ -1,7 +1,7 @@
 // Calls of a machine's parts, and of a machine that is driven.
 ghost use Rattle.std.specs.Prelude.{◌≡◌, ◌≤◌, IfOk};
 
-use crate::cores::{Flipped, Late, Prompted};
+use crate::cores::{Late, Misled, Prompted};
 use diva_core::{Cause, Core, Diff, Field, FlushRow};
 use diva_machine::{Config, Drive, End, Machine, drive};
 use diva_tape::Silent;
@@ -71,7 +71,7 @@ fn flushes_to_the_cycle(rt: HostRuntime) -> Result<(), Fail> {
         cause: Cause::Silent(16),
     };
     let alloc = rt.alloc();
-    drives_to(&rt, alloc, 64, &mut Flipped, 27, Some(wrong))?;
+    drives_to(&rt, alloc, 64, &mut Misled { cycle: 1 }, 27, Some(wrong))?;
     drives_to(&rt, alloc, 16, &mut Late { first: 10 }, 30, None)?;
     drives_to(&rt, alloc, 16, &mut Late { first: 11 }, 36, Some(silent))
 }
