@@ -1,7 +1,7 @@
 // Moments at which the last instruction is taken back.
-use crate::programs::{FIVE, Program};
 use diva_core::{Cause, Diff, Field, FlushRow};
 use diva_machine::End;
+use diva_test_programs::{FIVE, Program};
 
 /// Who hands claims over.
 #[derive(Clone, Copy, Debug)]

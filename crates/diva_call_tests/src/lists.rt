@@ -2,10 +2,10 @@
 mod tables;
 
 use crate::cores::Lists;
-use crate::programs::image_file;
 use diva_core::{Claims, Diff};
 use diva_isa::Record;
 use diva_machine::{Config, Machine, turn};
+use diva_test_programs::image_file;
 use std::alloc::Global;
 use std::process::Abort;
 use std::test::Fail;

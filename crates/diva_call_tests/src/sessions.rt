@@ -2,11 +2,11 @@
 ghost use Rattle.std.specs.Prelude.{◌≡◌, ◌≤◌, IfOk};
 ghost use Rattle.diva_debug.specs.Sessions.{machine_of};
 
-use crate::programs::{FIVE, LOOP, Program, image_file};
 use diva_core::Core;
 use diva_debug::{Session, commands};
 use diva_machine::{Config, Machine};
 use diva_tape::{Scalar, Silent};
+use diva_test_programs::{FIVE, LOOP, Program, image_file};
 use std::alloc::Global;
 use std::process::Abort;
 use std::test::Fail;

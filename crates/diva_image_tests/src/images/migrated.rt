@@ -1,8 +1,8 @@
 // Images that are written in version 2, and read again.
 ghost use Rattle.std.specs.Prelude.{◌<◌};
 
-use crate::programs::file_of;
 use diva_image::{Image, read, write, write2};
+use diva_test_programs::file_of;
 use std::alloc::Global;
 use std::process::Abort;
 use std::test::Fail;

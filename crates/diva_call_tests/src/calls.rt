@@ -1,15 +1,11 @@
-// Calls of a machine's parts, of a machine that is driven, and of what needs no machine.
+// Calls of a machine's parts, and of a machine that is driven.
 ghost use Rattle.std.specs.Prelude.{◌≡◌, ◌≤◌, IfOk};
 
-use crate::cores::{Flipped, Late, Prompted};
-use crate::programs::{
-    ADDS, FIVE, FIVE_FILE, FOUR_STORES, HALTS, LOOP, NOTHING, Program, image_file,
-};
+use crate::cores::{Late, Misled, Prompted};
 use diva_core::{Cause, Core, Diff, Field, FlushRow};
-use diva_isa::{Look, Plain, Record, Regs, record_of};
 use diva_machine::{Config, Drive, End, Machine, drive};
-use diva_memory::Memory;
 use diva_tape::Silent;
+use diva_test_programs::{FIVE, FIVE_FILE, FOUR_STORES, LOOP, Program, image_file};
 use std::alloc::Global;
 use std::process::Abort;
 use std::test::Fail;
@@ -75,7 +71,7 @@ fn flushes_to_the_cycle(rt: HostRuntime) -> Result<(), Fail> {
         cause: Cause::Silent(16),
     };
     let alloc = rt.alloc();
-    drives_to(&rt, alloc, 64, &mut Flipped, 27, Some(wrong))?;
+    drives_to(&rt, alloc, 64, &mut Misled { cycle: 1 }, 27, Some(wrong))?;
     drives_to(&rt, alloc, 16, &mut Late { first: 10 }, 30, None)?;
     drives_to(&rt, alloc, 16, &mut Late { first: 11 }, 36, Some(silent))
 }
@@ -165,75 +161,5 @@ fn parts_of_a_machine(rt: HostRuntime) -> Result<(), Fail> {
     );
     let file = image_file(rt.alloc(), FIVE)?;
     assert_eq!(rt; file.as_slice(), FIVE_FILE.as_slice());
-    Ok(())
-}
-
-#[test]
-fn a_run_without_a_machine(rt: HostRuntime) -> Result<(), Fail> {
-    let mut plain = Plain::new(rt.alloc(), 0, 64, 0, &FIVE_FILE[24..])?;
-    let first = plain.record();
-    plain.run(2);
-    let third = plain.record();
-    plain.run(1);
-    assert_eq!(rt;
-        (first, third, plain.record()),
-        (Some(ADDS), Some(HALTS), None)
-    );
-    assert_eq!(rt; (plain.count(), plain.ended(), plain.reg(1)), (3, 256, 5));
-    Ok(())
-}
-
-/// A state in which every register is 0, and so many instructions led to its next one, at 32.
-#[derive(Drop)]
-struct Far {
-    regs: Regs,
-    memory: Memory,
-    instret: u64,
-}
-
-impl Look for Far {
-    ghost use Rattle.std.specs.Prelude.{[]};
-
-    ghost shows = { λ x. record { regs = x.regs; pc = 32; base = x.memory.base; bytes = x.memory.items; output = []; instret = x.instret; end = 0 } };
-
-    fn pc(&self) -> u32 {
-        32
-    }
-
-    fn reg(&self, n: u8) -> u32 {
-        self.regs.get(n)
-    }
-
-    fn byte(&self, addr: u32) -> Option<u8> {
-        self.memory.byte(addr)
-    }
-
-    fn instret(&self) -> u64 {
-        self.instret
-    }
-
-    fn out_len(&self) -> u32 {
-        0
-    }
-}
-
-/// Behind 2^32 + 5 instructions a read of the low word, to x1, and one of the high word have these words as their values.
-#[test]
-fn reads_of_a_count_of_two_words(rt: HostRuntime) -> Result<(), Fail> {
-    for (word, value) in [(0xc020_20f3_u32, 5), (0xc820_20f3, 1)] {
-        let state = Far {
-            regs: Regs::new(),
-            memory: Memory::new(rt.alloc(), 32, 4, &word.to_le_bytes())?,
-            instret: 0x1_0000_0005,
-        };
-        let due = Record {
-            pc: 32,
-            word,
-            value,
-            next: 36,
-            ..NOTHING
-        };
-        assert_eq!(rt; record_of(&state), due, "{word:08x}");
-    }
     Ok(())
 }

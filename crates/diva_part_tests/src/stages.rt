@@ -2,11 +2,11 @@
 // instructions have committed.
 mod tables;
 
-use crate::programs::NOTHING;
 use diva_core::{Diff, FutureFile, Output, Pending, View};
 use diva_isa::{OUTPUT_LIMIT, Record, Regs};
 use diva_memory::Memory;
 use diva_storeq::StoreQueue;
+use diva_test_programs::NOTHING;
 use std::alloc::{AllocError, Global};
 use std::test::Fail;
 use tables::{COUNT, READS, ROWS, Stage};

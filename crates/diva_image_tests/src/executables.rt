@@ -1,6 +1,4 @@
-// Executables: what is read of them, and what the program makes of small ones.
-mod commands;
-mod files;
+// Executables: what is read of them.
 mod headers;
 mod loads;
 mod memory;

@@ -1,6 +1,6 @@
 // Images in version 2 that are read, and the faults of such.
-use crate::programs::{FIVE_SEGMENTED, altered, file_of};
 use diva_image::{Image, ImageFault, read};
+use diva_test_programs::{FIVE_SEGMENTED, altered, file_of};
 use std::alloc::Global;
 use std::process::Abort;
 use std::test::Fail;

@@ -1,12 +1,14 @@
 // Command lines over small executables.
-use super::files::{GAP, HIGH, ODD, OUTSIDE, ROOM, THREE, WRITES};
+mod files;
+
+use super::refusals::USAGE;
 use crate::cores::{Counting, Flipped};
-use crate::programs::FIVE_FILE;
-use crate::runs::refusals::USAGE;
 use diva_cli::top;
 use diva_core::Core;
 use diva_ooo::Ooo;
 use diva_outside::{MemFile, MemFiles, MemSink};
+use diva_test_programs::FIVE_FILE;
+use files::{GAP, HIGH, ODD, OUTSIDE, ROOM, THREE, WRITES};
 use std::alloc::Global;
 use std::fmt::Write;
 use std::process::Abort;

@@ -4,41 +4,16 @@ ghost use Rattle.diva_core.specs.Undone.{CanUndo};
 
 mod tables;
 
-use crate::programs::image_file;
-use diva_core::{Claims, Core, Told, View};
-use diva_isa::{Record, Undo, undo_of};
+use crate::cores::Misled;
+use diva_core::{Claims, Core};
+use diva_isa::{Undo, undo_of};
 use diva_machine::{Config, Drive, Machine, drive, turn};
 use diva_tape::{Lockstep, Scalar};
+use diva_test_programs::image_file;
 use std::alloc::Global;
 use std::process::Abort;
 use std::test::Fail;
 use tables::{Leader, ROWS, Row};
-
-/// Hands over what `Lockstep` does, but for the lowest bit of `value` in one cycle.
-#[derive(Clone, Copy, Debug)]
-struct Misled {
-    cycle: u64,
-}
-
-impl Core for Misled {
-    ghost use Rattle.std.specs.Prelude.{⊤};
-
-    ghost gives = { λ before told state list after. ⊤ };
-
-    fn cycle(&mut self, told: &Told, view: &View<'_>, out: &mut Claims) {
-        Lockstep.cycle(told, view, out);
-        if told.cycle != self.cycle {
-            return;
-        }
-        if let Some(claim) = out.as_slice().first().copied() {
-            out.clear();
-            out.push(Record {
-                value: claim.value ^ 1,
-                ..claim
-            });
-        }
-    }
-}
 
 /// A new machine of width 1 with the row's port and program.
 fn machine(alloc: Global, row: &Row) -> Result<Machine, Fail> {

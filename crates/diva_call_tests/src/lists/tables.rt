@@ -1,8 +1,8 @@
 // Lists of claims, and the cycles in which the machine commits them.
-use crate::programs::{ADDS, ASKS, FIVE, HALTS, LOOP, NOTHING, Program};
 use diva_core::{Cause, Claim, Diff, Field, FlushRow};
 use diva_isa::Record;
 use diva_machine::End;
+use diva_test_programs::{ADDS, ASKS, FIVE, HALTS, LOOP, NOTHING, Program};
 
 /// A run of one program, each cycle by what is handed over in it.
 pub(super) struct Row {
