@@ -1,5 +1,5 @@
 -- What only private contracts of this crate cite. A reader of its promises can pass over it.
-use Rattle.std.specs.Prelude.{◌≡◌, ◌++◌, List, ℕ, ⊤, Result, Ok, Err, ◌%◌, ◌==◌, if◌then◌else◌, [], ◌∷◌, false}
+use Rattle.std.specs.Prelude.{Bool, get_or, ◌≡◌, ◌++◌, List, ℕ, ⊤, Result, Ok, Err, ◌%◌, ◌==◌, if◌then◌else◌, [], ◌∷◌, false}
 use Rattle.std.specs.Fmt.{digit_glyph}
 use Rattle.diva_outside.specs.Steps.{and_then}
 use Rattle.diva_outside.specs.Text.{Text}
@@ -23,3 +23,7 @@ width operand = 23
 -- the last hex digit of a number, or nothing where it is 0
 abbrev pub lead : ℕ → Text
 lead n = if n == 0 then [] else digit_glyph false (n % 16) ∷ []
+
+-- a text's first byte is b
+abbrev pub begins_with : ℕ → Text → Bool
+begins_with b text = get_or text 0 0 == b

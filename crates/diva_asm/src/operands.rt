@@ -1,12 +1,11 @@
 // Registers, numbers and places.
 ghost use Rattle.std.specs.Prelude.{◌≡◌, ◌<◌, ◌%◌, ◌^◌, ℤ, pos, neg_ℤ, ◌≤ℤ◌, ◌<ℤ◌, IfSome};
-ghost use Rattle.std.specs.Map.{lookup};
-ghost use Rattle.std.specs.Str.{bytes_eq};
 ghost use Rattle.std.specs.Option.{ok_or, option_map};
 ghost use Rattle.diva_asm.specs.declared.fault.Kind.TheVariants.{NoRegister, BadNumber};
 ghost use Rattle.diva_asm.specs.Operands.{Place as Place, register_of, digits_of, unsigned_of, operand_number, number_in, word_from, offset_of, place_at, place_of};
 
 use crate::fault::Kind;
+use crate::names::named;
 use crate::texts::{name_len, trim};
 use diva_outside::{decimal, hex};
 use std::marker::Model;
@@ -18,7 +17,7 @@ const LARGEST: i64 = 0xffff_ffff;
 const LEAST: i64 = -0x8000_0000;
 
 /// The registers' names.
-const REGISTERS: [(&[u8], u8); 65] = [
+static REGISTERS: [(&[u8], u8); 65] = [
     (b"x0", 0),
     (b"x1", 1),
     (b"x2", 2),
@@ -137,18 +136,7 @@ pub(crate) struct Operands<'a> {
 pub(crate) fn register(word: &[u8]) -> Result<u8, Kind>
     ensures { result ≡ ok_or (register_of word.now) NoRegister }
 {
-    number_named(&REGISTERS, word).ok_or(Kind::NoRegister)
-}
-
-fn number_named(names: &[(&[u8], u8)], word: &[u8]) -> Option<u8>
-    ensures { result ≡ lookup (λ name. bytes_eq name.now word.now) names.now }
-{
-    for (name, number) in names {
-        if *name == word {
-            return Some(*number);
-        }
-    }
-    None
+    named(&REGISTERS, word).ok_or(Kind::NoRegister)
 }
 
 /// A number without sign: `0x` and hex digits, or decimal digits.
