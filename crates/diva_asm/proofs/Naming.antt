@@ -1,16 +1,20 @@
 -- Names among others.
-use Rattle.std.proofs.Common.{◌≡◌, ◌<◌, ℕ, List, [], ◌∷◌, length, get_or, Bool, true, false, cond, refl, sym, ◌∙◌, ap, subst, arith}
-use Rattle.std.specs.Prelude.{Option, Some, None, find, ◌==◌, map}
-use Rattle.std.specs.List.{filter}
+use Rattle.std.proofs.Common.{Bor, ◌≡◌, ◌<◌, ℕ, List, [], ◌∷◌, length, get_or, Bool, true, false, cond, refl, sym, ◌∙◌, ap, subst, arith}
+use Rattle.std.specs.Prelude.{Option, Some, None, find, ◌==◌, ◌&&◌, map}
+use Rattle.std.specs.List.{filter, list_all, list_any}
 use Rattle.std.specs.Str.{bytes_eq}
 use Rattle.std.specs.Option.{option_map, option_or}
 use Rattle.std.proofs.lemmas.Grind.{common_steps}
 use Rattle.std.proofs.lemmas.List.Folds.{find-append}
+use Rattle.std.specs.Map.{lookup}
+use Rattle.std.proofs.lemmas.Map.Entries.{lookup-filter-keys}
+use Rattle.diva_asm.proofs.Places.{seen, looked_up}
+use Rattle.diva_asm.specs.Operands.{registers, register_of}
 use Rattle.std.proofs.lemmas.Slice.Eq.{bytes_eq-Decides}
 use Rattle.diva_decode.specs.Table.{table}
 use Rattle.diva_decode.specs.declared.op.Op.{Op}
 use Rattle.diva_outside.specs.Text.{Text}
-use Rattle.diva_asm.specs.Inner.{begins_with}
+use Rattle.diva_asm.specs.Inner.{begins_with, registers_with}
 use Rattle.diva_asm.specs.Mnemonics.{op_name, name_of, mnemonic_of}
 use Rattle.diva_asm.specs.declared.mnemonic.Mnemonic.{Mnemonic}
 use Rattle.diva_asm.specs.declared.mnemonic.Mnemonic.TheVariants.{Instruction, Nop, Ret, Mv, Li, La, J as Jump, Jr, Word, Byte, Space, Base, Size, Entry}
@@ -64,3 +68,39 @@ of_operation word op e = two_parts word ∙ ap (λ first. option_or (option_map 
 
 pub of_other : (word : Text) → op_of word ≡ None → mnemonic_of word ≡ find (λ m. bytes_eq (name_of m) word) others
 of_other word e = two_parts word ∙ ap (λ first. option_or (option_map (λ op. Instruction op) first) (find (λ m. bytes_eq (name_of m) word) others)) e
+
+-- ---- registers
+
+-- a register stands among those whose names begin as the word does
+pub register_among : (names : List (Bor Text × ℕ)) (word : Text) → seen names ≡ registers_with (get_or word 0 0) → lookup (λ name. bytes_eq name.now word) names ≡ register_of word
+unfolding register_of registers_with
+register_among names word e =
+    let test = λ (name : Text). bytes_eq name word in
+    sym (looked_up test names) ∙ ap (lookup test) e ∙ lookup-filter-keys test (begins_with (get_or word 0 0)) true (λ name. same_first word name) registers
+
+pub no_register : (word : Text) → length word ≡ 0 → register_of word ≡ None
+unfolding register_of
+no_register [] e = refl
+no_register (b ∷ word) e = absurd (omega arith)
+
+-- with what the names of registers begin
+abbrev pub begins_register : ℕ → Bool
+begins_register b = list_any (λ letter. b == letter) (120 ∷ 97 ∷ 115 ∷ 116 ∷ 122 ∷ 114 ∷ 103 ∷ 102 ∷ [])
+
+none_by : (b : ℕ) → begins_register b ≡ false → (names : List (Text × ℕ)) → list_all (λ name. begins_register (get_or name.0 0 0)) names ≡ true → filter (λ name. begins_with b name.0) names ≡ []
+none_by b lacks [] all = refl
+none_by b lacks (name ∷ names) all = by (begins_with b name.0) (begins_register (get_or name.0 0 0)) refl refl all (none_by b lacks names)
+  where
+    by : (t q : Bool) → begins_with b name.0 ≡ t → begins_register (get_or name.0 0 0) ≡ q → (q && list_all (λ name. begins_register (get_or name.0 0 0)) names) ≡ true
+        → (list_all (λ name. begins_register (get_or name.0 0 0)) names ≡ true → filter (λ name. begins_with b name.0) names ≡ [])
+        → filter (λ name. begins_with b name.0) (name ∷ names) ≡ []
+    by t false e f both more = absurd (cc)
+    by false true e f both more = rw e (more both)
+    by true true e f both more =
+        let same : get_or name.0 0 0 ≡ b = grind (arith, common_steps) in
+        let yes : begins_register b ≡ true = rw (same) at f in
+        absurd (cc)
+
+pub none_with : (b : ℕ) → begins_register b ≡ false → registers_with b ≡ []
+unfolding registers_with
+none_with b lacks = none_by b lacks registers refl

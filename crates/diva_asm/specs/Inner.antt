@@ -5,6 +5,8 @@ use Rattle.diva_outside.specs.Steps.{and_then}
 use Rattle.diva_outside.specs.Text.{Text}
 use Rattle.diva_outside.specs.declared.text_fault.LineStop.{LineStop}
 use Rattle.diva_outside.specs.declared.text_fault.LineStop.TheVariants as stop
+use Rattle.std.specs.List.{filter}
+use Rattle.diva_asm.specs.Operands.{registers}
 use Rattle.diva_asm.specs.declared.fault.Kind.{Kind}
 use Rattle.diva_asm.specs.declared.operand.Operand.{Operand}
 use Rattle.diva_asm.specs.declared.operand.Operand.TheVariants.{Memory}
@@ -27,3 +29,7 @@ lead n = if n == 0 then [] else digit_glyph false (n % 16) ∷ []
 -- a text's first byte is b
 abbrev pub begins_with : ℕ → Text → Bool
 begins_with b text = get_or text 0 0 == b
+
+-- the registers whose names begin with b
+unfoldable pub registers_with : ℕ → List (Text × ℕ)
+registers_with b = filter (λ name. begins_with b name.0) registers
