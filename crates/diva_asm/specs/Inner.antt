@@ -1,5 +1,5 @@
 -- What only private contracts of this crate cite. A reader of its promises can pass over it.
-use Rattle.std.specs.Prelude.{Bool, get_or, ◌≡◌, ◌++◌, List, ℕ, ⊤, Result, Ok, Err, ◌%◌, ◌==◌, if◌then◌else◌, [], ◌∷◌, false}
+use Rattle.std.specs.Prelude.{Bool, true, get_or, ◌≡◌, ◌++◌, List, ℕ, ⊤, Result, Ok, Err, ◌%◌, ◌==◌, if◌then◌else◌, [], ◌∷◌, false}
 use Rattle.std.specs.Fmt.{digit_glyph}
 use Rattle.diva_outside.specs.Steps.{and_then}
 use Rattle.diva_outside.specs.Text.{Text}
@@ -9,6 +9,7 @@ use Rattle.std.specs.List.{filter}
 use Rattle.diva_asm.specs.Operands.{registers}
 use Rattle.diva_asm.specs.declared.fault.Kind.{Kind}
 use Rattle.diva_asm.specs.declared.operand.Operand.{Operand}
+use Rattle.diva_asm.specs.declared.operands.Operands.{Operands}
 use Rattle.diva_asm.specs.declared.operand.Operand.TheVariants.{Memory}
 
 -- what is due comes behind the bytes
@@ -25,6 +26,11 @@ width operand = 23
 -- the last hex digit of a number, or nothing where it is 0
 abbrev pub lead : ℕ → Text
 lead n = if n == 0 then [] else digit_glyph false (n % 16) ∷ []
+
+-- what operands say that are due, where the texts have their forms; where they do not, any fault
+abbrev pub GivesOperands : Bool → Result Operands Kind → Result Operands Kind → Type 0
+GivesOperands shaped due (Ok v) = (shaped ≡ true) × (due ≡ Ok v)
+GivesOperands shaped due (Err kind) = shaped ≡ true → due ≡ Err kind
 
 -- a text's first byte is b
 abbrev pub begins_with : ℕ → Text → Bool
