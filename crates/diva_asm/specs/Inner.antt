@@ -1,16 +1,16 @@
 -- What only private contracts of this crate cite. A reader of its promises can pass over it.
 use Rattle.std.specs.Prelude.{Bool, true, get_or, ◌≡◌, ◌++◌, List, ℕ, ⊤, Result, Ok, Err, ◌%◌, ◌==◌, if◌then◌else◌, [], ◌∷◌, false}
 use Rattle.std.specs.Fmt.{digit_glyph}
+use Rattle.std.specs.List.{filter}
 use Rattle.diva_outside.specs.Steps.{and_then}
 use Rattle.diva_outside.specs.Text.{Text}
 use Rattle.diva_outside.specs.declared.text_fault.LineStop.{LineStop}
 use Rattle.diva_outside.specs.declared.text_fault.LineStop.TheVariants as stop
-use Rattle.std.specs.List.{filter}
 use Rattle.diva_asm.specs.Operands.{registers}
 use Rattle.diva_asm.specs.declared.fault.Kind.{Kind}
 use Rattle.diva_asm.specs.declared.operand.Operand.{Operand}
-use Rattle.diva_asm.specs.declared.operands.Operands.{Operands}
 use Rattle.diva_asm.specs.declared.operand.Operand.TheVariants.{Memory}
+use Rattle.diva_asm.specs.declared.operands.Operands.{Operands}
 
 -- what is due comes behind the bytes
 abbrev pub Appends : Result (List ℕ) Kind → List ℕ → List ℕ → Result (Unit {0}) (LineStop Kind) → Type 0

@@ -1,4 +1,3 @@
-use Rattle.std.proofs.Common.{◌∙◌, ap}
 use Rattle.diva_asm.proofs.Naming.{found_among}
 use Rattle.diva_asm.proofs.mnemonic.op_named.Goals as goal
 
