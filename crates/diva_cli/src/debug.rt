@@ -8,7 +8,7 @@ ghost use Rattle.diva_cli.specs.Asked.{asked_for};
 ghost use Rattle.diva_cli.specs.Replies.{keep};
 ghost use Rattle.diva_cli.specs.Changes.{change, file_faults, sink_change};
 ghost use Rattle.diva_cli.specs.Wanted.{FileBytes, file_limit};
-ghost use Rattle.diva_cli.specs.Parts.{Answers, IsSession, WritesText};
+ghost use Rattle.diva_cli.specs.Parts.{KeepsPromises, IsSession, WritesText};
 
 use crate::driving::reply_by;
 use crate::loading::{Ready, SessionReady, make_session};
@@ -29,7 +29,7 @@ pub(crate) fn debug<F: Files, S: Sink, C: Core>(
     sink: &mut S,
     core: &mut C,
 ) -> Result<u8, Failure>
-    ensures { Answers C.gives (asked_for (Debug options) (F.contents files.old)) (file_faults F.faults files.old files.new)
+    ensures { KeepsPromises C.gives (asked_for (Debug options) (F.contents files.old)) (file_faults F.faults files.old files.new)
         (change core.old core.new) (sink_change S.contents S.faults sink.old sink.new) result }
 {
     match make_session(alloc, files, &options) {

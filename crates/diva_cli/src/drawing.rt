@@ -9,7 +9,7 @@ ghost use Rattle.diva_cli.specs.Changes.{PutsTo, change, file_faults, sink_chang
 ghost use Rattle.diva_cli.specs.DrawTexts.{begin_text, cycle_text, end_text, pen_after};
 ghost use Rattle.diva_cli.specs.Wanted.{FileBytes};
 ghost use Rattle.diva_cli.specs.Tasks.{IsDrawn, IsDrawnIn, Performs};
-ghost use Rattle.diva_cli.specs.Parts.{Answers, IsReady, WritesText};
+ghost use Rattle.diva_cli.specs.Parts.{KeepsPromises, IsReady, WritesText};
 
 use crate::checking::turn_checked;
 use crate::driving::perform_by;
@@ -32,7 +32,7 @@ pub(crate) fn draw<F: Files, S: Sink, C: Core>(
     sink: &mut S,
     core: &mut C,
 ) -> Result<u8, Failure>
-    ensures { Answers C.gives (asked_for (Draw options) (F.contents files.old)) (file_faults F.faults files.old files.new)
+    ensures { KeepsPromises C.gives (asked_for (Draw options) (F.contents files.old)) (file_faults F.faults files.old files.new)
         (change core.old core.new) (sink_change S.contents S.faults sink.old sink.new) result }
 {
     match make_ready(alloc, files, &options.run.setup) {

@@ -9,7 +9,7 @@ ghost use Rattle.diva_cli.specs.Changes.{PutsTo, change, file_faults, sink_chang
 ghost use Rattle.diva_cli.specs.DuoTexts.{IsDuoRun, duo_start, duo_status, duo_text};
 ghost use Rattle.diva_cli.specs.Runs.{shown_dump};
 ghost use Rattle.diva_cli.specs.Wanted.{FileBytes, wanted};
-ghost use Rattle.diva_cli.specs.Parts.{Answers, HoldsDuo, IsDuoReady, Stops, WritesText, new_cores};
+ghost use Rattle.diva_cli.specs.Parts.{KeepsPromises, HoldsDuo, IsDuoReady, Stops, WritesText, new_cores};
 
 use crate::files::{ImageFile, load};
 use crate::stop::{Failure, Stop};
@@ -31,7 +31,7 @@ pub(crate) fn duo<F: Files, S: Sink, C: Core>(
     sink: &mut S,
     _core: &C,
 ) -> Result<u8, Failure>
-    ensures { Answers C.gives (asked_for (Command options) (F.contents files.old)) (file_faults F.faults files.old files.new)
+    ensures { KeepsPromises C.gives (asked_for (Command options) (F.contents files.old)) (file_faults F.faults files.old files.new)
         (change _core.now _core.now) (sink_change S.contents S.faults sink.old sink.new) result }
 {
     match make_duo(alloc, files, &options) {
