@@ -1,7 +1,7 @@
 // The command `duo`: two harts over one memory, each under a new core of the kind that is asked for.
 ghost use Rattle.std.specs.Prelude.{◌≡◌, ◌≤◌, ◌<◌, ◌+◌, ◌^◌, IfErr, IfOk};
 ghost use Rattle.diva_image.specs.ImageLayout.{layout};
-ghost use Rattle.diva_duo.specs.Which.{standing, which};
+ghost use Rattle.diva_duo.specs.Which.{machine_at, which};
 ghost use Rattle.diva_trace.specs.Text.{hart_text};
 ghost use Rattle.diva_args.specs.declared.job.Job.TheVariants.{Duo as Command};
 ghost use Rattle.diva_cli.specs.Asked.{asked_for};
@@ -128,7 +128,7 @@ fn write_duo<S: Sink>(duo: &Duo, dump: Option<DumpRange>, sink: &mut S) -> Resul
 /// Writes the lines of a hart, 0 or 1.
 fn write_hart_of<S: Sink>(duo: &Duo, h: u8, sink: &mut S) -> Result<(), SinkFailed>
     requires { h < 2 }
-    ensures { PutsTo (sink_change S.contents S.faults sink.old sink.new) (hart_text h (standing (which h) duo.now.duo)) result }
+    ensures { PutsTo (sink_change S.contents S.faults sink.old sink.new) (hart_text h (machine_at (which h) duo.now.duo)) result }
 {
     let report = HartReport {
         end: duo.end(h),
