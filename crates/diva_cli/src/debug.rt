@@ -48,7 +48,7 @@ fn debug_ready<S: Sink, C: Core>(
     requires fits { IsConfig options.setup.config }
     requires new { session.ready.machine.timed.cycles ≡ 0 }
     requires none { session.ready.machine.timed.count ≡ 0 }
-    requires undos { session.undos ≡ record { rows = []; keep = keep } }
+    requires undos { session.undos ≡ record { items = []; keep = keep } }
     requires narrow { session.ready.machine.timed.config.width ≡ 1 }
     requires few { length session.commands.items ≤ file_limit }
     requires short { All IsShort session.commands.items }
