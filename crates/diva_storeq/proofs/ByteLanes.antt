@@ -1,4 +1,4 @@
--- A word with an entry laid over it, lane by lane.
+-- A word with an entry laid over it, byte lane by byte lane.
 use Rattle.std.proofs.Common.{◌≡◌, ◌<◌, ℕ, zero, suc, ◌+◌, ◌-◌, ◌*◌, ◌/◌, ◌%◌, ◌^◌, ◌==◌, ◌&&◌, Bool, true, false, Some, None, if◌then◌else◌, bit_and, bit_or, refl, inl, inr, ap, ◌∙◌, arith}
 use Rattle.std.proofs.lemmas.Bool.Decides.{nat_tests}
 use Rattle.std.proofs.lemmas.Nat.{and_shr, or_shr, and_mod, or_mod, and_mask}
@@ -8,9 +8,9 @@ use Rattle.std.specs.Int.{bit_at}
 use Rattle.std.specs.Option.{unwrap_or}
 use Rattle.diva_memory.specs.Bytes.{word_byte}
 use Rattle.diva_storeq.specs.declared.masked.Masked.{Masked}
-use Rattle.diva_storeq.specs.Masked.{lane, byte_in, IsMasked}
+use Rattle.diva_storeq.specs.Masked.{byte_lane, byte_in, IsMasked}
 
--- ---- the lanes of a mask
+-- ---- the byte lanes of a mask
 
 -- the word whose byte i is all ones where bit i of a mask is set
 abbrev pub lanes_of : ℕ → ℕ
@@ -65,14 +65,14 @@ and_byte a b i = ap (λ (n : ℕ). n % 2 ^ 8) (and_shr a b (8 * i)) ∙ and_mod 
 or_byte : (a b i : ℕ) → word_byte (bit_or a b) i ≡ bit_or (word_byte a i) (word_byte b i)
 or_byte a b i = ap (λ (n : ℕ). n % 2 ^ 8) (or_shr a b (8 * i)) ∙ or_mod (a / 2 ^ (8 * i)) (b / 2 ^ (8 * i)) 8
 
--- old where the lane is not set, and new there
+-- old where the byte lane is not set, and new there
 chosen : (c : Bool) (old new ones : ℕ) → ones ≡ (if c then 255 else 0) → (c ≡ false → new ≡ 0) → old < 256
     → bit_or (bit_and old (255 - ones)) new ≡ unwrap_or (if c then Some new else None) old
 chosen true old new ones e clear lt = rw (e, and_zero_r old) (or_zero_l new)
 chosen false old new ones e clear lt = rw (e, clear refl, or_zero_r) (and_mask old 8 ∙ omega arith)
 
 pub merged_byte : (e : Masked) (w l i : ℕ) → IsMasked e → l < 2 ^ 32 → i < 4 → word_byte l i ≡ (if bit_at e.mask i == 1 then 255 else 0)
-    → word_byte (bit_or (bit_and w (2 ^ 32 - 1 - l)) e.bytes) i ≡ unwrap_or (lane e i) (word_byte w i)
+    → word_byte (bit_or (bit_and w (2 ^ 32 - 1 - l)) e.bytes) i ≡ unwrap_or (byte_lane e i) (word_byte w i)
 merged_byte e w l i sound small lt ones =
     or_byte (bit_and w (2 ^ 32 - 1 - l)) e.bytes i
     ∙ ap (λ (n : ℕ). bit_or n (word_byte e.bytes i)) (and_byte w (2 ^ 32 - 1 - l) i ∙ ap (bit_and (word_byte w i)) (unset_byte l i small lt))
@@ -80,5 +80,5 @@ merged_byte e w l i sound small lt ones =
     (λ no. sound.clear i lt (let z : bit_at e.mask i ≡ 0 = grind (arith, nat_tests) in z)) (omega arith)
 
 -- an address of the entry's word
-pub byte_here : (e : Masked) (i : ℕ) → i < 4 → byte_in e (e.addr + i) ≡ lane e i
+pub byte_here : (e : Masked) (i : ℕ) → i < 4 → byte_in e (e.addr + i) ≡ byte_lane e i
 byte_here e i lt = grind (arith, nat_tests)

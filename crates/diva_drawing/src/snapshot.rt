@@ -1,6 +1,6 @@
 // What is seen of a machine between two cycles.
 ghost use Rattle.std.specs.Prelude.{◌≡◌, ◌≤◌, ◌<◌, ◌^◌, length, map, option_map};
-ghost use Rattle.diva_drawing.specs.Seen.{IsSeen, alone_since, seen_claim_of};
+ghost use Rattle.diva_drawing.specs.Snapshot.{IsSnapshot, alone_since, snapshot_claim_of};
 
 use arrayvec::ArrayVec;
 use diva_core::{Diff, FlushRow};
@@ -19,7 +19,7 @@ pub struct Alone {
 
 /// A pending claim.
 #[derive(Clone, Copy, Debug, Default, PartialEq, Eq)]
-pub struct SeenClaim {
+pub struct SnapshotClaim {
     /// What the core claims.
     pub claim: Record,
     /// The cycle in which it was accepted.
@@ -30,7 +30,7 @@ pub struct SeenClaim {
 
 /// What is seen of a machine between two cycles, by its observers.
 #[derive(Drop)]
-pub struct Seen {
+pub struct Snapshot {
     /// How many instructions have committed.
     pub(crate) count: u64,
     /// How many cycles have run.
@@ -44,14 +44,14 @@ pub struct Seen {
     /// The instruction that runs solo, if one does.
     pub(crate) solo: Option<Alone>,
     /// The pending claims, the oldest first.
-    pub(crate) claims: ArrayVec<SeenClaim, 64>,
+    pub(crate) claims: ArrayVec<SnapshotClaim, 64>,
 }
 
-impl Model for Seen {
+impl Model for Snapshot {
     ghost use Rattle.std.specs.Prelude.{length, ◌≤◌, ◌<◌, ◌^◌};
-    ghost use Rattle.diva_drawing.specs.Seen.{Seen};
+    ghost use Rattle.diva_drawing.specs.Snapshot.{Snapshot};
 
-    ghost Value = { Seen };
+    ghost Value = { Snapshot };
 
     ghost view = { λ s. record {
       count = s.count;
@@ -66,13 +66,13 @@ impl Model for Seen {
     ghost invariant = { λ s. length s.claims.items ≤ 64 };
 }
 
-impl Seen {
+impl Snapshot {
     /// What is seen of a machine now.
-    pub fn of(m: &Machine) -> Seen
-        ensures { IsSeen m.now.timed result }
+    pub fn of(m: &Machine) -> Snapshot
+        ensures { IsSnapshot m.now.timed result }
     {
         m.recall();
-        Seen {
+        Snapshot {
             count: m.count(),
             cycles: m.cycles(),
             flushes: m.flushes(),
@@ -105,7 +105,7 @@ impl Seen {
     }
 
     /// The pending claims, the oldest first.
-    pub(crate) fn claims(&self) -> &[SeenClaim]
+    pub(crate) fn claims(&self) -> &[SnapshotClaim]
         ensures claims { result.now ≡ self.now.claims }
         ensures few { length result.now ≤ 64 }
     {
@@ -125,13 +125,13 @@ fn running_solo(m: &Machine) -> Option<Alone>
 }
 
 /// The pending claims, the oldest first.
-fn claims(m: &Machine) -> ArrayVec<SeenClaim, 64>
-    ensures { result.items ≡ map seen_claim_of m.now.entries }
+fn claims(m: &Machine) -> ArrayVec<SnapshotClaim, 64>
+    ensures { result.items ≡ map snapshot_claim_of m.now.entries }
 {
     let mut claims = ArrayVec::new();
     for at in 0..pending(m) {
         let entry = m.entry(at);
-        claims.push(SeenClaim {
+        claims.push(SnapshotClaim {
             claim: entry.claim,
             cycle: entry.cycle,
             verdict: entry.verdict,

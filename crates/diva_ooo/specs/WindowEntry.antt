@@ -9,13 +9,13 @@ use Rattle.diva_ooo.specs.Profile.{profile_by}
 
 -- where it was fetched; its word, none outside memory; where the next one was fetched; how far it is; and its record, once it has
 -- begun
-pub record Entry : Type 0 where
+pub record WindowEntry : Type 0 where
   pub pc : ℕ
   pub word : Option ℕ
   pub predicted : ℕ
-  pub stage : Progress
+  pub progress : Progress
   pub result : Record
 
 -- what its word says of how it runs
-abbrev pub profile_of : Entry → Profile
+abbrev pub profile_of : WindowEntry → Profile
 profile_of e = profile_by (option_and_then row_of e.word)
