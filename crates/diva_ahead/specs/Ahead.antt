@@ -29,13 +29,13 @@ new_ahead = record { epoch = None; regs = replicate 32 0; pc = 0; out_len = 0; i
 -- ---- the core's own state
 
 -- its registers, pc, number of instructions, and output, of which only the length counts, over the memory of a state
-abbrev pub standing : Ahead → State → State
-standing ahead s =
+abbrev pub own_state : Ahead → State → State
+own_state ahead s =
     record { regs = ahead.regs; pc = ahead.pc; base = s.base; bytes = s.bytes; output = replicate ahead.out_len 0; instret = ahead.instret; end = 0 }
 
 -- what it sees: a byte of memory is that of the youngest store of the ring that covers it, else that of the state s
 abbrev pub seen : Ahead → State → State
-seen ahead s = standing ahead (with_effects s ahead.ring)
+seen ahead s = own_state ahead (with_effects s ahead.ring)
 
 -- ---- what it does with what it is told
 

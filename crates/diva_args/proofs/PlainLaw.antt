@@ -13,7 +13,7 @@ use Rattle.diva_args.specs.Command.{Leaf, asm, campaign, debug, dis, diva, duo, 
 use Rattle.diva_args.specs.Line.{command_of, config_from, config_with, cycles_from, job_from, room_from, run_from, run_with, setup_from, setup_with, taken, values_of}
 use Rattle.diva_args.specs.Options.{default_cycles, most_cycles}
 use Rattle.diva_args.specs.Plain.{IsPlainLine, PlainLine, Use, are_distinct, flagged, given_by, given_in, has_text, is_plain_word, is_use_of, job_on, name_of, names_in, use_words, value_in, valued, values_in}
-use Rattle.diva_args.specs.Values.{core_of, dump_of, is_set_by, liar_of, ranged_or, room_of, number_or}
+use Rattle.diva_args.specs.Values.{core_of, dump_of, is_set_by, liar_of, ranged_or, room_behind, number_or}
 use Rattle.diva_args.specs.declared.job.Job.TheVariants.{Run}
 use Rattle.diva_args.proofs.PlainSteps.{Stands, first_given, given_row}
 use Rattle.diva_args.proofs.PlainFlags.{flag_kept, value_kept, with_flags}
@@ -68,7 +68,7 @@ run_same f g s =
     let liar = s.value (codes "liar") refl in
     let trace = s.flag (codes "trace") in
     λ i. run_with
-    (setup_with (image i) (room_of (room i)) (core_of (core i) (tape i)) (script i)
+    (setup_with (image i) (room_behind (room i)) (core_of (core i) (tape i)) (script i)
     (config_with (number_or default_config.width (width i)) (number_or default_config.window (window i)) (number_or default_config.stores (stores i)) (number_or default_config.limit (watchdog i)) (number_or default_config.port (port i))))
     (ranged_or 1 most_cycles default_cycles (cycles i)) (trace i) (dump_of (dump i)) (liar_of (liar i))
 

@@ -10,7 +10,7 @@ use Rattle.diva_core.specs.Timed.{Config, default_config}
 use Rattle.diva_core.specs.Machine.{config_in_range}
 use Rattle.diva_args.specs.Command.{diva}
 use Rattle.diva_args.specs.Options.{DebugOptions, DumpRange, DuoOptions, MigrateOptions, RunOptions, Setup, SoakOptions, TapeOptions, default_campaign_cycles, default_cycles, latest_flip, longest_soak, most_campaign_cycles, most_cycles}
-use Rattle.diva_args.specs.Values.{core_of, dump_of, given_number, hart_core_of, is_set_by, liar_of, ranged_or, room_of, number_or}
+use Rattle.diva_args.specs.Values.{core_of, dump_of, given_number, hart_core_of, is_set_by, liar_of, ranged_or, room_behind, number_or}
 use Rattle.diva_args.specs.declared.campaign.CampaignOptions.{CampaignOptions}
 use Rattle.diva_args.specs.declared.job.CoreChoice.{CoreChoice}
 use Rattle.diva_args.specs.declared.job.HartCore.{HartCore}
@@ -57,7 +57,7 @@ config_from width port value = config_with
 
 -- how many bytes of memory follow those that an executable loads
 unfoldable pub room_from : (Text → Option Text) → Option ℕ
-room_from value = room_of (value (codes "room"))
+room_from value = room_behind (value (codes "room"))
 
 abbrev pub setup_with : Option Text → (room : Option ℕ) → Option CoreChoice → (script : Option Text) → Option Config → Option Setup
 setup_with image room core script config = option_and_then (λ i. option_and_then (λ r. option_and_then (λ c. option_map (λ z. record {

@@ -25,7 +25,7 @@ abbrev pub most_room : ℕ
 most_room = 16777212
 
 -- whole words, up to that number
-pub record IsRoom (room : ℕ) : Type 0 where
+pub record IsRoomBehind (room : ℕ) : Type 0 where
   pub aligned : room % 4 ≡ 0
   pub high : room ≤ most_room
 

@@ -76,8 +76,8 @@ abbrev pub in_words : ℕ → Option ℕ
 in_words n = if n % 4 == 0 then Some n else None
 
 -- how many bytes of memory follow those that an executable loads: none where no number is given
-abbrev pub room_of : Option Text → Option ℕ
-room_of word = option_and_then in_words (ranged_or 0 most_room 0 word)
+abbrev pub room_behind : Option Text → Option ℕ
+room_behind word = option_and_then in_words (ranged_or 0 most_room 0 word)
 
 -- `:`
 abbrev pub is_colon : ℕ → Bool

@@ -69,14 +69,14 @@ pub struct Setup {
 }
 
 impl Model for Setup {
-    ghost use Rattle.diva_args.specs.Options.{IsRoom, Setup};
+    ghost use Rattle.diva_args.specs.Options.{IsRoomBehind, Setup};
     ghost use Rattle.diva_core.specs.Machine.{IsConfig};
 
     ghost Value = { Setup };
 
     ghost view = { λ s. record { image = s.image; room = s.room; core = s.core; script = s.script; config = s.config } };
 
-    ghost invariant = { λ s. IsConfig s.config × IsRoom s.room };
+    ghost invariant = { λ s. IsConfig s.config × IsRoomBehind s.room };
 }
 
 /// `run IMAGE` with its options.
@@ -165,7 +165,7 @@ pub struct DuoOptions {
 
 impl Model for DuoOptions {
     ghost use Rattle.std.specs.Prelude.{◌≡◌};
-    ghost use Rattle.diva_args.specs.Options.{DuoOptions, IsBudget, IsRoom};
+    ghost use Rattle.diva_args.specs.Options.{DuoOptions, IsBudget, IsRoomBehind};
     ghost use Rattle.diva_core.specs.Machine.{IsConfig};
 
     ghost Value = { DuoOptions };
@@ -179,7 +179,7 @@ impl Model for DuoOptions {
       dump = d.dump;
     } };
 
-    ghost invariant = { λ d. IsConfig d.config × (d.config.port ≡ 1) × IsRoom d.room × IsBudget d.cycles };
+    ghost invariant = { λ d. IsConfig d.config × (d.config.port ≡ 1) × IsRoomBehind d.room × IsBudget d.cycles };
 }
 
 /// The core that each of two harts' checkers watches.
@@ -224,13 +224,13 @@ pub struct MigrateOptions {
 }
 
 impl Model for MigrateOptions {
-    ghost use Rattle.diva_args.specs.Options.{IsRoom, MigrateOptions};
+    ghost use Rattle.diva_args.specs.Options.{IsRoomBehind, MigrateOptions};
 
     ghost Value = { MigrateOptions };
 
     ghost view = { λ m. record { image = m.image; room = m.room } };
 
-    ghost invariant = { λ m. IsRoom m.room };
+    ghost invariant = { λ m. IsRoomBehind m.room };
 }
 
 /// `soak SEED LENGTH`. It names no file, and has no options.

@@ -4,7 +4,7 @@ ghost use Rattle.clap.specs.Walk.{rows_of};
 ghost use Rattle.clap.specs.Words.{found_of, subcommand_rows_of};
 ghost use Rattle.diva_args.specs.Line.{campaign_from, command_of, config_from, cycles_from, debug_from, duo_from, job_of, migrate_from, port_from};
 ghost use Rattle.diva_args.specs.Line.{room_from, run_from, setup_from, soak_from, taken, tape_from, values_of, width_from};
-ghost use Rattle.diva_args.specs.Options.{IsBudget, IsRoom, default_campaign_cycles, latest_flip, most_campaign_cycles};
+ghost use Rattle.diva_args.specs.Options.{IsBudget, IsRoomBehind, default_campaign_cycles, latest_flip, most_campaign_cycles};
 ghost use Rattle.diva_args.specs.Plain.{IsPlainLine, PlainLine, job_on};
 ghost use Rattle.diva_args.specs.Values.{given_number, is_set_by, number_or, ranged_or};
 ghost use Rattle.diva_core.specs.Machine.{IsConfig};
@@ -348,7 +348,7 @@ fn cycles(found: &ArgMatches<'_>) -> Option<u64>
 #[tactic(auto, unfolding(crate::specs::Line::room_from))]
 fn room(found: &ArgMatches<'_>) -> Option<u32>
     ensures value { result ≡ room_from (values_of (rows_of (found_of found.now))) }
-    ensures in_range { IfSome result IsRoom }
+    ensures in_range { IfSome result IsRoomBehind }
 {
     let room = number(text_of(found, "room"), 0, MOST_ROOM, 0)?;
     if room % 4 == 0 { Some(room) } else { None }

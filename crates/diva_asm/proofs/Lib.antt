@@ -18,3 +18,5 @@ pub mod Reading
 pub mod Valid
 -- hex digits of a number of 20 bits
 pub mod Hex
+-- names among others
+pub mod Naming

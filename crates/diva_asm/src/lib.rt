@@ -6,7 +6,7 @@
 //!   together.
 //! - `statement`: the labels and the statement of a line. `operands`: registers, numbers and places. `texts`: how a line is cut.
 //! - `mnemonic`: the mnemonics and directives. `operand`: the operands that each takes. Both the assembler and the listing go by
-//!   them.
+//!   them. `names`: a walk over a table of names.
 //! - `listing`: `list_line`, the line of a word.
 //!
 //! `docs/FORMATS.md` has the language of a source. `specs/Sources.antt` has the image of a source, `specs/Mnemonics.antt` the table of mnemonics, and `specs/Listing.antt` the
@@ -21,6 +21,7 @@ mod labels;
 mod laying;
 mod listing;
 mod mnemonic;
+mod names;
 mod operand;
 mod operands;
 mod statement;

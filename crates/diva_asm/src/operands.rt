@@ -1,12 +1,12 @@
 // Registers, numbers and places.
-ghost use Rattle.std.specs.Prelude.{◌≡◌, ◌<◌, ◌%◌, ◌^◌, ℤ, pos, neg_ℤ, ◌≤ℤ◌, ◌<ℤ◌, IfSome};
-ghost use Rattle.std.specs.Map.{lookup};
-ghost use Rattle.std.specs.Str.{bytes_eq};
+ghost use Rattle.std.specs.Prelude.{map, ◌≡◌, ◌<◌, ◌%◌, ◌^◌, ℤ, pos, neg_ℤ, ◌≤ℤ◌, ◌<ℤ◌, IfSome};
 ghost use Rattle.std.specs.Option.{ok_or, option_map};
+ghost use Rattle.diva_asm.specs.Inner.{registers_with};
 ghost use Rattle.diva_asm.specs.declared.fault.Kind.TheVariants.{NoRegister, BadNumber};
 ghost use Rattle.diva_asm.specs.Operands.{Place as Place, register_of, digits_of, unsigned_of, operand_number, number_in, word_from, offset_of, place_at, place_of};
 
 use crate::fault::Kind;
+use crate::names::named;
 use crate::texts::{name_len, trim};
 use diva_outside::{decimal, hex};
 use std::marker::Model;
@@ -17,8 +17,8 @@ const LARGEST: i64 = 0xffff_ffff;
 /// The least number.
 const LEAST: i64 = -0x8000_0000;
 
-/// The registers' names.
-const REGISTERS: [(&[u8], u8); 65] = [
+/// The registers' own names.
+static X_NAMES: [(&[u8], u8); 32] = [
     (b"x0", 0),
     (b"x1", 1),
     (b"x2", 2),
@@ -51,17 +51,10 @@ const REGISTERS: [(&[u8], u8); 65] = [
     (b"x29", 29),
     (b"x30", 30),
     (b"x31", 31),
-    (b"zero", 0),
-    (b"ra", 1),
-    (b"sp", 2),
-    (b"gp", 3),
-    (b"tp", 4),
-    (b"t0", 5),
-    (b"t1", 6),
-    (b"t2", 7),
-    (b"s0", 8),
-    (b"fp", 8),
-    (b"s1", 9),
+];
+
+/// The names that begin with `a`.
+static A_NAMES: [(&[u8], u8); 8] = [
     (b"a0", 10),
     (b"a1", 11),
     (b"a2", 12),
@@ -70,6 +63,13 @@ const REGISTERS: [(&[u8], u8); 65] = [
     (b"a5", 15),
     (b"a6", 16),
     (b"a7", 17),
+];
+
+/// The names that begin with `s`.
+static S_NAMES: [(&[u8], u8); 13] = [
+    (b"sp", 2),
+    (b"s0", 8),
+    (b"s1", 9),
     (b"s2", 18),
     (b"s3", 19),
     (b"s4", 20),
@@ -80,6 +80,14 @@ const REGISTERS: [(&[u8], u8); 65] = [
     (b"s9", 25),
     (b"s10", 26),
     (b"s11", 27),
+];
+
+/// The names that begin with `t`.
+static T_NAMES: [(&[u8], u8); 8] = [
+    (b"tp", 4),
+    (b"t0", 5),
+    (b"t1", 6),
+    (b"t2", 7),
     (b"t3", 28),
     (b"t4", 29),
     (b"t5", 30),
@@ -133,22 +141,30 @@ pub(crate) struct Operands<'a> {
 }
 
 /// The register of a name.
-#[tactic(auto, unfolding(crate::specs::Operands::register_of))]
 pub(crate) fn register(word: &[u8]) -> Result<u8, Kind>
     ensures { result ≡ ok_or (register_of word.now) NoRegister }
 {
-    number_named(&REGISTERS, word).ok_or(Kind::NoRegister)
+    let [first, ..] = word else {
+        return Err(Kind::NoRegister);
+    };
+    named(names_with(*first), word).ok_or(Kind::NoRegister)
 }
 
-fn number_named(names: &[(&[u8], u8)], word: &[u8]) -> Option<u8>
-    ensures { result ≡ lookup (λ name. bytes_eq name.now word.now) names.now }
+/// The names of registers that begin with a byte.
+fn names_with(first: u8) -> &'static [(&'static [u8], u8)]
+    ensures { map (λ name. (name.0.now, name.1)) result.now ≡ registers_with first }
 {
-    for (name, number) in names {
-        if *name == word {
-            return Some(*number);
-        }
+    match first {
+        b'x' => &X_NAMES,
+        b'a' => &A_NAMES,
+        b's' => &S_NAMES,
+        b't' => &T_NAMES,
+        b'z' => &[(b"zero", 0)],
+        b'r' => &[(b"ra", 1)],
+        b'g' => &[(b"gp", 3)],
+        b'f' => &[(b"fp", 8)],
+        _ => &[],
     }
-    None
 }
 
 /// A number without sign: `0x` and hex digits, or decimal digits.

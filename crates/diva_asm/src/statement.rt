@@ -3,6 +3,7 @@ ghost use Rattle.std.specs.Prelude.{◌≡◌, ◌<◌, ◌∷◌, length, List,
 ghost use Rattle.std.specs.Option.{option_map};
 ghost use Rattle.diva_asm.specs.Texts.{labels_of, onto_names, operand_texts};
 ghost use Rattle.diva_asm.specs.Statements.{is_memory, has_shape, have_shapes, no_operands, with_operand, with_operands, statement_with, statement_of};
+ghost use Rattle.diva_asm.specs.Inner.{GivesOperands};
 ghost use Rattle.diva_asm.specs.Reads.{IsRead};
 
 use crate::fault::Kind;
@@ -59,11 +60,12 @@ fn statement_with(mnemonic: Mnemonic, text: &[u8]) -> Result<Statement<'_>, Kind
 {
     let texts = if text.is_empty() { None } else { Some(text) };
     let operands = mnemonic.operands();
-    if !have_shapes(operands, texts) {
-        return Err(Kind::WrongShape);
+    match with_operands(operands, texts) {
+        Ok(operands) => Ok(Statement { mnemonic, operands }),
+        Err(kind) if have_shapes(operands, texts) => Err(kind),
+        // a wrong form comes before what else is wrong with an operand
+        Err(_) => Err(Kind::WrongShape),
     }
-    let operands = with_operands(operands, texts)?;
-    Ok(Statement { mnemonic, operands })
 }
 
 /// The first text of some that commas separate, and the others.
@@ -117,13 +119,13 @@ fn is_memory(text: &[u8]) -> bool
     text.ends_with(b")") && count_of(text, b'(') == 1 && count_of(text, b')') == 1
 }
 
-/// What texts of the operands' forms say.
-#[tactic(auto, unfolding(crate::specs::Statements::with_operands))]
+/// What the texts say, or a fault, where there are not as many as operands, each of its operand's form, or one says nothing.
+#[tactic(auto, unfolding(crate::specs::Statements::with_operands, crate::specs::Statements::have_shapes))]
 fn with_operands<'a>(
     operands: &[Operand],
     mut texts: Option<&'a [u8]>,
 ) -> Result<Operands<'a>, Kind>
-    ensures { result ≡ with_operands operands.now (operand_texts (option_map (λ t. t.now) texts.entry)) no_operands }
+    ensures { let all = operand_texts (option_map (λ t. t.now) texts.entry) in GivesOperands (have_shapes operands.now all) (with_operands operands.now all no_operands) result }
 {
     let mut values = Operands {
         rd: 0,
@@ -136,13 +138,19 @@ fn with_operands<'a>(
         match texts {
             Some(left) => {
                 let (text, others) = first_text(left);
+                if !has_shape(*operand, text) {
+                    return Err(Kind::WrongShape);
+                }
                 values = with_operand(*operand, text, values)?;
                 texts = others;
             }
-            None => return Ok(values),
+            None => return Err(Kind::WrongShape),
         }
     }
-    Ok(values)
+    match texts {
+        Some(_) => Err(Kind::WrongShape),
+        None => Ok(values),
+    }
 }
 
 #[tactic(auto, unfolding(crate::specs::Statements::with_operand))]

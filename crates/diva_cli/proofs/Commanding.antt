@@ -24,7 +24,7 @@ use Rattle.diva_outside.specs.declared.sink.SinkFailed.{SinkFailed}
 use Rattle.diva_outside.proofs.Sinks.{puts_nothing, puts_past, puts_then}
 use Rattle.diva_debug.specs.Moves.{Moves, Standing, goes_back, standing_after, steps_by}
 use Rattle.diva_debug.specs.Replies.{reply_at, reply_from}
-use Rattle.diva_debug.specs.Rewindable.{GoesBack, IsLed, Rewindable, base_of, kept_of, standing_of}
+use Rattle.diva_debug.specs.Rewindable.{GoesBack, IsLed, Rewindable, session_origin, kept_of, standing_of}
 use Rattle.diva_debug.specs.Undos.{origin_of}
 use Rattle.diva_debug.specs.declared.command.Command.{Command}
 use Rattle.diva_debug.specs.declared.command.Command.TheVariants.{Step, Until, Reg, Mem, Why, Back}
@@ -102,7 +102,7 @@ handed-more (TakenBack undos ∷ parts) part = handed-more parts part
 pub record StandsSo (start : State) (w : Standing) (r : Rewindable) : Type 0 where
   pub at : StandsAt start w r.machine.timed
   pub kept : kept_of r ≡ w.kept
-  pub base : base_of r ≡ steps (w.place - w.kept) start
+  pub origin : session_origin r ≡ steps (w.place - w.kept) start
   pub within : w.kept ≤ w.place
   pub keeps : r.keep ≡ keep
 
@@ -131,10 +131,10 @@ pub record Done {C : Type 0} (gives : Meaning C) (c : Command) (r : Rewindable) 
   pub stands : standing_of last ≡ standing_after r.keep c (standing_of r) r.machine.timed.arch
   pub keep : last.keep ≡ r.keep
   pub moved : goes_back c ≡ false → Moves (steps_by c r.machine.timed.arch) r.machine.timed last.machine.timed
-  pub base : goes_back c ≡ false → base_of last ≡ steps (kept_of r + steps_by c r.machine.timed.arch - kept_of last) (base_of r)
+  pub origin : goes_back c ≡ false → session_origin last ≡ steps (kept_of r + steps_by c r.machine.timed.arch - kept_of last) (session_origin r)
   pub at_once : goes_back c ≡ false → StopsAtOnce r.machine.timed last.machine.timed
   pub back : (k : ℕ) → c ≡ Back k → k ≤ kept_of r
-      → (last.machine.timed.arch ≡ steps (kept_of r - k) (base_of r)) × (base_of last ≡ base_of r) × (last.machine.timed.count + k ≡ r.machine.timed.count)
+      → (last.machine.timed.arch ≡ steps (kept_of r - k) (session_origin r)) × (session_origin last ≡ session_origin r) × (last.machine.timed.count + k ≡ r.machine.timed.count)
   pub stays : (k : ℕ) → c ≡ Back k → kept_of r < k → (last ≡ r) × (after ≡ core)
   pub led : IsLed gives c r core last after
 
@@ -178,7 +178,7 @@ module _ {C : Type 0} (gives : Meaning C) (start : State) (w : Standing) (c : Co
           stepped = moved.arch ∙ ap (λ k. steps k r.machine.timed.arch) same ∙ ap (steps n) so.at.stepped ∙ steps-sum w.place n next.place start count;
         };
         kept = kept;
-        base = d.base on ∙ ap (steps (kept_of r + steps_by c r.machine.timed.arch - kept_of last)) so.base
+        origin = d.origin on ∙ ap (steps (kept_of r + steps_by c r.machine.timed.arch - kept_of last)) so.origin
             ∙ steps-sum (w.place - w.kept) (kept_of r + steps_by c r.machine.timed.arch - kept_of last) (next.place - next.kept) start (omega arith);
         within = omega arith;
         keeps = d.keep ∙ so.keeps;
@@ -207,10 +207,10 @@ module _ {C : Type 0} (gives : Meaning C) (start : State) (w : Standing) (r : Re
       record {
         at = record {
           counted = at;
-          stepped = b.0 ∙ ap (steps (kept_of r - k)) so.base ∙ steps-sum (w.place - w.kept) (kept_of r - k) (next_standing start (Back k) w).place start (omega arith);
+          stepped = b.0 ∙ ap (steps (kept_of r - k)) so.origin ∙ steps-sum (w.place - w.kept) (kept_of r - k) (next_standing start (Back k) w).place start (omega arith);
         };
         kept = kept gives start w (Back k) r core last after so d;
-        base = b.1 ∙ so.base ∙ ap (λ n. steps n start) (omega arith);
+        origin = b.1 ∙ so.origin ∙ ap (λ n. steps n start) (omega arith);
         within = omega arith;
         keeps = d.keep ∙ so.keeps;
       }
@@ -355,7 +355,7 @@ replies_none gives commands r core old before new none keeps =
       stands = record {
         at = at;
         kept = ap (λ (undos : List Undo). length undos) none;
-        base = base_none r.undos none;
+        origin = origin_none r.undos none;
         within = omega arith;
         keeps = keeps;
       };
@@ -363,8 +363,8 @@ replies_none gives commands r core old before new none keeps =
       cut = tt;
     }
   where
-    base_none : (undos : List Undo) → undos ≡ [] → origin_of r.machine.timed.arch undos ≡ r.machine.timed.arch
-    base_none undos e = ap (origin_of r.machine.timed.arch) e
+    origin_none : (undos : List Undo) → undos ≡ [] → origin_of r.machine.timed.arch undos ≡ r.machine.timed.arch
+    origin_none undos e = ap (origin_of r.machine.timed.arch) e
 
 module _ {C : Type 0} (gives : Meaning C) (commands : List Command) (n : ℕ) (m : Timed) (core : C) (r : Rewindable) (between : C) (old now new : Option (List ℕ)) (f g h : ℕ)
     (c : Command) (last : Rewindable) (after : C) (line : List ℕ) (result : Result (Unit {0}) SinkFailed)

@@ -25,8 +25,8 @@ use Rattle.diva_cli.specs.DuoTexts.{duo_status}
 use Rattle.diva_cli.specs.Runs.{EndsWith, end_status}
 use Rattle.diva_cli.specs.Texts.{HasText, CanEnd, IsDone}
 use Rattle.diva_cli.specs.Answers.{IsAnswer, misused, unread, refused, done}
-use Rattle.diva_cli.specs.Statuses.{IsHeld, AreHeld, CanWork, HasEnded}
-use Rattle.diva_cli.specs.Parts.{Answers, status_of}
+use Rattle.diva_cli.specs.Statuses.{IsKnownSound, AreKnownSound, CanWork, HasEnded}
+use Rattle.diva_cli.specs.Parts.{KeepsPromises, status_of}
 
 -- ---- the statuses of a job whose text was written whole: a line for each command
 
@@ -81,7 +81,7 @@ can_end gives (Draw options) bytes core status text h =
       ]
     ]
 
--- ---- a file that is held is no cause to stop
+-- ---- a file that is known and sound is no cause to stop
 
 faultless-fault : (what : What) (room : ℕ) (bytes : List ℕ) (kind place : ℕ) → IsFaultless what room bytes → HasFault what room bytes kind place → ⊥
 faultless-fault Image room bytes kind place n f = let e = sym n ∙ f in cc
@@ -93,38 +93,38 @@ faultless-fault Commands room bytes kind place n f = true≢false (sym (subst Is
 pub some_same : {A : Type 0} (r : Option A) (x y : A) → r ≡ Some x → r ≡ Some y → x ≡ y
 some_same r x y a b = cc
 
-pub held-refused : (contents : Contents) (text : List ℕ) (w : Wanted) → IsHeld contents w → IsRefused contents text w → ⊥
-held-refused None text w h r = h.held
-held-refused (Some bytes_of) text w h r = go r.cause
+pub known-refused : (contents : Contents) (text : List ℕ) (w : Wanted) → IsKnownSound contents w → IsRefused contents text w → ⊥
+known-refused None text w h r = h.known
+known-refused (Some bytes_of) text w h r = go r.cause
   where
     go : IsTooLong (Some bytes_of) w r.kind r.place ⊎ HasFirstFault (Some bytes_of) w r.kind r.place → ⊥
     go (inl long) =
-        let same : h.bytes ≡ long.longer.0 = some_same (bytes_of w.name) h.bytes long.longer.0 h.held long.longer.1 in
+        let same : h.bytes ≡ long.longer.0 = some_same (bytes_of w.name) h.bytes long.longer.0 h.known long.longer.1 in
         let n = ap (λ (b : List ℕ). length b) same in let a = h.short in let b = long.longer.2 in omega arith
     go (inr f) =
-        let same : h.bytes ≡ f.bytes = some_same (bytes_of w.name) h.bytes f.bytes h.held f.has in
+        let same : h.bytes ≡ f.bytes = some_same (bytes_of w.name) h.bytes f.bytes h.known f.has in
         faultless-fault w.what w.room f.bytes r.kind r.place (subst (λ (b : List ℕ). IsFaultless w.what w.room b) same h.faultless) f.first
 
-held-unread : (contents : Contents) (before now : What → ℕ) (text : List ℕ) (w : Wanted) (behind : List Wanted) → ((what : What) → Rose (before what) (now what) → ⊥)
-    → IsHeld contents w → IsUnread contents before now text w behind → ⊥
-held-unread None before now text w behind none h r = h.held
-held-unread (Some bytes_of) before now text w behind none h r = go r.cause
+known-unread : (contents : Contents) (before now : What → ℕ) (text : List ℕ) (w : Wanted) (behind : List Wanted) → ((what : What) → Rose (before what) (now what) → ⊥)
+    → IsKnownSound contents w → IsUnread contents before now text w behind → ⊥
+known-unread None before now text w behind none h r = h.known
+known-unread (Some bytes_of) before now text w behind none h r = go r.cause
   where
     go : Rose (before w.what) (now w.what) ⊎ (bytes_of w.name ≡ None) → ⊥
     go (inl rose) = none w.what rose
-    go (inr missing) = let e = sym h.held ∙ missing in cc
+    go (inr missing) = let e = sym h.known ∙ missing in cc
 
-held-stops : (contents : Contents) (this : Wanted → List Wanted → Type 0) → ((w : Wanted) (behind : List Wanted) → IsHeld contents w → this w behind → ⊥) → (ws : List Wanted) → AreHeld contents ws → StopsAt contents this ws → ⊥
-held-stops contents this never [] h s = s
-held-stops contents this never (w ∷ ws) h (inl here) = never w ws h.0 here
-held-stops contents this never (w ∷ ws) h (inr later) = held-stops contents this never ws h.1 later.1
+known-stops : (contents : Contents) (this : Wanted → List Wanted → Type 0) → ((w : Wanted) (behind : List Wanted) → IsKnownSound contents w → this w behind → ⊥) → (ws : List Wanted) → AreKnownSound contents ws → StopsAt contents this ws → ⊥
+known-stops contents this never [] h s = s
+known-stops contents this never (w ∷ ws) h (inl here) = never w ws h.0 here
+known-stops contents this never (w ∷ ws) h (inr later) = known-stops contents this never ws h.1 later.1
 
 -- ---- so it is done
 
 module _ {C S : Type 0} (gives : Meaning C) (asked : Asked) (files : FileFaults) (core : Change C) (sink : SinkChange S)
     (can : CanWork asked) (files_well : (what : What) → Rose (files.before what) (files.after what) → ⊥) (sink_well : HasFailed sink → ⊥) where
-  held_of : (job : Job) → asked.command ≡ Some job → AreHeld asked.contents (wanted job)
-  held_of job named = subst (λ (j : Job). AreHeld asked.contents (wanted j)) (some_same asked.command can.job job can.named named) can.held
+  known_of : (job : Job) → asked.job ≡ Some job → AreKnownSound asked.contents (wanted job)
+  known_of job named = subst (λ (j : Job). AreKnownSound asked.contents (wanted j)) (some_same asked.job can.job job can.named named) can.known
 
   abbrev pub Ended : ℕ → Type 0
   Ended status = HasEnded gives asked core sink status
@@ -132,9 +132,9 @@ module _ {C S : Type 0} (gives : Meaning C) (asked : Asked) (files : FileFaults)
   answered : (status : ℕ) (text : List ℕ) → IsAnswer gives asked files core (Ok status) text → Takes sink text → Ended status
   answered status text (misused m same s) w = absurd (let e = sym can.named ∙ m.none in cc)
   answered status text (unread u same s) w =
-      absurd (held-stops asked.contents (IsUnread asked.contents files.before files.after text) (λ w behind. held-unread asked.contents files.before files.after text w behind files_well) (wanted u.job) (held_of u.job u.named) u.first)
+      absurd (known-stops asked.contents (IsUnread asked.contents files.before files.after text) (λ w behind. known-unread asked.contents files.before files.after text w behind files_well) (wanted u.job) (known_of u.job u.named) u.first)
   answered status text (refused r same s) w =
-      absurd (held-stops asked.contents (StopsLoading asked.contents files.before files.after text) (λ w behind h s. held-refused asked.contents text w h s.refused) (wanted r.job) (held_of r.job r.named) r.first)
+      absurd (known-stops asked.contents (StopsLoading asked.contents files.before files.after text) (λ w behind h s. known-refused asked.contents text w h s.refused) (wanted r.job) (known_of r.job r.named) r.first)
   answered status text (done d) w = record {
     job = d.job;
     named = d.named;
@@ -142,7 +142,7 @@ module _ {C S : Type 0} (gives : Meaning C) (asked : Asked) (files : FileFaults)
     worked = record { text = text; done = d; written = w };
   }
 
-  pub complete : (result : Result ℕ Failure) → Answers gives asked files core sink result
+  pub complete : (result : Result ℕ Failure) → KeepsPromises gives asked files core sink result
       → Ended (status_of result) ⊎ (status_of result ≡ 10)
   complete (Ok status) w = inl (answered status w.text w.answer w.written)
   complete (Err Cut) w = absurd (sink_well w.rose)

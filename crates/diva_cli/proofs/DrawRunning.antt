@@ -19,7 +19,7 @@ use Rattle.diva_args.specs.declared.job.DrawOptions.{DrawOptions}
 use Rattle.diva_args.specs.declared.job.Format.{Format}
 use Rattle.diva_args.specs.declared.job.Job.TheVariants.{Draw}
 use Rattle.diva_drawing.specs.Rows.{Pen, begun_rows}
-use Rattle.diva_drawing.specs.Seen.{AreSeen, IsSeen, Seen}
+use Rattle.diva_drawing.specs.Snapshot.{AreSnapshots, IsSnapshot, Snapshot}
 use Rattle.diva_cli.specs.declared.loading.Ready.{Ready}
 use Rattle.diva_cli.specs.Changes.{HasFailed, SinkChange, Takes, TakesPart, TakesPast, change, sink_change}
 use Rattle.diva_cli.specs.Cuts.{BeforeLast}
@@ -33,24 +33,24 @@ use Rattle.diva_cli.proofs.Running.{ends_with, over_lists, run_over, run_whole}
 
 -- ---- one cycle more
 
-same_length : (m : Timed) (lists : List (List Record)) (seen : List Seen) → AreSeen m lists seen → length lists ≡ length seen
+same_length : (m : Timed) (lists : List (List Record)) (seen : List Snapshot) → AreSnapshots m lists seen → length lists ≡ length seen
 same_length m [] [] a = refl
 same_length m [] (s ∷ seen) a = absurd a
 same_length m (list ∷ lists) [] a = absurd a
 same_length m (list ∷ lists) (s ∷ seen) a = (let e = same_length (cycle_of m list) lists seen a.1 in omega arith)
 
-are_more : (m : Timed) (lists : List (List Record)) (seen : List Seen) (list : List Record) (s : Seen)
-    → AreSeen m lists seen → IsSeen (cycle_of (run_of m lists) list) s → AreSeen m (lists ++ list ∷ []) (seen ++ s ∷ [])
+are_more : (m : Timed) (lists : List (List Record)) (seen : List Snapshot) (list : List Record) (s : Snapshot)
+    → AreSnapshots m lists seen → IsSnapshot (cycle_of (run_of m lists) list) s → AreSnapshots m (lists ++ list ∷ []) (seen ++ s ∷ [])
 are_more m [] [] list s a is = (is, tt)
 are_more m [] (t ∷ seen) list s a is = absurd a
 are_more m (first ∷ lists) [] list s a is = absurd a
 are_more m (first ∷ lists) (t ∷ seen) list s a is = (a.0, are_more (cycle_of m first) lists seen list s a.1 is)
 
-behind_more : (pen : Pen) (seen : List Seen) (s : Seen) → pen_behind pen (seen ++ s ∷ []) ≡ pen_after (pen_behind pen seen) s
+behind_more : (pen : Pen) (seen : List Snapshot) (s : Snapshot) → pen_behind pen (seen ++ s ∷ []) ≡ pen_after (pen_behind pen seen) s
 behind_more pen [] s = refl
 behind_more pen (t ∷ seen) s = behind_more (pen_after pen t) seen s
 
-drawn_more : (format : Format) (pen : Pen) (lists : List (List Record)) (seen : List Seen) (list : List Record) (s : Seen) → length lists ≡ length seen
+drawn_more : (format : Format) (pen : Pen) (lists : List (List Record)) (seen : List Snapshot) (list : List Record) (s : Snapshot) → length lists ≡ length seen
     → cycles_drawn format pen (lists ++ list ∷ []) (seen ++ s ∷ []) ≡ cycles_drawn format pen lists seen ++ cycle_text format (pen_behind pen seen) s list
 drawn_more format pen [] [] list s same = append-nil _
 drawn_more format pen [] (t ∷ seen) list s same = absurd (omega arith)
@@ -60,7 +60,7 @@ drawn_more format pen (first ∷ lists) (t ∷ seen) list s same =
     ∙ sym (append_assoc (cycle_text format pen t first) (cycles_drawn format (pen_after pen t) lists seen) _)
 
 -- what was seen behind other cycles says nothing of these
-drawn_front : (format : Format) (pen : Pen) (lists : List (List Record)) (seen : List Seen) (s : Seen) → length lists ≡ length seen
+drawn_front : (format : Format) (pen : Pen) (lists : List (List Record)) (seen : List Snapshot) (s : Snapshot) → length lists ≡ length seen
     → cycles_drawn format pen lists (seen ++ s ∷ []) ≡ cycles_drawn format pen lists seen
 drawn_front format pen [] seen s same = refl
 drawn_front format pen (first ∷ lists) [] s same = absurd (omega arith)
@@ -71,15 +71,15 @@ drawn_front format pen (first ∷ lists) (t ∷ seen) s same =
 
 module _ {D : Type 0} (gives : Meaning D) (format : Format) (m : Timed) (core : D) (pen : Pen) (old : Option (List ℕ)) (before : ℕ) where
   -- where the sink failed, it did so in the last of these cycles
-  abbrev pub CutIn : List (List Record) → List Seen → (new : Option (List ℕ)) → Type 0
+  abbrev pub CutIn : List (List Record) → List Snapshot → (new : Option (List ℕ)) → Type 0
   CutIn lists seen new = BeforeLast lists (λ earlier. AppendsPast old new (cycles_drawn format pen earlier seen) (cycles_drawn format pen lists seen))
 
   -- so far, n of them
   pub record DrawsSoFar (n : ℕ) (last : Timed) (after : D) (behind : Pen) (new : Option (List ℕ)) (now : ℕ) (result : Result (Unit {0}) SinkFailed) : Type 0 where
     pub turns : Turns gives m core last after
     pub many : last.cycles ≡ m.cycles + n
-    pub seen : List Seen
-    pub are : AreSeen m (lists_of turns.history) seen
+    pub seen : List Snapshot
+    pub are : AreSnapshots m (lists_of turns.history) seen
     pub pens : behind ≡ pen_behind pen seen
     pub put : Puts (cycles_drawn format pen (lists_of turns.history) seen) old new before now result
     pub cut : OnErr result (CutIn (lists_of turns.history) seen new)
@@ -98,11 +98,11 @@ module _ {D : Type 0} (gives : Meaning D) (format : Format) (m : Timed) (core : 
 
   module _ (n : ℕ) (mid : Timed) (between : D) (by_then : Pen) (now : Option (List ℕ)) (g : ℕ) (so_far : DrawsSoFar n mid between by_then now g (Ok tt)) where
     -- a turn, and its text or a part of it
-    draws_more : (list : List Record) (after : D) (s : Seen) (new : Option (List ℕ)) (h : ℕ) (result : Result (Unit {0}) SinkFailed)
+    draws_more : (list : List Record) (after : D) (s : Snapshot) (new : Option (List ℕ)) (h : ℕ) (result : Result (Unit {0}) SinkFailed)
         → IsMachine mid
         → goes_on mid.arch ≡ true
         → gives between (told_of mid) mid.arch list after
-        → IsSeen (cycle_of mid list) s
+        → IsSnapshot (cycle_of mid list) s
         → Puts (cycle_text format by_then s list) now new g h result
         → DrawsSoFar (n + 1) (cycle_of mid list) after (pen_after by_then s) new h result
     draws_more list after s new h result sound on asked is puts =
@@ -114,8 +114,8 @@ module _ {D : Type 0} (gives : Meaning D) (format : Format) (m : Timed) (core : 
           };
           many = (let e = so_far.many in let c = next in omega arith);
           seen = so_far.seen ++ s ∷ [];
-          are = subst (λ (ls : List (List Record)). AreSeen m ls (so_far.seen ++ s ∷ [])) (sym (lists_more so_far.turns.history list after))
-              (are_more m lists so_far.seen list s so_far.are (subst (λ (k : Timed). IsSeen (cycle_of k list) s) ran is));
+          are = subst (λ (ls : List (List Record)). AreSnapshots m ls (so_far.seen ++ s ∷ [])) (sym (lists_more so_far.turns.history list after))
+              (are_more m lists so_far.seen list s so_far.are (subst (λ (k : Timed). IsSnapshot (cycle_of k list) s) ran is));
           pens = ap (λ (p : Pen). pen_after p s) so_far.pens ∙ sym (behind_more pen so_far.seen s);
           put = subst (λ (x : List ℕ). Puts x old new before h result) (sym more) (puts_then _ _ old now new before g h result so_far.put puts);
           cut = broke result puts;
@@ -157,14 +157,14 @@ module _ {D : Type 0} (gives : Meaning D) (format : Format) (m : Timed) (core : 
         → IsMachine mid
         → goes_on mid.arch ≡ true
         → gives between (told_of mid) mid.arch list after
-        → IsSeen next behind.seen
+        → IsSnapshot next behind.seen
         → behind ≡ pen_after by_then behind.seen
         → Puts (cycle_text format by_then behind.seen list) now new g h result
         → DrawsSoFar (n + 1) next after behind new h result
     draws_turn list after behind new h result next ne sound on asked is pe puts =
         subst (λ (k : Timed). DrawsSoFar (n + 1) k after behind new h result) (sym ne)
         (subst (λ (p : Pen). DrawsSoFar (n + 1) (cycle_of mid list) after p new h result) (sym pe)
-        (draws_more list after behind.seen new h result sound on asked (subst (λ (k : Timed). IsSeen k behind.seen) ne is) puts))
+        (draws_more list after behind.seen new h result sound on asked (subst (λ (k : Timed). IsSnapshot k behind.seen) ne is) puts))
 
 pub draws_performs :
     {D S : Type 0} (gives : Meaning D) (format : Format) (m : Timed) (core : D) (pen : Pen) (contents : S → Option (List ℕ)) (faults : S → ℕ) (s s' : S)
@@ -219,7 +219,7 @@ abbrev no_turns : {D : Type 0} (gives : Meaning D) (m : Timed) (core : D) → Tu
 no_turns gives m core = record { history = []; good = (refl, refl); each = omega arith }
 
 module _ {D S : Type 0} (gives : Meaning D) (format : Format) (budget : ℕ) (m : Timed) (core : D) (contents : S → Option (List ℕ)) (faults : S → ℕ) (s0 s1 : S)
-    (first : Seen) (saw : IsSeen m first) where
+    (first : Snapshot) (saw : IsSnapshot m first) where
   -- the first lines were not put
   pub unbegun : (e : SinkFailed) → Puts (begin_text format) (contents s0) (contents s1) (faults s0) (faults s1) (Err e)
       → Performs gives (change m m) (change core core) (λ lists. IsDrawn format budget (change m m) lists (sink_change contents faults s0 s1) (Err e))
@@ -293,7 +293,7 @@ module _ {D S : Type 0} (gives : Meaning D) (format : Format) (budget : ℕ) (m 
 
         ends : (r : Result (Unit {0}) SinkFailed) → Puts (end_text format behind.seen) (contents s2) (contents s3) (faults s2) (faults s3) r
             → Puts (end_text format (pen_behind (pen_at first) d.seen).seen) (contents s2) (contents s3) (faults s2) (faults s3) r
-        ends r e = subst (λ (x : Seen). Puts (end_text format x) (contents s2) (contents s3) (faults s2) (faults s3) r) seen_last e
+        ends r e = subst (λ (x : Snapshot). Puts (end_text format x) (contents s2) (contents s3) (faults s2) (faults s3) r) seen_last e
 
         well : (r : Result (Unit {0}) SinkFailed) → Puts (end_text format behind.seen) (contents s2) (contents s3) (faults s2) (faults s3) r
             → OnOk r ((goes_on last.arch ≡ true → length lists ≡ budget) × Takes (sink_change contents faults s0 s3) (drawn_text format first lists d.seen))
@@ -331,11 +331,11 @@ module _ {C S : Type 0} (gives : Meaning C) (options : DrawOptions) (bytes : Fil
   all_lists : over.run.driven.lists ≡ p.lists
   all_lists = over_lists gives options.run.setup options.run.cycles bytes ready core last after fits is p.lists p.ran p.each p.handed (let m = d.most in omega arith)
 
-  saw : IsSeen begun d.first
-  saw = subst (λ (m : Timed). IsSeen m d.first) is.begun d.saw
+  saw : IsSnapshot begun d.first
+  saw = subst (λ (m : Timed). IsSnapshot m d.first) is.begun d.saw
 
-  are : AreSeen begun over.run.driven.lists d.seen
-  are = subst (λ (ls : List (List Record)). AreSeen begun ls d.seen) (sym all_lists) (subst (λ (m : Timed). AreSeen m p.lists d.seen) is.begun d.are)
+  are : AreSnapshots begun over.run.driven.lists d.seen
+  are = subst (λ (ls : List (List Record)). AreSnapshots begun ls d.seen) (sym all_lists) (subst (λ (m : Timed). AreSnapshots m p.lists d.seen) is.begun d.are)
 
   whole_if : (goes_on last.arch ≡ true → length p.lists ≡ cycles) → IsWhole options.run.setup options.run.cycles start last
   whole_if all = run_whole gives options.run.setup options.run.cycles bytes ready core last after fits is p.lists p.ran p.each p.handed (λ on. all on ∙ y)

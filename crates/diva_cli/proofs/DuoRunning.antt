@@ -12,7 +12,7 @@ use Rattle.diva_duo.specs.Duo.{Duo, duo_cycle_of, is_over}
 use Rattle.diva_duo.specs.Which.{Which, First, Second, hart_at}
 use Rattle.diva_duo.specs.Shown.{Shown}
 use Rattle.diva_duo.specs.Between.{HasGone}
-use Rattle.diva_duo.specs.Turns.{AskedBy, DrivesDuo, DuoTurn, IsDuoHistory, pairs_of}
+use Rattle.diva_duo.specs.Turns.{HandsOverBy, DrivesDuo, DuoTurn, IsDuoHistory, pairs_of}
 use Rattle.diva_duo.proofs.Turning.{history_run}
 use Rattle.diva_ahead.specs.Ahead.{Ahead}
 use Rattle.diva_tape.specs.Lists.{IsLockstepCall}
@@ -52,7 +52,7 @@ AreAs {D} gives kind like =
     → like c x → gives c told s list after → (list ≡ (hart_call kind x told s).list) × like after (hart_call kind x told s).core
 
 module _ {D : Type 0} (gives : Meaning D) (kind : HartCore) (like : D → Ahead → Type 0) (are : AreAs gives kind like) where
-  asked_by : (b : Bool) (w : Which) (d : Duo) (c : D) (x : Ahead) (list : List Record) (after : D) → like c x → AskedBy gives b w d c list after
+  asked_by : (b : Bool) (w : Which) (d : Duo) (c : D) (x : Ahead) (list : List Record) (after : D) → like c x → HandsOverBy gives b w d c list after
       → (list ≡ (call_by b kind w d x).list) × like after (call_by b kind w d x).core
   asked_by true w d c x list after same h = are c x _ _ list after same h
   asked_by false w d c x list after same h = (h.0, subst (λ (z : D). like z x) (sym h.1) same)

@@ -20,8 +20,8 @@ use Rattle.diva_cli.specs.Wanted.{Wanted, FileBytes, AreSound, HasFault, wanted}
 use Rattle.diva_cli.specs.Stops.{CanBeUsed, StopsAt, StopsLoading, IsRefused, IsTooLong, HasFirstFault}
 use Rattle.diva_cli.specs.Answers.{IsAnswer, misused, unread, refused, done}
 use Rattle.diva_cli.specs.Statuses.{HasMissing, IsHindered, MustRefuse}
-use Rattle.diva_cli.specs.Parts.{Answers, status_of}
-use Rattle.diva_cli.proofs.Completing.{held-refused, some_same}
+use Rattle.diva_cli.specs.Parts.{KeepsPromises, status_of}
+use Rattle.diva_cli.proofs.Completing.{known-refused, some_same}
 
 -- ---- a first fault is one
 
@@ -52,7 +52,7 @@ one_fault Commands room bytes k p k' p' a b = same_line (commands_of bytes) k p 
 module _ (bytes_of : List ℕ → Option (List ℕ)) where
   usable-refused : (text : List ℕ) (w : Wanted) → CanBeUsed (Some bytes_of) w → IsRefused (Some bytes_of) text w → ⊥
   usable-refused text w u r =
-      held-refused (Some bytes_of) text w (record { bytes = u.bytes; held = u.sound.has; short = u.sound.short; faultless = u.sound.faultless }) r
+      known-refused (Some bytes_of) text w (record { bytes = u.bytes; known = u.sound.has; short = u.sound.short; faultless = u.sound.faultless }) r
 
   usable-missing : (w : Wanted) → CanBeUsed (Some bytes_of) w → IsMissing (Some bytes_of) w.name → ⊥
   usable-missing w u m = let e = sym u.sound.has ∙ m in cc
@@ -104,7 +104,7 @@ module _ (bytes_of : List ℕ → Option (List ℕ)) where
 module _ {C S : Type 0} (gives : Meaning C) (command : Option Job) (usage : List ℕ) (bytes_of : List ℕ → Option (List ℕ)) (files : FileFaults) (core : Change C) (sink : SinkChange S)
     (job : Job) (named : command ≡ Some job) where
   abbrev pub asked : Asked
-  asked = record { command = command; usage = usage; contents = Some bytes_of }
+  asked = record { job = command; usage = usage; contents = Some bytes_of }
 
   first_of : (this : Wanted → List Wanted → Type 0) (other : Job) → command ≡ Some other → StopsAt (Some bytes_of) this (wanted job) → StopsAt (Some bytes_of) this (wanted other)
   first_of this other e s = subst (λ (j : Job). StopsAt (Some bytes_of) this (wanted j)) (some_same command job other named e) s
@@ -131,7 +131,7 @@ module _ {C S : Type 0} (gives : Meaning C) (command : Option Job) (usage : List
       absurd (sound-stops bytes_of (Refused text) (λ w behind. usable-refused bytes_of text w) (wanted d.job) d.bytes d.sound (first_of (Refused text) d.job d.named first))
 
   refuses_known : (text : List ℕ) → StopsAt (Some bytes_of) (Refused text) (wanted job)
-      → (result : Result ℕ Failure) → Answers gives asked files core sink result → Refuses text (status_of result)
+      → (result : Result ℕ Failure) → KeepsPromises gives asked files core sink result → Refuses text (status_of result)
   refuses_known text first (Ok status) w = answered_refused text first status w.text w.answer w.written
   refuses_known text first (Err Cut) w = inr (inr (inl refl))
   refuses_known text first (Err Memory) w = inr (inr (inr refl))
@@ -151,7 +151,7 @@ module _ {C S : Type 0} (gives : Meaning C) (command : Option Job) (usage : List
       absurd (sound-stops bytes_of Missing (λ w behind. usable-missing bytes_of w) (wanted d.job) d.bytes d.sound (first_of Missing d.job d.named first))
 
   misses_known : StopsAt (Some bytes_of) Missing (wanted job)
-      → (result : Result ℕ Failure) → Answers gives asked files core sink result → IsHindered (status_of result)
+      → (result : Result ℕ Failure) → KeepsPromises gives asked files core sink result → IsHindered (status_of result)
   misses_known first (Ok status) w = answered_missing first status w.text w.answer
   misses_known first (Err Cut) w = inr (inl refl)
   misses_known first (Err Memory) w = inr (inr refl)
@@ -162,21 +162,21 @@ nothing-stops (w ∷ ws) (inl here) = here
 nothing-stops (w ∷ ws) (inr later) = nothing-stops ws later.1
 
 module _ {C S : Type 0} (gives : Meaning C) (command : Option Job) (usage : List ℕ) (contents : Contents) (files : FileFaults) (core : Change C) (sink : SinkChange S)
-    (result : Result ℕ Failure) (answers : Answers gives (record { command = command; usage = usage; contents = contents }) files core sink result) where
-  pub refuses : (text : List ℕ) → MustRefuse (record { command = command; usage = usage; contents = contents }) text → ((status_of result ≡ 5) × Takes sink text) ⊎ IsHindered (status_of result)
+    (result : Result ℕ Failure) (answers : KeepsPromises gives (record { job = command; usage = usage; contents = contents }) files core sink result) where
+  pub refuses : (text : List ℕ) → MustRefuse (record { job = command; usage = usage; contents = contents }) text → ((status_of result ≡ 5) × Takes sink text) ⊎ IsHindered (status_of result)
   refuses text must = go contents must.known must.refused.first answers
     where
       go : (told : Contents) → IsSome told → StopsAt told (λ w behind. IsRefused told text w) (wanted must.refused.job)
-          → Answers gives (record { command = command; usage = usage; contents = told }) files core sink result → ((status_of result ≡ 5) × Takes sink text) ⊎ IsHindered (status_of result)
+          → KeepsPromises gives (record { job = command; usage = usage; contents = told }) files core sink result → ((status_of result ≡ 5) × Takes sink text) ⊎ IsHindered (status_of result)
       go None known first a = absurd (true≢false (sym known))
       go (Some bytes_of) known first a =
           refuses_known gives command usage bytes_of files core sink must.refused.job must.refused.named text first result a
 
-  pub misses : HasMissing (record { command = command; usage = usage; contents = contents }) → IsHindered (status_of result)
+  pub misses : HasMissing (record { job = command; usage = usage; contents = contents }) → IsHindered (status_of result)
   misses missing = go contents missing.first answers
     where
       go : (told : Contents) → StopsAt told (λ w behind. IsMissing told w.name) (wanted missing.job)
-          → Answers gives (record { command = command; usage = usage; contents = told }) files core sink result → IsHindered (status_of result)
+          → KeepsPromises gives (record { job = command; usage = usage; contents = told }) files core sink result → IsHindered (status_of result)
       go None first a = absurd (nothing-stops (wanted missing.job) first)
       go (Some bytes_of) first a =
           misses_known gives command usage bytes_of files core sink missing.job missing.named first result a

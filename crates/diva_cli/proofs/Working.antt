@@ -17,14 +17,14 @@ use Rattle.diva_cli.specs.Asked.{Asked, asked_for}
 use Rattle.diva_cli.specs.Changes.{Change, FileFaults, SinkChange, change}
 use Rattle.diva_cli.specs.Wanted.{Wanted, FileBytes, AreSound, machine_files, wanted}
 use Rattle.diva_cli.specs.Answers.{IsAnswer, misused, unread, refused, done}
-use Rattle.diva_cli.specs.Parts.{HoldsReady, IsReady, Stops, WritesLine, WritesMisused, WritesStop, WritesText, Answers}
+use Rattle.diva_cli.specs.Parts.{HoldsReady, IsReady, Stops, WritesLine, WritesMisused, WritesStop, WritesText, KeepsPromises}
 
 module _ {C S : Type 0} (gives : Meaning C) (contents : Contents) (files : FileFaults) (core : C) (sink : SinkChange S) where
   -- the files are sound, and the job's text was written
   pub done_answers : (job : Job) (bytes : FileBytes) (after : C) (result : Result ℕ Failure)
       → AreSound contents (wanted job) bytes
       → WritesText gives job bytes (change core after) sink result
-      → Answers gives (asked_for job contents) files (change core after) sink result
+      → KeepsPromises gives (asked_for job contents) files (change core after) sink result
   done_answers job bytes after (Ok status) sound w =
       record { text = w.text; answer = done (record { job = job; named = refl; bytes = bytes; sound = sound; means = w.means }); written = w.written }
   done_answers job bytes after (Err Cut) sound w =
@@ -35,7 +35,7 @@ module _ {C S : Type 0} (gives : Meaning C) (contents : Contents) (files : FileF
   pub stop_answers : (job : Job) (stop : Stop) (result : Result ℕ Failure)
       → Stops contents files.before files.after (wanted job) stop
       → WritesStop stop sink result
-      → Answers gives (asked_for job contents) files (change core core) sink result
+      → KeepsPromises gives (asked_for job contents) files (change core core) sink result
   stop_answers job Memory (Ok status) s w = (let e = w.0 in cc)
   stop_answers job Memory (Err Cut) s w = (let e = w.0 in cc)
   stop_answers job Memory (Err NoMemory) s w = record { unasked = refl; unput = w.1 }
@@ -54,7 +54,7 @@ module _ {C S : Type 0} (gives : Meaning C) (contents : Contents) (files : FileF
   pub misused_answers : (command : Option Job) (usage line : List ℕ) (result : Result ℕ Failure)
       → command ≡ None → line ≡ usage → ((what : What) → files.after what ≡ files.before what)
       → WritesLine line 2 sink result
-      → Answers gives (record { command = command; usage = usage; contents = contents }) files (change core core) sink result
+      → KeepsPromises gives (record { job = command; usage = usage; contents = contents }) files (change core core) sink result
   misused_answers command usage line (Ok status) none is same w =
       record { text = line; answer = misused (record { none = none; line = is; uncounted = same }) refl w.0; written = w.1 }
   misused_answers command usage line (Err Cut) none is same w =
@@ -68,7 +68,7 @@ module _ {C S : Type 0} (gives : Meaning C) (contents : Contents) (files : FileF
       → setup ≡ asked → wanted job ≡ machine_files asked
       → HoldsReady contents setup ready
       → ((bytes : FileBytes) → IsReady asked bytes ready → WritesText gives job bytes (change core after) sink result)
-      → Answers gives (asked_for job contents) files (change core after) sink result
+      → KeepsPromises gives (asked_for job contents) files (change core after) sink result
   ready_answers job setup asked ready after result same wants held writes =
       let h : HoldsReady contents asked ready = subst (λ (s : Setup). HoldsReady contents s ready) same held in
       done_answers job h.bytes after result (subst (λ (ws : List Wanted). AreSound contents ws h.bytes) (sym wants) h.sound) (writes h.bytes h.is)
@@ -78,14 +78,14 @@ module _ {C S : Type 0} (gives : Meaning C) (contents : Contents) (files : FileF
       → setup ≡ asked → wanted job ≡ machine_files asked
       → Stops contents files.before files.after (machine_files setup) stop
       → WritesStop stop sink result
-      → Answers gives (asked_for job contents) files (change core core) sink result
+      → KeepsPromises gives (asked_for job contents) files (change core core) sink result
   unready_answers job setup asked stop result same wants stopped wrote =
       stop_answers job stop result
       (subst (λ (ws : List Wanted). Stops contents files.before files.after ws stop) (ap (λ (s : Setup). machine_files s) same ∙ sym wants) stopped) wrote
 
 -- what is answered where a job is done depends neither on the words that asked for it nor on the line that would answer others
 asked_same : {C : Type 0} (gives : Meaning C) (asked : Asked) (files : FileFaults) (core : Change C) (job : Job) (contents : Contents) (ended : Result ℕ (List ℕ)) (text : List ℕ)
-    → asked.command ≡ Some job → asked.contents ≡ contents
+    → asked.job ≡ Some job → asked.contents ≡ contents
     → IsAnswer gives (asked_for job contents) files core ended text → IsAnswer gives asked files core ended text
 asked_same gives asked files core job contents ended text named same (misused m u s) = absurd (let e = m.none in cc)
 asked_same gives asked files core job contents ended text named same (unread u k s) = rw same (unread (record { job = u.job; named = named ∙ u.named; first = u.first }) k s)
@@ -93,8 +93,8 @@ asked_same gives asked files core job contents ended text named same (refused r 
 asked_same gives asked files core job contents ended text named same (done d) = rw same (done (record { job = d.job; named = named ∙ d.named; bytes = d.bytes; sound = d.sound; means = d.means }))
 
 pub answers_asked : {C S : Type 0} (gives : Meaning C) (asked : Asked) (files : FileFaults) (core : Change C) (job : Job) (contents : Contents) (sink : SinkChange S) (result : Result ℕ Failure)
-    → asked.command ≡ Some job → asked.contents ≡ contents
-    → Answers gives (asked_for job contents) files core sink result → Answers gives asked files core sink result
+    → asked.job ≡ Some job → asked.contents ≡ contents
+    → KeepsPromises gives (asked_for job contents) files core sink result → KeepsPromises gives asked files core sink result
 answers_asked gives asked files core job contents sink (Ok status) named same a =
     record { text = a.text; answer = asked_same gives asked files core job contents (Ok status) a.text named same a.answer; written = a.written }
 answers_asked gives asked files core job contents sink (Err Cut) named same a =
@@ -102,11 +102,11 @@ answers_asked gives asked files core job contents sink (Err Cut) named same a =
 answers_asked gives asked files core job contents sink (Err NoMemory) named same a = a
 
 pub misused_asked : {C S : Type 0} (gives : Meaning C) (asked : Asked) (files : FileFaults) (core : C) (sink : SinkChange S) (fault : ArgsFault) (line : List ℕ) (result : Result ℕ Failure)
-    → (fault ≡ Usage → asked.command ≡ None) → asked.usage ≡ line → ((what : What) → files.after what ≡ files.before what)
+    → (fault ≡ Usage → asked.job ≡ None) → asked.usage ≡ line → ((what : What) → files.after what ≡ files.before what)
     → WritesMisused fault line sink result
-    → Answers gives asked files (change core core) sink result
+    → KeepsPromises gives asked files (change core core) sink result
 misused_asked gives asked files core sink Usage line result none is same w =
-    misused_answers gives asked.contents files core sink asked.command asked.usage line result (none refl) (sym is) same w
+    misused_answers gives asked.contents files core sink asked.job asked.usage line result (none refl) (sym is) same w
 misused_asked gives asked files core sink NoWords line result none is same w =
     rw w.0 (record { unasked = refl; unput = w.1 })
 

@@ -13,14 +13,14 @@ use Rattle.diva_cli.specs.Texts.{HasText}
 
 -- the words are not a valid command line, and no file's fault was counted
 pub record IsMisused (asked : Asked) (files : FileFaults) (text : Text) : Type 0 where
-  pub none : asked.command ≡ None
+  pub none : asked.job ≡ None
   pub line : text ≡ asked.usage
   pub uncounted : (what : What) → files.after what ≡ files.before what
 
 -- the loading of the job's files stopped at one; of it, and of those behind it, this holds
 pub record HasStopped (asked : Asked) (this : Wanted → List Wanted → Type 0) : Type 0 where
   pub job : Job
-  pub named : asked.command ≡ Some job
+  pub named : asked.job ≡ Some job
   pub first : StopsAt asked.contents this (wanted job)
 
 -- the first file that can't be used can't be read
@@ -34,7 +34,7 @@ HasRefused asked files text = HasStopped asked (StopsLoading asked.contents file
 -- all files are sound, and the text is that of the job
 pub record HasDone {C : Type 0} (gives : Meaning C) (asked : Asked) (core : Change C) (ended : Result ℕ Text) (text : Text) : Type 0 where
   pub job : Job
-  pub named : asked.command ≡ Some job
+  pub named : asked.job ≡ Some job
   pub bytes : FileBytes
   pub sound : AreSound asked.contents (wanted job) bytes
   pub means : HasText gives job bytes core ended text

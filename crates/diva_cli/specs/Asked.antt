@@ -10,25 +10,25 @@ use Rattle.diva_cli.specs.Lines.{pipeline_usage_line, usage_line}
 
 -- the job that the words ask for, if they ask for one, the line that answers words which ask for none, and the contents of the files
 pub record Asked : Type 0 where
-  pub command : Option Job
+  pub job : Option Job
   pub usage : Text
   pub contents : Contents
 
 -- the job in the words of the command line, without the program's name
-abbrev pub command_in : List (Bor Text) → Option Job
-command_in words = command_of (map (λ w. w.now) words)
+abbrev pub job_in : List (Bor Text) → Option Job
+job_in words = command_of (map (λ w. w.now) words)
 
 -- what is asked by words
 abbrev pub asked_by : List (Bor Text) → Contents → Asked
-asked_by words contents = record { command = command_in words; usage = usage_line; contents = contents }
+asked_by words contents = record { job = job_in words; usage = usage_line; contents = contents }
 
 -- the same of the program that draws runs
-abbrev pub pipeline_command_in : List (Bor Text) → Option Job
-pipeline_command_in words = pipeline_of (map (λ w. w.now) words)
+abbrev pub pipeline_job_in : List (Bor Text) → Option Job
+pipeline_job_in words = pipeline_of (map (λ w. w.now) words)
 
 abbrev pub pipeline_asked_by : List (Bor Text) → Contents → Asked
-pipeline_asked_by words contents = record { command = pipeline_command_in words; usage = pipeline_usage_line; contents = contents }
+pipeline_asked_by words contents = record { job = pipeline_job_in words; usage = pipeline_usage_line; contents = contents }
 
 -- what is asked where a job is to be done
 abbrev pub asked_for : Job → Contents → Asked
-asked_for job contents = record { command = Some job; usage = usage_line; contents = contents }
+asked_for job contents = record { job = Some job; usage = usage_line; contents = contents }

@@ -12,7 +12,7 @@ use Rattle.diva_args.specs.declared.job.Format.TheVariants.{Log, Drawing}
 use Rattle.diva_drawing.specs.Drawing.{drawn_cycle, drawn_end}
 use Rattle.diva_drawing.specs.Log.{log_begin, log_cycle}
 use Rattle.diva_drawing.specs.Rows.{Pen, begun_rows}
-use Rattle.diva_drawing.specs.Seen.{AreSeen, IsSeen, Seen}
+use Rattle.diva_drawing.specs.Snapshot.{AreSnapshots, IsSnapshot, Snapshot}
 use Rattle.diva_cli.specs.Changes.{Change}
 use Rattle.diva_cli.specs.Wanted.{FileBytes}
 use Rattle.diva_cli.specs.Cuts.{BeforeLast}
@@ -26,60 +26,60 @@ begin_text Log = log_begin
 begin_text Drawing = []
 
 -- a cycle, in which a list was handed over, and behind which this was seen
-abbrev pub cycle_text : Format → Pen → (after : Seen) → (list : List Record) → Text
+abbrev pub cycle_text : Format → Pen → (after : Snapshot) → (list : List Record) → Text
 cycle_text Log pen after list = log_cycle pen.rows pen.seen after list
 cycle_text Drawing pen after list = drawn_cycle pen.seen after
 
 -- behind the last cycle
-abbrev pub end_text : Format → (last : Seen) → Text
+abbrev pub end_text : Format → (last : Snapshot) → Text
 end_text Log last = []
 end_text Drawing last = drawn_end last
 
 -- ---- some cycles
 
 -- the pen behind a cycle
-abbrev pub pen_after : Pen → (after : Seen) → Pen
+abbrev pub pen_after : Pen → (after : Snapshot) → Pen
 pen_after pen after = record { rows = pen.rows + begun_rows pen.seen after; seen = after }
 
 -- the pen behind some cycles
-abbrev pub pen_behind : Pen → List Seen → Pen
+abbrev pub pen_behind : Pen → List Snapshot → Pen
 pen_behind pen [] = pen
 pen_behind pen (after ∷ seen) = pen_behind (pen_after pen after) seen
 
 -- the text of some cycles, in which these lists were handed over
-abbrev pub cycles_drawn : Format → Pen → List (List Record) → List Seen → Text
+abbrev pub cycles_drawn : Format → Pen → List (List Record) → List Snapshot → Text
 cycles_drawn format pen [] seen = []
 cycles_drawn format pen (list ∷ lists) [] = []
 cycles_drawn format pen (list ∷ lists) (after ∷ seen) = cycle_text format pen after list ++ cycles_drawn format (pen_after pen after) lists seen
 
 -- no row has begun yet
-abbrev pub pen_at : (first : Seen) → Pen
+abbrev pub pen_at : (first : Snapshot) → Pen
 pen_at first = record { rows = 0; seen = first }
 
 -- the text up to the end of some cycles, where this was seen before the first of them
-abbrev pub front_text : Format → (first : Seen) → List (List Record) → List Seen → Text
+abbrev pub front_text : Format → (first : Snapshot) → List (List Record) → List Snapshot → Text
 front_text format first lists seen = begin_text format ++ cycles_drawn format (pen_at first) lists seen
 
 -- the whole text
-abbrev pub drawn_text : Format → (first : Seen) → List (List Record) → List Seen → Text
+abbrev pub drawn_text : Format → (first : Snapshot) → List (List Record) → List Snapshot → Text
 drawn_text format first lists seen = front_text format first lists seen ++ end_text format (pen_behind (pen_at first) seen).seen
 
 -- ---- the command
 
 -- the run was drawn to its end. Where the sink failed, it did so behind the last cycle
-pub record IsDrawnWhole (options : DrawOptions) (start : State) (last : Timed) (first : Seen) (lists : List (List Record))
-    (seen : List Seen) (ended : Result ℕ Text) (text : Text) : Type 0 where
+pub record IsDrawnWhole (options : DrawOptions) (start : State) (last : Timed) (first : Snapshot) (lists : List (List Record))
+    (seen : List Snapshot) (ended : Result ℕ Text) (text : Text) : Type 0 where
   pub whole : IsWhole options.run.setup options.run.cycles start last
   pub says : IfOk ended (EndsWith last options.run.cycles)
   pub lines : text ≡ drawn_text options.format first lists seen
   pub cut : IfErr ended (λ put. put ≡ front_text options.format first lists seen)
 
 -- where the sink failed before, it did so in the first lines, or in the last of the cycles, and the text of those before it had been put
-abbrev pub HasFailedIn : Format → (first : Seen) → List (List Record) → List Seen → (ended : Result ℕ Text) → Type 0
+abbrev pub HasFailedIn : Format → (first : Snapshot) → List (List Record) → List Snapshot → (ended : Result ℕ Text) → Type 0
 HasFailedIn format first lists seen ended =
     ((lists ≡ []) × (ended ≡ Err [])) ⊎ BeforeLast lists (λ earlier. ended ≡ Err (front_text format first earlier seen))
 
-pub record IsDrawnPart (options : DrawOptions) (first : Seen) (lists : List (List Record)) (seen : List Seen)
+pub record IsDrawnPart (options : DrawOptions) (first : Snapshot) (lists : List (List Record)) (seen : List Snapshot)
     (ended : Result ℕ Text) (text : Text) : Type 0 where
   pub lines : text ≡ front_text options.format first lists seen
   pub cut : HasFailedIn options.format first lists seen ended
@@ -91,9 +91,9 @@ pub record HasDrawing {C : Type 0} (gives : Meaning C) (options : DrawOptions) (
   -- all that is promised of a run holds of it
   pub over : IsRunOver gives options.run.setup options.run.cycles bytes core last
   -- this is seen of the new machine, and behind each cycle of the run
-  pub first : Seen
-  pub saw : IsSeen (new_timed options.run.setup.config (start_in options.run.setup bytes)) first
-  pub seen : List Seen
-  pub are : AreSeen (new_timed options.run.setup.config (start_in options.run.setup bytes)) over.run.driven.lists seen
+  pub first : Snapshot
+  pub saw : IsSnapshot (new_timed options.run.setup.config (start_in options.run.setup bytes)) first
+  pub seen : List Snapshot
+  pub are : AreSnapshots (new_timed options.run.setup.config (start_in options.run.setup bytes)) over.run.driven.lists seen
   pub written : IsDrawnWhole options (start_in options.run.setup bytes) last first over.run.driven.lists seen ended text
       ⊎ IsDrawnPart options first over.run.driven.lists seen ended text

@@ -11,7 +11,7 @@ use Rattle.diva_core.specs.Told.{Told, told_of}
 use Rattle.diva_hart.specs.Start.{start_of}
 use Rattle.diva_duo.specs.Harts.{replay}
 use Rattle.diva_duo.specs.Duo.{Duo, duo_cycle_of, harts_of, is_over, new_duo}
-use Rattle.diva_duo.specs.Which.{Which, First, Second, hart_at, standing}
+use Rattle.diva_duo.specs.Which.{Which, First, Second, hart_at, machine_at}
 use Rattle.diva_duo.specs.Between.{HasGone, duo_run}
 use Rattle.diva_duo.specs.Turns.{acted_by}
 use Rattle.diva_ahead.specs.Ahead.{Ahead}
@@ -36,7 +36,7 @@ hart_call Silent core told s = record { list = []; core = core }
 
 -- the same for a hart that goes on; the core of an ended one is not asked, and its list is empty
 abbrev pub call_by : (goes_on : Bool) → HartCore → Which → Duo → Ahead → ScalarCall
-call_by true kind w d core = hart_call kind core (told_of (standing w d)) (standing w d).arch
+call_by true kind w d core = hart_call kind core (told_of (machine_at w d)) (machine_at w d).arch
 call_by false kind w d core = record { list = []; core = core }
 
 abbrev pub call_at : HartCore → Which → Duo → Ahead → ScalarCall
@@ -71,7 +71,7 @@ duo_start options bytes = new_duo options.config (start_of (image_in options.roo
 
 -- what is shown of two harts, and of the memory that they share
 abbrev pub duo_text : Duo → Option Dump → Text
-duo_text d dump = harts_text d.cycles (standing First d) (standing Second d) d.memory dump
+duo_text d dump = harts_text d.cycles (machine_at First d) (machine_at Second d) d.memory dump
 
 -- the status by how the harts ended: where both have, and both buffers are empty, 0 if both halted, and 3 if one trapped; else 4
 abbrev pub duo_status : Duo → ℕ

@@ -227,18 +227,18 @@ pub record WritesAnswer {C S : Type 0} (gives : Meaning C) (asked : Asked) (file
 
 -- what each command promises, and so the whole program: the answer was written, with its status; or a prefix of it; or memory ran
 -- out, no core was asked, and nothing was put to the sink
-abbrev pub Answers : {C S : Type 0} → Meaning C → Asked → FileFaults → Change C → SinkChange S → Result ℕ Failure → Type 0
-Answers gives asked files core sink (Ok status) = WritesAnswer gives asked files core sink status
-Answers gives asked files core sink (Err Cut) = IsCut gives asked files core sink
-Answers gives asked files core sink (Err NoMemory) = HasNoMemory core sink
+abbrev pub KeepsPromises : {C S : Type 0} → Meaning C → Asked → FileFaults → Change C → SinkChange S → Result ℕ Failure → Type 0
+KeepsPromises gives asked files core sink (Ok status) = WritesAnswer gives asked files core sink status
+KeepsPromises gives asked files core sink (Err Cut) = IsCut gives asked files core sink
+KeepsPromises gives asked files core sink (Err NoMemory) = HasNoMemory core sink
 
 -- what was asked is what was read of the words: a job; or none, which is answered by this line; or memory ran out, which says nothing
 -- of the words
 pub record IsRead (asked : Asked) (contents : Contents) (usage : Text) (read : Result Job ArgsFault) : Type 0 where
   pub files : asked.contents ≡ contents
   pub line : asked.usage ≡ usage
-  pub job : IfOk read (λ job. asked.command ≡ Some job)
-  pub none : IfErr read (λ fault. fault ≡ Usage → asked.command ≡ None)
+  pub job : IfOk read (λ job. asked.job ≡ Some job)
+  pub none : IfErr read (λ fault. fault ≡ Usage → asked.job ≡ None)
 
 -- the status that the program ends with
 abbrev pub status_of : Result ℕ Failure → ℕ

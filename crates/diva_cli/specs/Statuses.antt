@@ -65,25 +65,25 @@ HasMissing asked = HasStopped asked (λ w behind. IsMissing asked.contents w.nam
 -- ---- completeness
 
 -- the file's contents are known, no more than a file may have and with no fault
-pub record IsHeld (contents : Contents) (w : Wanted) : Type 0 where
+pub record IsKnownSound (contents : Contents) (w : Wanted) : Type 0 where
   pub bytes : List ℕ
-  pub held : IsKnown contents w.name bytes
+  pub known : IsKnown contents w.name bytes
   pub short : length bytes ≤ file_limit
   pub faultless : IsFaultless w.what w.room bytes
 
-abbrev pub AreHeld : Contents → List Wanted → Type 0
-AreHeld contents [] = Unit {0}
-AreHeld contents (w ∷ ws) = IsHeld contents w × AreHeld contents ws
+abbrev pub AreKnownSound : Contents → List Wanted → Type 0
+AreKnownSound contents [] = Unit {0}
+AreKnownSound contents (w ∷ ws) = IsKnownSound contents w × AreKnownSound contents ws
 
--- the words ask for a job all of whose files are held
+-- the words ask for a job all of whose files are known and sound
 pub record CanWork (asked : Asked) : Type 0 where
   pub job : Job
-  pub named : asked.command ≡ Some job
-  pub held : AreHeld asked.contents (wanted job)
+  pub named : asked.job ≡ Some job
+  pub known : AreKnownSound asked.contents (wanted job)
 
 -- the whole text of the job was written, and the status is the one that goes with it
 pub record HasEnded {C S : Type 0} (gives : Meaning C) (asked : Asked) (core : Change C) (sink : SinkChange S) (status : ℕ) : Type 0 where
   pub job : Job
-  pub named : asked.command ≡ Some job
+  pub named : asked.job ≡ Some job
   pub ends : CanEnd job status
   pub worked : HasWorked gives asked core sink status

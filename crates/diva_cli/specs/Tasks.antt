@@ -32,7 +32,7 @@ use Rattle.diva_cli.specs.Sessions.{ByLegs, ByOtherLegs, ByRuleInParts}
 use Rattle.diva_args.specs.declared.job.Format.{Format}
 use Rattle.diva_args.specs.declared.job.LanePlace.{LanePlace}
 use Rattle.diva_drawing.specs.Rows.{Pen}
-use Rattle.diva_drawing.specs.Seen.{AreSeen, IsSeen, Seen}
+use Rattle.diva_drawing.specs.Snapshot.{AreSnapshots, IsSnapshot, Snapshot}
 use Rattle.diva_debug.specs.Moves.{IsShort}
 use Rattle.diva_debug.specs.Rewindable.{Rewindable}
 use Rattle.diva_debug.specs.declared.command.Command.{Command}
@@ -88,8 +88,8 @@ pub record IsDrawnIn {S : Type 0} (format : Format) (cycles : ℕ) (machine : Ch
     (lists : List (List Record)) (sink : SinkChange S) (result : Result (Unit {0}) SinkFailed) : Type 0 where
   pub most : length lists ≤ cycles
   pub whole : OnOk result (goes_on machine.after.arch ≡ true → length lists ≡ cycles)
-  pub seen : List Seen
-  pub are : AreSeen machine.before lists seen
+  pub seen : List Snapshot
+  pub are : AreSnapshots machine.before lists seen
   pub behind : pen.after ≡ pen_behind pen.before seen
   pub put : PutsTo sink (cycles_drawn format pen.before lists seen) result
   -- where the sink failed, it did so in the last cycle; the text of those before it had been put
@@ -97,7 +97,7 @@ pub record IsDrawnIn {S : Type 0} (format : Format) (cycles : ℕ) (machine : Ch
       (cycles_drawn format pen.before earlier seen) (cycles_drawn format pen.before lists seen)))
 
 -- where the sink failed: in the first lines, in the last of the cycles, or behind the cycles, where all were run
-abbrev pub IsCutDrawing : {S : Type 0} → Format → (cycles : ℕ) → (last : Timed) → (first : Seen) → List (List Record) → List Seen → SinkChange S → Type 0
+abbrev pub IsCutDrawing : {S : Type 0} → Format → (cycles : ℕ) → (last : Timed) → (first : Snapshot) → List (List Record) → List Snapshot → SinkChange S → Type 0
 IsCutDrawing format cycles last first lists seen sink =
     ((lists ≡ []) × TakesPart sink (begin_text format))
     ⊎ (BeforeLast lists (λ earlier. TakesPast sink (front_text format first earlier seen) (front_text format first lists seen))
@@ -107,10 +107,10 @@ IsCutDrawing format cycles last first lists seen sink =
 pub record IsDrawn {S : Type 0} (format : Format) (cycles : ℕ) (machine : Change Timed) (lists : List (List Record))
     (sink : SinkChange S) (result : Result (Unit {0}) SinkFailed) : Type 0 where
   pub most : length lists ≤ cycles
-  pub first : Seen
-  pub saw : IsSeen machine.before first
-  pub seen : List Seen
-  pub are : AreSeen machine.before lists seen
+  pub first : Snapshot
+  pub saw : IsSnapshot machine.before first
+  pub seen : List Snapshot
+  pub are : AreSnapshots machine.before lists seen
   pub whole : OnOk result ((goes_on machine.after.arch ≡ true → length lists ≡ cycles) × Takes sink (drawn_text format first lists seen))
   pub cut : OnErr result (HasFailed sink × IsCutDrawing format cycles machine.after first lists seen sink)
 

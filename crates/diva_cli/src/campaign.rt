@@ -11,7 +11,7 @@ ghost use Rattle.diva_cli.specs.Asked.{asked_for};
 ghost use Rattle.diva_cli.specs.CampaignTexts.{campaign_tally, first_run, flipped_runs, is_same, run_under, tally_of};
 ghost use Rattle.diva_cli.specs.Changes.{PutsTo, change, file_faults, sink_change};
 ghost use Rattle.diva_cli.specs.Wanted.{FileBytes, wanted};
-ghost use Rattle.diva_cli.specs.Parts.{Answers, AreCampaignRuns, HoldsCampaign, Stops, WritesText};
+ghost use Rattle.diva_cli.specs.Parts.{KeepsPromises, AreCampaignRuns, HoldsCampaign, Stops, WritesText};
 
 use crate::files::{ImageFile, load};
 use crate::stop::{Failure, Stop};
@@ -35,7 +35,7 @@ pub(crate) fn campaign<F: Files, S: Sink, C: Core>(
     sink: &mut S,
     _core: &C,
 ) -> Result<u8, Failure>
-    ensures { Answers C.gives (asked_for (Command options) (F.contents files.old)) (file_faults F.faults files.old files.new)
+    ensures { KeepsPromises C.gives (asked_for (Command options) (F.contents files.old)) (file_faults F.faults files.old files.new)
         (change _core.now _core.now) (sink_change S.contents S.faults sink.old sink.new) result }
 {
     match load_and_run(alloc, files, &options) {

@@ -8,19 +8,19 @@ ghost use Rattle.diva_core.specs.Machine.{IsMachine};
 ghost use Rattle.diva_core.specs.Headline.{dues};
 ghost use Rattle.diva_machine.specs.Drives.{Drives};
 ghost use Rattle.diva_vote.specs.Votes.{AtLeastTwo};
-ghost use Rattle.diva_vote.specs.declared.lanes.Seat.TheVariants.{Honest};
+ghost use Rattle.diva_vote.specs.declared.lanes.EitherLane.TheVariants.{Honest};
 
 use diva_args::LanePlace;
 use diva_core::{Claims, Core};
 use diva_machine::{Drive, Machine, drive, drive_voted, turn, turn_voted};
-use diva_vote::Seat;
+use diva_vote::EitherLane;
 
 /// Three lanes that vote, all honest but one.
 #[derive(Drop)]
 struct Lanes {
-    first: Seat,
-    second: Seat,
-    third: Seat,
+    first: EitherLane,
+    second: EitherLane,
+    third: EitherLane,
 }
 
 impl Lanes {
@@ -28,15 +28,15 @@ impl Lanes {
     fn with_liar(place: LanePlace) -> Self
         ensures { AtLeastTwo (result.first ≡ Honest) (result.second ≡ Honest) (result.third ≡ Honest) }
     {
-        let seat = |at| if at == place {
-            Seat::Liar
+        let lane = |at| if at == place {
+            EitherLane::Liar
         } else {
-            Seat::Honest
+            EitherLane::Honest
         };
         Lanes {
-            first: seat(LanePlace::First),
-            second: seat(LanePlace::Second),
-            third: seat(LanePlace::Third),
+            first: lane(LanePlace::First),
+            second: lane(LanePlace::Second),
+            third: lane(LanePlace::Third),
         }
     }
 }

@@ -8,7 +8,7 @@ ghost use Rattle.diva_cli.specs.Asked.{asked_for};
 ghost use Rattle.diva_cli.specs.Replies.{keep};
 ghost use Rattle.diva_cli.specs.Changes.{change, file_faults, sink_change};
 ghost use Rattle.diva_cli.specs.Wanted.{FileBytes, file_limit};
-ghost use Rattle.diva_cli.specs.Parts.{Answers, IsSession, WritesText};
+ghost use Rattle.diva_cli.specs.Parts.{KeepsPromises, IsSession, WritesText};
 
 use crate::driving::reply_by;
 use crate::loading::{Ready, SessionReady, make_session};
@@ -29,7 +29,7 @@ pub(crate) fn debug<F: Files, S: Sink, C: Core>(
     sink: &mut S,
     core: &mut C,
 ) -> Result<u8, Failure>
-    ensures { Answers C.gives (asked_for (Debug options) (F.contents files.old)) (file_faults F.faults files.old files.new)
+    ensures { KeepsPromises C.gives (asked_for (Debug options) (F.contents files.old)) (file_faults F.faults files.old files.new)
         (change core.old core.new) (sink_change S.contents S.faults sink.old sink.new) result }
 {
     match make_session(alloc, files, &options) {
@@ -48,7 +48,7 @@ fn debug_ready<S: Sink, C: Core>(
     requires fits { IsConfig options.setup.config }
     requires new { session.ready.machine.timed.cycles ≡ 0 }
     requires none { session.ready.machine.timed.count ≡ 0 }
-    requires undos { session.undos ≡ record { rows = []; keep = keep } }
+    requires undos { session.undos ≡ record { items = []; keep = keep } }
     requires narrow { session.ready.machine.timed.config.width ≡ 1 }
     requires few { length session.commands.items ≤ file_limit }
     requires short { All IsShort session.commands.items }

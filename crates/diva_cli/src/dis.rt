@@ -4,7 +4,7 @@ ghost use Rattle.diva_args.specs.declared.job.Job.TheVariants.{Dis};
 ghost use Rattle.diva_asm.specs.Listing.{list_line, word_at};
 ghost use Rattle.diva_cli.specs.Asked.{asked_for};
 ghost use Rattle.diva_cli.specs.Changes.{change, file_faults, sink_change};
-ghost use Rattle.diva_cli.specs.Parts.{Answers};
+ghost use Rattle.diva_cli.specs.Parts.{KeepsPromises};
 
 use crate::files::{ImageFile, load};
 use crate::stop::Failure;
@@ -24,7 +24,7 @@ pub(crate) fn dis<F: Files, S: Sink, C: Core>(
     sink: &mut S,
     _core: &C,
 ) -> Result<u8, Failure>
-    ensures { Answers C.gives (asked_for (Dis image) (F.contents files.old)) (file_faults F.faults files.old files.new)
+    ensures { KeepsPromises C.gives (asked_for (Dis image) (F.contents files.old)) (file_faults F.faults files.old files.new)
         (change _core.now _core.now) (sink_change S.contents S.faults sink.old sink.new) result }
 {
     let listed = match load(alloc, files, &ImageFile { room: 0 }, &image) {

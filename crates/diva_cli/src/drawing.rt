@@ -3,13 +3,13 @@
 ghost use Rattle.std.specs.Prelude.{◌≡◌, ◌+◌, ◌*◌, ◌<◌, ◌≤◌, ◌^◌};
 ghost use Rattle.diva_args.specs.declared.job.Job.TheVariants.{Draw};
 ghost use Rattle.diva_core.specs.Machine.{IsConfig, IsMachine};
-ghost use Rattle.diva_drawing.specs.Seen.{IsSeen};
+ghost use Rattle.diva_drawing.specs.Snapshot.{IsSnapshot};
 ghost use Rattle.diva_cli.specs.Asked.{asked_for};
 ghost use Rattle.diva_cli.specs.Changes.{PutsTo, change, file_faults, sink_change};
 ghost use Rattle.diva_cli.specs.DrawTexts.{begin_text, cycle_text, end_text, pen_after};
 ghost use Rattle.diva_cli.specs.Wanted.{FileBytes};
 ghost use Rattle.diva_cli.specs.Tasks.{IsDrawn, IsDrawnIn, Performs};
-ghost use Rattle.diva_cli.specs.Parts.{Answers, IsReady, WritesText};
+ghost use Rattle.diva_cli.specs.Parts.{KeepsPromises, IsReady, WritesText};
 
 use crate::checking::turn_checked;
 use crate::driving::perform_by;
@@ -32,7 +32,7 @@ pub(crate) fn draw<F: Files, S: Sink, C: Core>(
     sink: &mut S,
     core: &mut C,
 ) -> Result<u8, Failure>
-    ensures { Answers C.gives (asked_for (Draw options) (F.contents files.old)) (file_faults F.faults files.old files.new)
+    ensures { KeepsPromises C.gives (asked_for (Draw options) (F.contents files.old)) (file_faults F.faults files.old files.new)
         (change core.old core.new) (sink_change S.contents S.faults sink.old sink.new) result }
 {
     match make_ready(alloc, files, &options.run.setup) {
@@ -136,7 +136,7 @@ fn draw_turn<S: Sink>(
 ) -> Result<(), SinkFailed>
     requires rows { pen.old.rows < 2 ^ 62 }
     requires count { m.now.timed.count ≤ 2 ^ 62 }
-    ensures seen { IsSeen m.now.timed pen.new.seen }
+    ensures seen { IsSnapshot m.now.timed pen.new.seen }
     ensures pen { pen.new ≡ pen_after pen.old pen.new.seen }
     ensures few { pen.new.rows ≤ pen.old.rows + 65 }
     ensures put { PutsTo (sink_change S.contents S.faults sink.old sink.new) (cycle_text format pen.old pen.new.seen list.now) result }

@@ -1,7 +1,7 @@
 // The command `duo`: two harts over one memory, each under a new core of the kind that is asked for.
 ghost use Rattle.std.specs.Prelude.{◌≡◌, ◌≤◌, ◌<◌, ◌+◌, ◌^◌, IfErr, IfOk};
 ghost use Rattle.diva_image.specs.ImageLayout.{layout};
-ghost use Rattle.diva_duo.specs.Which.{standing, which};
+ghost use Rattle.diva_duo.specs.Which.{machine_at, which};
 ghost use Rattle.diva_trace.specs.Text.{hart_text};
 ghost use Rattle.diva_args.specs.declared.job.Job.TheVariants.{Duo as Command};
 ghost use Rattle.diva_cli.specs.Asked.{asked_for};
@@ -9,7 +9,7 @@ ghost use Rattle.diva_cli.specs.Changes.{PutsTo, change, file_faults, sink_chang
 ghost use Rattle.diva_cli.specs.DuoTexts.{IsDuoRun, duo_start, duo_status, duo_text};
 ghost use Rattle.diva_cli.specs.Runs.{shown_dump};
 ghost use Rattle.diva_cli.specs.Wanted.{FileBytes, wanted};
-ghost use Rattle.diva_cli.specs.Parts.{Answers, HoldsDuo, IsDuoReady, Stops, WritesText, new_cores};
+ghost use Rattle.diva_cli.specs.Parts.{KeepsPromises, HoldsDuo, IsDuoReady, Stops, WritesText, new_cores};
 
 use crate::files::{ImageFile, load};
 use crate::stop::{Failure, Stop};
@@ -31,7 +31,7 @@ pub(crate) fn duo<F: Files, S: Sink, C: Core>(
     sink: &mut S,
     _core: &C,
 ) -> Result<u8, Failure>
-    ensures { Answers C.gives (asked_for (Command options) (F.contents files.old)) (file_faults F.faults files.old files.new)
+    ensures { KeepsPromises C.gives (asked_for (Command options) (F.contents files.old)) (file_faults F.faults files.old files.new)
         (change _core.now _core.now) (sink_change S.contents S.faults sink.old sink.new) result }
 {
     match make_duo(alloc, files, &options) {
@@ -128,7 +128,7 @@ fn write_duo<S: Sink>(duo: &Duo, dump: Option<DumpRange>, sink: &mut S) -> Resul
 /// Writes the lines of a hart, 0 or 1.
 fn write_hart_of<S: Sink>(duo: &Duo, h: u8, sink: &mut S) -> Result<(), SinkFailed>
     requires { h < 2 }
-    ensures { PutsTo (sink_change S.contents S.faults sink.old sink.new) (hart_text h (standing (which h) duo.now.duo)) result }
+    ensures { PutsTo (sink_change S.contents S.faults sink.old sink.new) (hart_text h (machine_at (which h) duo.now.duo)) result }
 {
     let report = HartReport {
         end: duo.end(h),

@@ -1,7 +1,7 @@
 // The kinds of files, each of which is read to something of its own, and how a file of any kind is loaded.
 ghost use Rattle.std.specs.Prelude.{◌≡◌, ◌≢◌, ◌≤◌, ◌∷◌, ℕ, [], length, IfOk, IfErr, OnOk};
 ghost use Rattle.diva_outside.specs.Files.{Has};
-ghost use Rattle.diva_args.specs.Options.{IsRoom};
+ghost use Rattle.diva_args.specs.Options.{IsRoomBehind};
 ghost use Rattle.diva_cli.specs.Wanted.{file_limit, file_with, IsFaultless};
 ghost use Rattle.diva_cli.specs.Parts.{Holds, SaysFault, Stops, stop_of};
 
@@ -104,7 +104,7 @@ fn stop_of(what: What, fault: TextFault) -> Stop
 pub(crate) struct ImageFile {
     /// How many bytes of memory follow those that an executable loads.
     pub room: u32,
-    ghost rules: { IsRoom room },
+    ghost rules: { IsRoomBehind room },
 }
 
 impl FileKind for ImageFile {

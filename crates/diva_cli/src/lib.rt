@@ -26,7 +26,7 @@
 //! - `Determined`: what is determined of a run.
 //!
 //! `Tasks` and `Parts` are what the parts of the program promise one another. What each command promises, and so the whole
-//! program, stands once: `Answers` of `Parts`.
+//! program, stands once: `KeepsPromises` of `Parts`.
 #![tactic(auto)]
 
 mod asm;

@@ -87,7 +87,7 @@ pub(crate) fn make_session<F: Files>(
     ensures session { IfOk result (HoldsSession (F.contents files.old) options.now) }
     ensures config { IsConfig options.now.setup.config }
     ensures narrow { IfOk result (λ session. session.ready.machine.timed.config.width ≡ 1) }
-    ensures undos { IfOk result (λ session. session.undos ≡ record { rows = []; keep = keep }) }
+    ensures undos { IfOk result (λ session. session.undos ≡ record { items = []; keep = keep }) }
     ensures few { IfOk result (λ session. length session.commands.items ≤ file_limit) }
     ensures short { IfOk result (λ session. All IsShort session.commands.items) }
     ensures stopped { IfErr result (λ stop. Stops (F.contents files.old) (F.faults files.old)

@@ -3,13 +3,13 @@ ghost use Rattle.std.specs.Prelude.{◌≡◌, ◌⊎◌, None};
 ghost use Rattle.diva_outside.specs.Causes.{Rose};
 ghost use Rattle.diva_outside.specs.Text.{Text};
 ghost use Rattle.diva_outside.specs.declared.files.What.{What};
-ghost use Rattle.diva_cli.specs.Asked.{pipeline_asked_by, pipeline_command_in};
+ghost use Rattle.diva_cli.specs.Asked.{pipeline_asked_by, pipeline_job_in};
 ghost use Rattle.diva_cli.specs.Changes.{HasFailed, Takes, change, file_faults, sink_change};
 ghost use Rattle.diva_cli.specs.Texts.{IsDone};
 ghost use Rattle.diva_cli.specs.Answers.{IsMisused, HasUnread, HasRefused};
 ghost use Rattle.diva_cli.specs.Statuses.{HasWorked, HasLine, IsCut, HasNoMemory, MustRefuse, HasMissing, IsHindered};
 ghost use Rattle.diva_cli.specs.Statuses.{CanWork, HasEnded, IsStatus, LoadsNothing};
-ghost use Rattle.diva_cli.specs.Parts.{Answers};
+ghost use Rattle.diva_cli.specs.Parts.{KeepsPromises};
 
 use crate::lines::pipeline_usage_line;
 use crate::program::{answer_read, status_of};
@@ -61,7 +61,7 @@ pub fn pipeline_top<F: Files, S: Sink, C: Core>(
         (change core.old core.new) (sink_change S.contents S.faults sink.old sink.new) }
 
     // Where the words ask for no file, the files are as they were: none was loaded.
-    ensures unloaded { LoadsNothing (pipeline_command_in words.now) → files.new ≡ files.old }
+    ensures unloaded { LoadsNothing (pipeline_job_in words.now) → files.new ≡ files.old }
 
     // The sink's count of faults rose, and the core was not asked again; memory ran out.
     ensures cut { result ≡ 9
@@ -71,7 +71,7 @@ pub fn pipeline_top<F: Files, S: Sink, C: Core>(
         → HasNoMemory (change core.old core.new) (sink_change S.contents S.faults sink.old sink.new) }
 
     // Words that are not a valid command line are answered by the usage line.
-    ensures usage { pipeline_command_in words.now ≡ None → (result ≡ 2) ⊎ ((result ≡ 9) ⊎ (result ≡ 10)) }
+    ensures usage { pipeline_job_in words.now ≡ None → (result ≡ 2) ⊎ ((result ≡ 9) ⊎ (result ≡ 10)) }
 
     // Of known files, the first that can't be used is refused by its line, or is not there.
     ensures refuses { (text : Text)
@@ -97,9 +97,9 @@ fn answer<F: Files, S: Sink, C: Core>(
     sink: &mut S,
     core: &mut C,
 ) -> Result<u8, Failure>
-    ensures answers { Answers C.gives (pipeline_asked_by words.now (F.contents files.old)) (file_faults F.faults files.old files.new)
+    ensures answers { KeepsPromises C.gives (pipeline_asked_by words.now (F.contents files.old)) (file_faults F.faults files.old files.new)
         (change core.old core.new) (sink_change S.contents S.faults sink.old sink.new) result }
-    ensures unloaded { LoadsNothing (pipeline_command_in words.now) → files.new ≡ files.old }
+    ensures unloaded { LoadsNothing (pipeline_job_in words.now) → files.new ≡ files.old }
 {
     let read = read_pipeline_words(alloc, words);
     answer_read(alloc, read, &pipeline_usage_line(), files, sink, core)

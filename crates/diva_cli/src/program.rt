@@ -3,14 +3,14 @@ ghost use Rattle.std.specs.Prelude.{◌≡◌, ◌⊎◌, [], None};
 ghost use Rattle.diva_outside.specs.Causes.{Rose};
 ghost use Rattle.diva_outside.specs.Text.{Text};
 ghost use Rattle.diva_outside.specs.declared.files.What.{What};
-ghost use Rattle.diva_cli.specs.Asked.{Asked, asked_by, asked_for, command_in};
+ghost use Rattle.diva_cli.specs.Asked.{Asked, asked_by, asked_for, job_in};
 ghost use Rattle.diva_cli.specs.Changes.{HasFailed, Takes, change, file_faults, sink_change};
 ghost use Rattle.diva_cli.specs.Texts.{IsDone};
 ghost use Rattle.diva_cli.specs.Answers.{IsMisused, HasUnread, HasRefused};
 ghost use Rattle.diva_cli.specs.Statuses.{HasWorked, HasLine, IsCut, HasNoMemory, MustRefuse, HasMissing, IsHindered};
 ghost use Rattle.diva_cli.specs.Statuses.{CanWork, HasEnded, IsStatus, LoadsNothing};
 ghost use Rattle.diva_cli.specs.Wanted.{wanted};
-ghost use Rattle.diva_cli.specs.Parts.{Answers, IsRead, WritesMisused, status_of};
+ghost use Rattle.diva_cli.specs.Parts.{KeepsPromises, IsRead, WritesMisused, status_of};
 
 use crate::asm::asm;
 use crate::campaign::campaign;
@@ -75,7 +75,7 @@ pub fn top<F: Files, S: Sink, C: Core>(
         (change core.old core.new) (sink_change S.contents S.faults sink.old sink.new) }
 
     // Where the words ask for no file, the files are as they were: none was loaded.
-    ensures unloaded { LoadsNothing (command_in words.now) → files.new ≡ files.old }
+    ensures unloaded { LoadsNothing (job_in words.now) → files.new ≡ files.old }
 
     // The sink's count of faults rose, and the core was not asked again; memory ran out.
     ensures cut { result ≡ 9
@@ -85,7 +85,7 @@ pub fn top<F: Files, S: Sink, C: Core>(
         → HasNoMemory (change core.old core.new) (sink_change S.contents S.faults sink.old sink.new) }
 
     // Words that are not a valid command line are answered by the usage line.
-    ensures usage { command_in words.now ≡ None → (result ≡ 2) ⊎ ((result ≡ 9) ⊎ (result ≡ 10)) }
+    ensures usage { job_in words.now ≡ None → (result ≡ 2) ⊎ ((result ≡ 9) ⊎ (result ≡ 10)) }
 
     // Of known files, the first that can't be used is refused by its line, or is not there.
     ensures refuses { (text : Text)
@@ -122,9 +122,9 @@ fn answer<F: Files, S: Sink, C: Core>(
     sink: &mut S,
     core: &mut C,
 ) -> Result<u8, Failure>
-    ensures answers { Answers C.gives (asked_by words.now (F.contents files.old)) (file_faults F.faults files.old files.new)
+    ensures answers { KeepsPromises C.gives (asked_by words.now (F.contents files.old)) (file_faults F.faults files.old files.new)
         (change core.old core.new) (sink_change S.contents S.faults sink.old sink.new) result }
-    ensures unloaded { LoadsNothing (command_in words.now) → files.new ≡ files.old }
+    ensures unloaded { LoadsNothing (job_in words.now) → files.new ≡ files.old }
 {
     let read = read_words(alloc, words);
     answer_read(alloc, read, &usage_line(), files, sink, core)
@@ -140,10 +140,10 @@ pub(crate) fn answer_read<F: Files, S: Sink, C: Core>(
     core: &mut C,
 ) -> Result<u8, Failure>
     ensures answers { (asked : Asked) → IsRead asked (F.contents files.old) usage.now read
-        → Answers C.gives asked (file_faults F.faults files.old files.new)
+        → KeepsPromises C.gives asked (file_faults F.faults files.old files.new)
         (change core.old core.new) (sink_change S.contents S.faults sink.old sink.new) result }
     ensures unloaded { (asked : Asked) → IsRead asked (F.contents files.old) usage.now read
-        → LoadsNothing asked.command → files.new ≡ files.old }
+        → LoadsNothing asked.job → files.new ≡ files.old }
 {
     match read {
         Ok(job) => work(alloc, job, files, sink, core),
@@ -169,7 +169,7 @@ pub(crate) fn work<F: Files, S: Sink, C: Core>(
     sink: &mut S,
     core: &mut C,
 ) -> Result<u8, Failure>
-    ensures answers { Answers C.gives (asked_for job (F.contents files.old)) (file_faults F.faults files.old files.new)
+    ensures answers { KeepsPromises C.gives (asked_for job (F.contents files.old)) (file_faults F.faults files.old files.new)
         (change core.old core.new) (sink_change S.contents S.faults sink.old sink.new) result }
     ensures unloaded { wanted job ≡ [] → files.new ≡ files.old }
 {

@@ -6,7 +6,7 @@ ghost use Rattle.diva_cli.specs.Asked.{asked_for};
 ghost use Rattle.diva_cli.specs.Changes.{change, file_faults, sink_change};
 ghost use Rattle.diva_cli.specs.Wanted.{FileBytes};
 ghost use Rattle.diva_cli.specs.Tasks.{run_task};
-ghost use Rattle.diva_cli.specs.Parts.{Answers, IsReady, WritesText};
+ghost use Rattle.diva_cli.specs.Parts.{KeepsPromises, IsReady, WritesText};
 
 use crate::driving::perform_by;
 use crate::loading::{Ready, make_ready};
@@ -27,7 +27,7 @@ pub(crate) fn run<F: Files, S: Sink, C: Core>(
     sink: &mut S,
     core: &mut C,
 ) -> Result<u8, Failure>
-    ensures { Answers C.gives (asked_for (Run options) (F.contents files.old)) (file_faults F.faults files.old files.new)
+    ensures { KeepsPromises C.gives (asked_for (Run options) (F.contents files.old)) (file_faults F.faults files.old files.new)
         (change core.old core.new) (sink_change S.contents S.faults sink.old sink.new) result }
 {
     match make_ready(alloc, files, &options.setup) {
@@ -82,7 +82,7 @@ pub(crate) fn tape<F: Files, S: Sink, C: Core>(
     sink: &mut S,
     core: &mut C,
 ) -> Result<u8, Failure>
-    ensures { Answers C.gives (asked_for (Tape options) (F.contents files.old)) (file_faults F.faults files.old files.new)
+    ensures { KeepsPromises C.gives (asked_for (Tape options) (F.contents files.old)) (file_faults F.faults files.old files.new)
         (change core.old core.new) (sink_change S.contents S.faults sink.old sink.new) result }
 {
     match make_ready(alloc, files, &options.setup) {

@@ -8,7 +8,7 @@ ghost use Rattle.diva_cli.specs.Asked.{asked_for};
 ghost use Rattle.diva_cli.specs.Changes.{change, file_faults, sink_change};
 ghost use Rattle.diva_cli.specs.SoakTexts.{soak_cycles, soak_start};
 ghost use Rattle.diva_cli.specs.Wanted.{FileBytes};
-ghost use Rattle.diva_cli.specs.Parts.{Answers, IsSoakReady, Soaks, WritesText};
+ghost use Rattle.diva_cli.specs.Parts.{KeepsPromises, IsSoakReady, Soaks, WritesText};
 
 use crate::stop::Failure;
 use crate::writing::write_soaked;
@@ -29,7 +29,7 @@ pub(crate) fn soak<F: Files, S: Sink, C: Core>(
     sink: &mut S,
     core: &mut C,
 ) -> Result<u8, Failure>
-    ensures { Answers C.gives (asked_for (Soak options) (F.contents _files.now)) (file_faults F.faults _files.now _files.now)
+    ensures { KeepsPromises C.gives (asked_for (Soak options) (F.contents _files.now)) (file_faults F.faults _files.now _files.now)
         (change core.old core.new) (sink_change S.contents S.faults sink.old sink.new) result }
 {
     let mut ready = make_soak(alloc, &options)?;

@@ -1,6 +1,6 @@
 // The program over files and a sink that never fail.
 ghost use Rattle.std.specs.Prelude.{◌≡◌, ◌≢◌, ◌⊎◌, None};
-ghost use Rattle.diva_cli.specs.Asked.{command_in};
+ghost use Rattle.diva_cli.specs.Asked.{job_in};
 
 use crate::program::top;
 use diva_core::Core;
@@ -11,8 +11,8 @@ use std::alloc::Global;
 pub fn top_sure<C: Core>(alloc: Global, words: &[&str], files: Vec<MemFile>, core: &mut C) -> u8
     ensures read { result ≢ 8 }
     ensures written { result ≢ 9 }
-    ensures misused { result ≡ 2 → command_in words.now ≡ None }
-    ensures usage { command_in words.now ≡ None → (result ≡ 2) ⊎ (result ≡ 10) }
+    ensures misused { result ≡ 2 → job_in words.now ≡ None }
+    ensures usage { job_in words.now ≡ None → (result ≡ 2) ⊎ (result ≡ 10) }
 {
     let mut files = SureFiles::new(files);
     top(alloc, words, &mut files, &mut SureSink, core)

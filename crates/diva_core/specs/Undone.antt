@@ -26,9 +26,9 @@ pub record CanUndo (m : Timed) (u : Undo) : Type 0 where
 -- the machine without its last instructions, the newest first
 abbrev pub undone_all : Timed → List Undo → Timed
 undone_all m [] = m
-undone_all m (u ∷ rows) = undone_all (undone m u) rows
+undone_all m (u ∷ rest) = undone_all (undone m u) rest
 
 -- each of them can be taken back in its turn
 abbrev pub CanUndoAll : Timed → List Undo → Type 0
 CanUndoAll m [] = ⊤
-CanUndoAll m (u ∷ rows) = CanUndo m u × CanUndoAll (undone m u) rows
+CanUndoAll m (u ∷ rest) = CanUndo m u × CanUndoAll (undone m u) rest

@@ -14,7 +14,7 @@ use Rattle.diva_machine.specs.Inner.{TakesTurns}
 use Rattle.diva_machine.proofs.Driving.{no_turns, turns_then}
 use Rattle.diva_debug.specs.Inner.{Advances}
 use Rattle.diva_debug.specs.Moves.{Moves}
-use Rattle.diva_debug.specs.Rewindable.{IsRewindable, Rewindable, base_of, kept_of}
+use Rattle.diva_debug.specs.Rewindable.{IsRewindable, Rewindable, session_origin, kept_of}
 use Rattle.diva_debug.specs.Undos.{AreUndos, origin_of}
 use Rattle.diva_debug.proofs.Chains.{are_kept, origin_kept}
 use Rattle.diva_debug.proofs.Stepping.{Moves-then, at-once-then, moved-up}
@@ -32,7 +32,7 @@ advances_none gives r core is =
       config = refl;
       keep = refl;
       kept = omega arith;
-      base = sym (ap (λ k. steps k (base_of r)) none);
+      origin = sym (ap (λ k. steps k (session_origin r)) none);
     }
 
 -- the cycles of a and of b instructions
@@ -63,11 +63,11 @@ advances_then gives a b r core mid between last final v w =
       config = w.config ∙ v.config;
       keep = w.keep ∙ v.keep;
       kept = kept-then r.keep (kept_of r) (kept_of mid) (kept_of last) a b v.kept kept_b;
-      base =
-          w.base
-          ∙ ap (steps (kept_of mid + b - kept_of last)) v.base
-          ∙ sym (steps-add (kept_of r + a - kept_of mid) (kept_of mid + b - kept_of last) (base_of r))
-          ∙ ap (λ k. steps k (base_of r)) (dropped-then r.keep (kept_of r) (kept_of mid) (kept_of last) a b v.kept kept_b);
+      origin =
+          w.origin
+          ∙ ap (steps (kept_of mid + b - kept_of last)) v.origin
+          ∙ sym (steps-add (kept_of r + a - kept_of mid) (kept_of mid + b - kept_of last) (session_origin r))
+          ∙ ap (λ k. steps k (session_origin r)) (dropped-then r.keep (kept_of r) (kept_of mid) (kept_of last) a b v.kept kept_b);
     }
 
 -- one instruction, whose undo is kept
@@ -94,11 +94,11 @@ module _ {C : Type 0} (gives : Meaning C) (r : Rewindable) (core : C) (last : Re
         config = config;
         keep = keep;
         kept = length-kept;
-        base =
+        origin =
             ap (λ (s : State). origin_of s last.undos) moved.arch
             ∙ ap (origin_of (step r.machine.timed.arch)) rows
             ∙ origin_kept r.machine.timed.arch u r.undos is.undos back overwrote r.keep
-            ∙ ap (λ k. steps k (base_of r)) dropped;
+            ∙ ap (λ k. steps k (session_origin r)) dropped;
       }
 
   -- its type is kept

@@ -9,7 +9,7 @@ use Rattle.diva_core.specs.Machine.{IsMachine}
 use Rattle.diva_core.specs.Timed.{Config, Timed}
 use Rattle.diva_core.specs.Undone.{CanUndo, CanUndoAll, undone, undone_all}
 use Rattle.diva_core.proofs.Undoing.{undone_stays}
-use Rattle.diva_debug.specs.Rewindable.{GoesBack, IsRewindable, Rewindable, base_of, kept_of}
+use Rattle.diva_debug.specs.Rewindable.{GoesBack, IsRewindable, Rewindable, session_origin, kept_of}
 use Rattle.diva_debug.specs.Undos.{AreUndos, origin_of}
 use Rattle.diva_debug.proofs.Chains.{are_rest, origin_first, origin_rest}
 
@@ -66,8 +66,8 @@ module _ (n : ℕ) (r last : Rewindable) (b : GoesBack n r last) where
   back-arch = ap (λ (m : Timed). m.arch) b.undone ∙ undone_all-arch r.machine.timed (take n r.undos)
 
   -- what all undos restore stays
-  pub back-base : base_of last ≡ base_of r
-  back-base =
+  pub back-origin : session_origin last ≡ session_origin r
+  back-origin =
       ap (λ (s : State). origin_of s last.undos) back-arch
       ∙ ap (λ (rows : List Undo). origin_of (origin_of r.machine.timed.arch (take n r.undos)) rows) b.left
       ∙ origin_rest n r.machine.timed.arch r.undos
@@ -87,11 +87,11 @@ module _ (n : ℕ) (r last : Rewindable) (b : GoesBack n r last) where
         let f = length-first in
         omega arith
 
-    pub back-state : last.machine.timed.arch ≡ steps (kept_of r - n) (base_of r)
+    pub back-state : last.machine.timed.arch ≡ steps (kept_of r - n) (session_origin r)
     back-state =
         back-arch
         ∙ origin_first n r.machine.timed.arch r.undos is.undos
-        ∙ ap (λ k. steps (kept_of r - k) (base_of r)) length-first
+        ∙ ap (λ k. steps (kept_of r - k) (session_origin r)) length-first
 
     pub back-is : last.keep ≡ r.keep → IsRewindable last
     back-is same =

@@ -6,12 +6,12 @@ use Rattle.diva_isa.specs.Undo.{IsUndo, restore}
 use Rattle.diva_isa.specs.declared.undo.Undo.{Undo}
 use Rattle.diva_debug.specs.Undos.{AreUndos, origin_of}
 
--- from the state that they restore, as many steps as there are rows lead back
+-- from the state that they restore, as many steps as there are undos lead back
 pub stands : (s : State) (rows : List Undo) → AreUndos s rows → steps (length rows) (origin_of s rows) ≡ s
 stands s [] are = refl
 stands s (u ∷ rows) are = ap step (stands (restore s u) rows are.1) ∙ are.0.stepped
 
--- the newest rows alone
+-- the newest undos alone
 pub are_first : (n : ℕ) (s : State) (rows : List Undo) → AreUndos s rows → AreUndos s (take n rows)
 are_first zero s rows are = tt
 are_first (suc n) s [] are = tt
@@ -28,7 +28,7 @@ origin_rest zero s rows = refl
 origin_rest (suc n) s [] = refl
 origin_rest (suc n) s (u ∷ rows) = origin_rest n (restore s u) rows
 
--- the newest restore a state that is as many steps later as rows are left
+-- the newest restore a state that is as many steps later as undos are left
 pub origin_first : (n : ℕ) (s : State) (rows : List Undo) → AreUndos s rows → origin_of s (take n rows) ≡ steps (length rows - length (take n rows)) (origin_of s rows)
 origin_first zero s rows are =
     let all : length rows - 0 ≡ length rows = omega arith in

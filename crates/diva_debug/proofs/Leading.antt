@@ -13,10 +13,10 @@ use Rattle.diva_machine.specs.Drives.{Drives}
 use Rattle.diva_machine.proofs.Driving.{drives}
 use Rattle.diva_debug.specs.Inner.{Advances, IsBack}
 use Rattle.diva_debug.specs.Moves.{IsShort, Standing, goes_back, most_cycles, most_steps, standing_after, steps_back, steps_by, steps_on}
-use Rattle.diva_debug.specs.Rewindable.{GoesBack, IsLed, IsRewindable, Rewindable, base_of, kept_of, standing_of}
+use Rattle.diva_debug.specs.Rewindable.{GoesBack, IsLed, IsRewindable, Rewindable, session_origin, kept_of, standing_of}
 use Rattle.diva_debug.specs.declared.command.Command.{Command}
 use Rattle.diva_debug.specs.declared.command.Command.TheVariants.{Step, Until, Back, Reg, Mem, Why}
-use Rattle.diva_debug.proofs.Backing.{back-base, back-config, back-count, back-cycles, back-kept, back-machine, back-state}
+use Rattle.diva_debug.proofs.Backing.{back-origin, back-config, back-count, back-cycles, back-kept, back-machine, back-state}
 use Rattle.diva_debug.proofs.Stepping.{steps_in-most, until-most}
 
 -- ---- commands
@@ -148,7 +148,7 @@ module _ {C : Type 0} (gives : Meaning C) (command : Command) (r : Rewindable) (
       ]
 
   pub leaves_back : IsRewindable r → (k : ℕ) → command ≡ Back k → k ≤ kept_of r
-      → (last.machine.timed.arch ≡ steps (kept_of r - k) (base_of r)) × (base_of last ≡ base_of r) × (last.machine.timed.count + k ≡ r.machine.timed.count)
+      → (last.machine.timed.arch ≡ steps (kept_of r - k) (session_origin r)) × (session_origin last ≡ session_origin r) × (last.machine.timed.count + k ≡ r.machine.timed.count)
   leaves_back is k e enough =
       let b = goes k r last is (back k e).0 enough in
-      (back-state k r last b is enough, back-base k r last b, back-count k r last b is enough)
+      (back-state k r last b is enough, back-origin k r last b, back-count k r last b is enough)

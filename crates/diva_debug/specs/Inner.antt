@@ -6,7 +6,7 @@ use Rattle.diva_core.specs.Timed.{depth}
 use Rattle.diva_machine.specs.Counts.{StopsAtOnce}
 use Rattle.diva_machine.specs.Inner.{TakesTurns}
 use Rattle.diva_debug.specs.Moves.{Moves}
-use Rattle.diva_debug.specs.Rewindable.{GoesBack, Rewindable, base_of, kept_of}
+use Rattle.diva_debug.specs.Rewindable.{GoesBack, Rewindable, session_origin, kept_of}
 
 -- n instructions more, each of whose undos is kept as long as there is room
 pub record Advances {C : Type 0} (gives : Meaning C) (n : ℕ) (r : Rewindable) (core : C) (last : Rewindable) (final : C) : Type 0 where
@@ -18,7 +18,7 @@ pub record Advances {C : Type 0} (gives : Meaning C) (n : ℕ) (r : Rewindable) 
   pub keep : last.keep ≡ r.keep
   pub kept : kept_of last ≡ min r.keep (kept_of r + n)
   -- the state that all undos restore stays, or is a step later for each that was dropped
-  pub base : base_of last ≡ steps (kept_of r + n - kept_of last) (base_of r)
+  pub origin : session_origin last ≡ steps (kept_of r + n - kept_of last) (session_origin r)
 
 -- k instructions back, where so many undos are kept, and else nothing is changed
 pub record IsBack (k : ℕ) (r last : Rewindable) : Type 0 where

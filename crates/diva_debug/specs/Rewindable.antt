@@ -22,8 +22,8 @@ abbrev pub kept_of : Rewindable → ℕ
 kept_of r = length r.undos
 
 -- the state that all kept undos restore
-abbrev pub base_of : Rewindable → State
-base_of r = origin_of r.machine.timed.arch r.undos
+abbrev pub session_origin : Rewindable → State
+session_origin r = origin_of r.machine.timed.arch r.undos
 
 -- where it stands
 abbrev pub standing_of : Rewindable → Standing

@@ -7,21 +7,21 @@ use Rattle.diva_isa.specs.declared.undo.Undo.{Undo}
 
 -- the undos that are kept, the newest first, and how many are kept at most
 pub record Undos : Type 0 where
-  pub rows : List Undo
+  pub items : List Undo
   pub keep : ℕ
 
 -- those in a ring; where there is no ring, none are kept
 abbrev pub undos_in : Option (Buffer Undo) → Undos
-undos_in None = record { rows = []; keep = 0 }
-undos_in (Some ring) = record { rows = ring.items; keep = ring.capacity }
+undos_in None = record { items = []; keep = 0 }
+undos_in (Some ring) = record { items = ring.items; keep = ring.capacity }
 
--- each of the rows, the newest first, is what an instruction overwrote: the newest the last one that led to s, each other one
+-- each of the undos, the newest first, is what an instruction overwrote: the newest the last one that led to s, each other one
 -- the last that led to the state which those before it restore
 abbrev pub AreUndos : State → List Undo → Type 0
 AreUndos s [] = ⊤
-AreUndos s (u ∷ rows) = IsUndo s u × AreUndos (restore s u) rows
+AreUndos s (u ∷ rest) = IsUndo s u × AreUndos (restore s u) rest
 
--- the state that all rows restore
+-- the state that all of them restore
 abbrev pub origin_of : State → List Undo → State
 origin_of s [] = s
-origin_of s (u ∷ rows) = origin_of (restore s u) rows
+origin_of s (u ∷ rest) = origin_of (restore s u) rest

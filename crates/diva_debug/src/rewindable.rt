@@ -27,16 +27,16 @@ impl Model for Rewindable {
 
     ghost Value = { Rewindable };
 
-    ghost view = { λ r. record { machine = r.machine; undos = r.undos.rows; keep = r.undos.keep } };
+    ghost view = { λ r. record { machine = r.machine; undos = r.undos.items; keep = r.undos.keep } };
 
-    ghost invariant = { λ r. IsRewindable (record { machine = r.machine; undos = r.undos.rows; keep = r.undos.keep }) };
+    ghost invariant = { λ r. IsRewindable (record { machine = r.machine; undos = r.undos.items; keep = r.undos.keep }) };
 }
 
 impl Rewindable {
     /// A machine of width 1, none of whose instructions can be taken back yet.
     pub fn new(machine: Machine, undos: Undos) -> Self
         requires width { machine.timed.config.width ≡ 1 }
-        requires none { undos.rows ≡ [] }
+        requires none { undos.items ≡ [] }
         ensures { result ≡ record { machine = machine; undos = []; keep = undos.keep } }
     {
         Rewindable { machine, undos }

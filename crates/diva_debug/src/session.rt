@@ -7,7 +7,7 @@ ghost use Rattle.diva_machine.specs.Counts.{StopsAtOnce};
 ghost use Rattle.diva_debug.specs.declared.command.Command.TheVariants.{Back, Until, Why};
 ghost use Rattle.diva_debug.specs.Moves.{IsFar, Moves, goes_back, most_cycles, standing_after, steps_by};
 ghost use Rattle.diva_debug.specs.Replies.{far_line, kept_line, no_flush, reply_at};
-ghost use Rattle.diva_debug.specs.Rewindable.{IsLed, base_of, kept_of, standing_of};
+ghost use Rattle.diva_debug.specs.Rewindable.{IsLed, session_origin, kept_of, standing_of};
 
 use crate::command::Command;
 use crate::moving::move_by;
@@ -40,17 +40,17 @@ pub fn reply_to<C: Core>(m: &mut Rewindable, core: &mut C, command: &Command) ->
     // The session stands where the command leads, and keeps as many undos as there is room for. As many steps as undos are
     // kept lead from the state that these restore to the one where it stands.
     ensures stands { standing_of m.new ≡ standing_after m.old.keep command.now (standing_of m.old) m.old.machine.timed.arch }
-    ensures stood { m.old.machine.timed.arch ≡ steps (kept_of m.old) (base_of m.old) }
-    ensures stands_on { m.new.machine.timed.arch ≡ steps (kept_of m.new) (base_of m.new) }
+    ensures stood { m.old.machine.timed.arch ≡ steps (kept_of m.old) (session_origin m.old) }
+    ensures stands_on { m.new.machine.timed.arch ≡ steps (kept_of m.new) (session_origin m.new) }
     ensures keep { m.new.keep ≡ m.old.keep }
 
     // The machine has moved as far as the command says, and ran no cycle that this did not take. What all undos restore stays,
     // or is a step later for each that there was no room for.
     ensures moved { goes_back command.now ≡ false
         → Moves (steps_by command.now m.old.machine.timed.arch) m.old.machine.timed m.new.machine.timed }
-    ensures base { goes_back command.now ≡ false
-        → base_of m.new
-        ≡ steps (kept_of m.old + steps_by command.now m.old.machine.timed.arch - kept_of m.new) (base_of m.old) }
+    ensures origin { goes_back command.now ≡ false
+        → session_origin m.new
+        ≡ steps (kept_of m.old + steps_by command.now m.old.machine.timed.arch - kept_of m.new) (session_origin m.old) }
     ensures at_once { goes_back command.now ≡ false → StopsAtOnce m.old.machine.timed m.new.machine.timed }
     ensures within { m.new.machine.timed.cycles
         ≤ m.old.machine.timed.cycles + most_cycles command.now m.old.machine.timed }
@@ -59,8 +59,8 @@ pub fn reply_to<C: Core>(m: &mut Rewindable, core: &mut C, command: &Command) ->
 
     // Or back, where so many undos are kept, and what all of them restore stays; else nothing is changed.
     ensures back { (k : ℕ) → command.now ≡ Back k → k ≤ kept_of m.old
-        → (m.new.machine.timed.arch ≡ steps (kept_of m.old - k) (base_of m.old))
-        × (base_of m.new ≡ base_of m.old)
+        → (m.new.machine.timed.arch ≡ steps (kept_of m.old - k) (session_origin m.old))
+        × (session_origin m.new ≡ session_origin m.old)
         × (m.new.machine.timed.count + k ≡ m.old.machine.timed.count) }
     ensures stays { (k : ℕ) → command.now ≡ Back k → kept_of m.old < k → (m.new ≡ m.old) × (core.new ≡ core.old) }
 
@@ -134,17 +134,17 @@ impl<'a, C: Core> Session<'a, C> {
             ≡ standing_after (rewindable_of self.old).keep command.now (standing_of (rewindable_of self.old))
             (machine_of self.old).timed.arch }
         ensures stood { (machine_of self.old).timed.arch
-            ≡ steps (kept_of (rewindable_of self.old)) (base_of (rewindable_of self.old)) }
+            ≡ steps (kept_of (rewindable_of self.old)) (session_origin (rewindable_of self.old)) }
         ensures stands_on { (machine_of self.new).timed.arch
-            ≡ steps (kept_of (rewindable_of self.new)) (base_of (rewindable_of self.new)) }
+            ≡ steps (kept_of (rewindable_of self.new)) (session_origin (rewindable_of self.new)) }
         ensures keep { (rewindable_of self.new).keep ≡ (rewindable_of self.old).keep }
         ensures moved { goes_back command.now ≡ false
             → Moves (steps_by command.now (machine_of self.old).timed.arch)
             (machine_of self.old).timed (machine_of self.new).timed }
-        ensures base { goes_back command.now ≡ false
-            → base_of (rewindable_of self.new)
+        ensures origin { goes_back command.now ≡ false
+            → session_origin (rewindable_of self.new)
             ≡ steps (kept_of (rewindable_of self.old) + steps_by command.now (machine_of self.old).timed.arch
-            - kept_of (rewindable_of self.new)) (base_of (rewindable_of self.old)) }
+            - kept_of (rewindable_of self.new)) (session_origin (rewindable_of self.old)) }
         ensures at_once { goes_back command.now ≡ false
             → StopsAtOnce (machine_of self.old).timed (machine_of self.new).timed }
         ensures within { (machine_of self.new).timed.cycles
@@ -153,8 +153,8 @@ impl<'a, C: Core> Session<'a, C> {
             ≤ (machine_of self.old).timed.cycles + 1000000 * ((machine_of self.old).timed.config.limit + depth) }
         ensures back { (k : ℕ) → command.now ≡ Back k → k ≤ kept_of (rewindable_of self.old)
             → ((machine_of self.new).timed.arch
-            ≡ steps (kept_of (rewindable_of self.old) - k) (base_of (rewindable_of self.old)))
-            × (base_of (rewindable_of self.new) ≡ base_of (rewindable_of self.old))
+            ≡ steps (kept_of (rewindable_of self.old) - k) (session_origin (rewindable_of self.old)))
+            × (session_origin (rewindable_of self.new) ≡ session_origin (rewindable_of self.old))
             × ((machine_of self.new).timed.count + k ≡ (machine_of self.old).timed.count) }
         ensures stays { (k : ℕ) → command.now ≡ Back k → kept_of (rewindable_of self.old) < k
             → (rewindable_of self.new ≡ rewindable_of self.old) × (core_of self.new ≡ core_of self.old) }

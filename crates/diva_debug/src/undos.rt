@@ -23,7 +23,7 @@ impl Model for Undos {
 impl Undos {
     /// No undos, with room for so many. The one error is that memory runs out.
     pub fn new(alloc: Global, keep: usize) -> Result<Self, AllocError>
-        ensures { IfOk result (λ u. u ≡ record { rows = []; keep = keep }) }
+        ensures { IfOk result (λ u. u ≡ record { items = []; keep = keep }) }
     {
         let ring = HeapCircularBuffer::with_capacity(alloc, keep)?;
         Ok(Undos { ring: Some(ring) })
@@ -31,14 +31,14 @@ impl Undos {
 
     /// No undos, and room for none, which takes no memory.
     pub fn none() -> Self
-        ensures { result ≡ record { rows = []; keep = 0 } }
+        ensures { result ≡ record { items = []; keep = 0 } }
     {
         Undos { ring: None }
     }
 
     /// How many there are.
     pub(crate) fn len(&self) -> usize
-        ensures len { result ≡ length self.now.rows }
+        ensures len { result ≡ length self.now.items }
         ensures room { result ≤ self.now.keep }
     {
         match &self.ring {
@@ -49,7 +49,7 @@ impl Undos {
 
     /// Keeps the undo of an instruction that follows.
     pub(crate) fn keep(&mut self, u: Undo)
-        ensures rows { self.new ≡ record { rows = take self.old.keep (u ∷ self.old.rows); keep = self.old.keep } }
+        ensures items { self.new ≡ record { items = take self.old.keep (u ∷ self.old.items); keep = self.old.keep } }
     {
         if let Some(ring) = &mut self.ring {
             let _ = ring.push_front(u);
@@ -58,8 +58,8 @@ impl Undos {
 
     /// Takes the newest one out.
     pub(crate) fn pop(&mut self) -> Option<Undo>
-        ensures value { result ≡ slice_get self.old.rows 0 }
-        ensures rest { self.new ≡ record { rows = drop 1 self.old.rows; keep = self.old.keep } }
+        ensures value { result ≡ slice_get self.old.items 0 }
+        ensures rest { self.new ≡ record { items = drop 1 self.old.items; keep = self.old.keep } }
     {
         match &mut self.ring {
             Some(ring) => ring.pop_front(),

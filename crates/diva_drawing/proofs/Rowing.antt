@@ -2,11 +2,11 @@
 use Rattle.std.proofs.Common.{◌≡◌, ◌<◌, ◌≤◌, ℕ, zero, suc, ◌+◌, List, [], ◌∷◌, ◌++◌, length, map, take, drop, get_or, refl, ap, sym, ◌∙◌, append_assoc, append-nil, add-one, arith}
 use Rattle.diva_drawing.specs.declared.rows.Ending.{Ending}
 use Rattle.diva_drawing.specs.declared.rows.Ending.TheVariants.{Drops}
-use Rattle.diva_drawing.specs.declared.rows.Row.{Row}
-use Rattle.diva_drawing.specs.declared.seen.SeenClaim.{SeenClaim}
+use Rattle.diva_drawing.specs.declared.rows.DrawnRow.{DrawnRow}
+use Rattle.diva_drawing.specs.declared.snapshot.SnapshotClaim.{SnapshotClaim}
 use Rattle.diva_drawing.specs.Drawing.{claim_row, dropped_claim_rows, row_text, rows_text}
 
-pub rows_parts : (f : SeenClaim → Row) (claims : List SeenClaim) (at : ℕ) (d : SeenClaim) → at < length claims
+pub rows_parts : (f : SnapshotClaim → DrawnRow) (claims : List SnapshotClaim) (at : ℕ) (d : SnapshotClaim) → at < length claims
     → rows_text (map f claims) ≡ (rows_text (map f (take at claims)) ++ row_text (f (get_or claims at d))) ++ rows_text (map f (drop (at + 1) claims))
 rows_parts f [] at d inside = absurd (omega arith)
 rows_parts f (c ∷ claims) zero d inside = refl
@@ -16,14 +16,14 @@ rows_parts f (c ∷ claims) (suc at) d inside =
     ∙ ap (λ (t : List ℕ). t ++ rows_text (map f (drop (suc at) claims))) (sym (append_assoc (row_text (f c)) _ _)))
 
 -- the same of a row that is known by an equation
-pub rows_at : (f : SeenClaim → Row) (claims : List SeenClaim) (at : ℕ) (row : Row) (d : SeenClaim) → at < length claims → row ≡ f (get_or claims at d)
+pub rows_at : (f : SnapshotClaim → DrawnRow) (claims : List SnapshotClaim) (at : ℕ) (row : DrawnRow) (d : SnapshotClaim) → at < length claims → row ≡ f (get_or claims at d)
     → rows_text (map f claims) ≡ (rows_text (map f (take at claims)) ++ row_text row) ++ rows_text (map f (drop (at + 1) claims))
 rows_at f claims at row d inside is =
     rows_parts f claims at d inside
-    ∙ ap (λ (r : Row). (rows_text (map f (take at claims)) ++ row_text r) ++ rows_text (map f (drop (at + 1) claims))) (sym is)
+    ∙ ap (λ (r : DrawnRow). (rows_text (map f (take at claims)) ++ row_text r) ++ rows_text (map f (drop (at + 1) claims))) (sym is)
 
 -- claims that are dropped: the first of them, and the others
-pub dropped_parts : (last : ℕ) (first : Ending) (claims : List SeenClaim) (row : Row) (d : SeenClaim) → 1 ≤ length claims → row ≡ claim_row last first (get_or claims 0 d)
+pub dropped_parts : (last : ℕ) (first : Ending) (claims : List SnapshotClaim) (row : DrawnRow) (d : SnapshotClaim) → 1 ≤ length claims → row ≡ claim_row last first (get_or claims 0 d)
     → rows_text (dropped_claim_rows last first claims) ≡ row_text row ++ rows_text (map (claim_row last Drops) (drop 1 claims))
 dropped_parts last first [] row d some is = absurd (omega arith)
-dropped_parts last first (c ∷ claims) row d some is = ap (λ (r : Row). row_text r ++ rows_text (map (claim_row last Drops) claims)) (sym is)
+dropped_parts last first (c ∷ claims) row d some is = ap (λ (r : DrawnRow). row_text r ++ rows_text (map (claim_row last Drops) claims)) (sym is)

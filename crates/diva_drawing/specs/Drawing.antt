@@ -6,17 +6,17 @@ use Rattle.std.specs.List.{concat, flat_map, range_with_len}
 use Rattle.diva_isa.specs.declared.record.Record.{Record}
 use Rattle.diva_core.specs.declared.flushes.Cause.{Cause}
 use Rattle.diva_core.specs.declared.flushes.FlushRow.{FlushRow}
-use Rattle.diva_drawing.specs.declared.seen.SeenClaim.{SeenClaim}
+use Rattle.diva_drawing.specs.declared.snapshot.SnapshotClaim.{SnapshotClaim}
 use Rattle.diva_core.specs.Cycle.{is_silent}
 use Rattle.diva_outside.specs.Text.{Text}
 use Rattle.diva_asm.specs.Listing.{list_line}
 use Rattle.diva_trace.specs.Text.{numbered}
-use Rattle.diva_drawing.specs.Seen.{Seen}
+use Rattle.diva_drawing.specs.Snapshot.{Snapshot}
 use Rattle.diva_drawing.specs.Rows.{committed_rows, dropped_rows}
-use Rattle.diva_drawing.specs.declared.seen.Alone.{Alone}
+use Rattle.diva_drawing.specs.declared.snapshot.Alone.{Alone}
 use Rattle.diva_drawing.specs.declared.rows.Ending.{Ending}
 use Rattle.diva_drawing.specs.declared.rows.Ending.TheVariants.{Commits, Flushes, Drops, Stays}
-use Rattle.diva_drawing.specs.declared.rows.Row.{Row}
+use Rattle.diva_drawing.specs.declared.rows.DrawnRow.{DrawnRow}
 
 -- ---- a row
 
@@ -55,27 +55,27 @@ last_letter stays Drops = 0x2d
 last_letter stays Stays = stays
 
 -- the cell of a cycle
-abbrev pub cell : Row → (cycle : ℕ) → Text
+abbrev pub cell : DrawnRow → (cycle : ℕ) → Text
 cell row cycle =
     if nat_lt cycle row.since then codes "   "
     else (0x20 ∷ 0x20 ∷ (if cycle == row.last then last_letter (letter row.solo (cycle - row.since)) row.ending
     else letter row.solo (cycle - row.since)) ∷ [])
 
 -- the cells up to the last one
-abbrev pub cells : Row → List Text
+abbrev pub cells : DrawnRow → List Text
 cells row = numbered row.last (λ n. cell row (n + 1))
 
-unfoldable pub row_text : Row → Text
+unfoldable pub row_text : DrawnRow → Text
 row_text row = name_text row.claim ++ concat (cells row) ++ codes "\n"
 
 -- ---- the rows of a cycle
 
 -- the row of a claim that was pending, until a cycle
-abbrev pub claim_row : (last : ℕ) → Ending → SeenClaim → Row
+abbrev pub claim_row : (last : ℕ) → Ending → SnapshotClaim → DrawnRow
 claim_row last ending e = record { claim = e.claim; since = e.cycle; solo = false; last = last; ending = ending }
 
 -- that of an instruction that ran solo
-abbrev pub alone_row : (last : ℕ) → Ending → Alone → Row
+abbrev pub alone_row : (last : ℕ) → Ending → Alone → DrawnRow
 alone_row last ending solo = record { claim = solo.due; since = solo.since; solo = true; last = last; ending = ending }
 
 -- the machine flushed in the cycle since the claim in front differed
@@ -84,36 +84,36 @@ has_differed None = false
 has_differed (Some flush) = not (is_silent flush.cause)
 
 -- how the first of the claims that are dropped ends, and each other one
-abbrev pub first_drop : (before after : Seen) → Ending
+abbrev pub first_drop : (before after : Snapshot) → Ending
 first_drop before after = if not (after.flushes == before.flushes) && has_differed after.newest then Flushes else Drops
 
 -- claims that are dropped, the first of which ends so
-abbrev pub dropped_claim_rows : (last : ℕ) → Ending → List SeenClaim → List Row
+abbrev pub dropped_claim_rows : (last : ℕ) → Ending → List SnapshotClaim → List DrawnRow
 dropped_claim_rows last ending [] = []
 dropped_claim_rows last ending (c ∷ claims) = claim_row last ending c ∷ map (claim_row last Drops) claims
 
 -- the row of an instruction that ran solo, if one did
-abbrev pub solo_rows : (last : ℕ) → Ending → Option Alone → List Row
+abbrev pub solo_rows : (last : ℕ) → Ending → Option Alone → List DrawnRow
 solo_rows last ending None = []
 solo_rows last ending (Some solo) = alone_row last ending solo ∷ []
 
 -- the instruction that ran solo and committed in a cycle, if one did; the claims that committed; and those that were dropped
-abbrev pub ended_solo : (before after : Seen) → Option Alone
+abbrev pub ended_solo : (before after : Snapshot) → Option Alone
 ended_solo before after = if committed_rows before after == 0 then None else before.solo
 
-abbrev pub committed_claims : (before after : Seen) → List SeenClaim
+abbrev pub committed_claims : (before after : Snapshot) → List SnapshotClaim
 committed_claims before after = take (committed_rows before after) before.claims
 
-abbrev pub dropped_claims : (before after : Seen) → List SeenClaim
+abbrev pub dropped_claims : (before after : Snapshot) → List SnapshotClaim
 dropped_claims before after = take (dropped_rows before after) (drop (committed_rows before after) before.claims)
 
 -- ---- the text
 
-abbrev pub rows_text : List Row → Text
+abbrev pub rows_text : List DrawnRow → Text
 rows_text rows = flat_map row_text rows
 
 -- the rows that end in a cycle
-unfoldable pub drawn_cycle : (before after : Seen) → Text
+unfoldable pub drawn_cycle : (before after : Snapshot) → Text
 drawn_cycle before after =
     rows_text (solo_rows after.cycles Commits (ended_solo before after))
     ++ rows_text (map (claim_row after.cycles Commits) (committed_claims before after))
@@ -132,7 +132,7 @@ unfoldable pub scale_text : (last : ℕ) → Text
 scale_text last = padded (codes "cycle") ++ concat (scale last) ++ codes "\n"
 
 -- the rows that are open behind the last cycle, and the scale
-unfoldable pub drawn_end : Seen → Text
+unfoldable pub drawn_end : Snapshot → Text
 drawn_end last =
     rows_text (solo_rows last.cycles Stays last.solo)
     ++ rows_text (map (claim_row last.cycles Stays) last.claims)

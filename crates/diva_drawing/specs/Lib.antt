@@ -1,5 +1,5 @@
 -- What the contracts of this crate and of those above it cite.
-pub mod Seen
+pub mod Snapshot
 pub mod Rows
 pub mod Log
 pub mod Drawing

@@ -8,15 +8,15 @@ use Rattle.diva_core.specs.declared.differences.Field.{Field}
 use Rattle.diva_core.specs.declared.flushes.Cause.{Cause}
 use Rattle.diva_core.specs.declared.flushes.Cause.TheVariants.{Differs}
 use Rattle.diva_core.specs.declared.flushes.FlushRow.{FlushRow}
-use Rattle.diva_drawing.specs.declared.seen.SeenClaim.{SeenClaim}
+use Rattle.diva_drawing.specs.declared.snapshot.SnapshotClaim.{SnapshotClaim}
 use Rattle.diva_core.specs.Difference.{all_fields, field_name, field_of}
 use Rattle.diva_outside.specs.Text.{Text, hex_word}
 use Rattle.diva_asm.specs.Listing.{list_line}
 use Rattle.diva_trace.specs.Lines.{cause_text}
 use Rattle.diva_trace.specs.Text.{numbered}
-use Rattle.diva_drawing.specs.Seen.{Seen}
+use Rattle.diva_drawing.specs.Snapshot.{Snapshot}
 use Rattle.diva_drawing.specs.Rows.{accepted_claims, begun_rows, committed_rows, dropped_rows, open_rows}
-use Rattle.diva_drawing.specs.declared.seen.Alone.{Alone}
+use Rattle.diva_drawing.specs.declared.snapshot.Alone.{Alone}
 use Rattle.diva_drawing.specs.declared.rows.Ending.{Ending}
 use Rattle.diva_drawing.specs.declared.rows.Ending.TheVariants.{Commits, Flushes, Drops, Stays}
 
@@ -95,7 +95,7 @@ stage_text first row place r (suc (suc (suc (suc (suc (suc zero)))))) = stage_li
 stage_text first row place r (suc (suc (suc (suc (suc (suc (suc age))))))) = []
 
 -- whether a verdict had been noted of a claim, if it was pending already
-abbrev pub was_noted : Option SeenClaim → Bool
+abbrev pub was_noted : Option SnapshotClaim → Bool
 was_noted None = false
 was_noted (Some e) = is_some e.verdict
 
@@ -105,13 +105,13 @@ noted_text row before None = []
 noted_text row before (Some d) = if before then [] else cause_line row (Differs d)
 
 -- a pending claim, if there is one
-abbrev pub claim_text : (row place now : ℕ) → (noted : Bool) → Option SeenClaim → Text
+abbrev pub claim_text : (row place now : ℕ) → (noted : Bool) → Option SnapshotClaim → Text
 claim_text row place now noted None = []
 claim_text row place now noted (Some c) =
     stage_text (codes "accepted") row place c.claim (now - c.cycle) ++ noted_text row noted c.verdict
 
 -- the pending claims, the oldest first; `was` are those of them that were pending before the cycle
-abbrev pub claims_text : (row place now : ℕ) → (was claims : List SeenClaim) → Text
+abbrev pub claims_text : (row place now : ℕ) → (was claims : List SnapshotClaim) → Text
 claims_text row place now was claims =
     flat_map (λ n. claim_text (row + n) (place + n) now (was_noted (slice_get was n)) (slice_get claims n)) (range_with_len 0 (length claims))
 
@@ -134,7 +134,7 @@ surplus_text row claims = flat_map (λ r. (note_lead row ++ codes "\\ndropped ")
 -- ---- a cycle
 
 -- what goes on behind a cycle, or begins in it: `row` is the number of the oldest such row
-unfoldable pub open_text : (row : ℕ) → (before after : Seen) → (handed : List Record) → Text
+unfoldable pub open_text : (row : ℕ) → (before after : Snapshot) → (handed : List Record) → Text
 open_text row before after handed =
     cycle_line
     ++ claims_text row after.count after.cycles (drop (committed_rows before after) before.claims) after.claims
@@ -142,13 +142,13 @@ open_text row before after handed =
     ++ surplus_text (row + open_rows after - 1) (drop (accepted_claims before after) handed)
 
 -- the rows that end in a cycle: `row` is the number of the oldest that was open
-unfoldable pub ended_text : (row : ℕ) → (before after : Seen) → Text
+unfoldable pub ended_text : (row : ℕ) → (before after : Snapshot) → Text
 ended_text row before after =
     concat (end_lines Commits row before.count (committed_rows before after))
     ++ concat (end_lines Drops (row + committed_rows before after) after.count (dropped_rows before after))
 
 -- the lines of a cycle; `rows` have begun before it
-abbrev pub log_cycle : (rows : ℕ) → (before after : Seen) → (handed : List Record) → Text
+abbrev pub log_cycle : (rows : ℕ) → (before after : Snapshot) → (handed : List Record) → Text
 log_cycle rows before after handed =
     open_text (rows + begun_rows before after - open_rows after) before after handed
     ++ ended_text (rows - open_rows before) before after

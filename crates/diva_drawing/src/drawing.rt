@@ -3,8 +3,8 @@ ghost use Rattle.std.specs.Prelude.{◌≡◌, ◌≤◌, length, map};
 ghost use Rattle.diva_outside.specs.Sink.{Puts};
 ghost use Rattle.diva_drawing.specs.Drawing.{cell, claim_row, committed_claims, drawn_cycle, drawn_end, dropped_claim_rows, dropped_claims, ended_solo, first_drop, last_letter, letter, listed_in, name_text, number_cell, padded, row_text, rows_text, scale_text, solo_rows};
 
-use crate::rows::{Ending, Row, committed_rows, dropped_rows};
-use crate::seen::{Alone, Seen, SeenClaim};
+use crate::rows::{DrawnRow, Ending, committed_rows, dropped_rows};
+use crate::snapshot::{Alone, Snapshot, SnapshotClaim};
 use diva_asm::list_line;
 use diva_core::Cause;
 use diva_isa::Record;
@@ -16,8 +16,8 @@ const BLANKS: &[u8; 26] = b"                          ";
 /// Puts the rows that end in a cycle, before and behind which this was seen of a machine. Where a put fails, a prefix of them was
 /// appended.
 pub(crate) fn put_drawn<S: Sink>(
-    before: &Seen,
-    after: &Seen,
+    before: &Snapshot,
+    after: &Snapshot,
     sink: &mut S,
 ) -> Result<(), SinkFailed>
     ensures { Puts (drawn_cycle before.now after.now)
@@ -34,7 +34,7 @@ pub(crate) fn put_drawn<S: Sink>(
 }
 
 /// The instruction that ran solo and committed in a cycle, if one did.
-fn ended_solo(before: &Seen, after: &Seen) -> Option<Alone>
+fn ended_solo(before: &Snapshot, after: &Snapshot) -> Option<Alone>
     ensures { result ≡ ended_solo before.now after.now }
 {
     if committed_rows(before, after) == 0 {
@@ -46,7 +46,7 @@ fn ended_solo(before: &Seen, after: &Seen) -> Option<Alone>
 
 /// The claims that committed in a cycle.
 #[tactic(auto, using(std::proofs::lemmas::List::take_min))]
-fn committed_claims<'a>(before: &'a Seen, after: &Seen) -> &'a [SeenClaim]
+fn committed_claims<'a>(before: &'a Snapshot, after: &Snapshot) -> &'a [SnapshotClaim]
     ensures { result.now ≡ committed_claims before.now after.now }
 {
     let claims = before.claims();
@@ -56,7 +56,7 @@ fn committed_claims<'a>(before: &'a Seen, after: &Seen) -> &'a [SeenClaim]
 
 /// The claims that were dropped in a cycle.
 #[tactic(auto, using(std::proofs::lemmas::List::take_min))]
-fn dropped_claims<'a>(before: &'a Seen, after: &Seen) -> &'a [SeenClaim]
+fn dropped_claims<'a>(before: &'a Snapshot, after: &Snapshot) -> &'a [SnapshotClaim]
     ensures { result.now ≡ dropped_claims before.now after.now }
 {
     let committed = committed_rows(before, after) as usize;
@@ -66,7 +66,7 @@ fn dropped_claims<'a>(before: &'a Seen, after: &Seen) -> &'a [SeenClaim]
 }
 
 /// Puts the rows that are open at last, and the scale. Where a put fails, a prefix of them was appended.
-pub(crate) fn put_stopped<S: Sink>(last: &Seen, sink: &mut S) -> Result<(), SinkFailed>
+pub(crate) fn put_stopped<S: Sink>(last: &Snapshot, sink: &mut S) -> Result<(), SinkFailed>
     ensures { Puts (drawn_end last.now)
         (S.contents sink.old) (S.contents sink.new) (S.faults sink.old) (S.faults sink.new) result }
 {
@@ -77,7 +77,7 @@ pub(crate) fn put_stopped<S: Sink>(last: &Seen, sink: &mut S) -> Result<(), Sink
 }
 
 /// How the first of the claims that are dropped in a cycle ends: it flushes, where it is the one that differed.
-fn first_drop(before: &Seen, after: &Seen) -> Ending
+fn first_drop(before: &Snapshot, after: &Snapshot) -> Ending
     ensures { result ≡ first_drop before.now after.now }
 {
     let has_differed = after
@@ -102,7 +102,7 @@ fn put_solo<S: Sink>(
 {
     match solo {
         Some(solo) => put_row(
-            &Row {
+            &DrawnRow {
                 claim: solo.due,
                 since: solo.since,
                 solo: true,
@@ -117,7 +117,7 @@ fn put_solo<S: Sink>(
 
 /// Puts the rows of some claims that end alike.
 fn put_claims<S: Sink>(
-    claims: &[SeenClaim],
+    claims: &[SnapshotClaim],
     last: u64,
     ending: Ending,
     sink: &mut S,
@@ -133,7 +133,7 @@ fn put_claims<S: Sink>(
 
 /// Puts the rows of claims that are dropped, the first of which ends so.
 fn put_dropped<S: Sink>(
-    claims: &[SeenClaim],
+    claims: &[SnapshotClaim],
     last: u64,
     first: Ending,
     sink: &mut S,
@@ -151,10 +151,10 @@ fn put_dropped<S: Sink>(
 }
 
 /// The row of a claim.
-fn claim_row(claim: &SeenClaim, last: u64, ending: Ending) -> Row
+fn claim_row(claim: &SnapshotClaim, last: u64, ending: Ending) -> DrawnRow
     ensures { result ≡ claim_row last ending claim.now }
 {
-    Row {
+    DrawnRow {
         claim: claim.claim,
         since: claim.cycle,
         solo: false,
@@ -165,7 +165,7 @@ fn claim_row(claim: &SeenClaim, last: u64, ending: Ending) -> Row
 
 /// Puts a row: the listed instruction, and its cells.
 #[tactic(auto, unfolding(crate::specs::Drawing::row_text))]
-fn put_row<S: Sink>(row: &Row, sink: &mut S) -> Result<(), SinkFailed>
+fn put_row<S: Sink>(row: &DrawnRow, sink: &mut S) -> Result<(), SinkFailed>
     ensures { Puts (row_text row.now)
         (S.contents sink.old) (S.contents sink.new) (S.faults sink.old) (S.faults sink.new) result }
 {
@@ -211,7 +211,7 @@ fn padded(text: &[u8]) -> Line
 /// The cells of a row, up to its last one.
 #[derive(Drop)]
 struct Cells<'a> {
-    row: &'a Row,
+    row: &'a DrawnRow,
     /// The row's last cycle.
     last: u64,
     ghost same: { last ≡ row.now.last },
@@ -234,7 +234,7 @@ impl LineList for Cells<'_> {
 }
 
 /// The cell of a row in a cycle.
-fn cell(row: &Row, cycle: u64) -> Line
+fn cell(row: &DrawnRow, cycle: u64) -> Line
     ensures { result ≡ cell row.now cycle }
 {
     let mut line = Line::new();

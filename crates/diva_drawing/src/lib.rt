@@ -4,7 +4,7 @@
 //! the newest of them, the pending claims with their ages and verdicts, and the instruction that runs solo. The stages have the names of
 //! `docs/MACHINE.md`.
 //!
-//! - `seen`: `Seen`, what is seen of a machine between two cycles.
+//! - `snapshot`: `Snapshot`, what is seen of a machine between two cycles.
 //! - `rows`: rows, one for each claim that became pending and each instruction that was started solo: how many begin and end in a cycle.
 //! - `block`: `Block`, a text of some lines, which is one put.
 //! - `pen`: `Pen`, which is shown a machine cycle by cycle, and draws what becomes of its rows in one of the two formats.
@@ -12,7 +12,7 @@
 //! - `stages`: the lines of a row by its age.
 //! - `drawing`: a run as a drawing, a column for each cycle.
 //!
-//! `specs/` says what is seen of a machine (`Seen`), what becomes of rows (`Rows`), and the text of each of the two (`Log`, `Drawing`).
+//! `specs/` says what is seen of a machine (`Snapshot`), what becomes of rows (`Rows`), and the text of each of the two (`Log`, `Drawing`).
 #![tactic(auto)]
 
 mod block;
@@ -20,10 +20,10 @@ mod drawing;
 mod log;
 mod pen;
 mod rows;
-mod seen;
+mod snapshot;
 mod stages;
 
 pub use log::begin_log;
 pub use pen::Pen;
-pub use rows::{Ending, Row};
-pub use seen::{Alone, Seen, SeenClaim};
+pub use rows::{DrawnRow, Ending};
+pub use snapshot::{Alone, Snapshot, SnapshotClaim};

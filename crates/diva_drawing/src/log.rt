@@ -7,7 +7,7 @@ ghost use Rattle.diva_drawing.specs.Rows.{committed_rows};
 
 use crate::block::Block;
 use crate::rows::{Ending, accepted_claims, begun_rows, committed_rows, dropped_rows, open_rows};
-use crate::seen::{Alone, Seen, SeenClaim};
+use crate::snapshot::{Alone, Snapshot, SnapshotClaim};
 use crate::stages::{Numbers, cause_line, note_lead, push_stage};
 use diva_asm::list_line;
 use diva_core::{Cause, Claim, Claims, Diff, FlushRow};
@@ -33,7 +33,13 @@ fn first_lines() -> Line
 
 /// Appends the lines of what goes on behind a cycle, or begins in it: `row` is the number of the oldest such row.
 #[tactic(auto, unfolding(crate::specs::Log::open_text))]
-pub(crate) fn push_open(block: &mut Block, row: u64, before: &Seen, after: &Seen, handed: &Claims)
+pub(crate) fn push_open(
+    block: &mut Block,
+    row: u64,
+    before: &Snapshot,
+    after: &Snapshot,
+    handed: &Claims,
+)
     requires empty { block.old ≡ [] }
     requires row { row < 2 ^ 63 }
     requires count { after.now.count ≤ 2 ^ 62 }
@@ -60,7 +66,7 @@ fn push_cycle(block: &mut Block)
 }
 
 /// Appends the lines of the pending claims, the oldest first.
-fn push_claims(block: &mut Block, row: u64, before: &Seen, after: &Seen)
+fn push_claims(block: &mut Block, row: u64, before: &Snapshot, after: &Snapshot)
     requires room { length block.old + 128 * 6 * 64 ≤ 65536 }
     requires row { row < 2 ^ 63 }
     requires count { after.now.count ≤ 2 ^ 62 }
@@ -87,8 +93,8 @@ fn push_each(
     row: u64,
     place: u64,
     now: u64,
-    was: &[SeenClaim],
-    claims: &[SeenClaim],
+    was: &[SnapshotClaim],
+    claims: &[SnapshotClaim],
 )
     requires room { length block.old + 128 * 6 * 64 ≤ 65536 }
     requires few { length claims.now ≤ 64 }
@@ -108,8 +114,8 @@ fn push_numbered(
     row: u64,
     place: u64,
     now: u64,
-    was: &[SeenClaim],
-    claims: &[SeenClaim],
+    was: &[SnapshotClaim],
+    claims: &[SnapshotClaim],
     n: usize,
 )
     requires room { length block.old + 768 ≤ 65536 }
@@ -129,7 +135,7 @@ fn push_numbered(
 }
 
 /// Appends the lines of a pending claim, of which a verdict had been noted before the cycle or not.
-fn push_claim(block: &mut Block, numbers: Numbers, now: u64, noted: bool, claim: &SeenClaim)
+fn push_claim(block: &mut Block, numbers: Numbers, now: u64, noted: bool, claim: &SnapshotClaim)
     requires room { length block.old + 768 ≤ 65536 }
     ensures bytes { block.new ≡ block.old ++ claim_text numbers.row numbers.place now noted (Some claim.now) }
     ensures len { length block.new ≤ length block.old + 768 }
@@ -140,7 +146,7 @@ fn push_claim(block: &mut Block, numbers: Numbers, now: u64, noted: bool, claim:
 }
 
 /// Whether a verdict is noted of the claim at a place, if there is one.
-fn was_noted(claims: &[SeenClaim], at: usize) -> bool
+fn was_noted(claims: &[SnapshotClaim], at: usize) -> bool
     ensures { result ≡ was_noted (slice_get claims.now at) }
 {
     match claims.get(at) {
@@ -163,7 +169,7 @@ fn push_noted(block: &mut Block, row: u64, before: bool, verdict: Option<Diff>)
 }
 
 /// Appends the lines of the instruction that runs solo, if one does.
-fn push_solo(block: &mut Block, row: u64, after: &Seen)
+fn push_solo(block: &mut Block, row: u64, after: &Snapshot)
     requires room { length block.old + 128 * 6 ≤ 65536 }
     ensures bytes { block.new ≡ block.old ++ solo_text row after.now.count after.now.cycles after.now.newest after.now.solo }
     ensures len { length block.new ≤ length block.old + 128 * 6 }
@@ -212,8 +218,8 @@ fn push_surplus(block: &mut Block, row: u64, claims: &[Claim])
 #[tactic(auto, unfolding(crate::specs::Log::ended_text))]
 pub(crate) fn put_ended<S: Sink>(
     row: u64,
-    before: &Seen,
-    after: &Seen,
+    before: &Snapshot,
+    after: &Snapshot,
     sink: &mut S,
 ) -> Result<(), SinkFailed>
     requires row { row < 2 ^ 62 }

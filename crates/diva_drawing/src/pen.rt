@@ -4,13 +4,13 @@ ghost use Rattle.diva_outside.specs.Sink.{Puts};
 ghost use Rattle.diva_drawing.specs.Drawing.{drawn_cycle, drawn_end};
 ghost use Rattle.diva_drawing.specs.Log.{ended_text, log_cycle};
 ghost use Rattle.diva_drawing.specs.Rows.{begun_rows};
-ghost use Rattle.diva_drawing.specs.Seen.{IsSeen};
+ghost use Rattle.diva_drawing.specs.Snapshot.{IsSnapshot};
 
 use crate::block::Block;
 use crate::drawing::{put_drawn, put_stopped};
 use crate::log::{push_open, put_ended};
 use crate::rows::{begun_rows, open_rows};
-use crate::seen::Seen;
+use crate::snapshot::Snapshot;
 use diva_core::Claims;
 use diva_machine::Machine;
 use diva_outside::{Sink, SinkFailed};
@@ -22,7 +22,7 @@ pub struct Pen {
     /// How many rows have begun.
     rows: u64,
     /// What was seen of the machine last.
-    seen: Seen,
+    seen: Snapshot,
     /// The lines of a cycle, before they are put.
     block: Block,
 }
@@ -39,11 +39,11 @@ impl Pen {
     /// A pen that has drawn nothing yet, and sees a machine before its first cycle.
     pub fn new(m: &Machine) -> Pen
         ensures rows { result.rows ≡ 0 }
-        ensures seen { IsSeen m.now.timed result.seen }
+        ensures seen { IsSnapshot m.now.timed result.seen }
     {
         Pen {
             rows: 0,
-            seen: Seen::of(m),
+            seen: Snapshot::of(m),
             block: Block::new(),
         }
     }
@@ -58,13 +58,13 @@ impl Pen {
     ) -> Result<(), SinkFailed>
         requires rows { self.old.rows < 2 ^ 62 }
         requires count { m.now.timed.count ≤ 2 ^ 62 }
-        ensures seen { IsSeen m.now.timed self.new.seen }
+        ensures seen { IsSnapshot m.now.timed self.new.seen }
         ensures rows { self.new.rows ≡ self.old.rows + begun_rows self.old.seen self.new.seen }
         ensures few { self.new.rows ≤ self.old.rows + 65 }
         ensures put { Puts (log_cycle self.old.rows self.old.seen self.new.seen handed.now)
             (S.contents sink.old) (S.contents sink.new) (S.faults sink.old) (S.faults sink.new) result }
     {
-        let after = Seen::of(m);
+        let after = Snapshot::of(m);
         let rows = self.rows + begun_rows(&self.seen, &after);
         let oldest = rows.saturating_sub(open_rows(&after));
         self.block.clear();
@@ -80,13 +80,13 @@ impl Pen {
     /// of them was appended.
     pub fn draw_cycle<S: Sink>(&mut self, m: &Machine, sink: &mut S) -> Result<(), SinkFailed>
         requires rows { self.old.rows < 2 ^ 62 }
-        ensures seen { IsSeen m.now.timed self.new.seen }
+        ensures seen { IsSnapshot m.now.timed self.new.seen }
         ensures rows { self.new.rows ≡ self.old.rows + begun_rows self.old.seen self.new.seen }
         ensures few { self.new.rows ≤ self.old.rows + 65 }
         ensures put { Puts (drawn_cycle self.old.seen self.new.seen)
             (S.contents sink.old) (S.contents sink.new) (S.faults sink.old) (S.faults sink.new) result }
     {
-        let after = Seen::of(m);
+        let after = Snapshot::of(m);
         let put = put_drawn(&self.seen, &after, sink);
         self.rows += begun_rows(&self.seen, &after);
         self.seen = after;
@@ -106,8 +106,8 @@ impl Pen {
 fn put_logged<S: Sink>(
     block: &Block,
     first: u64,
-    before: &Seen,
-    after: &Seen,
+    before: &Snapshot,
+    after: &Snapshot,
     sink: &mut S,
 ) -> Result<(), SinkFailed>
     requires row { first < 2 ^ 62 }

@@ -2,7 +2,7 @@
 ghost use Rattle.std.specs.Prelude.{◌≡◌, ◌≤◌, ◌<◌, ◌+◌, ◌^◌};
 ghost use Rattle.diva_drawing.specs.Rows.{accepted_claims, begun_rows, committed_rows, dropped_rows, is_cut, kept_rows, open_rows};
 
-use crate::seen::Seen;
+use crate::snapshot::Snapshot;
 use diva_isa::Record;
 
 /// How a row ends.
@@ -20,7 +20,7 @@ pub enum Ending {
 
 /// A row that is drawn.
 #[derive(Clone, Copy, Debug)]
-pub struct Row {
+pub struct DrawnRow {
     /// The claim, or the record of the instruction that ran solo.
     pub claim: Record,
     /// The cycle in which it begins.
@@ -34,7 +34,7 @@ pub struct Row {
 }
 
 /// How many rows are open: those of the pending claims, or that of the instruction that runs solo.
-pub(crate) fn open_rows(s: &Seen) -> u64
+pub(crate) fn open_rows(s: &Snapshot) -> u64
     ensures value { result ≡ open_rows s.now }
     ensures few { result ≤ 65 }
 {
@@ -42,21 +42,21 @@ pub(crate) fn open_rows(s: &Seen) -> u64
 }
 
 /// How many of them ended in a cycle since they committed.
-pub(crate) fn committed_rows(before: &Seen, after: &Seen) -> u64
+pub(crate) fn committed_rows(before: &Snapshot, after: &Snapshot) -> u64
     ensures { result ≡ committed_rows before.now after.now }
 {
     after.count.saturating_sub(before.count)
 }
 
 /// Whether the machine flushed in a cycle, or ended.
-fn is_cut(before: &Seen, after: &Seen) -> bool
+fn is_cut(before: &Snapshot, after: &Snapshot) -> bool
     ensures { result ≡ is_cut before.now after.now }
 {
     after.flushes != before.flushes || !after.on
 }
 
 /// How many rows were dropped in a cycle.
-pub(crate) fn dropped_rows(before: &Seen, after: &Seen) -> u64
+pub(crate) fn dropped_rows(before: &Snapshot, after: &Snapshot) -> u64
     ensures value { result ≡ dropped_rows before.now after.now }
     ensures few { result ≤ 65 }
 {
@@ -68,7 +68,7 @@ pub(crate) fn dropped_rows(before: &Seen, after: &Seen) -> u64
 }
 
 /// How many rows began in a cycle.
-pub(crate) fn begun_rows(before: &Seen, after: &Seen) -> u64
+pub(crate) fn begun_rows(before: &Snapshot, after: &Snapshot) -> u64
     ensures value { result ≡ begun_rows before.now after.now }
     ensures few { result ≤ 65 }
 {
@@ -77,7 +77,7 @@ pub(crate) fn begun_rows(before: &Seen, after: &Seen) -> u64
 }
 
 /// How many claims were accepted in a cycle.
-pub(crate) fn accepted_claims(before: &Seen, after: &Seen) -> usize
+pub(crate) fn accepted_claims(before: &Snapshot, after: &Snapshot) -> usize
     ensures { result ≡ accepted_claims before.now after.now }
 {
     if is_cut(before, after) {

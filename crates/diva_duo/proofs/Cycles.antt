@@ -15,7 +15,7 @@ use Rattle.diva_duo.specs.declared.action.Action.{Action}
 use Rattle.diva_duo.specs.declared.action.Action.TheVariants.{Go, Drain}
 use Rattle.diva_duo.specs.Harts.{Harts, may_drain, memory_drained, replay, state_drained, where_possible}
 use Rattle.diva_duo.specs.Duo.{Duo, Hart, timed, drained_hart, hart_cycle, duo_drained, duo_cycle_of, phased, is_over, has_ended, harts_of, drains, actions}
-use Rattle.diva_duo.specs.Which.{Which, First, Second, hart_at, standing}
+use Rattle.diva_duo.specs.Which.{Which, First, Second, hart_at, machine_at}
 use Rattle.diva_duo.specs.Between.{CountsFew, IsDuo, IsHart}
 use Rattle.diva_duo.proofs.Moving.{Moves, moves_on, keeps_on, other_memory, stalls_hart}
 use Rattle.diva_duo.proofs.Replaying.{replays, replay_then, went_on, went_none}
@@ -188,7 +188,7 @@ module _ (d : Duo) (inv : IsDuo d) (a b : List Record) where
   next_continues First = record { count = (let e = ap (λ (x : Hart). x.state.instret) first_is ∙ moves_first.counted in omega arith); few = (let e = ap (λ (x : Hart). x.state.instret) first_is ∙ moves_first.counted in let f = moves_first.few in omega arith); config = ap (λ (x : Hart). x.config) first_is ∙ moves_first.config }
   next_continues Second = record { count = (let e = ap (λ (x : Hart). x.state.instret) second_is ∙ moves_second.counted in omega arith); few = (let e = ap (λ (x : Hart). x.state.instret) second_is ∙ moves_second.counted in let f = moves_second.few in omega arith); config = ap (λ (x : Hart). x.config) second_is ∙ moves_second.config }
 
-  next_stalls : (w : Which) → (hart_at w d).state.end ≡ 0 → ((hart_at w d).state.instret < (hart_at w next).state.instret) ⊎ Stalls (standing w d) (standing w next)
+  next_stalls : (w : Which) → (hart_at w d).state.end ≡ 0 → ((hart_at w d).state.instret < (hart_at w next).state.instret) ⊎ Stalls (machine_at w d) (machine_at w next)
   unfolding duo_drained
   next_stalls First on = stalls_hart d.cycles d.memory memory d.first inv.first inside_first a on
   next_stalls Second on = stalls_hart d.cycles d.memory memory d.second inv.second inside_second b on
@@ -202,9 +202,9 @@ module _ (d : Duo) (inv : IsDuo d) (a b : List Record) where
   pub counts_few : (w : Which) → CountsFew w d (duo_cycle_of d a b)
   counts_few w = (continues w).few
 
-  pub stalls_at : (w : Which) → (hart_at w d).state.end ≡ 0 → ((hart_at w d).state.instret < (hart_at w (duo_cycle_of d a b)).state.instret) ⊎ Stalls (standing w d) (standing w (duo_cycle_of d a b))
+  pub stalls_at : (w : Which) → (hart_at w d).state.end ≡ 0 → ((hart_at w d).state.instret < (hart_at w (duo_cycle_of d a b)).state.instret) ⊎ Stalls (machine_at w d) (machine_at w (duo_cycle_of d a b))
   stalls_at w on =
-      subst (λ (e : Duo). ((hart_at w d).state.instret < (hart_at w e).state.instret) ⊎ Stalls (standing w d) (standing w e))
+      subst (λ (e : Duo). ((hart_at w d).state.instret < (hart_at w e).state.instret) ⊎ Stalls (machine_at w d) (machine_at w e))
       (sym (cycle_next (not_over w on))) (next_stalls w on)
 
   pub cycles_next : (duo_cycle_of d a b).cycles ≤ d.cycles + 1

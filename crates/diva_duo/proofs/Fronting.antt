@@ -18,7 +18,7 @@ use Rattle.diva_storeq.specs.Stores.{laid}
 use Rattle.diva_commit.specs.Committing.{state_of}
 use Rattle.diva_hart.specs.HartArch.{HartState, seen}
 use Rattle.diva_duo.specs.Duo.{Hart}
-use Rattle.diva_duo.specs.Inner.{IsOpen, judge_next}
+use Rattle.diva_duo.specs.Inner.{NonePastEnd, judge_next}
 
 first_is : (items : List Entry) (e : Entry) → slice_get items 0 ≡ Some e → items ≡ e ∷ drop 1 items
 first_is [] e h = absurd (none-some _ h)
@@ -72,8 +72,8 @@ module _ (m n : Timed) (ps : List PendingClaim) (is : n ≡ committed (record m 
 
 -- ---- of a hart
 
-pub opens : (h : Hart) (items : List Entry) (e : Entry) → IsOpen h → h.pending ≡ map pending_claim_of items → slice_get items 0 ≡ Some e → h.state.end ≡ 0
-opens h items e open_ waits first = open_ (subst (λ (xs : List PendingClaim). 0 < length xs) (sym waits) (some_wait items e first))
+pub front_goes_on : (h : Hart) (items : List Entry) (e : Entry) → NonePastEnd h → h.pending ≡ map pending_claim_of items → slice_get items 0 ≡ Some e → h.state.end ≡ 0
+front_goes_on h items e none_past_end waits first = none_past_end (subst (λ (xs : List PendingClaim). 0 < length xs) (sym waits) (some_wait items e first))
 
 pub due_is : (memory : Bytes) (h : Hart) (view : State) (r : Record) → view ≡ record (seen memory h.state) { end = 0 } → r ≡ record_of view → h.state.end ≡ 0 → r ≡ record_of (seen memory h.state)
 due_is memory h view r shows is on =

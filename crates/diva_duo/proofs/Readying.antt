@@ -12,13 +12,13 @@ use Rattle.diva_duo.specs.Harts.{first_state}
 use Rattle.diva_duo.specs.Duo.{Duo, Hart, drained_hart, new_duo, new_hart}
 use Rattle.diva_duo.specs.Which.{Which, First, Second, hart_at}
 use Rattle.diva_duo.specs.Between.{IsDuo, IsHart}
-use Rattle.diva_duo.specs.Inner.{IsReady}
+use Rattle.diva_duo.specs.Inner.{CanCycle}
 
 idle_most : (m : Timed) (solo : Option ℕ) → Lives m solo → m.config.limit ≤ 1024 → m.idle < 2 ^ 31
 idle_most m None h high = omega arith
 idle_most m (Some start) h high = let i = h.idled in let s = h.soon in omega arith
 
-pub ready : (now : ℕ) (memory : Bytes) (h : Hart) → IsHart now memory h → now < 2 ^ 60 → IsReady (drained_hart h)
+pub ready : (now : ℕ) (memory : Bytes) (h : Hart) → IsHart now memory h → now < 2 ^ 60 → CanCycle (drained_hart h)
 ready now memory h inv few =
     let m = inv.machine in
     let w = inv.within in

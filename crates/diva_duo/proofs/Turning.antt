@@ -9,7 +9,7 @@ use Rattle.diva_duo.specs.Duo.{Duo, actions, duo_cycle_of, harts_of, is_over}
 use Rattle.diva_duo.specs.Which.{First, Second}
 use Rattle.diva_duo.specs.Between.{IsDuo, duo_run}
 use Rattle.diva_duo.specs.Shown.{Shown}
-use Rattle.diva_duo.specs.Turns.{Asked, DrivesDuo, DuoTurn, DuoTurns, IsDuoHistory, acted_by, last_acted, pairs_of}
+use Rattle.diva_duo.specs.Turns.{HandsOver, DrivesDuo, DuoTurn, DuoTurns, IsDuoHistory, acted_by, last_acted, pairs_of}
 use Rattle.diva_duo.proofs.Cycles.{cycles_more, replays_actions}
 use Rattle.diva_duo.proofs.Replaying.{replay_then}
 
@@ -21,8 +21,8 @@ module _ {A B : Type 0} (gives_a : Meaning A) (gives_b : Meaning B) where
       (d : Duo) (a : A) (b : B) (history : List (DuoTurn A B)) (mid : Duo) (between_a : A) (between_b : B) (t : DuoTurn A B)
       → IsDuoHistory gives_a gives_b d a b history mid between_a between_b
       → is_over mid ≡ false
-      → Asked gives_a First mid between_a t.first t.first_core
-      → Asked gives_b Second mid between_b t.second t.second_core
+      → HandsOver gives_a First mid between_a t.first t.first_core
+      → HandsOver gives_b Second mid between_b t.second t.second_core
       → IsDuoHistory gives_a gives_b d a b (history ++ t ∷ []) (duo_cycle_of mid t.first t.second) t.first_core t.second_core
   history_more d a b [] mid between_a between_b t h over x y = rw (← h.0, ← h.1, ← h.2) (over, x, y, (refl, refl, refl))
   history_more d a b (u ∷ rest) mid between_a between_b t h over x y =
@@ -32,8 +32,8 @@ module _ {A B : Type 0} (gives_a : Meaning A) (gives_b : Meaning B) where
       (d : Duo) (a : A) (b : B) (mid : Duo) (between_a : A) (between_b : B) (t : DuoTurn A B)
       → DuoTurns gives_a gives_b d a b mid between_a between_b
       → is_over mid ≡ false
-      → Asked gives_a First mid between_a t.first t.first_core
-      → Asked gives_b Second mid between_b t.second t.second_core
+      → HandsOver gives_a First mid between_a t.first t.first_core
+      → HandsOver gives_b Second mid between_b t.second t.second_core
       → (duo_cycle_of mid t.first t.second).cycles ≡ mid.cycles + 1
       → DuoTurns gives_a gives_b d a b (duo_cycle_of mid t.first t.second) t.first_core t.second_core
   turns_more d a b mid between_a between_b t turns over x y next =
@@ -76,8 +76,8 @@ module _ {A B : Type 0} (gives_a : Meaning A) (gives_b : Meaning B) where
       → DrivesDuo gives_a gives_b d a b mid between_a between_b
       → IsDuo mid.duo
       → is_over mid.duo ≡ false
-      → Asked gives_a First mid.duo between_a t.first t.first_core
-      → Asked gives_b Second mid.duo between_b t.second t.second_core
+      → HandsOver gives_a First mid.duo between_a t.first t.first_core
+      → HandsOver gives_b Second mid.duo between_b t.second t.second_core
       → last.duo ≡ duo_cycle_of mid.duo t.first t.second
       → last.last ≡ actions mid.duo last.duo
       → DrivesDuo gives_a gives_b d a b last t.first_core t.second_core

@@ -20,8 +20,8 @@ pub record KeepsBounds (few : ℕ) (h g : Hart) : Type 0 where
   pub silent : g.silent ≤ h.silent + 1
 
 -- nothing is pending behind an end
-abbrev pub IsOpen : Hart → Type 0
-IsOpen h = 0 < length h.pending → h.state.end ≡ 0
+abbrev pub NonePastEnd : Hart → Type 0
+NonePastEnd h = 0 < length h.pending → h.state.end ≡ 0
 
 -- a hart has gone on by the instructions that it counted: what it sees, and what it put into its buffer
 pub record Grown (memory : Bytes) (h g : Hart) : Type 0 where
@@ -34,7 +34,7 @@ abbrev pub judge_next : (Timed → Timed) → Timed → Timed
 judge_next next m = by_judgement m (next (past_front m)) (judgement_under fences_wait m)
 
 -- a hart's numbers leave room for a cycle
-pub record IsReady (h : Hart) : Type 0 where
+pub record CanCycle (h : Hart) : Type 0 where
   pub width : h.config.width ≤ 4
   pub limit : 1 ≤ h.config.limit
   pub pending : length h.pending ≤ h.config.window

@@ -7,7 +7,7 @@ use Rattle.diva_isa.specs.declared.record.Record.{Record}
 use Rattle.diva_core.specs.Timed.{default_config}
 use Rattle.diva_hart.specs.HartArch.{seen}
 use Rattle.diva_duo.specs.Duo.{Duo, new_duo, duo_cycle_of, actions}
-use Rattle.diva_duo.specs.Which.{First, Second, standing}
+use Rattle.diva_duo.specs.Which.{First, Second, machine_at}
 use Rattle.diva_duo.specs.declared.action.Action.{Action}
 
 -- a machine at reset with a memory of 64 bytes: these words, and zeros behind them
@@ -45,7 +45,7 @@ abbrev pub summary_of : Duo → Summary
 summary_of d =
     record {
       cycles = d.cycles;
-      counts = (standing First d).count ∷ (standing Second d).count ∷ [];
+      counts = (machine_at First d).count ∷ (machine_at Second d).count ∷ [];
       ends = d.first.state.end ∷ d.second.state.end ∷ [];
-      x2 = reg_of (standing First d).arch 2 ∷ reg_of (standing Second d).arch 2 ∷ [];
+      x2 = reg_of (machine_at First d).arch 2 ∷ reg_of (machine_at Second d).arch 2 ∷ [];
     }

@@ -6,17 +6,17 @@ use Rattle.diva_core.specs.History.{Meaning}
 use Rattle.diva_duo.specs.Duo.{Duo, actions, duo_cycle_of, harts_of, is_over}
 use Rattle.diva_duo.specs.Harts.{replay}
 use Rattle.diva_duo.specs.Shown.{Shown}
-use Rattle.diva_duo.specs.Which.{Which, First, Second, hart_at, standing}
+use Rattle.diva_duo.specs.Which.{Which, First, Second, hart_at, machine_at}
 use Rattle.diva_duo.specs.declared.action.Action.{Action}
 
 -- a core hands over the list of its hart, where that goes on: its `gives` says so at what the hart is told and at the state that it
 -- sees. The core of an ended hart is not asked, and its list is empty
-abbrev pub AskedBy : {C : Type 0} → Meaning C → (goes_on : Bool) → Which → Duo → C → List Record → C → Type 0
-AskedBy gives true w d core list after = gives core (told_of (standing w d)) (standing w d).arch list after
-AskedBy gives false w d core list after = (list ≡ []) × (after ≡ core)
+abbrev pub HandsOverBy : {C : Type 0} → Meaning C → (goes_on : Bool) → Which → Duo → C → List Record → C → Type 0
+HandsOverBy gives true w d core list after = gives core (told_of (machine_at w d)) (machine_at w d).arch list after
+HandsOverBy gives false w d core list after = (list ≡ []) × (after ≡ core)
 
-abbrev pub Asked : {C : Type 0} → Meaning C → Which → Duo → C → List Record → C → Type 0
-Asked gives w d core list after = AskedBy gives ((hart_at w d).state.end == 0) w d core list after
+abbrev pub HandsOver : {C : Type 0} → Meaning C → Which → Duo → C → List Record → C → Type 0
+HandsOver gives w d core list after = HandsOverBy gives ((hart_at w d).state.end == 0) w d core list after
 
 -- what is handed over in a cycle, and the cores after it
 pub record DuoTurn (A B : Type 0) : Type 0 where
@@ -30,8 +30,8 @@ abbrev pub IsDuoHistory : {A B : Type 0} → Meaning A → Meaning B → Duo →
 IsDuoHistory gives_a gives_b d a b [] last final_a final_b = (last ≡ d) × (final_a ≡ a) × (final_b ≡ b)
 IsDuoHistory gives_a gives_b d a b (t ∷ rest) last final_a final_b =
     (is_over d ≡ false)
-    × Asked gives_a First d a t.first t.first_core
-    × Asked gives_b Second d b t.second t.second_core
+    × HandsOver gives_a First d a t.first t.first_core
+    × HandsOver gives_b Second d b t.second t.second_core
     × IsDuoHistory gives_a gives_b (duo_cycle_of d t.first t.second) t.first_core t.second_core rest last final_a final_b
 
 -- turns lead from two harts and their cores to others, one for each cycle

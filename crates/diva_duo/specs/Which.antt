@@ -17,5 +17,5 @@ hart_at First d = d.first
 hart_at Second d = d.second
 
 -- the timed machine that it is
-abbrev pub standing : Which → Duo → Timed
-standing w d = timed d.cycles d.memory (hart_at w d)
+abbrev pub machine_at : Which → Duo → Timed
+machine_at w d = timed d.cycles d.memory (hart_at w d)

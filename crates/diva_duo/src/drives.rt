@@ -3,7 +3,7 @@ ghost use Rattle.std.specs.Prelude.{◌≡◌, ◌+◌, ◌<◌, ◌≤◌, ◌^
 ghost use Rattle.diva_duo.specs.Duo.{is_over};
 ghost use Rattle.diva_duo.specs.Which.{First, Second, which};
 ghost use Rattle.diva_duo.specs.Between.{HasGone, IsDuo, WillGo};
-ghost use Rattle.diva_duo.specs.Turns.{Asked, DrivesDuo};
+ghost use Rattle.diva_duo.specs.Turns.{HandsOver, DrivesDuo};
 
 use crate::duo::Duo;
 use diva_core::{Claims, Core};
@@ -47,7 +47,7 @@ pub fn drive2<A: Core, B: Core>(duo: &mut Duo, a: &mut A, b: &mut B, budget: u64
 /// The core of a hart, 0 or 1, is asked, where the hart goes on.
 fn ask<C: Core>(duo: &Duo, h: u8, core: &mut C, list: &mut Claims)
     requires { h < 2 }
-    ensures { Asked C.gives (which h) duo.now.duo core.old list.new core.new }
+    ensures { HandsOver C.gives (which h) duo.now.duo core.old list.new core.new }
 {
     list.clear();
     if duo.goes_on(h) {

@@ -9,9 +9,9 @@ ghost use Rattle.diva_commit.specs.Committing.{AreInside};
 ghost use Rattle.diva_hart.specs.Start.{start_of};
 ghost use Rattle.diva_duo.specs.Harts.{memory_drained, replay};
 ghost use Rattle.diva_duo.specs.Duo.{actions, drained_hart, drains, duo_cycle_of, goes, hart_cycle, harts_of, is_over, new_duo};
-ghost use Rattle.diva_duo.specs.Which.{First, Second, hart_at, standing, which};
+ghost use Rattle.diva_duo.specs.Which.{First, Second, hart_at, machine_at, which};
 ghost use Rattle.diva_duo.specs.Between.{CountsFew, IsDuo, WillGo, HasGone};
-ghost use Rattle.diva_duo.specs.Inner.{IsReady};
+ghost use Rattle.diva_duo.specs.Inner.{CanCycle};
 
 use crate::action::Action;
 use crate::hart::Hart;
@@ -109,7 +109,7 @@ fn run(
     list: &[Claim],
     last: &mut Actions,
 )
-    requires ready { IsReady hart.old }
+    requires ready { CanCycle hart.old }
     requires room { length last.old.items ≤ 6 }
     ensures hart { hart.new ≡ hart_cycle cycles memory.now list.now hart.old }
     ensures last { last.new.items ≡ last.old.items ++ goes number hart.old.state hart.new.state }
@@ -222,7 +222,7 @@ impl Duo {
     #[tactic(auto, using(crate::proofs::Readying::tells, crate::proofs::Readying::tells_flushes))]
     pub fn told(&self, h: u8) -> Told
         requires { h < 2 }
-        ensures { result ≡ told_of (standing (which h) self.now.duo) }
+        ensures { result ≡ told_of (machine_at (which h) self.now.duo) }
     {
         let cycles = self.parts.cycles;
         self.parts.hart(h).told(cycles)
@@ -231,8 +231,8 @@ impl Duo {
     /// What a hart, 0 or 1, sees: the shared memory with its own buffer laid over it.
     pub fn view(&self, h: u8) -> View<'_>
         requires { h < 2 }
-        ensures shows { result ≡ record (standing (which h) self.now.duo).arch { end = 0 } }
-        ensures goes_on { (hart_at (which h) self.now.duo).state.end ≡ 0 → result ≡ (standing (which h) self.now.duo).arch }
+        ensures shows { result ≡ record (machine_at (which h) self.now.duo).arch { end = 0 } }
+        ensures goes_on { (hart_at (which h) self.now.duo).state.end ≡ 0 → result ≡ (machine_at (which h) self.now.duo).arch }
     {
         self.parts.hart(h).view(&self.parts.memory)
     }
@@ -240,7 +240,7 @@ impl Duo {
     /// How many instructions a hart, 0 or 1, has committed.
     pub fn count(&self, h: u8) -> u64
         requires { h < 2 }
-        ensures { result ≡ (standing (which h) self.now.duo).count }
+        ensures { result ≡ (machine_at (which h) self.now.duo).count }
     {
         self.parts.hart(h).count()
     }

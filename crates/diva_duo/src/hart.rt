@@ -17,7 +17,7 @@ ghost use Rattle.diva_hart.specs.Start.{start_of};
 ghost use Rattle.diva_duo.specs.Rules.{fences_wait};
 ghost use Rattle.diva_duo.specs.Harts.{memory_drained};
 ghost use Rattle.diva_duo.specs.Duo.{drained_hart, hart_cycle, has_ended, new_hart, timed};
-ghost use Rattle.diva_duo.specs.Inner.{judge_next, Grown, IsOpen, IsReady, KeepsBounds};
+ghost use Rattle.diva_duo.specs.Inner.{judge_next, Grown, NonePastEnd, CanCycle, KeepsBounds};
 
 use diva_core::{Cause, Claim, Config, FlushRow, Told, View, first_difference};
 use diva_decode::{Instr, decode};
@@ -212,11 +212,11 @@ impl Hart {
     /// loaded value included, since the other hart's stores have changed memory meanwhile.
     #[tactic(auto, using(crate::proofs::Growing::grown_none))]
     fn judge_front(&mut self, memory: &Memory, cycles: u64) -> bool
-        requires open { IsOpen self.old }
+        requires none_past_end { NonePastEnd self.old }
         requires count { self.old.state.instret < 2 ^ 62 }
         requires flushes { self.old.flushes < 2 ^ 63 }
         requires silent { self.old.silent < 2 ^ 63 }
-        ensures open { IsOpen self.new }
+        ensures none_past_end { NonePastEnd self.new }
         ensures judges { (next : Timed → Timed) → judge_next next (timed cycles memory.now self.old)
             ≡ (if result then next (timed cycles memory.now self.new) else timed cycles memory.now self.new) }
         ensures grown { Grown memory.now self.old self.new }
@@ -251,7 +251,7 @@ impl Hart {
     #[tactic(auto, using(crate::proofs::Growing::judged_less, crate::proofs::Growing::grown_then, crate::proofs::Growing::grown_none))]
     fn judge(&mut self, memory: &Memory, cycles: u64, n: u32)
         requires width { n ≤ 4 }
-        requires open { IsOpen self.old }
+        requires none_past_end { NonePastEnd self.old }
         requires count { self.old.state.instret + 4 ≤ 2 ^ 62 }
         requires flushes { self.old.flushes < 2 ^ 63 }
         requires silent { self.old.silent < 2 ^ 63 }
@@ -326,7 +326,7 @@ impl Hart {
 
     /// Phases 2 to 5.
     pub fn cycle(&mut self, memory: &Memory, cycles: u64, list: &[Claim])
-        requires { IsReady self.old }
+        requires { CanCycle self.old }
         ensures cycled { self.new ≡ hart_cycle cycles memory.now list.now self.old }
         ensures counted { self.old.state.instret ≤ self.new.state.instret }
         ensures few { self.new.state.instret ≤ self.old.state.instret + 4 }

@@ -3,7 +3,7 @@ use Rattle.std.proofs.Common.{◌≡◌, ℕ, zero, suc, ◌+◌, ◌*◌, ◌/�
 use Rattle.std.specs.List.{flat_map, range_with_len}
 use Rattle.std.proofs.lemmas.List.{map-append}
 use Rattle.diva_faults.specs.declared.rows.Row.{Row}
-use Rattle.diva_faults.specs.Flips.{flip_at, flip_in, flips_in, flips_to}
+use Rattle.diva_faults.specs.Flips.{flip_at, flip_of_cycle, flips_in, flips_to}
 
 -- two functions that agree on numbers in a row
 same_in_row : (f g : ℕ → Row) (a b n : ℕ) → ((k : ℕ) → k < n → f (a + k) ≡ g (b + k)) → map f (range_with_len a n) ≡ map g (range_with_len b n)
@@ -29,16 +29,16 @@ in_two a (suc m) n =
     ∙ ap (λ (xs : List ℕ). a ∷ xs) (in_two (a + 1) m n ∙ ap (λ b. range_with_len (a + 1) m ++ range_with_len b n) further)
 
 -- those of one cycle
-by_place : (cycle : ℕ) → map (flip_in cycle) (range_with_len 0 256) ≡ flips_in cycle
+by_place : (cycle : ℕ) → map (flip_of_cycle cycle) (range_with_len 0 256) ≡ flips_in cycle
 by_place cycle = refl
 
 one_cycle : (n : ℕ) → map flip_at (range_with_len (256 * n) 256) ≡ flips_in (n + 1)
 one_cycle n =
-    same_in_row flip_at (flip_in (n + 1)) (256 * n) 0 256
+    same_in_row flip_at (flip_of_cycle (n + 1)) (256 * n) 0 256
     (λ k lt.
     let cycle : (256 * n + k) / 256 + 1 ≡ n + 1 = omega arith in
     let place : (256 * n + k) % 256 ≡ 0 + k = omega arith in
-    ap₂ flip_in cycle place)
+    ap₂ flip_of_cycle cycle place)
     ∙ by_place (n + 1)
 
 from_cycle : (n many : ℕ) → map flip_at (range_with_len (256 * n) (256 * many)) ≡ flat_map flips_in (range_with_len (n + 1) many)

@@ -17,8 +17,8 @@ flips_to last = flat_map flips_in (range_with_len 1 last)
 
 -- ---- the same by place: there are 256 in each cycle
 
-abbrev pub flip_in : (cycle place : ℕ) → Row
-flip_in cycle place = Lane cycle 0 (Flip (slice_index_or all_fields (place / 32) Pc) (place % 32))
+abbrev pub flip_of_cycle : (cycle place : ℕ) → Row
+flip_of_cycle cycle place = Lane cycle 0 (Flip (slice_index_or all_fields (place / 32) Pc) (place % 32))
 
 abbrev pub flip_at : (place : ℕ) → Row
-flip_at place = flip_in (place / 256 + 1) (place % 256)
+flip_at place = flip_of_cycle (place / 256 + 1) (place % 256)

@@ -5,7 +5,7 @@
 //!   text is no script, `ScriptFault`.
 //! - `flips`: the rows of a campaign, which flip one bit each.
 //! - `faulty`: a core under a script, `Faulty`. `laws`: what holds of every script.
-//! - `schedule`: the rows of a script by cycle. `lanes`: what a row makes of a list.
+//! - `schedule`: the rows of a script by cycle. `lists`: what a row makes of a list.
 //!
 //! `specs/Reading.antt` has the script of a text, `specs/Lists.antt` what a script makes of a list, `specs/Spoiled.antt`
 //! what a core under a script means, `specs/Flips.antt` the rows of a campaign.
@@ -14,8 +14,8 @@
 mod fault;
 mod faulty;
 mod flips;
-mod lanes;
 pub mod laws;
+mod lists;
 mod reading;
 mod rows;
 mod schedule;

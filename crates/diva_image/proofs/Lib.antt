@@ -6,7 +6,7 @@ pub mod Again
 pub mod Rules
 -- the segments of a file
 pub mod Tables
--- the stretches of blocks that are not blank
+-- the stretches of blocks that are not of zeros alone
 pub mod Stretches
 -- what the segments of an image leave out
 pub mod Shown

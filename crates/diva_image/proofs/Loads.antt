@@ -3,7 +3,7 @@ use Rattle.std.proofs.Common.{◌≡◌, ◌≤◌, ◌<◌, ℕ, suc, ◌+◌, 
 use Rattle.std.specs.Option.{option_or}
 use Rattle.std.proofs.lemmas.Grind.{common_steps}
 use Rattle.std.proofs.lemmas.List.{append_assoc, drop-drop, length-append, length-drop, length-replicate, length-take, length-take-le}
-use Rattle.diva_image.specs.Elf.{can_load, elf_size, end_of_loads, first_load, has_bytes, is_dynamic, is_load, load_fault, loaded_from, lowered, memory_end, program_header_of, program_header_size, program_headers_in}
+use Rattle.diva_image.specs.Elf.{can_load, elf_size, end_of_loads, first_load, has_bytes, is_dynamic, is_load, load_fault, loaded_from, rounded_down, memory_end, program_header_of, program_header_size, program_headers_in}
 use Rattle.std.specs.Prelude.{IsSome}
 use Rattle.diva_image.specs.Inner.{IsExtent}
 use Rattle.diva_image.specs.declared.elf_header.ProgramHeader.{ProgramHeader}
@@ -244,7 +244,7 @@ extent_is size place hs (Some first) end none is-first is-end =
 
 -- memory begins where the first load does, or a little below
 pub lowered_loads : (size place : ℕ) (hs : List ProgramHeader) (first : Option ℕ) (base : ℕ) → load_fault 0 size place hs ≡ None
-    → first ≡ first_load hs → IsSome first → ((n : ℕ) → first ≡ Some n → base ≡ lowered n) → load_fault base size 0 hs ≡ None
+    → first ≡ first_load hs → IsSome first → ((n : ℕ) → first ≡ Some n → base ≡ rounded_down n) → load_fault base size 0 hs ≡ None
 lowered_loads size place hs None base none is-first some at = cc
 lowered_loads size place hs (Some first) base none is-first some at =
     let same = at first refl in
@@ -253,7 +253,7 @@ lowered_loads size place hs (Some first) base none is-first some at =
 
 -- what is loaded fits memory
 pub payload_fits : (length' place : ℕ) (hs : List ProgramHeader) (file : List ℕ) (first : Option ℕ) (end room base size : ℕ) → load_fault 0 length' place hs ≡ None
-    → first ≡ first_load hs → end ≡ end_of_loads 0 hs → IsSome first → ((n : ℕ) → first ≡ Some n → (base ≡ lowered n) × (size ≡ elf_size room n end))
+    → first ≡ first_load hs → end ≡ end_of_loads 0 hs → IsSome first → ((n : ℕ) → first ≡ Some n → (base ≡ rounded_down n) × (size ≡ elf_size room n end))
     → length (loaded_from base hs file) ≤ size
 payload_fits length' place hs file None end room base size none is-first is-end some at = cc
 payload_fits length' place hs file (Some first) end room base size none is-first is-end some at =

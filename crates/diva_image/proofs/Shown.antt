@@ -6,7 +6,7 @@ use Rattle.std.proofs.lemmas.Grind.{common_steps}
 use Rattle.std.proofs.lemmas.List.{append_assoc, drop-drop, drop_at, length-append, length-drop, length-take-le, nil_from_length, replicate-append-replicate, take-append-drop, take_at}
 use Rattle.std.proofs.Math.Seq.{drop-append-add, take-append-add}
 use Rattle.diva_image.specs.Inner.{ArePlaced}
-use Rattle.diva_image.specs.Migrated.{block_size, blocks_in, blocks_of, bytes_at, is_blank, joined, limited, spanned, stretches}
+use Rattle.diva_image.specs.Migrated.{block_size, blocks_in, blocks_of, bytes_at, is_zero_block, joined, limited, spanned, stretches}
 use Rattle.diva_image.specs.Segments.{behind, memory_from}
 use Rattle.diva_image.proofs.Tables.{placed-wider}
 use Rattle.diva_image.specs.declared.segment.Segment.{Segment}
@@ -99,16 +99,16 @@ block_before addr block rest [] some shown = apart_before addr block rest [] som
 block_before addr block rest (s ∷ ss) some shown = joined-if addr block rest s ss (addr + length block == s.addr) refl some shown
 
 -- the stretches of blocks show them
-blank-zeros : (block : List ℕ) → is_blank block ≡ true → block ≡ replicate (length block) 0
+blank-zeros : (block : List ℕ) → is_zero_block block ≡ true → block ≡ replicate (length block) 0
 blank-zeros [] blank = refl
 blank-zeros (zero ∷ block) blank = ap (λ (xs : List ℕ). 0 ∷ xs) (blank-zeros block blank)
 blank-zeros (suc b ∷ block) blank = grind (arith, common_steps)
 
-some_byte : (block : List ℕ) → is_blank block ≡ false → 0 < length block
+some_byte : (block : List ℕ) → is_zero_block block ≡ false → 0 < length block
 some_byte [] some = cc
 some_byte (b ∷ block) some = omega arith
 
-show-if : (addr : ℕ) (block rest : List ℕ) (ss : List Segment) (b : Bool) → is_blank block ≡ b → Show (addr + length block) rest ss
+show-if : (addr : ℕ) (block rest : List ℕ) (ss : List Segment) (b : Bool) → is_zero_block block ≡ b → Show (addr + length block) rest ss
     → Show addr (block ++ rest) (if b then ss else joined (record { addr = addr; len = length block }) ss)
 show-if addr block rest ss true blank shown = blank_before addr block rest ss (blank-zeros block blank) shown
 show-if addr block rest ss false some shown = block_before addr block rest ss (some_byte block some) shown
@@ -116,7 +116,7 @@ show-if addr block rest ss false some shown = block_before addr block rest ss (s
 pub show-stretches : (addr : ℕ) (blocks : List (List ℕ)) → Show addr (concat blocks) (stretches addr blocks)
 show-stretches addr [] = refl
 show-stretches addr (block ∷ blocks) =
-    show-if addr block (concat blocks) (stretches (addr + length block) blocks) (is_blank block) refl (show-stretches (addr + length block) blocks)
+    show-if addr block (concat blocks) (stretches (addr + length block) blocks) (is_zero_block block) refl (show-stretches (addr + length block) blocks)
 
 -- and so do fewer segments that go on over what is between them
 show-spanned : (addr : ℕ) (bytes : List ℕ) (s : Segment) (rest : List Segment) → Show addr bytes (s ∷ rest) → Show addr bytes (spanned s rest ∷ [])

@@ -1,11 +1,11 @@
--- The stretches of blocks that are not blank, one block after another.
+-- The stretches of blocks that are not of zeros alone, one block after another.
 use Rattle.std.proofs.Common.{◌≡◌, ◌≤◌, ◌<◌, ℕ, zero, suc, ◌+◌, ◌-◌, ◌/◌, ◌==◌, ◌||◌, inl, inr, min, List, [], ◌∷◌, ◌++◌, length, true, false, if◌then◌else◌, refl, arith, ap, subst, sym, ◌∙◌}
 use Rattle.std.specs.List.{concat}
 use Rattle.std.proofs.lemmas.Bool.{cases_eq, ne_eqb}
 use Rattle.std.proofs.lemmas.Grind.{common_steps}
 use Rattle.std.proofs.lemmas.List.{append-nil, append_assoc, drop_at, length-append, nil_from_length, take_all, take_at}
 use Rattle.diva_image.specs.Inner.{extended}
-use Rattle.diva_image.specs.Migrated.{block_size, blocks_of, is_blank, joined, limited, spanned, stretches}
+use Rattle.diva_image.specs.Migrated.{block_size, blocks_of, is_zero_block, joined, limited, spanned, stretches}
 use Rattle.diva_image.specs.Segments.{behind}
 use Rattle.diva_image.specs.declared.segment.Segment.{Segment}
 
@@ -22,14 +22,14 @@ joined-with_block s (t ∷ []) block = grind (arith, common_steps)
 joined-with_block s (t ∷ u ∷ rest) block = grind (arith, common_steps)
 
 -- one block more at the end
-pub one_block_more : (addr : ℕ) (blocks : List (List ℕ)) (block : List ℕ) → is_blank block ≡ false
+pub one_block_more : (addr : ℕ) (blocks : List (List ℕ)) (block : List ℕ) → is_zero_block block ≡ false
     → stretches addr (blocks ++ block ∷ []) ≡ with_block (stretches addr blocks) (record { addr = addr + length (concat blocks); len = length block })
 one_block_more addr [] block some = grind (arith, common_steps)
 one_block_more addr (b ∷ blocks) block some =
     let ih = one_block_more (addr + length b) blocks block some in
     grind (arith, common_steps, ih, joined-with_block)
 
-pub one_blank_more : (addr : ℕ) (blocks : List (List ℕ)) (block : List ℕ) → is_blank block ≡ true
+pub one_blank_more : (addr : ℕ) (blocks : List (List ℕ)) (block : List ℕ) → is_zero_block block ≡ true
     → stretches addr (blocks ++ block ∷ []) ≡ stretches addr blocks
 one_blank_more addr [] block blank = rw blank refl
 one_blank_more addr (b ∷ blocks) block blank = rw (one_blank_more (addr + length b) blocks block blank) refl
@@ -106,9 +106,9 @@ length-concat_push (b ∷ blocks) block =
     let right = length-append b (concat blocks) in
     omega arith
 
--- a block more that is not blank, and one that is
+-- a block more that is not of zeros alone, and one that is
 pub made_more : (base addr : ℕ) (blocks : List (List ℕ)) (block : List ℕ) (ss more : List Segment) → ss ≡ limited 15 (stretches base blocks)
-    → addr ≡ base + length (concat blocks) → is_blank block ≡ false → more ≡ extended 15 ss (record { addr = addr; len = length block })
+    → addr ≡ base + length (concat blocks) → is_zero_block block ≡ false → more ≡ extended 15 ss (record { addr = addr; len = length block })
     → more ≡ limited 15 (stretches base (blocks ++ block ∷ []))
 made_more base addr blocks block ss more made here some extends =
     extends
@@ -118,7 +118,7 @@ made_more base addr blocks block ss more made here some extends =
     ∙ ap (limited 15) (sym (one_block_more base blocks block some))
 
 pub made_same : (base : ℕ) (blocks : List (List ℕ)) (block : List ℕ) (ss : List Segment) → ss ≡ limited 15 (stretches base blocks)
-    → is_blank block ≡ true → ss ≡ limited 15 (stretches base (blocks ++ block ∷ []))
+    → is_zero_block block ≡ true → ss ≡ limited 15 (stretches base (blocks ++ block ∷ []))
 made_same base blocks block ss made blank = made ∙ ap (limited 15) (sym (one_blank_more base blocks block blank))
 
 -- a chunk of 64 bytes, or of those that are left, is the next block

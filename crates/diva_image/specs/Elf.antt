@@ -97,15 +97,15 @@ loaded_from addr (h ∷ rest) file =
     else loaded_from addr rest file
 
 -- a number made smaller, or larger, to be a multiple of 4
-abbrev pub lowered : ℕ → ℕ
-lowered n = n / 4 * 4
+abbrev pub rounded_down : ℕ → ℕ
+rounded_down n = n / 4 * 4
 
-abbrev pub raised : ℕ → ℕ
-raised n = lowered (n + 3)
+abbrev pub rounded_up : ℕ → ℕ
+rounded_up n = rounded_down (n + 3)
 
 -- how many bytes memory has, from the first load to the end of the last one and the room behind it
 abbrev pub elf_size : (room first end : ℕ) → ℕ
-elf_size room first end = raised end - lowered first + room
+elf_size room first end = rounded_up end - rounded_down first + room
 
 -- ---- faults
 
@@ -146,9 +146,9 @@ unfoldable pub bounds_fault : (room entry : ℕ) → Option ℕ → (end : ℕ) 
 bounds_fault room entry None end = fault 28 44
 bounds_fault room entry (Some first) end =
     -- 29: memory has more bytes than it may have, or ends past 2^32
-    if not (nat_le (elf_size room first end) most_size && nat_le (lowered first + elf_size room first end) (2 ^ 32)) then fault 29 0
+    if not (nat_le (elf_size room first end) most_size && nat_le (rounded_down first + elf_size room first end) (2 ^ 32)) then fault 29 0
     -- 30: the entry is not a multiple of 4, or not in memory
-    else (if not (is_entry (lowered first) (elf_size room first end) entry) then fault 30 24 else None)
+    else (if not (is_entry (rounded_down first) (elf_size room first end) entry) then fault 30 24 else None)
 
 -- the first fault of an executable
 unfoldable pub elf_fault : (room : ℕ) → List ℕ → Option Fault
@@ -164,10 +164,10 @@ elf_from room bytes None = record { base = 0; size = 0; entry = 0; payload = [] 
 elf_from room bytes (Some first) =
     let hs = program_headers bytes in
     record {
-      base = lowered first;
+      base = rounded_down first;
       size = elf_size room first (end_of_loads 0 hs);
       entry = (elf_header_of bytes).e_entry;
-      payload = loaded_from (lowered first) hs bytes;
+      payload = loaded_from (rounded_down first) hs bytes;
     }
 
 -- the image of an executable that has no fault

@@ -23,8 +23,8 @@ abbrev pub blocks_of : List ℕ → List (List ℕ)
 blocks_of bytes = blocks_in ((length bytes + (block_size - 1)) / block_size) bytes
 
 -- each byte of a block is 0
-abbrev pub is_blank : List ℕ → Bool
-is_blank block = list_all (λ byte. byte == 0) block
+abbrev pub is_zero_block : List ℕ → Bool
+is_zero_block block = list_all (λ byte. byte == 0) block
 
 -- a segment before others, which is one with the first of them where that begins at its end
 abbrev pub joined : Segment → List Segment → List Segment
@@ -32,12 +32,12 @@ joined s [] = s ∷ []
 joined s (next ∷ rest) =
     if behind s == next.addr then record { addr = s.addr; len = s.len + next.len } ∷ rest else s ∷ next ∷ rest
 
--- the stretches of blocks that are not blank, the first block being at an address
+-- the stretches of blocks that are not of zeros alone, the first block being at an address
 abbrev pub stretches : ℕ → List (List ℕ) → List Segment
 stretches addr [] = []
 stretches addr (block ∷ rest) =
     let others = stretches (addr + length block) rest in
-    if is_blank block then others else joined (record { addr = addr; len = length block }) others
+    if is_zero_block block then others else joined (record { addr = addr; len = length block }) others
 
 -- from the first of these segments to the end of the last one
 abbrev pub spanned : Segment → List Segment → Segment

@@ -1,7 +1,7 @@
 // An executable to an image, or to its first fault.
 ghost use Rattle.std.specs.Prelude.{ℕ, List, ◌∷◌, ◌≡◌, ◌≤◌, ◌<◌, ◌+◌, ◌-◌, ◌*◌, ◌%◌, ◌^◌, ◌++◌, length, drop, take, replicate, IfOk, IfErr, OnOk, IsNone, IsSome, None, Some};
 ghost use Rattle.std.specs.Option.{option_or};
-ghost use Rattle.diva_image.specs.Elf.{bounds_fault, elf_header_fault, elf_size, end_of_loads, first_load, load_fault, loaded_from, lowered};
+ghost use Rattle.diva_image.specs.Elf.{bounds_fault, elf_header_fault, elf_size, end_of_loads, first_load, load_fault, loaded_from, rounded_down};
 ghost use Rattle.diva_image.specs.Elf.{program_header_size, program_headers_in};
 ghost use Rattle.diva_image.specs.ImageLayout.{ReadsElf};
 ghost use Rattle.diva_image.specs.declared.elf_header.ProgramHeader.{ProgramHeader};
@@ -168,7 +168,7 @@ fn bounds_of(room: u32, entry: u32, extent: &Extent) -> Result<Bounds, Fault>
     requires small { room < 2 ^ 24 }
     requires loads { IsExtent extent.now.first extent.now.end }
     ensures bounds { IfOk result (λ bounds. (first : ℕ) → extent.now.first ≡ Some first
-        → (bounds.base ≡ lowered first) × (bounds.size ≡ elf_size room first extent.now.end)) }
+        → (bounds.base ≡ rounded_down first) × (bounds.size ≡ elf_size room first extent.now.end)) }
     ensures some { OnOk result (IsSome extent.now.first) }
     ensures placed { IfOk result (λ bounds. IsPlaced bounds.base bounds.size entry) }
     ensures faultless { OnOk result (bounds_fault room entry extent.now.first extent.now.end ≡ None) }
@@ -177,8 +177,8 @@ fn bounds_of(room: u32, entry: u32, extent: &Extent) -> Result<Bounds, Fault>
     let Some(first) = extent.first else {
         return Err(Fault::new(Kind::NoLoad, 44));
     };
-    let base = lowered(u64::from(first));
-    let size = lowered(extent.end + 3) - base + u64::from(room);
+    let base = rounded_down(u64::from(first));
+    let size = rounded_down(extent.end + 3) - base + u64::from(room);
     if u64::from(MOST_SIZE) < size || 1 << 32 < base + size {
         return Err(Fault::new(Kind::ElfSize, 0));
     }
@@ -194,8 +194,8 @@ fn bounds_of(room: u32, entry: u32, extent: &Extent) -> Result<Bounds, Fault>
 }
 
 /// A number made smaller, to be a multiple of 4.
-fn lowered(n: u64) -> u64
-    ensures { result ≡ lowered n }
+fn rounded_down(n: u64) -> u64
+    ensures { result ≡ rounded_down n }
 {
     n / 4 * 4
 }

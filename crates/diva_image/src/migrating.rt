@@ -4,7 +4,7 @@ ghost use Rattle.std.specs.List.{flat_map};
 ghost use Rattle.diva_image.specs.ImageLayout.{layout};
 ghost use Rattle.diva_image.specs.Layout.{most_size};
 ghost use Rattle.diva_image.specs.Inner.{ArePlaced};
-ghost use Rattle.diva_image.specs.Migrated.{BeginsAgain, blocks_of, bytes_at, canonical, is_blank, limited, pair_bytes, segmented_bytes, stretches};
+ghost use Rattle.diva_image.specs.Migrated.{BeginsAgain, blocks_of, bytes_at, canonical, is_zero_block, limited, pair_bytes, segmented_bytes, stretches};
 ghost use Rattle.diva_image.specs.Segments.{most_segments};
 
 use crate::Image;
@@ -63,7 +63,7 @@ fn canonical(base: u32, payload: &[u8]) -> Segments
     let mut segments = Segments::new();
     let mut addr = u64::from(base);
     for block in payload.chunks(BLOCK_SIZE) {
-        if !is_blank(block) {
+        if !is_zero_block(block) {
             segments.extend(Segment {
                 addr: addr as u32,
                 len: block.len() as u32,
@@ -75,8 +75,8 @@ fn canonical(base: u32, payload: &[u8]) -> Segments
 }
 
 /// Whether each byte of a block is 0.
-fn is_blank(block: &[u8]) -> bool
-    ensures { result ≡ is_blank block.now }
+fn is_zero_block(block: &[u8]) -> bool
+    ensures { result ≡ is_zero_block block.now }
 {
     block.iter().all(|byte| *byte == 0)
 }

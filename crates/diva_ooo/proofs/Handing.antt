@@ -6,7 +6,7 @@ use Rattle.diva_isa.specs.declared.record.Record.{Record}
 use Rattle.diva_ahead.specs.Effects.{done_by}
 use Rattle.diva_ahead.specs.Ahead.{Ahead, with_record, is_epoch}
 use Rattle.diva_core.specs.Told.{Told}
-use Rattle.diva_ooo.specs.Entry.{Entry}
+use Rattle.diva_ooo.specs.WindowEntry.{WindowEntry}
 use Rattle.diva_ooo.specs.Issue.{is_done}
 use Rattle.diva_ooo.specs.Ooo.{IsOooCall, OooCall, Ooo, call_of, completed, dropped, handed_over, ooo_call, restarted, with_handed, worked}
 
@@ -35,14 +35,14 @@ room_by : (b : Bool) (n : ℕ) (list : List Record) (p : Ooo) (call : OooCall) �
 room_by true n list p call h = omega arith
 room_by false n list p call h = omega arith
 
-handed_room : (n : ℕ) (s : State) (list : List Record) (p : Ooo) (w : List Entry) → length (handed_over n s list p w).list ≤ length list + n
+handed_room : (n : ℕ) (s : State) (list : List Record) (p : Ooo) (w : List WindowEntry) → length (handed_over n s list p w).list ≤ length list + n
 handed_room zero s list p w = omega arith
 handed_room (suc n) s list p [] = omega arith
 handed_room (suc n) s list p (e ∷ rest) =
     let next : Ooo = with_handed p s e.result rest in
     let more = handed_room n s (list ++ e.result ∷ []) next next.window in
     let long : length (list ++ e.result ∷ []) ≡ suc (length list) = length-append list (e.result ∷ []) ∙ omega arith in
-    room_by (is_done e.stage) n list p (handed_over n s (list ++ e.result ∷ []) next next.window) (omega arith)
+    room_by (is_done e.progress) n list p (handed_over n s (list ++ e.result ∷ []) next next.window) (omega arith)
 
 worked_room : (p : Ooo) (told : Told) (s : State) → length (worked p told s).list ≤ told.room
 unfolding worked

@@ -10,7 +10,7 @@ use Rattle.std.proofs.lemmas.Nat.{div_below, le-div, mod_below, one_shl, pow_pos
 use Rattle.std.proofs.Math.Nat.{add-zero, pow-suc, suc-mul}
 use Rattle.std.proofs.lemmas.Nat.Bits.{bit_at-zero, bit_at-lt, bit_at_above, bit_at_and, bit_at_or, bit_at_ones, bit_at_ones_above, bit_at_cat_high, bit_at_cat_low, bit_at_lowest, bit_at_mask_below, bit_at_mask_inside, bit_at_not, bit_at-suc, bit_at_xor, bit_at_set_same, bit_at_set_other, bit_at_clear_same, bit_at_clear_other, bit_at-trailing_zeros, ones_shl, same_from_bits, same_from_bits_below, shr_and_one}
 use mir.Val.{bool_byte}
-use Rattle.diva_ooo.specs.Entry.{Entry}
+use Rattle.diva_ooo.specs.WindowEntry.{WindowEntry}
 use Rattle.diva_ooo.specs.declared.mark_set.MarkSet.{MarkSet}
 use Rattle.diva_ooo.specs.MarkSets.{AreThose, IsLast, IsNext, has, holds_at}
 
@@ -381,63 +381,63 @@ up_none s o b from i fits behind none =
 
 -- ---- the entries
 
-pub holds_end : (p : Entry → Bool) (w : List Entry) (i : ℕ) → length w ≤ i → holds_at p w i ≡ false
+pub holds_end : (p : WindowEntry → Bool) (w : List WindowEntry) (i : ℕ) → length w ≤ i → holds_at p w i ≡ false
 holds_end p [] i h = refl
 holds_end p (e ∷ w) zero h = absurd (omega arith)
 holds_end p (e ∷ w) (suc i) h = holds_end p w i (omega arith)
 
-holds_new : (p : Entry → Bool) (w : List Entry) (e : Entry) (i : ℕ) → i ≡ length w → holds_at p (w ++ e ∷ []) i ≡ p e
+holds_new : (p : WindowEntry → Bool) (w : List WindowEntry) (e : WindowEntry) (i : ℕ) → i ≡ length w → holds_at p (w ++ e ∷ []) i ≡ p e
 holds_new p [] e zero is = refl
 holds_new p [] e (suc i) is = absurd (omega arith)
 holds_new p (x ∷ w) e zero is = absurd (omega arith)
 holds_new p (x ∷ w) e (suc i) is = holds_new p w e i (omega arith)
 
-holds_other : (p : Entry → Bool) (w : List Entry) (e : Entry) (i : ℕ) → (i ≡ length w → ⊥) → holds_at p (w ++ e ∷ []) i ≡ holds_at p w i
+holds_other : (p : WindowEntry → Bool) (w : List WindowEntry) (e : WindowEntry) (i : ℕ) → (i ≡ length w → ⊥) → holds_at p (w ++ e ∷ []) i ≡ holds_at p w i
 holds_other p [] e zero other = absurd (other refl)
 holds_other p [] e (suc i) other = refl
 holds_other p (x ∷ w) e zero other = refl
 holds_other p (x ∷ w) e (suc i) other = holds_other p w e i (λ is. other (omega arith))
 
-pub holds_take : (p : Entry → Bool) (w : List Entry) (n i : ℕ) → i < n → holds_at p (take n w) i ≡ holds_at p w i
+pub holds_take : (p : WindowEntry → Bool) (w : List WindowEntry) (n i : ℕ) → i < n → holds_at p (take n w) i ≡ holds_at p w i
 holds_take p [] zero i h = refl
 holds_take p [] (suc n) i h = refl
 holds_take p (e ∷ w) zero i h = absurd (omega arith)
 holds_take p (e ∷ w) (suc n) zero h = refl
 holds_take p (e ∷ w) (suc n) (suc i) h = holds_take p w n i (omega arith)
 
-pub holds_set : (p : Entry → Bool) (w : List Entry) (at i : ℕ) (x y : Entry) → slice_get w at ≡ Some x → holds_at p (slice_set w at y) i ≡ (if i == at then p y else holds_at p w i)
+pub holds_set : (p : WindowEntry → Bool) (w : List WindowEntry) (at i : ℕ) (x y : WindowEntry) → slice_get w at ≡ Some x → holds_at p (slice_set w at y) i ≡ (if i == at then p y else holds_at p w i)
 holds_set p [] at i x y is = absurd (cc)
 holds_set p (e ∷ w) zero zero x y is = refl
 holds_set p (e ∷ w) zero (suc i) x y is = let other : (suc i == 0) ≡ false = grind (arith, nat_tests) in rw other refl
 holds_set p (e ∷ w) (suc at) zero x y is = let other : (0 == suc at) ≡ false = grind (arith, nat_tests) in rw other refl
 holds_set p (e ∷ w) (suc at) (suc i) x y is = let same : (suc i == suc at) ≡ (i == at) = grind (arith, nat_tests) in rw same (holds_set p w at i x y is)
 
-holds_same : (p : Entry → Bool) (w : List Entry) (at i : ℕ) (x y : Entry) → slice_get w at ≡ Some x → p y ≡ p x → holds_at p (slice_set w at y) i ≡ holds_at p w i
+holds_same : (p : WindowEntry → Bool) (w : List WindowEntry) (at i : ℕ) (x y : WindowEntry) → slice_get w at ≡ Some x → p y ≡ p x → holds_at p (slice_set w at y) i ≡ holds_at p w i
 holds_same p [] at i x y is same = absurd (cc)
 holds_same p (e ∷ w) zero zero x y is same = let here : e ≡ x = cc in same ∙ ap p (sym here)
 holds_same p (e ∷ w) zero (suc i) x y is same = refl
 holds_same p (e ∷ w) (suc at) zero x y is same = refl
 holds_same p (e ∷ w) (suc at) (suc i) x y is same = holds_same p w at i x y is same
 
-pub holds_here : (p : Entry → Bool) (w : List Entry) (at : ℕ) (x : Entry) → slice_get w at ≡ Some x → holds_at p w at ≡ p x
+pub holds_here : (p : WindowEntry → Bool) (w : List WindowEntry) (at : ℕ) (x : WindowEntry) → slice_get w at ≡ Some x → holds_at p w at ≡ p x
 holds_here p [] at x is = absurd (cc)
 holds_here p (e ∷ w) zero x is = let here : e ≡ x = cc in ap p here
 holds_here p (e ∷ w) (suc at) x is = holds_here p w at x is
 
-pub holds_within : (p : Entry → Bool) (w : List Entry) (n : ℕ) → holds_at p w n ≡ true → n < length w
+pub holds_within : (p : WindowEntry → Bool) (w : List WindowEntry) (n : ℕ) → holds_at p w n ≡ true → n < length w
 holds_within p [] n there = absurd (cc)
 holds_within p (e ∷ w) zero there = omega arith
 holds_within p (e ∷ w) (suc n) there = let more = holds_within p w n there in omega arith
 
 -- ---- the set of a window that changes
 
-pub those_none : (p : Entry → Bool) (base : ℕ) → AreThose p [] base (record { bits = 0 })
+pub those_none : (p : WindowEntry → Bool) (base : ℕ) → AreThose p [] base (record { bits = 0 })
 those_none p base = λ i. rw (bit_at-zero (base + i)) refl
 
-pub those_pop : (p : Entry → Bool) (w : List Entry) (e : Entry) (base : ℕ) (s : MarkSet) → AreThose p (e ∷ w) base s → AreThose p w (base + 1) s
+pub those_pop : (p : WindowEntry → Bool) (w : List WindowEntry) (e : WindowEntry) (base : ℕ) (s : MarkSet) → AreThose p (e ∷ w) base s → AreThose p w (base + 1) s
 those_pop p w e base s those = λ i. let at : base + 1 + i ≡ base + suc i = omega arith in ap (has s) at ∙ those (suc i)
 
-push_by : (c : Bool) (p : Entry → Bool) (w : List Entry) (e : Entry) (base : ℕ) (s : MarkSet) (b : Bool) (i : ℕ) → AreThose p w base s → b ≡ p e → (base + i == base + length w) ≡ c
+push_by : (c : Bool) (p : WindowEntry → Bool) (w : List WindowEntry) (e : WindowEntry) (base : ℕ) (s : MarkSet) (b : Bool) (i : ℕ) → AreThose p w base s → b ≡ p e → (base + i == base + length w) ≡ c
     → (if c then b || has s (base + length w) else has s (base + i)) ≡ holds_at p (w ++ e ∷ []) i
 push_by true p w e base s b i those is here =
     let at : i ≡ length w = grind (arith, nat_tests) in
@@ -446,11 +446,11 @@ push_by false p w e base s b i those is here =
     let other : i ≡ length w → ⊥ = λ at. absurd (grind (arith, nat_tests)) in
     those i ∙ sym (holds_other p w e i other)
 
-pub those_push : (p : Entry → Bool) (w : List Entry) (e : Entry) (base : ℕ) (s t : MarkSet) (b : Bool) → AreThose p w base s → b ≡ p e
+pub those_push : (p : WindowEntry → Bool) (w : List WindowEntry) (e : WindowEntry) (base : ℕ) (s t : MarkSet) (b : Bool) → AreThose p w base s → b ≡ p e
     → ((i : ℕ) → has t i ≡ (if i == base + length w then b || has s (base + length w) else has s i)) → AreThose p (w ++ e ∷ []) base t
 those_push p w e base s t b those is puts = λ i. puts (base + i) ∙ push_by (base + i == base + length w) p w e base s b i those is refl
 
-kept_by : (c : Bool) (p : Entry → Bool) (w : List Entry) (base most : ℕ) (s : MarkSet) (i : ℕ) → AreThose p w base s → nat_lt (base + i) (base + most) ≡ c
+kept_by : (c : Bool) (p : WindowEntry → Bool) (w : List WindowEntry) (base most : ℕ) (s : MarkSet) (i : ℕ) → AreThose p w base s → nat_lt (base + i) (base + most) ≡ c
     → (if c then has s (base + i) else false) ≡ holds_at p (take most w) i
 kept_by true p w base most s i those is =
     let within : i < most = grind (arith, nat_tests) in
@@ -461,12 +461,12 @@ kept_by false p w base most s i those is =
     sym (holds_end p (take most w) i long)
 
 -- of the oldest
-pub those_kept : (p : Entry → Bool) (w : List Entry) (base most : ℕ) (s t : MarkSet) → AreThose p w base s
+pub those_kept : (p : WindowEntry → Bool) (w : List WindowEntry) (base most : ℕ) (s t : MarkSet) → AreThose p w base s
     → ((i : ℕ) → has t i ≡ (if nat_lt i (base + most) then has s i else false)) → AreThose p (take most w) base t
 those_kept p w base most s t those keeps = λ i. keeps (base + i) ∙ kept_by (nat_lt (base + i) (base + most)) p w base most s i those refl
 
 -- where the marks are lower by 32
-pub those_lowered : (p : Entry → Bool) (w : List Entry) (base : ℕ) (s t : MarkSet) → base ≡ 32 → AreThose p w base s → ((i : ℕ) → has t i ≡ has s (32 + i)) → AreThose p w 0 t
+pub those_lowered : (p : WindowEntry → Bool) (w : List WindowEntry) (base : ℕ) (s t : MarkSet) → base ≡ 32 → AreThose p w base s → ((i : ℕ) → has t i ≡ has s (32 + i)) → AreThose p w 0 t
 those_lowered p w base s t is those lowers = λ i.
     let at : 32 + (0 + i) ≡ base + i = omega arith in
     lowers (0 + i) ∙ ap (has s) at ∙ those i
@@ -474,7 +474,7 @@ those_lowered p w base s t is those lowers = λ i.
 same_mark : (base i at : ℕ) → (base + i == base + at) ≡ (i == at)
 same_mark base i at = grind (arith, nat_tests)
 
-pub those_set : (p : Entry → Bool) (w : List Entry) (at : ℕ) (x y : Entry) (base : ℕ) (b : Bool) (s t : MarkSet) → AreThose p w base s → slice_get w at ≡ Some x → p y ≡ b
+pub those_set : (p : WindowEntry → Bool) (w : List WindowEntry) (at : ℕ) (x y : WindowEntry) (base : ℕ) (b : Bool) (s t : MarkSet) → AreThose p w base s → slice_get w at ≡ Some x → p y ≡ b
     → ((i : ℕ) → has t i ≡ (if i == base + at then b else has s i)) → AreThose p (slice_set w at y) base t
 those_set p w at x y base b s t those is now sets =
     λ i.
@@ -484,12 +484,12 @@ those_set p w at x y base b s t those is now sets =
     ∙ ap (λ (c : Bool). if i == at then c else holds_at p w i) (sym now)
     ∙ sym (holds_set p w at i x y is)
 
-pub those_same : (p : Entry → Bool) (w : List Entry) (at : ℕ) (x y : Entry) (base : ℕ) (s : MarkSet) → AreThose p w base s → slice_get w at ≡ Some x → p y ≡ p x → AreThose p (slice_set w at y) base s
+pub those_same : (p : WindowEntry → Bool) (w : List WindowEntry) (at : ℕ) (x y : WindowEntry) (base : ℕ) (s : MarkSet) → AreThose p w base s → slice_get w at ≡ Some x → p y ≡ p x → AreThose p (slice_set w at y) base s
 those_same p w at x y base s those is same = λ i. those i ∙ sym (holds_same p w at i x y is same)
 
 -- ---- those from a place on
 
-pub holds_drop : (p : Entry → Bool) (w : List Entry) (at i : ℕ) → holds_at p (drop at w) i ≡ holds_at p w (at + i)
+pub holds_drop : (p : WindowEntry → Bool) (w : List WindowEntry) (at i : ℕ) → holds_at p (drop at w) i ≡ holds_at p w (at + i)
 holds_drop p w zero i = let e : 0 + i ≡ i = omega arith in rw e refl
 holds_drop p [] (suc at) i = refl
 holds_drop p (e ∷ w) (suc at) i = let e' : suc at + i ≡ suc (at + i) = omega arith in rw e' (holds_drop p w at i)

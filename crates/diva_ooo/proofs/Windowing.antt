@@ -4,7 +4,7 @@ use Rattle.std.specs.Prelude.{slice_set, slice_index}
 use Rattle.std.proofs.lemmas.Bool.Decides.{nat_tests}
 use Rattle.std.proofs.lemmas.List.{append-nil}
 use Rattle.diva_isa.specs.Regs.{with_reg}
-use Rattle.diva_ooo.specs.Entry.{Entry, profile_of}
+use Rattle.diva_ooo.specs.WindowEntry.{WindowEntry, profile_of}
 use Rattle.diva_ooo.specs.declared.board.Board.{Board}
 use Rattle.diva_ooo.specs.Board.{IsBoard, IsLastOf, can_at, could_at, has_result, writes}
 use Rattle.diva_ooo.specs.Issue.{can_begin, is_available, is_done, is_free, is_ready, is_waiting, written}
@@ -67,51 +67,51 @@ no_result true true h is = absurd (cc)
 no_result true false h is = refl
 no_result false c h is = absurd (cc)
 
-written_step : (d : Bool) (regs : List ℕ) (e : Entry) (n : ℕ) → is_done e.stage ≡ d → n < length regs → has_result n e ≡ false
+written_step : (d : Bool) (regs : List ℕ) (e : WindowEntry) (n : ℕ) → is_done e.progress ≡ d → n < length regs → has_result n e ≡ false
     → slice_index (if d then with_reg regs (profile_of e).rd e.result.value else regs) n ≡ slice_index regs n
-written_step true regs e n is h none = reg_other_by ((profile_of e).rd == 0) regs (profile_of e).rd e.result.value n refl h (no_result (is_done e.stage) (writes n e) none is)
+written_step true regs e n is h none = reg_other_by ((profile_of e).rd == 0) regs (profile_of e).rd e.result.value n refl h (no_result (is_done e.progress) (writes n e) none is)
 written_step false regs e n is h none = refl
 
-written_long : (d : Bool) (regs : List ℕ) (e : Entry) → length (if d then with_reg regs (profile_of e).rd e.result.value else regs) ≡ length regs
+written_long : (d : Bool) (regs : List ℕ) (e : WindowEntry) → length (if d then with_reg regs (profile_of e).rd e.result.value else regs) ≡ length regs
 written_long true regs e = reg_long_by ((profile_of e).rd == 0) regs (profile_of e).rd e.result.value
 written_long false regs e = refl
 
-written_none : (regs : List ℕ) (w : List Entry) (n : ℕ) → n < length regs → ((i : ℕ) → holds_at (has_result n) w i ≡ false) → slice_index (written regs w) n ≡ slice_index regs n
+written_none : (regs : List ℕ) (w : List WindowEntry) (n : ℕ) → n < length regs → ((i : ℕ) → holds_at (has_result n) w i ≡ false) → slice_index (written regs w) n ≡ slice_index regs n
 written_none regs [] n h none = refl
 written_none regs (e ∷ w) n h none =
-    let long = written_long (is_done e.stage) regs e in
-    written_none (if is_done e.stage then with_reg regs (profile_of e).rd e.result.value else regs) w n (omega arith) (λ i. none (suc i))
-    ∙ written_step (is_done e.stage) regs e n refl h (none 0)
+    let long = written_long (is_done e.progress) regs e in
+    written_none (if is_done e.progress then with_reg regs (profile_of e).rd e.result.value else regs) w n (omega arith) (λ i. none (suc i))
+    ∙ written_step (is_done e.progress) regs e n refl h (none 0)
 
-result_by : (d : Bool) (regs : List ℕ) (e : Entry) (n : ℕ) → is_done e.stage ≡ d → n < length regs → (writes n e && d) ≡ true
+result_by : (d : Bool) (regs : List ℕ) (e : WindowEntry) (n : ℕ) → is_done e.progress ≡ d → n < length regs → (writes n e && d) ≡ true
     → slice_index (if d then with_reg regs (profile_of e).rd e.result.value else regs) n ≡ e.result.value
 result_by true regs e n is h there = reg_same_by ((profile_of e).rd == 0) regs (profile_of e).rd e.result.value n refl h (reg_left (writes n e) true there)
 result_by false regs e n is h there = absurd (and_never (writes n e) there)
 
-written_last : (regs : List ℕ) (w : List Entry) (n j : ℕ) (x : Entry) → n < length regs → slice_get w j ≡ Some x → holds_at (has_result n) w j ≡ true → ((i : ℕ) → j < i → holds_at (has_result n) w i ≡ false)
+written_last : (regs : List ℕ) (w : List WindowEntry) (n j : ℕ) (x : WindowEntry) → n < length regs → slice_get w j ≡ Some x → holds_at (has_result n) w j ≡ true → ((i : ℕ) → j < i → holds_at (has_result n) w i ≡ false)
     → slice_index (written regs w) n ≡ x.result.value
 written_last regs [] n j x h is there last = absurd (cc)
 written_last regs (e ∷ w) n zero x h is there last =
     let here : e ≡ x = cc in
-    let long = written_long (is_done e.stage) regs e in
-    written_none (if is_done e.stage then with_reg regs (profile_of e).rd e.result.value else regs) w n (omega arith) (λ i. last (suc i) (omega arith))
-    ∙ result_by (is_done e.stage) regs e n refl h there
-    ∙ ap (λ (z : Entry). z.result.value) here
+    let long = written_long (is_done e.progress) regs e in
+    written_none (if is_done e.progress then with_reg regs (profile_of e).rd e.result.value else regs) w n (omega arith) (λ i. last (suc i) (omega arith))
+    ∙ result_by (is_done e.progress) regs e n refl h there
+    ∙ ap (λ (z : WindowEntry). z.result.value) here
 written_last regs (e ∷ w) n (suc j) x h is there last =
-    let long = written_long (is_done e.stage) regs e in
-    written_last (if is_done e.stage then with_reg regs (profile_of e).rd e.result.value else regs) w n j x (omega arith) is there (λ i k. last (suc i) (omega arith))
+    let long = written_long (is_done e.progress) regs e in
+    written_last (if is_done e.progress then with_reg regs (profile_of e).rd e.result.value else regs) w n j x (omega arith) is there (λ i k. last (suc i) (omega arith))
 
-get_take : (w : List Entry) (at j : ℕ) → j < at → slice_get (take at w) j ≡ slice_get w j
+get_take : (w : List WindowEntry) (at j : ℕ) → j < at → slice_get (take at w) j ≡ slice_get w j
 get_take [] zero j h = refl
 get_take [] (suc at) j h = refl
 get_take (e ∷ w) zero j h = absurd (omega arith)
 get_take (e ∷ w) (suc at) zero h = refl
 get_take (e ∷ w) (suc at) (suc j) h = get_take w at j (omega arith)
 
-pub reg_none_of : (regs : List ℕ) (w : List Entry) (at n : ℕ) → n < length regs → ((i : ℕ) → i < at → holds_at (has_result n) w i ≡ false) → slice_index regs n ≡ slice_index (written regs (take at w)) n
+pub reg_none_of : (regs : List ℕ) (w : List WindowEntry) (at n : ℕ) → n < length regs → ((i : ℕ) → i < at → holds_at (has_result n) w i ≡ false) → slice_index regs n ≡ slice_index (written regs (take at w)) n
 reg_none_of regs w at n h none = sym (written_none regs (take at w) n h (λ i. before_none (has_result n) w at i (none i)))
 
-pub reg_last_of : (regs : List ℕ) (w : List Entry) (at n j : ℕ) (x : Entry) → n < length regs → slice_get w j ≡ Some x → IsLastOf (has_result n) w at j → x.result.value ≡ slice_index (written regs (take at w)) n
+pub reg_last_of : (regs : List ℕ) (w : List WindowEntry) (at n j : ℕ) (x : WindowEntry) → n < length regs → slice_get w j ≡ Some x → IsLastOf (has_result n) w at j → x.result.value ≡ slice_index (written regs (take at w)) n
 reg_last_of regs w at n j x h is last =
     let before = last.before in
     sym (written_last regs (take at w) n j x h (get_take w at j before ∙ is) (holds_take (has_result n) w at j before ∙ last.there)
@@ -119,24 +119,24 @@ reg_last_of regs w at n j x h is last =
 
 -- ---- who can begin
 
-can_here_of : (older w : List Entry) (at : ℕ) (e : Entry) → slice_get w at ≡ Some e → can_at older w at ≡ can_begin (older ++ take at w) e
+can_here_of : (older w : List WindowEntry) (at : ℕ) (e : WindowEntry) → slice_get w at ≡ Some e → can_at older w at ≡ can_begin (older ++ take at w) e
 can_here_of older [] at e is = absurd (cc)
-can_here_of older (x ∷ w) zero e is = let here : x ≡ e = cc in ap (can_begin older) here ∙ ap (λ (o : List Entry). can_begin o e) (sym (append-nil older))
-can_here_of older (x ∷ w) (suc at) e is = can_here_of (older ++ x ∷ []) w at e is ∙ ap (λ (o : List Entry). can_begin o e) (append_assoc older (x ∷ []) (take at w))
+can_here_of older (x ∷ w) zero e is = let here : x ≡ e = cc in ap (can_begin older) here ∙ ap (λ (o : List WindowEntry). can_begin o e) (sym (append-nil older))
+can_here_of older (x ∷ w) (suc at) e is = can_here_of (older ++ x ∷ []) w at e is ∙ ap (λ (o : List WindowEntry). can_begin o e) (append_assoc older (x ∷ []) (take at w))
 
-pub can_here : (w : List Entry) (at : ℕ) (e : Entry) → slice_get w at ≡ Some e → can_at [] w at ≡ can_begin (take at w) e
+pub can_here : (w : List WindowEntry) (at : ℕ) (e : WindowEntry) → slice_get w at ≡ Some e → can_at [] w at ≡ can_begin (take at w) e
 can_here w at e is = can_here_of [] w at e is
 
-abbrev could : List Entry → Entry → Bool
-could older e = is_waiting e.stage && (is_available older (profile_of e).rs1 && is_available older (profile_of e).rs2)
+abbrev could : List WindowEntry → WindowEntry → Bool
+could older e = is_waiting e.progress && (is_available older (profile_of e).rs1 && is_available older (profile_of e).rs2)
 
-could_here_of : (older w : List Entry) (at : ℕ) (e : Entry) → slice_get w at ≡ Some e → could_at older w at ≡ could (older ++ take at w) e
+could_here_of : (older w : List WindowEntry) (at : ℕ) (e : WindowEntry) → slice_get w at ≡ Some e → could_at older w at ≡ could (older ++ take at w) e
 could_here_of older [] at e is = absurd (cc)
-could_here_of older (x ∷ w) zero e is = let here : x ≡ e = cc in ap (could older) here ∙ ap (λ (o : List Entry). could o e) (sym (append-nil older))
-could_here_of older (x ∷ w) (suc at) e is = could_here_of (older ++ x ∷ []) w at e is ∙ ap (λ (o : List Entry). could o e) (append_assoc older (x ∷ []) (take at w))
+could_here_of older (x ∷ w) zero e is = let here : x ≡ e = cc in ap (could older) here ∙ ap (λ (o : List WindowEntry). could o e) (sym (append-nil older))
+could_here_of older (x ∷ w) (suc at) e is = could_here_of (older ++ x ∷ []) w at e is ∙ ap (λ (o : List WindowEntry). could o e) (append_assoc older (x ∷ []) (take at w))
 
-pub could_not : (w : List Entry) (at : ℕ) (e : Entry) → slice_get w at ≡ Some e → (is_available (take at w) (profile_of e).rs1 && is_available (take at w) (profile_of e).rs2) ≡ false → could_at [] w at ≡ false
-could_not w at e is none = could_here_of [] w at e is ∙ rw none (and_off (is_waiting e.stage))
+pub could_not : (w : List WindowEntry) (at : ℕ) (e : WindowEntry) → slice_get w at ≡ Some e → (is_available (take at w) (profile_of e).rs1 && is_available (take at w) (profile_of e).rs2) ≡ false → could_at [] w at ≡ false
+could_not w at e is none = could_here_of [] w at e is ∙ rw none (and_off (is_waiting e.progress))
 
 no_sources : (a b c d : Bool) → (b && c) ≡ false → (a && ((b && c) && d)) ≡ false
 no_sources a b c d none = rw none (and_off a)
@@ -144,23 +144,23 @@ no_sources a b c d none = rw none (and_off a)
 all_sources : (a b c d : Bool) → a ≡ true → (b && c) ≡ true → d ≡ (a && ((b && c) && d))
 all_sources a b c d is h = rw (is, h) refl
 
-pub can_not : (w : List Entry) (at : ℕ) (e : Entry) → slice_get w at ≡ Some e → (is_available (take at w) (profile_of e).rs1 && is_available (take at w) (profile_of e).rs2) ≡ false → can_at [] w at ≡ false
+pub can_not : (w : List WindowEntry) (at : ℕ) (e : WindowEntry) → slice_get w at ≡ Some e → (is_available (take at w) (profile_of e).rs1 && is_available (take at w) (profile_of e).rs2) ≡ false → can_at [] w at ≡ false
 unfolding is_ready
-can_not w at e is none = can_here w at e is ∙ no_sources (is_waiting e.stage) (is_available (take at w) (profile_of e).rs1) (is_available (take at w) (profile_of e).rs2) (is_free (profile_of e).class (take at w)) none
+can_not w at e is none = can_here w at e is ∙ no_sources (is_waiting e.progress) (is_available (take at w) (profile_of e).rs1) (is_available (take at w) (profile_of e).rs2) (is_free (profile_of e).class (take at w)) none
 
-pub can_if_free : (w : List Entry) (at : ℕ) (e : Entry) → slice_get w at ≡ Some e → is_waiting e.stage ≡ true → (is_available (take at w) (profile_of e).rs1 && is_available (take at w) (profile_of e).rs2) ≡ true
+pub can_if_free : (w : List WindowEntry) (at : ℕ) (e : WindowEntry) → slice_get w at ≡ Some e → is_waiting e.progress ≡ true → (is_available (take at w) (profile_of e).rs1 && is_available (take at w) (profile_of e).rs2) ≡ true
     → is_free (profile_of e).class (take at w) ≡ can_at [] w at
 unfolding is_ready
 can_if_free w at e is waits sources =
-    all_sources (is_waiting e.stage) (is_available (take at w) (profile_of e).rs1) (is_available (take at w) (profile_of e).rs2) (is_free (profile_of e).class (take at w)) waits sources ∙ sym (can_here w at e is)
+    all_sources (is_waiting e.progress) (is_available (take at w) (profile_of e).rs1) (is_available (take at w) (profile_of e).rs2) (is_free (profile_of e).class (take at w)) waits sources ∙ sym (can_here w at e is)
 
 -- ---- the oldest goes
 
-absent : (o : Option Entry) → o ≡ None → is_some o ≡ true → ⊥
+absent : (o : Option WindowEntry) → o ≡ None → is_some o ≡ true → ⊥
 absent None is some = absurd (cc)
 absent (Some e) is some = absurd (cc)
 
-pub popped : (w : List Entry) (o : Option Entry) (b new : Board) → o ≡ slice_get w 0 → is_some o ≡ true → IsBoard w b → ((e : Entry) → slice_get w 0 ≡ Some e → is_done e.stage ≡ true)
-    → ((v : List Entry) (e : Entry) → IsBoard (e ∷ v) b → is_done e.stage ≡ true → IsBoard v new) → IsBoard (drop 1 w) new
+pub popped : (w : List WindowEntry) (o : Option WindowEntry) (b new : Board) → o ≡ slice_get w 0 → is_some o ≡ true → IsBoard w b → ((e : WindowEntry) → slice_get w 0 ≡ Some e → is_done e.progress ≡ true)
+    → ((v : List WindowEntry) (e : WindowEntry) → IsBoard (e ∷ v) b → is_done e.progress ≡ true → IsBoard v new) → IsBoard (drop 1 w) new
 popped [] o b new is some i done pops = absurd (absent o is some)
 popped (e ∷ w) o b new is some i done pops = pops w e i (done e refl)

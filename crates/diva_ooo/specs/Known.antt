@@ -6,7 +6,7 @@ use Rattle.diva_decode.specs.Table.{HasRegisters, row_of}
 use Rattle.diva_isa.specs.Step.{HasRegister}
 use Rattle.diva_core.specs.Cycle.{is_store}
 use Rattle.diva_ahead.specs.Effects.{done_by}
-use Rattle.diva_ooo.specs.declared.entry.Entry.TheInside.{Inside}
+use Rattle.diva_ooo.specs.declared.entry.WindowEntry.TheInside.{Inside}
 use Rattle.diva_ooo.specs.declared.profile.Profile.{Profile}
 use Rattle.diva_ooo.specs.Profile.{profile_by}
 use Rattle.diva_ooo.specs.Issue.{is_waiting}
@@ -26,4 +26,4 @@ pub record IsKnown (e : Inside) : Type 0 where
   pub effect : e.effect ≡ done_by e.result
   pub register : HasRegister e.effect
   -- one that waits has no result yet
-  pub fresh : is_waiting e.stage ≡ true → is_store e.effect ≡ false
+  pub fresh : is_waiting e.progress ≡ true → is_store e.effect ≡ false

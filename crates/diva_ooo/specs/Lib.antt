@@ -1,5 +1,5 @@
 pub mod Profile
-pub mod Entry
+pub mod WindowEntry
 pub mod Finish
 pub mod Issue
 pub mod Ooo

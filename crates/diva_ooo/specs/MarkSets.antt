@@ -2,7 +2,7 @@
 -- Only private contracts of this crate cite this: a reader of its promises can pass over it.
 use Rattle.std.specs.Prelude.{◌≡◌, ℕ, zero, suc, ◌+◌, ◌==◌, ◌<◌, ◌≤◌, List, [], ◌∷◌, Bool, true, false}
 use Rattle.std.specs.Int.{bit_at}
-use Rattle.diva_ooo.specs.Entry.{Entry}
+use Rattle.diva_ooo.specs.WindowEntry.{WindowEntry}
 use Rattle.diva_ooo.specs.declared.mark_set.MarkSet.{MarkSet}
 
 abbrev pub has : MarkSet → ℕ → Bool
@@ -21,11 +21,11 @@ pub record IsLast (s : MarkSet) (end n : ℕ) : Type 0 where
   pub last : (i : ℕ) → n < i → i < end → has s i ≡ false
 
 -- whether the entry at a place has a property
-abbrev pub holds_at : (Entry → Bool) → List Entry → ℕ → Bool
+abbrev pub holds_at : (WindowEntry → Bool) → List WindowEntry → ℕ → Bool
 holds_at p [] i = false
 holds_at p (e ∷ w) zero = p e
 holds_at p (e ∷ w) (suc i) = holds_at p w i
 
 -- the set is that of the entries with a property, where the mark of the oldest is base
-abbrev pub AreThose : (Entry → Bool) → List Entry → (base : ℕ) → MarkSet → Type 0
+abbrev pub AreThose : (WindowEntry → Bool) → List WindowEntry → (base : ℕ) → MarkSet → Type 0
 AreThose p w base s = (i : ℕ) → has s (base + i) ≡ holds_at p w i

@@ -7,7 +7,7 @@ use Rattle.diva_isa.specs.State.{State, word_of}
 use Rattle.diva_isa.specs.declared.record.Record.{Record}
 use Rattle.diva_core.specs.Told.{Told}
 use Rattle.diva_ahead.specs.Ahead.{Ahead, new_ahead, synced, trimmed, with_record, is_epoch}
-use Rattle.diva_ooo.specs.Entry.{Entry}
+use Rattle.diva_ooo.specs.WindowEntry.{WindowEntry}
 use Rattle.diva_ooo.specs.declared.entry.Progress.TheVariants.{Waiting}
 use Rattle.diva_ooo.specs.declared.finishing.Redirect.{Redirect}
 use Rattle.diva_ooo.specs.declared.finishing.Redirect.TheVariants.{On, Dry, To}
@@ -19,7 +19,7 @@ use Rattle.diva_ooo.specs.Issue.{issued, is_done}
 -- whether the fetch has stopped
 pub record Ooo : Type 0 where
   pub ahead : Ahead
-  pub window : List Entry
+  pub window : List WindowEntry
   pub fetch_pc : ℕ
   pub dry : Bool
 
@@ -52,22 +52,22 @@ fetching p Dry = record p { dry = true }
 fetching p (To pc) = record p { fetch_pc = pc; dry = false }
 
 unfoldable pub completed : Ooo → Ooo
-completed p = fetching (record p { window = (finished p.window).window }) (finished p.window).turn
+completed p = fetching (record p { window = (finished p.window).window }) (finished p.window).redirect
 
 -- ---- step 4, hand over
 
 -- the oldest entry is handed over; behind one that ends nothing is under way, and nothing more is fetched
-abbrev pub with_handed : Ooo → State → Record → List Entry → Ooo
+abbrev pub with_handed : Ooo → State → Record → List WindowEntry → Ooo
 with_handed p s r rest =
     if r.end == 0 then record p { ahead = with_record p.ahead s r; window = rest }
     else record p { ahead = with_record p.ahead s r; window = []; dry = true }
 
 -- as long as the oldest is done, at most n are handed over
-abbrev pub handed_over : ℕ → State → List Record → Ooo → List Entry → OooCall
+abbrev pub handed_over : ℕ → State → List Record → Ooo → List WindowEntry → OooCall
 handed_over zero s list p window = call_of list p
 handed_over (suc n) s list p [] = call_of list p
 handed_over (suc n) s list p (e ∷ rest) =
-    if is_done e.stage then
+    if is_done e.progress then
     (let next = with_handed p s e.result rest in handed_over n s (list ++ e.result ∷ []) next next.window)
     else call_of list p
 
@@ -82,9 +82,9 @@ abbrev pub blank : Record
 blank = record { pc = 0; word = 0; src1 = 0; src2 = 0; addr = 0; value = 0; next = 0; end = 0 }
 
 -- an entry that waits, of the word at pc if there is one
-abbrev pub new_entry : (pc : ℕ) → Option ℕ → Entry
+abbrev pub new_entry : (pc : ℕ) → Option ℕ → WindowEntry
 new_entry pc word =
-    record { pc = pc; word = word; predicted = predicted (option_and_then row_of word) pc; stage = Waiting; result = blank }
+    record { pc = pc; word = word; predicted = predicted (option_and_then row_of word) pc; progress = Waiting; result = blank }
 
 -- the fetch stops where there is no word
 abbrev pub with_word : Ooo → Option ℕ → Ooo

@@ -1,6 +1,6 @@
 // What is known of the entries of a window.
 ghost use Rattle.std.specs.Prelude.{◌≡◌, ◌+◌, ◌&&◌, ◌<◌, ◌≤◌, ◌⊎◌, ℕ, List, [], ◌∷◌, ◌++◌, length, get_or, nat_lt, take, IfSome, IsNone, Some, false, if◌then◌else◌, slice_get, slice_set, true};
-ghost use Rattle.diva_ooo.specs.Entry.{Entry, profile_of};
+ghost use Rattle.diva_ooo.specs.WindowEntry.{WindowEntry, profile_of};
 ghost use Rattle.diva_ahead.specs.Effects.{done_by};
 ghost use Rattle.diva_core.specs.Cycle.{is_store};
 ghost use Rattle.diva_ooo.specs.Board.{IsBoard, IsLastOf, IsNextOf, IsWrittenBetween, can_at, could_at, has_result, is_load, no_mark, reads};
@@ -68,7 +68,7 @@ impl Board {
         requires base { self.old.base ≤ 32 }
         requires place { at < 32 }
         requires sources { HasSources profile.now }
-        ensures board { (w : List Entry) (e : Entry) → IsBoard w self.old → length w ≡ at → is_waiting e.stage ≡ true
+        ensures board { (w : List WindowEntry) (e : WindowEntry) → IsBoard w self.old → length w ≡ at → is_waiting e.progress ≡ true
             → is_store (done_by e.result) ≡ false → profile_of e ≡ profile.now → IsBoard (w ++ e ∷ []) self.new }
         ensures base { self.new.base ≡ self.old.base }
     {
@@ -95,7 +95,7 @@ impl Board {
     fn has_sources_behind(&self, profile: &Profile) -> bool
         requires base { self.now.base ≤ 32 }
         requires sources { HasSources profile.now }
-        ensures { (w : List Entry) → IsBoard w self.now → length w ≤ 32
+        ensures { (w : List WindowEntry) → IsBoard w self.now → length w ≤ 32
             → result ≡ (is_available w profile.now.rs1 && is_available w profile.now.rs2) }
     {
         self.is_available_behind(profile.rs1) && self.is_available_behind(profile.rs2)
@@ -105,7 +105,7 @@ impl Board {
     fn is_available_behind(&self, n: u8) -> bool
         requires base { self.now.base ≤ 32 }
         requires register { n < 32 }
-        ensures { (w : List Entry) → IsBoard w self.now → length w ≤ 32 → result ≡ is_available w n }
+        ensures { (w : List WindowEntry) → IsBoard w self.now → length w ≤ 32 → result ≡ is_available w n }
     {
         match self.writers[usize::from(n)].highest() {
             Some(mark) => self.done.has(mark),
@@ -117,7 +117,7 @@ impl Board {
     pub(crate) fn keep(&mut self, most: usize)
         requires base { self.old.base < 32 }
         requires most { most ≤ 32 }
-        ensures board { (w : List Entry) → IsBoard w self.old → IsBoard (take most w) self.new }
+        ensures board { (w : List WindowEntry) → IsBoard w self.old → IsBoard (take most w) self.new }
         ensures base { self.new.base ≡ self.old.base }
     {
         let end = self.base + most;
@@ -134,7 +134,7 @@ impl Board {
     /// Removes the oldest entry, which is done.
     pub(crate) fn pop(&mut self)
         requires { self.old.base < 32 }
-        ensures board { (w : List Entry) (e : Entry) → IsBoard (e ∷ w) self.old → is_done e.stage ≡ true → IsBoard w self.new }
+        ensures board { (w : List WindowEntry) (e : WindowEntry) → IsBoard (e ∷ w) self.old → is_done e.progress ≡ true → IsBoard w self.new }
         ensures base { self.new.base ≡ self.old.base + 1 }
     {
         self.base += 1;
@@ -143,7 +143,7 @@ impl Board {
     /// Gives the oldest entry the mark 0 again: each mark is lower by a step.
     pub(crate) fn renumber(&mut self)
         requires { self.old.base ≡ 32 }
-        ensures board { (w : List Entry) → IsBoard w self.old → IsBoard w self.new }
+        ensures board { (w : List WindowEntry) → IsBoard w self.old → IsBoard w self.new }
         ensures base { self.new.base ≡ 0 }
     {
         self.base = 0;
@@ -162,8 +162,8 @@ impl Board {
     pub(crate) fn begin(&mut self, at: usize, stores: bool)
         requires base { self.old.base ≤ 32 }
         requires place { at < 32 }
-        ensures board { (w : List Entry) (e new : Entry) → IsBoard w self.old → slice_get w at ≡ Some e
-            → is_waiting e.stage ≡ true → is_running new.stage ≡ true → profile_of new ≡ profile_of e
+        ensures board { (w : List WindowEntry) (e new : WindowEntry) → IsBoard w self.old → slice_get w at ≡ Some e
+            → is_waiting e.progress ≡ true → is_running new.progress ≡ true → profile_of new ≡ profile_of e
             → is_store (done_by e.result) ≡ false → is_store (done_by new.result) ≡ stores → IsBoard (slice_set w at new) self.new }
         ensures base { self.new.base ≡ self.old.base }
     {
@@ -178,8 +178,8 @@ impl Board {
         requires base { self.old.base < 32 }
         requires place { at < 32 }
         requires register { rd < 32 }
-        ensures board { (w : List Entry) (e new : Entry) → IsBoard w self.old → slice_get w at ≡ Some e
-            → is_running e.stage ≡ true → is_done new.stage ≡ true → profile_of new ≡ profile_of e → done_by new.result ≡ done_by e.result
+        ensures board { (w : List WindowEntry) (e new : WindowEntry) → IsBoard w self.old → slice_get w at ≡ Some e
+            → is_running e.progress ≡ true → is_done new.progress ≡ true → profile_of new ≡ profile_of e → done_by new.result ≡ done_by e.result
             → rd ≡ (profile_of e).rd → IsBoard (slice_set w at new) self.new }
         ensures base { self.new.base ≡ self.old.base }
     {
@@ -196,7 +196,7 @@ impl Board {
         requires base { self.now.base < 32 }
         requires place { at < 32 }
         requires register { rd < 32 }
-        ensures { (w : List Entry) → IsBoard w self.now → (i : ℕ) → has result (self.now.base + i) ≡ false
+        ensures { (w : List WindowEntry) → IsBoard w self.now → (i : ℕ) → has result (self.now.base + i) ≡ false
             → (holds_at (reads rd) w i ≡ false) ⊎ IsWrittenBetween w rd at i }
     {
         let n = usize::from(rd);
@@ -207,7 +207,7 @@ impl Board {
     pub(crate) fn pass(&mut self, at: usize)
         requires base { self.old.base ≤ 32 }
         requires place { at < 32 }
-        ensures board { (w : List Entry) → IsBoard w self.old → could_at [] w at ≡ false → IsBoard w self.new }
+        ensures board { (w : List WindowEntry) → IsBoard w self.old → could_at [] w at ≡ false → IsBoard w self.new }
         ensures base { self.new.base ≡ self.old.base }
     {
         self.candidates.remove(self.base + at);
@@ -216,8 +216,8 @@ impl Board {
     /// The places of the entries that run.
     pub(crate) fn running_places(&self) -> MarkSet
         requires { self.now.base < 32 }
-        ensures { (w : List Entry) → IsBoard w self.now
-            → (i : ℕ) → has result i ≡ holds_at (λ e. is_running e.stage) w i }
+        ensures { (w : List WindowEntry) → IsBoard w self.now
+            → (i : ℕ) → has result i ≡ holds_at (λ e. is_running e.progress) w i }
     {
         self.running.lowered(self.base)
     }
@@ -227,8 +227,8 @@ impl Board {
     pub(crate) fn next_store(&self, from: usize) -> Option<usize>
         requires base { self.now.base < 32 }
         requires place { from ≤ 32 }
-        ensures some { (w : List Entry) → IsBoard w self.now → IfSome result (IsNextOf (λ e. is_store (done_by e.result)) w from) }
-        ensures none { (w : List Entry) → IsBoard w self.now → IsNone result
+        ensures some { (w : List WindowEntry) → IsBoard w self.now → IfSome result (IsNextOf (λ e. is_store (done_by e.result)) w from) }
+        ensures none { (w : List WindowEntry) → IsBoard w self.now → IsNone result
             → (i : ℕ) → from ≤ i → holds_at (λ e. is_store (done_by e.result)) w i ≡ false }
     {
         match self.stored.next(self.base + from) {
@@ -240,11 +240,11 @@ impl Board {
     /// Places of entries that wait: each that can begin is one of them. Where one is a load, each older store is done.
     pub(crate) fn candidate_places(&self) -> MarkSet
         requires { self.now.base < 32 }
-        ensures waiting { (w : List Entry) → IsBoard w self.now → (i : ℕ) → has result i ≡ true
-            → holds_at (λ e. is_waiting e.stage) w i ≡ true }
-        ensures others { (w : List Entry) → IsBoard w self.now → (i : ℕ) → has result i ≡ false
+        ensures waiting { (w : List WindowEntry) → IsBoard w self.now → (i : ℕ) → has result i ≡ true
+            → holds_at (λ e. is_waiting e.progress) w i ≡ true }
+        ensures others { (w : List WindowEntry) → IsBoard w self.now → (i : ℕ) → has result i ≡ false
             → can_at [] w i ≡ false }
-        ensures stored { (w : List Entry) → IsBoard w self.now → (i : ℕ) → has result i ≡ true
+        ensures stored { (w : List WindowEntry) → IsBoard w self.now → (i : ℕ) → has result i ≡ true
             → holds_at is_load w i ≡ true → are_stored (take i w) ≡ true }
     {
         self.eligible().lowered(self.base)
@@ -253,11 +253,11 @@ impl Board {
     /// The candidates that wait, but for loads behind a store that is not done.
     fn eligible(&self) -> MarkSet
         requires { self.now.base ≤ 32 }
-        ensures waiting { (w : List Entry) (i : ℕ) → IsBoard w self.now → has result (self.now.base + i) ≡ true
-            → holds_at (λ e. is_waiting e.stage) w i ≡ true }
-        ensures others { (w : List Entry) (i : ℕ) → IsBoard w self.now → has result (self.now.base + i) ≡ false
+        ensures waiting { (w : List WindowEntry) (i : ℕ) → IsBoard w self.now → has result (self.now.base + i) ≡ true
+            → holds_at (λ e. is_waiting e.progress) w i ≡ true }
+        ensures others { (w : List WindowEntry) (i : ℕ) → IsBoard w self.now → has result (self.now.base + i) ≡ false
             → can_at [] w i ≡ false }
-        ensures stored { (w : List Entry) (i : ℕ) → IsBoard w self.now → has result (self.now.base + i) ≡ true
+        ensures stored { (w : List WindowEntry) (i : ℕ) → IsBoard w self.now → has result (self.now.base + i) ≡ true
             → holds_at is_load w i ≡ true → are_stored (take i w) ≡ true }
     {
         let waiting = self.candidates.both(self.waiting);
@@ -272,7 +272,7 @@ impl Board {
         requires base { self.now.base ≤ 32 }
         requires place { at < 32 }
         requires sources { HasSources profile.now }
-        ensures { (w : List Entry) → IsBoard w self.now → at ≤ length w
+        ensures { (w : List WindowEntry) → IsBoard w self.now → at ≤ length w
             → result ≡ (is_available (take at w) profile.now.rs1 && is_available (take at w) profile.now.rs2) }
     {
         self.is_available(at, profile.rs1) && self.is_available(at, profile.rs2)
@@ -283,7 +283,7 @@ impl Board {
         requires base { self.now.base ≤ 32 }
         requires place { at < 32 }
         requires register { n < 32 }
-        ensures { (w : List Entry) → IsBoard w self.now → at ≤ length w → result ≡ is_available (take at w) n }
+        ensures { (w : List WindowEntry) → IsBoard w self.now → at ≤ length w → result ≡ is_available (take at w) n }
     {
         match self.writers[usize::from(n)].last(self.base + at) {
             Some(mark) => self.done.has(mark),
@@ -296,8 +296,8 @@ impl Board {
         requires base { self.now.base ≤ 32 }
         requires place { at < 32 }
         requires register { n < 32 }
-        ensures some { (w : List Entry) → IsBoard w self.now → at ≤ length w → IfSome result (IsLastOf (has_result n) w at) }
-        ensures none { (w : List Entry) → IsBoard w self.now → at ≤ length w → IsNone result
+        ensures some { (w : List WindowEntry) → IsBoard w self.now → at ≤ length w → IfSome result (IsLastOf (has_result n) w at) }
+        ensures none { (w : List WindowEntry) → IsBoard w self.now → at ≤ length w → IsNone result
             → (i : ℕ) → i < at → holds_at (has_result n) w i ≡ false }
     {
         let older = self.done.below(self.base + at).from(self.base);

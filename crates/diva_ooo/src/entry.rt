@@ -29,7 +29,7 @@ impl Progress {
 
 /// An instruction under way. What follows from its word and its result is noted beside them, so that it is worked out once.
 #[derive(Drop)]
-pub struct Entry {
+pub struct WindowEntry {
     /// The address where it was fetched.
     pub pc: u32,
     /// What the word says, `None` where it says nothing.
@@ -41,21 +41,21 @@ pub struct Entry {
     /// Where the next instruction was fetched.
     pub predicted: u32,
     /// How far it is.
-    pub stage: Progress,
+    pub progress: Progress,
     /// Its record, once it has begun; until then all zeros.
     pub result: Record,
     /// What that does besides moving the pc and being counted: nothing where it ends, or where it has not begun.
     pub effect: Effect,
 }
 
-impl Model for Entry {
-    ghost use Rattle.diva_ooo.specs.Entry.{Entry};
+impl Model for WindowEntry {
+    ghost use Rattle.diva_ooo.specs.WindowEntry.{WindowEntry};
 
-    ghost Value = { Entry };
+    ghost Value = { WindowEntry };
 
     ghost use Rattle.diva_ooo.specs.Known.{IsKnown};
 
-    ghost view = { λ e. record { pc = e.pc; word = e.word; predicted = e.predicted; stage = e.stage; result = e.result } };
+    ghost view = { λ e. record { pc = e.pc; word = e.word; predicted = e.predicted; progress = e.progress; result = e.result } };
 
     ghost invariant = { IsKnown };
 }

@@ -1,6 +1,6 @@
 // What runs has one cycle less to run.
 ghost use Rattle.std.specs.Prelude.{◌≡◌, ◌+◌, ◌<◌, ◌≤◌, drop, length, take};
-ghost use Rattle.diva_ooo.specs.Finish.{Finish, finished, finished_from, turn_by, turned};
+ghost use Rattle.diva_ooo.specs.Finish.{Finish, finished, finished_from, redirect_by, redirected};
 
 use crate::entry::Progress;
 use crate::window::Window;
@@ -17,18 +17,18 @@ pub enum Redirect {
     To(u32),
 }
 
-/// Each entry that runs has one cycle less to run, oldest first. One that becomes done, and behind which the fetch has to
-/// turn, removes all younger ones.
+/// Each entry that runs has one cycle less to run, oldest first. One that becomes done, and by which the fetch stops or is
+/// redirected, removes all younger ones.
 pub(crate) fn finish(window: &mut Window) -> Redirect
-    ensures { record { window = window.new; turn = result } ≡ finished window.old }
+    ensures { record { window = window.new; redirect = result } ≡ finished window.old }
 {
     let mut running = window.running_places();
     let mut at = running.first();
     while at < window.len() {
-        let turn = finish_at(window, at);
-        if turn != Redirect::On {
+        let redirect = finish_at(window, at);
+        if redirect != Redirect::On {
             window.keep(at + 1);
-            return turn;
+            return redirect;
         }
         running.remove(at);
         at = running.first();
@@ -40,13 +40,13 @@ pub(crate) fn finish(window: &mut Window) -> Redirect
 #[tactic(auto, using(crate::proofs::Finished::finish_waiting, crate::proofs::Finished::finish_done))]
 fn finish_at(window: &mut Window, at: usize) -> Redirect
     requires { at < length window.old }
-    ensures finishes { turned (take (at + 1) window.new) result (finished_from (take (at + 1) window.new) (drop (at + 1) window.new))
+    ensures finishes { redirected (take (at + 1) window.new) result (finished_from (take (at + 1) window.new) (drop (at + 1) window.new))
         ≡ finished_from (take at window.old) (drop at window.old) }
     ensures behind { drop (at + 1) window.new ≡ drop (at + 1) window.old }
     ensures length { length window.new ≡ length window.old }
 {
     let entry = window.entry(at);
-    match entry.stage {
+    match entry.progress {
         Progress::Waiting => Redirect::On,
         Progress::Done => Redirect::On,
         Progress::Running(left) if left > 1 => {
@@ -57,14 +57,14 @@ fn finish_at(window: &mut Window, at: usize) -> Redirect
             let result = entry.result;
             let predicted = entry.predicted;
             window.complete(at);
-            turn_by(&result, predicted)
+            redirect_by(&result, predicted)
         }
     }
 }
 
 /// What becomes of the fetch behind a record, where `predicted` was fetched next.
-fn turn_by(r: &Record, predicted: u32) -> Redirect
-    ensures { result ≡ turn_by r.now predicted }
+fn redirect_by(r: &Record, predicted: u32) -> Redirect
+    ensures { result ≡ redirect_by r.now predicted }
 {
     if r.end != 0 {
         Redirect::Dry

@@ -2,7 +2,7 @@
 ghost use Rattle.std.specs.Prelude.{◌≡◌, ◌≤◌, ◌<◌, ◌++◌, length, map, take, IsSome, IsTrue, Some, slice_get, true};
 ghost use Rattle.std.specs.List.{list_all};
 ghost use Rattle.diva_isa.specs.State.{State, byte_of, word_of};
-ghost use Rattle.diva_ooo.specs.Entry.{Entry};
+ghost use Rattle.diva_ooo.specs.WindowEntry.{WindowEntry};
 ghost use Rattle.diva_ahead.specs.Effects.{done_by};
 ghost use Rattle.diva_core.specs.Effects.{is_apart, with_effects};
 
@@ -28,7 +28,7 @@ impl<'a> Flight<'a> {
     #[inline(always)]
     pub(crate) fn of(window: &'a Window, at: usize, ahead: &'a Ahead, view: &'a View<'a>) -> Self
         requires { at < length window.now }
-        ensures pc { (e : Entry) → slice_get window.now at ≡ Some e → result.pc ≡ e.pc }
+        ensures pc { (e : WindowEntry) → slice_get window.now at ≡ Some e → result.pc ≡ e.pc }
         ensures ahead { result.ahead.now ≡ ahead.now }
         ensures window { result.window.now ≡ window.now }
         ensures place { result.at ≡ at }

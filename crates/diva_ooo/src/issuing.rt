@@ -4,7 +4,7 @@ ghost use Rattle.diva_decode.specs.Table.{HasRegisters, row_of};
 ghost use Rattle.diva_isa.specs.Kind.{kind};
 ghost use Rattle.diva_isa.specs.Step.{HasRegister, effect_of};
 ghost use Rattle.diva_ahead.specs.Effects.{done_by};
-ghost use Rattle.diva_ooo.specs.Entry.{Entry};
+ghost use Rattle.diva_ooo.specs.WindowEntry.{WindowEntry};
 ghost use Rattle.diva_ooo.specs.Issue.{is_waiting, issued, started};
 
 use crate::flight::Flight;
@@ -40,8 +40,8 @@ pub(crate) fn issue(window: &mut Window, ahead: &Ahead, view: &View<'_>)
 /// has a `Flight` of its own, which need not lie in memory as one does that is handed to calls.
 fn begin_at(window: &mut Window, at: usize, ahead: &Ahead, view: &View<'_>)
     requires place { at < length window.old }
-    requires waits { (e : Entry) → slice_get window.old at ≡ Some e → is_waiting e.stage ≡ true }
-    ensures started { (e : Entry) → slice_get window.old at ≡ Some e
+    requires waits { (e : WindowEntry) → slice_get window.old at ≡ Some e → is_waiting e.progress ≡ true }
+    ensures started { (e : WindowEntry) → slice_get window.old at ≡ Some e
         → window.new ≡ slice_set window.old at (started ahead.now view.now (take at window.old) e) }
     ensures length { length window.new ≡ length window.old }
 {
@@ -74,12 +74,12 @@ fn begin_as(
     which: Kind,
 )
     requires place { at < length window.old }
-    requires waits { (e : Entry) → slice_get window.old at ≡ Some e → is_waiting e.stage ≡ true }
-    requires word { (e : Entry) → slice_get window.old at ≡ Some e → e.word ≡ Some word }
+    requires waits { (e : WindowEntry) → slice_get window.old at ≡ Some e → is_waiting e.progress ≡ true }
+    requires word { (e : WindowEntry) → slice_get window.old at ≡ Some e → e.word ≡ Some word }
     requires says { row_of word ≡ Some i }
     requires kind { kind i.op ≡ which }
     requires registers { HasRegisters i }
-    ensures started { (e : Entry) → slice_get window.old at ≡ Some e
+    ensures started { (e : WindowEntry) → slice_get window.old at ≡ Some e
         → window.new ≡ slice_set window.old at (started ahead.now view.now (take at window.old) e) }
     ensures length { length window.new ≡ length window.old }
 {
@@ -93,8 +93,8 @@ fn begin_as(
 #[tactic(auto, unfolding(crate::specs::Issue::started), using(crate::proofs::Knowing::decoded_kept))]
 fn begin_any(window: &mut Window, at: usize, ahead: &Ahead, view: &View<'_>)
     requires place { at < length window.old }
-    requires waits { (e : Entry) → slice_get window.old at ≡ Some e → is_waiting e.stage ≡ true }
-    ensures started { (e : Entry) → slice_get window.old at ≡ Some e
+    requires waits { (e : WindowEntry) → slice_get window.old at ≡ Some e → is_waiting e.progress ≡ true }
+    ensures started { (e : WindowEntry) → slice_get window.old at ≡ Some e
         → window.new ≡ slice_set window.old at (started ahead.now view.now (take at window.old) e) }
     ensures length { length window.new ≡ length window.old }
 {

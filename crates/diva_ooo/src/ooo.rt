@@ -6,7 +6,7 @@ ghost use Rattle.diva_isa.specs.State.{State, word_of};
 ghost use Rattle.diva_ahead.specs.Ahead.{is_epoch};
 ghost use Rattle.diva_ooo.specs.Ooo.{IsOooCall, call_of, completed, dropped, fetched, fetching, handed_over, new_ooo, ooo_call, refilled, restarted, with_issued, with_word, worked};
 
-use crate::entry::{Entry, Progress};
+use crate::entry::{Progress, WindowEntry};
 use crate::finishing::{Redirect, finish};
 use crate::issuing::issue;
 use crate::predicting::predicted;
@@ -89,15 +89,15 @@ impl Ooo {
         ensures completed { self.new ≡ completed self.old }
         ensures ahead { self.new.ahead ≡ self.old.ahead }
     {
-        let turn = finish(&mut self.window);
-        self.turn(turn);
+        let redirect = finish(&mut self.window);
+        self.redirect(redirect);
     }
 
-    fn turn(&mut self, turn: Redirect)
-        ensures turned { self.new ≡ fetching self.old turn }
+    fn redirect(&mut self, redirect: Redirect)
+        ensures redirected { self.new ≡ fetching self.old redirect }
         ensures ahead { self.new.ahead ≡ self.old.ahead }
     {
-        match turn {
+        match redirect {
             Redirect::On => {}
             Redirect::Dry => self.dry = true,
             Redirect::To(pc) => {
@@ -135,7 +135,7 @@ impl Ooo {
             return false;
         }
         let entry = self.window.entry(0);
-        if !entry.stage.is_done() {
+        if !entry.progress.is_done() {
             return false;
         }
         let result = entry.result;
@@ -205,13 +205,13 @@ impl Ooo {
         let pc = self.fetch_pc;
         self.fetch_pc = predicted(decoded, pc);
         self.dry = word.is_none();
-        self.window.push(Entry {
+        self.window.push(WindowEntry {
             pc,
             decoded,
             word,
             profile: Profile::of(decoded),
             predicted: self.fetch_pc,
-            stage: Progress::Waiting,
+            progress: Progress::Waiting,
             result: BLANK,
             effect: Effect::Nothing,
         });

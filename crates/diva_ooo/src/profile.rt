@@ -3,7 +3,7 @@ ghost use Rattle.std.specs.Prelude.{◌≡◌, ℕ, List, length, true, Option, 
 ghost use Rattle.std.specs.Option.{option_and_then};
 ghost use Rattle.diva_decode.specs.Table.{HasRegisters, row_of};
 ghost use Rattle.diva_isa.specs.Kind.{kind};
-ghost use Rattle.diva_ooo.specs.Entry.{Entry};
+ghost use Rattle.diva_ooo.specs.WindowEntry.{WindowEntry};
 ghost use Rattle.diva_ooo.specs.Board.{is_loading};
 ghost use Rattle.diva_ooo.specs.Issue.{are_stored, is_free, is_storing};
 ghost use Rattle.diva_ooo.specs.Known.{HasSources};
@@ -41,7 +41,7 @@ impl Class {
 
     /// Whether an entry at a place has what else it waits for. It is asked of a load only where each older store is done.
     pub fn is_free_at(self, at: usize) -> bool
-        ensures { (older : List Entry) → length older ≡ at → (is_loading self ≡ true → are_stored older ≡ true)
+        ensures { (older : List WindowEntry) → length older ≡ at → (is_loading self ≡ true → are_stored older ≡ true)
             → result ≡ is_free self older }
     {
         match self {

@@ -9,7 +9,7 @@ ghost use Rattle.diva_ooo.specs.Issue.{are_stored, is_done, is_waiting, running,
 ghost use Rattle.diva_ooo.specs.MarkSets.{has, holds_at};
 
 use crate::board::Board;
-use crate::entry::{Entry, Progress};
+use crate::entry::{Progress, WindowEntry};
 use crate::mark_set::MarkSet;
 use circular_buffer::HeapCircularBuffer;
 use diva_ahead::is_store;
@@ -20,16 +20,16 @@ use std::marker::Model;
 /// The instructions under way, in program order: at most 32.
 #[derive(Drop)]
 pub(crate) struct Window {
-    entries: HeapCircularBuffer<Entry>,
+    entries: HeapCircularBuffer<WindowEntry>,
     board: Board,
 }
 
 impl Model for Window {
     ghost use Rattle.std.specs.Prelude.{List, ◌≡◌, ◌<◌};
-    ghost use Rattle.diva_ooo.specs.Entry.{Entry};
+    ghost use Rattle.diva_ooo.specs.WindowEntry.{WindowEntry};
     ghost use Rattle.diva_ooo.specs.Board.{IsBoard};
 
-    ghost Value = { List Entry };
+    ghost Value = { List WindowEntry };
 
     ghost view = { λ w. w.entries.items };
 
@@ -38,7 +38,7 @@ impl Model for Window {
 }
 
 impl Window {
-    ghost use Rattle.diva_ooo.specs.Entry.{Entry};
+    ghost use Rattle.diva_ooo.specs.WindowEntry.{WindowEntry};
     ghost use Rattle.diva_ahead.specs.Effects.{done_by};
     ghost use Rattle.diva_isa.specs.Step.{HasRegister};
 
@@ -73,7 +73,7 @@ impl Window {
 
     /// The entry at a place, the oldest being at 0.
     #[inline]
-    pub(crate) fn entry(&self, at: usize) -> &Entry
+    pub(crate) fn entry(&self, at: usize) -> &WindowEntry
         requires { at < length self.now }
         ensures { slice_get self.now at ≡ Some result.now }
     {
@@ -99,7 +99,7 @@ impl Window {
     /// The places of the entries that run.
     #[inline]
     pub(crate) fn running_places(&self) -> MarkSet
-        ensures { (i : ℕ) → has result i ≡ holds_at (λ e. is_running e.stage) self.now i }
+        ensures { (i : ℕ) → has result i ≡ holds_at (λ e. is_running e.progress) self.now i }
     {
         self.board.running_places()
     }
@@ -107,7 +107,7 @@ impl Window {
     /// Places of entries that wait: each that can begin is one of them. Where one is a load, each older store is done.
     #[inline]
     pub(crate) fn candidate_places(&self) -> MarkSet
-        ensures waiting { (i : ℕ) → has result i ≡ true → holds_at (λ e. is_waiting e.stage) self.now i ≡ true }
+        ensures waiting { (i : ℕ) → has result i ≡ true → holds_at (λ e. is_waiting e.progress) self.now i ≡ true }
         ensures others { (i : ℕ) → has result i ≡ false → can_at [] self.now i ≡ false }
         ensures stored { (i : ℕ) → has result i ≡ true → holds_at is_load self.now i ≡ true
             → are_stored (take i self.now) ≡ true }
@@ -119,7 +119,7 @@ impl Window {
     #[inline]
     pub(crate) fn is_ready(&mut self, at: usize) -> bool
         requires place { at < length self.old }
-        requires waits { holds_at (λ e. is_waiting e.stage) self.old at ≡ true }
+        requires waits { holds_at (λ e. is_waiting e.progress) self.old at ≡ true }
         requires stored { holds_at is_load self.old at ≡ true → are_stored (take at self.old) ≡ true }
         ensures value { result ≡ can_at [] self.old at }
         ensures same { self.new ≡ self.old }
@@ -150,46 +150,46 @@ impl Window {
     /// The entry at a place, which runs, runs for so many cycles more.
     #[inline]
     pub(crate) fn advance(&mut self, at: usize, left: u8)
-        requires runs { (e : Entry) → slice_get self.old at ≡ Some e → is_running e.stage ≡ true }
+        requires runs { (e : WindowEntry) → slice_get self.old at ≡ Some e → is_running e.progress ≡ true }
         requires within { at < length self.old }
-        ensures set { (e : Entry) → slice_get self.old at ≡ Some e
-            → self.new ≡ slice_set self.old at (record e { stage = Running left }) }
+        ensures set { (e : WindowEntry) → slice_get self.old at ≡ Some e
+            → self.new ≡ slice_set self.old at (record e { progress = Running left }) }
         ensures length { length self.new ≡ length self.old }
     {
         let entry = self.entries.get_mut(at).unwrap();
-        entry.stage = Progress::Running(left);
+        entry.progress = Progress::Running(left);
     }
 
     /// The entry at a place, which runs, is done.
     #[inline]
     pub(crate) fn complete(&mut self, at: usize)
-        requires runs { (e : Entry) → slice_get self.old at ≡ Some e → is_running e.stage ≡ true }
+        requires runs { (e : WindowEntry) → slice_get self.old at ≡ Some e → is_running e.progress ≡ true }
         requires within { at < length self.old }
-        ensures set { (e : Entry) → slice_get self.old at ≡ Some e
-            → self.new ≡ slice_set self.old at (record e { stage = Done }) }
+        ensures set { (e : WindowEntry) → slice_get self.old at ≡ Some e
+            → self.new ≡ slice_set self.old at (record e { progress = Done }) }
         ensures length { length self.new ≡ length self.old }
     {
         self.recall();
         let entry = self.entries.get_mut(at).unwrap();
         let rd = entry.profile.rd;
-        entry.stage = Progress::Done;
+        entry.progress = Progress::Done;
         self.board.complete(at, rd);
     }
 
     /// Begins to run the entry at a place, which waits, and comes to a record that has this effect.
     #[inline(always)]
     pub(crate) fn begin(&mut self, at: usize, r: Record, effect: Effect)
-        requires waits { (e : Entry) → slice_get self.old at ≡ Some e → is_waiting e.stage ≡ true }
+        requires waits { (e : WindowEntry) → slice_get self.old at ≡ Some e → is_waiting e.progress ≡ true }
         requires place { at < length self.old }
         requires effect { effect ≡ done_by r }
         requires register { HasRegister effect }
-        ensures set { (e : Entry) → slice_get self.old at ≡ Some e
+        ensures set { (e : WindowEntry) → slice_get self.old at ≡ Some e
             → self.new ≡ slice_set self.old at (running e r) }
         ensures length { length self.new ≡ length self.old }
     {
         self.recall();
         let entry = self.entries.get_mut(at).unwrap();
-        entry.stage = Progress::Running(entry.profile.cycles);
+        entry.progress = Progress::Running(entry.profile.cycles);
         entry.result = r;
         entry.effect = effect;
         self.board.begin(at, is_store(&effect));
@@ -197,9 +197,9 @@ impl Window {
 
     /// Adds the youngest entry, which waits. There is room for it.
     #[inline(always)]
-    pub(crate) fn push(&mut self, entry: Entry)
+    pub(crate) fn push(&mut self, entry: WindowEntry)
         requires room { length self.old < 32 }
-        requires waits { is_waiting entry.stage ≡ true }
+        requires waits { is_waiting entry.progress ≡ true }
         ensures { self.new ≡ self.old ++ entry ∷ [] }
     {
         let at = self.entries.len();
@@ -209,7 +209,7 @@ impl Window {
 
     /// Removes the oldest entry, if there is one. It is done.
     pub(crate) fn pop(&mut self)
-        requires { (e : Entry) → slice_get self.old 0 ≡ Some e → is_done e.stage ≡ true }
+        requires { (e : WindowEntry) → slice_get self.old 0 ≡ Some e → is_done e.progress ≡ true }
         ensures { self.new ≡ drop 1 self.old }
     {
         self.recall();
@@ -243,10 +243,10 @@ impl Window {
 }
 
 /// The same of a window in its parts; where the entry has not its sources, it is no candidate any more.
-fn is_ready_at(entries: &HeapCircularBuffer<Entry>, board: &mut Board, at: usize) -> bool
+fn is_ready_at(entries: &HeapCircularBuffer<WindowEntry>, board: &mut Board, at: usize) -> bool
     requires few { length entries.now.items ≤ 32 }
     requires place { at < length entries.now.items }
-    requires waits { holds_at (λ e. is_waiting e.stage) entries.now.items at ≡ true }
+    requires waits { holds_at (λ e. is_waiting e.progress) entries.now.items at ≡ true }
     requires stored { holds_at is_load entries.now.items at ≡ true → are_stored (take at entries.now.items) ≡ true }
     requires board { IsBoard entries.now.items board.old }
     requires base { board.old.base < 32 }

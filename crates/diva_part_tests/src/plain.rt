@@ -1,5 +1,6 @@
-// Three instructions on the plain machine, up to its end.
-use diva_isa::{Plain, Record};
+// Three instructions on the plain machine, up to its end, one by one and several at once.
+use diva_isa::Plain;
+use diva_test_programs::{ADDS, HALTS};
 use std::test::Fail;
 
 /// `addi x1, x0, 5`, `addi x17, x0, 93` and `ecall`, which halts with what x10 holds.
@@ -10,13 +11,7 @@ const PROGRAM: [u8; 12] = [
 #[test]
 fn three_instructions(rt: HostRuntime) -> Result<(), Fail> {
     let mut plain = Plain::new(rt.alloc(), 0, 64, 0, &PROGRAM)?;
-    let first = Record {
-        word: 0x0050_0093,
-        value: 5,
-        next: 4,
-        ..Record::default()
-    };
-    assert_eq!(rt; plain.record(), Some(first));
+    assert_eq!(rt; plain.record(), Some(ADDS));
     plain.step();
     assert_eq!(rt; plain.reg(1), 5);
     plain.run(8);
@@ -26,5 +21,20 @@ fn three_instructions(rt: HostRuntime) -> Result<(), Fail> {
     assert_eq!(rt; plain.byte(8), Some(0x73));
     assert_eq!(rt; plain.byte(64), None);
     assert!(rt; plain.output().is_empty());
+    Ok(())
+}
+
+#[test]
+fn a_run_without_a_machine(rt: HostRuntime) -> Result<(), Fail> {
+    let mut plain = Plain::new(rt.alloc(), 0, 64, 0, &PROGRAM)?;
+    let first = plain.record();
+    plain.run(2);
+    let third = plain.record();
+    plain.run(1);
+    assert_eq!(rt;
+        (first, third, plain.record()),
+        (Some(ADDS), Some(HALTS), None)
+    );
+    assert_eq!(rt; (plain.count(), plain.ended(), plain.reg(1)), (3, 256, 5));
     Ok(())
 }

@@ -6,7 +6,7 @@ use Rattle.std.specs.Int.{bit_at}
 use Rattle.diva_memory.specs.Bytes.{Bytes, byte_at, put, word_byte}
 use Rattle.diva_memory.proofs.Writing.{over, put_all_base, put_all_length, put_all_byte}
 use Rattle.diva_storeq.specs.declared.masked.Masked.{Masked}
-use Rattle.diva_storeq.specs.Masked.{lane, byte_in, put_lane, merge, WritesInside}
+use Rattle.diva_storeq.specs.Masked.{byte_lane, byte_in, put_byte_lane, merge, WritesInside}
 
 -- ---- the range
 
@@ -18,10 +18,10 @@ test_length : (c : Bool) (m : Bytes) (at b : ℕ) → length (if c then put m at
 test_length true m at b = put_all_length m at (b ∷ [])
 test_length false m at b = refl
 
-lane_base : (e : Masked) (i : ℕ) (m : Bytes) → (put_lane e i m).base ≡ m.base
+lane_base : (e : Masked) (i : ℕ) (m : Bytes) → (put_byte_lane e i m).base ≡ m.base
 lane_base e i m = test_base (bit_at e.mask i == 1) m (e.addr + i) (word_byte e.bytes i)
 
-lane_length : (e : Masked) (i : ℕ) (m : Bytes) → length (put_lane e i m).items ≡ length m.items
+lane_length : (e : Masked) (i : ℕ) (m : Bytes) → length (put_byte_lane e i m).items ≡ length m.items
 lane_length e i m = test_length (bit_at e.mask i == 1) m (e.addr + i) (word_byte e.bytes i)
 
 pub merge_base : (m : Bytes) (e : Masked) → (merge m e).base ≡ m.base
@@ -33,7 +33,7 @@ unfolding merge
 merge_length m e = lane_length e 3 _ ∙ lane_length e 2 _ ∙ lane_length e 1 _ ∙ lane_length e 0 m
 
 -- what is inside stays inside
-pub lane_within : (e f : Masked) (i : ℕ) (m : Bytes) → WritesInside m f → WritesInside (put_lane e i m) f
+pub lane_within : (e f : Masked) (i : ℕ) (m : Bytes) → WritesInside m f → WritesInside (put_byte_lane e i m) f
 lane_within e f i m h = λ k lt set. let j = h k lt set in let from = j.from in let to = j.to in
     record { from = omega (arith, lane_base e i m); to = omega (arith, lane_base e i m, lane_length e i m) }
 
@@ -57,27 +57,27 @@ test_apart : (c : Bool) (m : Bytes) (at a b : ℕ) → (at ≡ a → ⊥) → by
 test_apart true m at a b h = let other : (at == a) ≡ false = grind (arith, nat_tests) in (rw other at (put_byte m at a b)) ∙ over_nothing (byte_at m a)
 test_apart false m at a b h = refl
 
-lane_here : (e : Masked) (i : ℕ) (m : Bytes) → byte_at (put_lane e i m) (e.addr + i) ≡ over (byte_at m (e.addr + i)) (lane e i)
+lane_here : (e : Masked) (i : ℕ) (m : Bytes) → byte_at (put_byte_lane e i m) (e.addr + i) ≡ over (byte_at m (e.addr + i)) (byte_lane e i)
 lane_here e i m = test_here (bit_at e.mask i == 1) m (e.addr + i) (word_byte e.bytes i)
 
-lane_apart : (e : Masked) (i a : ℕ) (m : Bytes) → (e.addr + i ≡ a → ⊥) → byte_at (put_lane e i m) a ≡ byte_at m a
+lane_apart : (e : Masked) (i a : ℕ) (m : Bytes) → (e.addr + i ≡ a → ⊥) → byte_at (put_byte_lane e i m) a ≡ byte_at m a
 lane_apart e i a m h = test_apart (bit_at e.mask i == 1) m (e.addr + i) a (word_byte e.bytes i) h
 
 -- a place of the word: the byte that is written there, or else memory's
-merge_at : (m : Bytes) (e : Masked) (i : ℕ) → i < 4 → byte_at (merge m e) (e.addr + i) ≡ over (byte_at m (e.addr + i)) (lane e i)
+merge_at : (m : Bytes) (e : Masked) (i : ℕ) → i < 4 → byte_at (merge m e) (e.addr + i) ≡ over (byte_at m (e.addr + i)) (byte_lane e i)
 unfolding merge
 merge_at m e zero lt =
     lane_apart e 3 (e.addr + 0) _ (λ h. omega arith) ∙ lane_apart e 2 (e.addr + 0) _ (λ h. omega arith) ∙ lane_apart e 1 (e.addr + 0) _ (λ h. omega arith)
     ∙ lane_here e 0 m
 merge_at m e (suc zero) lt =
     lane_apart e 3 (e.addr + 1) _ (λ h. omega arith) ∙ lane_apart e 2 (e.addr + 1) _ (λ h. omega arith) ∙ lane_here e 1 _
-    ∙ ap (λ (x : Option ℕ). over x (lane e 1)) (lane_apart e 0 (e.addr + 1) m (λ h. omega arith))
+    ∙ ap (λ (x : Option ℕ). over x (byte_lane e 1)) (lane_apart e 0 (e.addr + 1) m (λ h. omega arith))
 merge_at m e (suc (suc zero)) lt =
     lane_apart e 3 (e.addr + 2) _ (λ h. omega arith) ∙ lane_here e 2 _
-    ∙ ap (λ (x : Option ℕ). over x (lane e 2)) (lane_apart e 1 (e.addr + 2) _ (λ h. omega arith) ∙ lane_apart e 0 (e.addr + 2) m (λ h. omega arith))
+    ∙ ap (λ (x : Option ℕ). over x (byte_lane e 2)) (lane_apart e 1 (e.addr + 2) _ (λ h. omega arith) ∙ lane_apart e 0 (e.addr + 2) m (λ h. omega arith))
 merge_at m e (suc (suc (suc zero))) lt =
     lane_here e 3 _
-    ∙ ap (λ (x : Option ℕ). over x (lane e 3)) (lane_apart e 2 (e.addr + 3) _ (λ h. omega arith) ∙ lane_apart e 1 (e.addr + 3) _ (λ h. omega arith) ∙ lane_apart e 0 (e.addr + 3) m (λ h. omega arith))
+    ∙ ap (λ (x : Option ℕ). over x (byte_lane e 3)) (lane_apart e 2 (e.addr + 3) _ (λ h. omega arith) ∙ lane_apart e 1 (e.addr + 3) _ (λ h. omega arith) ∙ lane_apart e 0 (e.addr + 3) m (λ h. omega arith))
 merge_at m e (suc (suc (suc (suc i)))) lt = absurd (omega arith)
 
 -- any other address
@@ -87,7 +87,7 @@ merge_apart m e a h =
     lane_apart e 3 a _ (λ k. h (omega arith) (omega arith)) ∙ lane_apart e 2 a _ (λ k. h (omega arith) (omega arith))
     ∙ lane_apart e 1 a _ (λ k. h (omega arith) (omega arith)) ∙ lane_apart e 0 a m (λ k. h (omega arith) (omega arith))
 
-by_range : (m : Bytes) (e : Masked) (a : ℕ) (c : Bool) → (nat_le e.addr a && nat_lt a (e.addr + 4)) ≡ c → byte_at (merge m e) a ≡ over (byte_at m a) (if c then lane e (a - e.addr) else None)
+by_range : (m : Bytes) (e : Masked) (a : ℕ) (c : Bool) → (nat_le e.addr a && nat_lt a (e.addr + 4)) ≡ c → byte_at (merge m e) a ≡ over (byte_at m a) (if c then byte_lane e (a - e.addr) else None)
 by_range m e a true h =
     let from : e.addr ≤ a = grind (arith, nat_tests) in
     let to : a < e.addr + 4 = grind (arith, nat_tests) in

@@ -21,7 +21,7 @@ pub struct Masked {
 }
 
 impl Masked {
-    ghost use Rattle.diva_storeq.specs.Masked.{byte_in, put_lane, merge, IsMasked, WritesInside};
+    ghost use Rattle.diva_storeq.specs.Masked.{byte_in, put_byte_lane, merge, IsMasked, WritesInside};
 
     /// The byte that it writes at an address, `None` where it writes none there.
     pub(crate) fn byte(&self, addr: u32) -> Option<u8>
@@ -29,7 +29,7 @@ impl Masked {
     {
         let place = addr.checked_sub(self.addr)?;
         if place < 4 && self.writes(place) {
-            Some(self.lane(place))
+            Some(self.byte_lane(place))
         } else {
             None
         }
@@ -44,7 +44,7 @@ impl Masked {
             → word_byte result i ≡ unwrap_or (byte_in self.now (addr + i)) (word_byte word i) }
     {
         if self.addr == addr {
-            (word & !self.lanes()) | self.bytes
+            (word & !self.byte_lanes()) | self.bytes
         } else {
             word
         }
@@ -61,25 +61,25 @@ impl Masked {
             memory.put_all(self.addr, &self.bytes.to_le_bytes());
             return;
         }
-        self.put_lane(memory, 0);
-        self.put_lane(memory, 1);
-        self.put_lane(memory, 2);
-        self.put_lane(memory, 3);
+        self.put_byte_lane(memory, 0);
+        self.put_byte_lane(memory, 1);
+        self.put_byte_lane(memory, 2);
+        self.put_byte_lane(memory, 3);
     }
 
-    /// Writes the byte at one place of the word, if it is to be written.
-    fn put_lane(&self, memory: &mut Memory, place: u32)
+    /// Writes one byte lane of the word, if it is to be written.
+    fn put_byte_lane(&self, memory: &mut Memory, place: u32)
         requires place { place < 4 }
         requires masked { IsMasked self.now }
         requires within { WritesInside memory.old self.now }
-        ensures { memory.new ≡ put_lane self.now place memory.old }
+        ensures { memory.new ≡ put_byte_lane self.now place memory.old }
     {
         if self.writes(place) {
-            memory.put(self.addr + place, self.lane(place));
+            memory.put(self.addr + place, self.byte_lane(place));
         }
     }
 
-    /// Whether the byte at a place of the word is written.
+    /// Whether a byte lane of the word is written: place 0 is that of the lowest byte.
     fn writes(&self, place: u32) -> bool
         requires { place < 4 }
         ensures { result ≡ (bit_at self.now.mask place == 1) }
@@ -87,17 +87,17 @@ impl Masked {
         (self.mask >> place) & 1 == 1
     }
 
-    /// The byte at a place of the word.
-    fn lane(&self, place: u32) -> u8
+    /// The byte in a byte lane of the word.
+    fn byte_lane(&self, place: u32) -> u8
         requires { place < 4 }
         ensures { result ≡ word_byte self.now.bytes place }
     {
         ((self.bytes >> (8 * place)) & 0xff) as u8
     }
 
-    /// The word in which all bits of the bytes that are written are set.
+    /// The word in which all bits of the byte lanes that are written are set.
     #[inline]
-    fn lanes(&self) -> u32
+    fn byte_lanes(&self) -> u32
         requires { self.now.mask < 16 }
         ensures { (i : ℕ) → i < 4
             → word_byte result i ≡ (if bit_at self.now.mask i == 1 then 255 else 0) }

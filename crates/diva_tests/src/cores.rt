@@ -1,7 +1,8 @@
 // Cores of the tests' own.
-use diva_core::{Claim, Claims, Core, Told, View};
+use diva_core::{Claims, Core, Told, View};
 use diva_isa::{Record, record_of};
 use diva_tape::Lockstep;
+use diva_test_programs::{ASKS, HALTS};
 
 /// Hands over what `Lockstep` does, but for the lowest bit of `value` in the first cycle.
 #[derive(Clone, Copy, Debug)]
@@ -42,75 +43,25 @@ impl Core for Counting {
     }
 }
 
-/// Hands over nothing before this cycle, and then what `Lockstep` does.
+/// Hands over this claim in cycle 1, and in cycle 14 those of the second and the third instruction of `FIVE`.
 #[derive(Clone, Copy, Debug)]
-pub(crate) struct Late {
-    pub first: u64,
+pub(crate) struct Differing {
+    pub claim: Record,
 }
 
-impl Core for Late {
-    ghost use Rattle.std.specs.Prelude.{⊤};
-
-    ghost gives = { λ before told state list after. ⊤ };
-
-    fn cycle(&mut self, told: &Told, view: &View<'_>, out: &mut Claims) {
-        if told.cycle >= self.first {
-            Lockstep.cycle(told, view, out);
-        }
-    }
-}
-
-/// Hands over the due record where a claim is due, or so many calls later.
-#[derive(Clone, Copy, Debug)]
-pub(crate) struct Prompted {
-    pub late: u32,
-    /// How many calls in a row a claim was due in, and none was handed over.
-    pub missed: u32,
-}
-
-impl Core for Prompted {
-    ghost use Rattle.std.specs.Prelude.{⊤};
-
-    ghost gives = { λ before told state list after. ⊤ };
-
-    fn cycle(&mut self, told: &Told, view: &View<'_>, out: &mut Claims) {
-        if !told.due {
-            self.missed = 0;
-        } else if self.missed < self.late {
-            self.missed += 1;
-        } else {
-            out.push(record_of(view));
-            self.missed = 0;
-        }
-    }
-}
-
-/// Hands over given lists, whatever they claim: each of them in its cycle and in those that follow, up
-/// to the next one's. The cycles rise.
-#[derive(Clone, Copy, Debug)]
-pub(crate) struct Lists<'a> {
-    pub lists: &'a [(u64, &'a [Claim])],
-}
-
-impl Lists<'_> {
-    fn list(&self, cycle: u64) -> &[Claim] {
-        match self.lists.iter().rev().find(|(first, _)| *first <= cycle) {
-            Some((_, list)) => list,
-            None => &[],
-        }
-    }
-}
-
-impl Core for Lists<'_> {
+impl Core for Differing {
     ghost use Rattle.std.specs.Prelude.{⊤};
 
     ghost gives = { λ before told state list after. ⊤ };
 
     fn cycle(&mut self, told: &Told, _view: &View<'_>, out: &mut Claims) {
-        for &claim in self.list(told.cycle) {
-            if out.len() < Claims::MOST {
-                out.push(claim);
+        match told.cycle {
+            1 => out.push(self.claim),
+            14 => {
+                out.push(ASKS);
+                out.push(HALTS);
             }
+            _ => {}
         }
     }
 }

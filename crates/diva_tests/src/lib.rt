@@ -1,61 +1,21 @@
-//! Tests that go across crates: whole runs of the program, calls of the machine with cores of the
-//! tests' own, and the answers of outside tools.
+//! Tests of the whole program: command lines over files and a sink in memory, with the status and the text that are due.
 //!
-//! - `programs`: small programs, the image files that they are, and the records of one of them;
-//! - `cores`: a core that claims a wrong value once, one that counts its calls, one that begins late, and
-//!   one that hands over the lists that it is given;
-//! - `runs`: command lines over files and a sink in memory, with the status and the text that are
-//!   due: `runs/tables` has the programs that are run, `runs/pipelined` those that are run ahead of the
-//!   checker, `runs/tapes` tapes that are played, written and refused, `runs/ports` stores that
-//!   memory takes in some cycles only, `runs/staged` tapes whose claims are
-//!   checked while older ones are pending, `runs/scripts` scripts that are refused, `runs/traces` commit lines,
-//!   `runs/sessions` the commands of the debugger, `runs/backwards` those that go back, `runs/sources` sources that are assembled and images that are listed,
-//!   `runs/harts` runs on two harts, `runs/campaigns` campaigns of flips, `runs/lanes` runs in which lanes vote, `runs/segments` images in version 2, also as `migrate` writes them, `runs/soaks` images of seeds, `runs/refusals` what
-//!   is not run, `runs/failing` the order of loads and puts, which also fail in turn, `runs/noting` notes them, and
-//!   `runs/texts` writes the text that is due;
-//! - `images`: an image that is read and written, faults of it, and images of seeds; in version 2 `images/segments` has
-//!   images that are read or refused, and `images/migrated` images that are written and read again;
-//! - `executables`: what is read of executables, and what the program makes of small ones: `executables/rows` writes them field
-//!   by field, `executables/headers` changes their headers, `executables/loads` their program headers and
-//!   `executables/memory` what memory they have; `executables/files` has small ones that other tools laid, and
-//!   `executables/commands` has command lines over those;
-//! - `calls`: calls of a machine's parts, of a machine that is driven, and of what needs no machine;
-//! - `lists`: several claims in a cycle, right and wrong ones, and what each cycle commits:
-//!   `lists/tables` has the lists;
-//! - `out_of_order`: what the out-of-order core hands over, call by call: `out_of_order/tables` has the
-//!   programs;
-//! - `sessions`: sessions that go back, call by call;
-//! - `stages`: what each stage of the checker answers of a claim behind older ones: `stages/tables`
-//!   has the claims;
-//! - `undo`: the last instruction is taken back, and the machine goes on: `undo/tables` has the moments;
-//! - `vectors`: what arithmetic, branches and loads came to in an emulator that is not of this
-//!   repository: operations on two `registers` and on `immediates`, `branches` and `loads`.
+//! - `cores`: a core that claims a wrong value once, one that counts its calls, and one whose first claim is given;
+//! - `runs`: the runs. `runs/tables` has the programs that are run, `runs/pipelined` those that are run ahead of the checker,
+//!   `runs/tapes` tapes that are played, written and refused, `runs/ports` stores that memory takes in some cycles only, `runs/staged`
+//!   tapes whose claims are checked while older ones are pending, `runs/scripts` scripts that are refused, `runs/traces` commit lines,
+//!   `runs/sessions` the commands of the debugger, `runs/backwards` those that go back, `runs/sources` sources that are assembled and
+//!   images that are listed, `runs/harts` runs on two harts, `runs/campaigns` campaigns of flips, `runs/lanes` runs in which lanes vote,
+//!   `runs/hostile` cores that are wrong by their rule, `runs/segments` images in version 2, also as `migrate` writes them,
+//!   `runs/executables` small executables, which `runs/executables/files` has as other tools laid them, `runs/soaks` images of seeds,
+//!   `runs/drawings` runs that are drawn, `runs/refusals` what is not run, and `runs/failing` the order of loads and puts, which also
+//!   fail in turn; `runs/noting` notes them, and `runs/texts` writes the text that is due.
 //!
-//! What is due was worked out by hand from the rules, or came from the outside tool; none of it is
-//! taken from what this repository's code answered.
+//! What is due was worked out by hand from the rules, or came from an outside tool; none of it is taken from what this repository's
+//! code answered.
 #![tactic(auto)]
 
 #[cfg(test)]
-mod calls;
-#[cfg(test)]
 mod cores;
 #[cfg(test)]
-mod executables;
-#[cfg(test)]
-mod images;
-#[cfg(test)]
-mod lists;
-#[cfg(test)]
-mod out_of_order;
-#[cfg(test)]
-mod programs;
-#[cfg(test)]
 mod runs;
-#[cfg(test)]
-mod sessions;
-#[cfg(test)]
-mod stages;
-#[cfg(test)]
-mod undo;
-#[cfg(test)]
-mod vectors;

@@ -2,6 +2,7 @@
 mod backwards;
 mod campaigns;
 mod drawings;
+mod executables;
 mod failing;
 mod harts;
 mod hostile;
@@ -9,7 +10,7 @@ mod lanes;
 mod noting;
 mod pipelined;
 mod ports;
-pub(crate) mod refusals;
+mod refusals;
 mod scripts;
 mod segments;
 mod sessions;
@@ -21,12 +22,11 @@ mod tapes;
 mod texts;
 mod traces;
 
-use crate::cores::{Counting, Flipped, Lists};
-use crate::programs::{ASKS, FIVE_FILE, HALTS, Program, image_file};
+use crate::cores::{Counting, Differing, Flipped};
 use diva_cli::top;
 use diva_core::Core;
-use diva_isa::Record;
 use diva_outside::{Fail as SinkFail, MemFile, MemFiles, MemSink, What};
+use diva_test_programs::{FIVE_FILE, Program, image_file};
 use noting::{Load, NotingFiles, NotingSink};
 use std::alloc::{AllocError, Global};
 use std::process::Abort;
@@ -306,13 +306,7 @@ fn fields_that_differ(rt: HostRuntime) -> Result<(), Fail> {
         let text = format!(in alloc;
             "flush 7 at 0 {field} {due}\n{counts}{registers}pc 00000008\n"
         )?;
-        let lists: [(u64, &[Record]); 4] = [
-            (1, &[claim]),
-            (2, &[]),
-            (14, &[ASKS, HALTS]),
-            (15, &[]),
-        ];
-        let mut core = Lists { lists: &lists };
+        let mut core = Differing { claim };
         let outside = five_files(alloc)?;
         compare_by(&rt, &mut core, "run a.diva", outside, 0, text.as_str())?;
     }

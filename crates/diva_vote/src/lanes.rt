@@ -56,30 +56,30 @@ impl Lane for Liar {
 
 /// A lane that is honest, or a liar.
 #[derive(Clone, Copy, Debug, PartialEq, Eq, Drop)]
-pub enum Seat {
+pub enum EitherLane {
     /// It answers as `Honest`.
     Honest,
     /// It answers as `Liar`.
     Liar,
 }
 
-impl Lane for Seat {
+impl Lane for EitherLane {
     ghost use Rattle.std.specs.Prelude.{◌≡◌};
-    ghost use Rattle.diva_vote.specs.declared.lanes.Seat.TheVariants as seats;
+    ghost use Rattle.diva_vote.specs.declared.lanes.EitherLane.TheVariants as lanes;
 
-    ghost honest = { λ seat. seat ≡ seats.Honest };
+    ghost honest = { λ lane. lane ≡ lanes.Honest };
 
     ghost hears = { λ before question after. after ≡ before };
 
     fn judge(&mut self, stage: Stage, pending: &Pending, at: usize, view: &View<'_>) -> Option<Diff>
         requires { at < length pending.now.items }
-        ensures honest { self.old ≡ Seat.Honest → IsHonest stage view.now pending.now.items at result }
-        ensures lies { self.old ≡ Seat.Liar → IsLie stage view.now pending.now.items at result }
+        ensures honest { self.old ≡ EitherLane.Honest → IsHonest stage view.now pending.now.items at result }
+        ensures lies { self.old ≡ EitherLane.Liar → IsLie stage view.now pending.now.items at result }
         ensures same { self.new ≡ self.old }
     {
         match self {
-            Seat::Honest => Honest.judge(stage, pending, at, view),
-            Seat::Liar => Liar.judge(stage, pending, at, view),
+            EitherLane::Honest => Honest.judge(stage, pending, at, view),
+            EitherLane::Liar => Liar.judge(stage, pending, at, view),
         }
     }
 }

@@ -2,7 +2,7 @@
 //!
 //! - `stage`: the stages that compare, `Stage`, and the check of each, `check`;
 //! - `lane`: what answers for such a check, the trait `Lane`, with its meaning: when it is honest, and what it hears;
-//! - `lanes`: the lane that is the checks, `Honest`, the one that always lies, `Liar`, and one that is either, `Seat`;
+//! - `lanes`: the lane that is the checks, `Honest`, the one that always lies, `Liar`, and one that is either, `EitherLane`;
 //! - `votes`: the answer that most of three give, `vote`, and that of three lanes, `judge_by_vote`.
 //!
 //! `specs/Lanes.antt` says what a stage compares, what an honest answer is and what a lie; `specs/Votes.antt` what a majority
@@ -18,6 +18,6 @@ mod stage;
 mod votes;
 
 pub use lane::Lane;
-pub use lanes::{Honest, Liar, Seat};
+pub use lanes::{EitherLane, Honest, Liar};
 pub use stage::{Stage, check};
 pub use votes::{judge_by_vote, vote};

@@ -1,9 +1,9 @@
 // Sessions that go back through the program: over stores of each width, a put and the end, and over flushes.
 use super::sessions::with_commands;
 use super::{compare, compare_by};
-use crate::programs::{FIVE, Program};
 use diva_ooo::Ooo;
 use diva_outside::What;
+use diva_test_programs::{FIVE, Program};
 use std::test::Fail;
 
 /// Stores of each width, a put and a halt: `lui x5, 0x89abc`, `addi x5, x5, 1246`, `sw x5, 48(x0)`, `sh x5, 52(x0)`,

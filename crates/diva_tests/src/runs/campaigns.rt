@@ -2,7 +2,7 @@
 use super::compare_row;
 use super::tables::Row;
 use crate::cores::Counting;
-use crate::programs::{FIVE, LOOP, Program};
+use diva_test_programs::{FIVE, LOOP, Program};
 use std::test::Fail;
 
 /// `ebreak`, which traps.

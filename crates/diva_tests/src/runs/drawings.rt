@@ -1,8 +1,8 @@
 // Runs that are drawn: in text, and as a log for a viewer.
 use crate::cores::Counting;
-use crate::programs::FIVE_FILE;
 use diva_cli::pipeline_top;
 use diva_outside::{Fail as SinkFail, MemFile, MemFiles, MemSink};
+use diva_test_programs::FIVE_FILE;
 use std::alloc::Global;
 use std::process::Abort;
 use std::test::Fail;

@@ -2,7 +2,7 @@
 use super::texts::registers_text;
 use super::{Outside, compare, five_files, run_program};
 use crate::cores::Counting;
-use crate::programs::{FIVE, Program, image_file};
+use diva_test_programs::{FIVE, Program, image_file};
 use std::alloc::Global;
 use std::fmt::Write;
 use std::test::Fail;

@@ -2,9 +2,9 @@
 use super::tables::{ONE_BY_ONE, Row};
 use super::texts::registers_text;
 use super::{Outside, compare_rows, run_program};
-use crate::programs::{FIVE, Program, THREE_READS, image_file};
 use diva_ooo::Ooo;
 use diva_outside::What;
+use diva_test_programs::{FIVE, Program, THREE_READS, image_file};
 use std::alloc::Global;
 use std::fmt::Write;
 use std::process::Abort;

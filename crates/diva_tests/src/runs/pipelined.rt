@@ -2,8 +2,8 @@
 // out-of-order core, which the program is handed, as many as are done.
 use super::tables::{ONE_BY_ONE, Row};
 use super::{compare_row, compare_rows};
-use crate::programs::{LOOP, Program, TWO_READS};
 use diva_ooo::Ooo;
+use diva_test_programs::{LOOP, Program, TWO_READS};
 use std::test::Fail;
 
 /// `FIVE` in the pipeline: its claims are of the cycles 1, 2 and 3, and commit in 7, 8 and 9.

@@ -3,7 +3,7 @@ use super::tables::{ONE_BY_ONE, Row};
 use super::tapes::STORES;
 use super::{compare_row, compare_rows};
 use crate::cores::Flipped;
-use crate::programs::FOUR_STORES;
+use diva_test_programs::FOUR_STORES;
 use std::test::Fail;
 
 /// Two stores that are claimed in one cycle.

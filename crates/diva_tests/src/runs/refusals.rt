@@ -1,7 +1,7 @@
 // What is not run.
 use super::{Outside, compare_unasked, five_files};
-use crate::programs::{FIVE_FILE, altered};
 use diva_outside::What;
+use diva_test_programs::{FIVE_FILE, altered};
 use std::test::Fail;
 
 /// What is written where the words are not a valid command line.

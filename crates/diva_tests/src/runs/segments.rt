@@ -1,7 +1,7 @@
 // Images in version 2: they are run and listed as in version 1, refused by their own faults, and written by `migrate`.
 use super::sources::FIVE_LISTING;
 use super::{FIVE_TEXT, Outside, compare, compare_unasked, run_unasked};
-use crate::programs::{FIVE_FILE, FIVE_SEGMENTED, altered, file_of};
+use diva_test_programs::{FIVE_FILE, FIVE_SEGMENTED, altered, file_of};
 use std::alloc::Global;
 use std::process::Abort;
 use std::test::Fail;

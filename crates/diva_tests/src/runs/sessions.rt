@@ -1,6 +1,6 @@
 // Sessions: commands, and the replies to them.
 use super::{Outside, compare, compare_unasked};
-use crate::programs::{FIVE, FIVE_FILE, LOOP, Program, image_file};
+use diva_test_programs::{FIVE, FIVE_FILE, LOOP, Program, image_file};
 use std::alloc::Global;
 use std::test::Fail;
 

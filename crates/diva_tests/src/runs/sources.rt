@@ -1,7 +1,7 @@
 // Sources that are assembled, images that are listed, and what is refused of both.
 use super::{Outside, compare, run_program};
 use crate::cores::Flipped;
-use crate::programs::{FIVE_FILE, Program, image_file};
+use diva_test_programs::{FIVE_FILE, Program, image_file};
 use std::alloc::Global;
 use std::test::Fail;
 

@@ -2,7 +2,7 @@
 use super::tables::{ONE_BY_ONE, Row};
 use super::texts::text_due;
 use super::{Outside, compare, compare_rows};
-use crate::programs::{Program, image_file};
+use diva_test_programs::{Program, image_file};
 use std::fmt::Write;
 use std::test::Fail;
 

@@ -1,6 +1,6 @@
 // Programs that are run, and the text that is due.
-use crate::programs::{ADDS, FIVE, LOOP, Program, TWO_READS};
 use diva_isa::Record;
+use diva_test_programs::{ADDS, FIVE, LOOP, Program, TWO_READS};
 
 /// A run of one program.
 #[derive(Clone, Copy)]

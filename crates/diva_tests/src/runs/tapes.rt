@@ -2,7 +2,7 @@
 use super::tables::{ONE_BY_ONE, Row};
 use super::{Outside, compare, compare_rows, run_program};
 use crate::cores::Flipped;
-use crate::programs::{FIVE_FILE, LOOP, Program, THREE_READS, image_file};
+use diva_test_programs::{FIVE_FILE, LOOP, Program, THREE_READS, image_file};
 use std::test::Fail;
 
 /// Two stores, to 32 and to 36, and the halt: two claims in each of the first two cycles.

@@ -28,7 +28,7 @@ loop-command-preserved g c =
     let at : slice_get c.args.commands.now c.loop-command.command-index ≡ Some c.command-item.result = slice_get_read c.args.commands.now (length c.args.commands.now) c.loop-command.command-index c.command-item.result refl c.loop-command-test.true c.command-item.is in
     record {
       replies = replies_more g.D.Core.gives _ c.loop-command.command-index _ _ _ _ _ _ _ _ _ _ c.command-item.result _ _ _ _ inv.replies at
-          (record { stands = reply.stands; keep = reply.keep; moved = reply.moved; base = reply.base; at_once = reply.at_once; back = reply.back; stays = reply.stays; led = reply.led })
+          (record { stands = reply.stands; keep = reply.keep; moved = reply.moved; origin = reply.origin; at_once = reply.at_once; back = reply.back; stays = reply.stays; led = reply.led })
           reply.reply c.in_ok-put_line.ensures;
       within = cycles-more c.loop-command.session.machine.timed.cycles _ c.loop-command.command-index _ c.loop-command.session.machine.timed.config.limit _ inv.within (ap (λ (z : Config). z.limit) inv.config) reply.million;
       config = reply.config ∙ inv.config;
@@ -42,7 +42,7 @@ returns-in_err-put_line g c =
     let failed = err_from_is_err_and c.from_residual.result c.from_residual.ensures.1 in
     rw failed.1 (replied g.D.Core.gives _ (c.loop-command.command-index + 1) _ _ _ _ g.S.Sink.contents g.S.Sink.faults _ _ _
     (replies_more g.D.Core.gives _ c.loop-command.command-index _ _ _ _ _ _ _ _ _ _ c.command-item.result _ _ _ _ inv.replies at
-    (record { stands = reply.stands; keep = reply.keep; moved = reply.moved; base = reply.base; at_once = reply.at_once; back = reply.back; stays = reply.stays; led = reply.led })
+    (record { stands = reply.stands; keep = reply.keep; moved = reply.moved; origin = reply.origin; at_once = reply.at_once; back = reply.back; stays = reply.stays; led = reply.led })
     reply.reply c.in_err-put_line.ensures)
     (cycles-more c.loop-command.session.machine.timed.cycles _ c.loop-command.command-index _ c.loop-command.session.machine.timed.config.limit _ inv.within (ap (λ (z : Config). z.limit) inv.config) reply.million)
     tt)

@@ -9,7 +9,7 @@ use Rattle.diva_image.proofs.Shown.{canonical-placed}
 use Rattle.diva_image.proofs.Stretches.{length-concat_push, made_more, made_same, next_block}
 use Rattle.diva_image.proofs.Tables.{placed-wider}
 use Rattle.diva_image.proofs.migrating.canonical.Goals as goal
-use Rattle.diva_image.proofs.migrating.canonical.Goals.{then-not-is_blank, else-not-is_blank}
+use Rattle.diva_image.proofs.migrating.canonical.Goals.{then-not-is_zero_block, else-not-is_zero_block}
 
 pub extend-requires : goal.extend-requires
 extend-requires c =
@@ -36,11 +36,11 @@ loop-block-preserved c =
           ∙ ap (λ (bs : List (List ℕ)). bs ++ blocks_of (chunks_rest c.next.new.self)) (sym more);
       here = rw more (omega (arith, total, c.loop-block.invariant.here));
       left = omega (arith, left, parts, c.loop-block.invariant.left);
-      made = rw more (elim c.if-not-is_blank.branch [
-        | then-not-is_blank w ↦ made_more c.args.base c.loop-block.addr blocks c.in-Some.block.now c.loop-block.segments c.if-not-is_blank.segments
-            c.loop-block.invariant.made c.loop-block.invariant.here (sym c.is_blank.ensures ∙ w.if-not-is_blank.true) (w.segments-is ∙ w.extend.ensures)
-        | else-not-is_blank w ↦ w.segments-is ∙ made_same c.args.base blocks c.in-Some.block.now c.loop-block.segments
-            c.loop-block.invariant.made (sym c.is_blank.ensures ∙ w.if-not-is_blank.false)
+      made = rw more (elim c.if-not-is_zero_block.branch [
+        | then-not-is_zero_block w ↦ made_more c.args.base c.loop-block.addr blocks c.in-Some.block.now c.loop-block.segments c.if-not-is_zero_block.segments
+            c.loop-block.invariant.made c.loop-block.invariant.here (sym c.is_zero_block.ensures ∙ w.if-not-is_zero_block.true) (w.segments-is ∙ w.extend.ensures)
+        | else-not-is_zero_block w ↦ w.segments-is ∙ made_same c.args.base blocks c.in-Some.block.now c.loop-block.segments
+            c.loop-block.invariant.made (sym c.is_zero_block.ensures ∙ w.if-not-is_zero_block.false)
       ]);
     }
 

@@ -10,7 +10,7 @@ invariant-loop-at l = record {
   few : l.begun < 2;
   passed : (i : ℕ) → i < l.at → has l.candidates i ≡ false;
   here : l.at < 64 → has l.candidates l.at ≡ true;
-  waits : (i : ℕ) → has l.candidates i ≡ true → holds_at (λ e. is_waiting e.stage) l.window i ≡ true;
+  waits : (i : ℕ) → has l.candidates i ≡ true → holds_at (λ e. is_waiting e.progress) l.window i ≡ true;
   stored : (i : ℕ) → has l.candidates i ≡ true → holds_at is_load l.window i ≡ true → are_stored (take i l.window) ≡ true;
   others : (i : ℕ) → l.at ≤ i → has l.candidates i ≡ false → can_at [] l.window i ≡ false;
 }

@@ -11,20 +11,20 @@ use Rattle.diva_debug.proofs.rewindable.Rewindable.step_one.Goals as goal
 
 pub invariant_of-self : goal.invariant_of-self
 invariant_of-self g c =
-    let r : Rewindable = record { machine = c.self.inside.machine; undos = c.self.inside.undos.rows; keep = c.self.inside.undos.keep } in
-    let last : Rewindable = record { machine = c.drive_one.new.m; undos = c.keep.new.self.rows; keep = c.keep.new.self.keep } in
+    let r : Rewindable = record { machine = c.self.inside.machine; undos = c.self.inside.undos.items; keep = c.self.inside.undos.keep } in
+    let last : Rewindable = record { machine = c.drive_one.new.m; undos = c.keep.new.self.items; keep = c.keep.new.self.keep } in
     let u = c.undo_of-undo.result in
     let on : goes_on r.machine.timed.arch ≡ true = ap (λ (r : Rewindable). goes_on r.machine.timed.arch) c.self.view_is ∙ c.requires.on in
     let at = c.view.ensures.goes_on on in
     let back = subst (λ (s : State). restore (step s) u ≡ s) at c.undo_of-undo.ensures.back in
     let overwrote = subst (λ (s : State). IsUndo (step s) u) at c.undo_of-undo.ensures.last in
     one_is g.C.Core.gives r c.args.core.now last c.drive_one.new.core u c.self.invariant back overwrote c.drive_one.ensures.moved
-    (ap (λ (u : Undos). u.rows) c.keep.ensures.rows) (ap (λ (u : Undos). u.keep) c.keep.ensures.rows) c.drive_one.ensures.config
+    (ap (λ (u : Undos). u.items) c.keep.ensures.items) (ap (λ (u : Undos). u.keep) c.keep.ensures.items) c.drive_one.ensures.config
 
 pub returns : goal.returns
 returns g c =
-    let r : Rewindable = record { machine = c.self.inside.machine; undos = c.self.inside.undos.rows; keep = c.self.inside.undos.keep } in
-    let last : Rewindable = record { machine = c.drive_one.new.m; undos = c.keep.new.self.rows; keep = c.keep.new.self.keep } in
+    let r : Rewindable = record { machine = c.self.inside.machine; undos = c.self.inside.undos.items; keep = c.self.inside.undos.keep } in
+    let last : Rewindable = record { machine = c.drive_one.new.m; undos = c.keep.new.self.items; keep = c.keep.new.self.keep } in
     let u = c.undo_of-undo.result in
     let on : goes_on r.machine.timed.arch ≡ true = ap (λ (r : Rewindable). goes_on r.machine.timed.arch) c.self.view_is ∙ c.requires.on in
     let at = c.view.ensures.goes_on on in
@@ -32,5 +32,5 @@ returns g c =
     let overwrote = subst (λ (s : State). IsUndo (step s) u) at c.undo_of-undo.ensures.last in
     subst (λ (r : Rewindable). Advances g.C.Core.gives 1 r c.args.core.now last c.drive_one.new.core) c.self.view_is
     (advances_one g.C.Core.gives r c.args.core.now last c.drive_one.new.core u c.self.invariant back overwrote c.drive_one.ensures.moved
-    (ap (λ (u : Undos). u.rows) c.keep.ensures.rows) (ap (λ (u : Undos). u.keep) c.keep.ensures.rows) c.drive_one.ensures.config
+    (ap (λ (u : Undos). u.items) c.keep.ensures.items) (ap (λ (u : Undos). u.keep) c.keep.ensures.items) c.drive_one.ensures.config
     c.drive_one.ensures.turns c.drive_one.ensures.within c.drive_one.ensures.at_once)

@@ -21,7 +21,7 @@ loop-i-preserved c =
     let same = c.judge_front.ensures.same yes in
     record {
       left = sym (ap (λ (b : Bool). if b then next new else new) yes) ∙ sym (c.judge_front.ensures.judges next) ∙ sym (judged_less c.args.n c.loop-i.i old (omega arith)) ∙ inv.left;
-      open_ = c.judge_front.ensures.open;
+      none_past_end = c.judge_front.ensures.none_past_end;
       grown = grown_then c.args.memory.now c.args.self.now c.loop-i.self c.judge_front.new.self inv.grown c.judge_front.ensures.grown;
       config = bounds.config ∙ inv.config;
       idle = bounds.idle ∙ inv.idle;

@@ -2,13 +2,13 @@ use Rattle.std.proofs.Common.{◌≡◌, ◌+◌, ◌-◌, ◌≤◌, length}
 use Rattle.diva_core.specs.Cycle.{judged_under}
 use Rattle.diva_duo.specs.Rules.{fences_wait}
 use Rattle.diva_duo.specs.Duo.{timed}
-use Rattle.diva_duo.specs.Inner.{Grown, IsOpen}
+use Rattle.diva_duo.specs.Inner.{Grown, NonePastEnd}
 use Rattle.diva_duo.proofs.hart.Hart.judge.Given as goal
 
 abbrev pub invariant-loop-i : goal.invariant-loop-i
 invariant-loop-i l = record {
   left : judged_under fences_wait (l.n - l.i) (timed l.cycles l.memory l.self) ≡ judged_under fences_wait l.n (timed l.cycles l.memory l.fn.self);
-  open_ : IsOpen l.self;
+  none_past_end : NonePastEnd l.self;
   grown : Grown l.memory l.fn.self l.self;
   config : l.self.config ≡ l.fn.self.config;
   idle : l.self.idle ≡ l.fn.self.idle;

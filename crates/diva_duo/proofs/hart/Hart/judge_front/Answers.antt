@@ -13,7 +13,7 @@ use Rattle.diva_duo.specs.Duo.{Hart, timed}
 use Rattle.diva_core.specs.Entries.{pending_claim_of}
 use Rattle.diva_duo.specs.Inner.{Grown}
 use Rattle.diva_duo.proofs.Growing.{grown_at}
-use Rattle.diva_duo.proofs.Fronting.{young, differs, held, free, past_on, past_off, opens, due_is}
+use Rattle.diva_duo.proofs.Fronting.{young, differs, held, free, past_on, past_off, front_goes_on, due_is}
 use Rattle.diva_duo.proofs.hart.Hart.judge_front.Goals as goal
 
 pub returns-then-saturating_sub-lt-DEPTH-clause-judges : goal.returns-then-saturating_sub-lt-DEPTH-clause-judges
@@ -33,7 +33,7 @@ returns-in-Some-first_difference-clause-judges c = λ next.
     let first : slice_get items 0 ≡ Some e = sym c.in-Some.ensures in
     let waits : m.pending ≡ map pending_claim_of items = ap (λ (x : Hart). x.pending) (sym c.self.view_is) in
     let old : e.cycle + depth ≤ c.args.cycles = omega arith in
-    let on : h.state.end ≡ 0 = opens h items e c.requires.open waits first in
+    let on : h.state.end ≡ 0 = front_goes_on h items e c.requires.none_past_end waits first in
     let due : c.record_of-due.result ≡ record_of m.arch = due_is c.args.memory.now h c.view.result c.record_of-due.result c.view.ensures c.record_of-due.ensures on in
     let look : first_difference e.claim (record_of m.arch) ≡ c.first_difference.result = ap (first_difference e.claim) (sym due) ∙ sym c.first_difference.ensures.first in
     differs m items e first waits old c.in-Some-first_difference.diff (look ∙ c.in-Some-first_difference.is) next
@@ -48,7 +48,7 @@ returns-then-waits-clause-judges c = λ next.
     let first : slice_get items 0 ≡ Some e = sym c.in-Some.ensures in
     let waits : m.pending ≡ map pending_claim_of items = ap (λ (x : Hart). x.pending) (sym c.self.view_is) in
     let old : e.cycle + depth ≤ c.args.cycles = omega arith in
-    let on : h.state.end ≡ 0 = opens h items e c.requires.open waits first in
+    let on : h.state.end ≡ 0 = front_goes_on h items e c.requires.none_past_end waits first in
     let due : c.record_of-due.result ≡ record_of m.arch = due_is c.args.memory.now h c.view.result c.record_of-due.result c.view.ensures c.record_of-due.ensures on in
     let look : first_difference e.claim (record_of m.arch) ≡ c.first_difference.result = ap (first_difference e.claim) (sym due) ∙ sym c.first_difference.ensures.first in
     held m items e first waits old (look ∙ c.in_default-first_difference.is) (ap (fences_wait m.config.stores m.owed) (sym due) ∙ sym c.waits.ensures ∙ c.if-waits.true) next
@@ -62,7 +62,7 @@ returns-else-not-goes_on-clause-judges c = λ next.
     let first : slice_get items 0 ≡ Some e = sym c.in-Some.ensures in
     let waits : m.pending ≡ map pending_claim_of items = ap (λ (x : Hart). x.pending) (sym c.self.view_is) in
     let old : e.cycle + depth ≤ c.args.cycles = omega arith in
-    let on : h.state.end ≡ 0 = opens h items e c.requires.open waits first in
+    let on : h.state.end ≡ 0 = front_goes_on h items e c.requires.none_past_end waits first in
     let due : c.record_of-due.result ≡ record_of m.arch = due_is c.args.memory.now h c.view.result c.record_of-due.result c.view.ensures c.record_of-due.ensures on in
     let look : first_difference e.claim (record_of m.arch) ≡ c.first_difference.result = ap (first_difference e.claim) (sym due) ∙ sym c.first_difference.ensures.first in
     let ps : List PendingClaim = map pending_claim_of c.pop.new.self.items in
@@ -86,7 +86,7 @@ returns-then-not-goes_on-clause-judges c = λ next.
     let first : slice_get items 0 ≡ Some e = sym c.in-Some.ensures in
     let waits : m.pending ≡ map pending_claim_of items = ap (λ (x : Hart). x.pending) (sym c.self.view_is) in
     let old : e.cycle + depth ≤ c.args.cycles = omega arith in
-    let on : h.state.end ≡ 0 = opens h items e c.requires.open waits first in
+    let on : h.state.end ≡ 0 = front_goes_on h items e c.requires.none_past_end waits first in
     let due : c.record_of-due.result ≡ record_of m.arch = due_is c.args.memory.now h c.view.result c.record_of-due.result c.view.ensures c.record_of-due.ensures on in
     let look : first_difference e.claim (record_of m.arch) ≡ c.first_difference.result = ap (first_difference e.claim) (sym due) ∙ sym c.first_difference.ensures.first in
     let ps : List PendingClaim = map pending_claim_of c.pop.new.self.items in
@@ -114,7 +114,7 @@ returns-else-not-goes_on-clause-grown c =
     let e = c.in-Some.front.now in
     let first : slice_get items 0 ≡ Some e = sym c.in-Some.ensures in
     let waits : h.pending ≡ map pending_claim_of items = ap (λ (x : Hart). x.pending) (sym c.self.view_is) in
-    let on : h.state.end ≡ 0 = opens h items e c.requires.open waits first in
+    let on : h.state.end ≡ 0 = front_goes_on h items e c.requires.none_past_end waits first in
     let due = due_is c.args.memory.now h c.view.result c.record_of-due.result c.view.ensures c.record_of-due.ensures on in
     let b : c.settle.new.self.state.buffer ≡ h.state.buffer ++ buffered c.record_of-due.result =
     c.settle.ensures.buffer ∙ ap (λ (x : Hart). x.state.buffer ++ buffered c.record_of-due.result) c.self.view_is in
@@ -130,7 +130,7 @@ returns-then-not-goes_on-clause-grown c =
     let e = c.in-Some.front.now in
     let first : slice_get items 0 ≡ Some e = sym c.in-Some.ensures in
     let waits : h.pending ≡ map pending_claim_of items = ap (λ (x : Hart). x.pending) (sym c.self.view_is) in
-    let on : h.state.end ≡ 0 = opens h items e c.requires.open waits first in
+    let on : h.state.end ≡ 0 = front_goes_on h items e c.requires.none_past_end waits first in
     let due = due_is c.args.memory.now h c.view.result c.record_of-due.result c.view.ensures c.record_of-due.ensures on in
     let b : c.settle.new.self.state.buffer ≡ h.state.buffer ++ buffered c.record_of-due.result =
     c.settle.ensures.buffer ∙ ap (λ (x : Hart). x.state.buffer ++ buffered c.record_of-due.result) c.self.view_is in

@@ -2,7 +2,7 @@ use Rattle.std.proofs.Common.{◌≡◌, ◌+◌, ◌⊎◌, ℕ, false, subst}
 use Rattle.diva_ooo.specs.Board.{IsWrittenBetween, reads}
 use Rattle.diva_ooo.specs.MarkSets.{has, holds_at}
 use Rattle.diva_ooo.proofs.Boarding.{board_done}
-use Rattle.diva_ooo.specs.Entry.{profile_of}
+use Rattle.diva_ooo.specs.WindowEntry.{profile_of}
 use Rattle.diva_ooo.proofs.board.Board.complete.Goals as goal
 
 pub returns-clause-board : goal.returns-clause-board

@@ -12,9 +12,9 @@ pub returns-clause-board : goal.returns-clause-board
 returns-clause-board c =
     record {
       base = omega arith;
-      waiting = those_none (λ e. is_waiting e.stage) 0;
-      running = those_none (λ e. is_running e.stage) 0;
-      done = those_none (λ e. is_done e.stage) 0;
+      waiting = those_none (λ e. is_waiting e.progress) 0;
+      running = those_none (λ e. is_running e.progress) 0;
+      done = those_none (λ e. is_done e.progress) 0;
       gone = λ i h. absurd (omega arith);
       storing = those_none is_open_store 0;
       stored = those_none (λ e. is_store (done_by e.result)) 0;

@@ -6,7 +6,7 @@ use Rattle.diva_ooo.specs.declared.profile.Profile.{Profile}
 use Rattle.diva_ooo.specs.Issue.{is_available}
 use Rattle.diva_ooo.proofs.Boarding.{IsPut, board_pushed, open_waiting, put_else, put_if}
 use Rattle.diva_ooo.proofs.board.Board.push.Goals.{else-has_sources_behind, else-is_loading, else-is_storing, then-has_sources_behind, then-is_loading, then-is_storing}
-use Rattle.diva_ooo.specs.Entry.{profile_of}
+use Rattle.diva_ooo.specs.WindowEntry.{profile_of}
 use Rattle.diva_ooo.proofs.board.Board.push.Goals as goal
 
 pub returns-clause-board : goal.returns-clause-board

@@ -4,7 +4,7 @@ use Rattle.diva_isa.specs.declared.effect.Effect.{Effect}
 use Rattle.diva_isa.specs.declared.effect.Effect.TheVariants.{Stores}
 use Rattle.diva_isa.specs.declared.kind.Width.TheVariants.{Word}
 use Rattle.diva_core.specs.Effects.{is_apart, with_effects}
-use Rattle.diva_ooo.specs.Entry.{Entry}
+use Rattle.diva_ooo.specs.WindowEntry.{WindowEntry}
 use Rattle.diva_ooo.proofs.Knowing.{shown}
 use Rattle.diva_ooo.proofs.Reading.{effects, none_yet, older_word_none, word_apart, word_quiet, word_whole}
 use Rattle.diva_ooo.proofs.flight.Flight.find_word.Goals as goal
@@ -35,7 +35,7 @@ loop-place-preserved c =
     let before = next.1 in
     let place = c.in-Some.place in
     let latest = c.loop-place.latest in
-    let e : Entry = shown c.entry.inside in
+    let e : WindowEntry = shown c.entry.inside in
     let does = c.entry.invariant.effect in
     let here : slice_get f.window.now place ≡ Some e = c.entry-entry.ensures ∙ ap Some (sym c.entry.view_is) in
     let quiet = word_quiet f.view.now f.ahead.now.ring f.window.now c.loop-place.from place c.args.addr latest next.0.behind (λ i h k. next.0.first i h k) c.loop-place.invariant.seen in

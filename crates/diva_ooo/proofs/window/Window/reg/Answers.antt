@@ -1,5 +1,5 @@
 use Rattle.std.proofs.Common.{◌≡◌, ◌≤◌, Some, ap, arith, length, refl, rules, slice_get, sym, ◌∙◌}
-use Rattle.diva_ooo.specs.Entry.{Entry}
+use Rattle.diva_ooo.specs.WindowEntry.{WindowEntry}
 use Rattle.diva_ooo.proofs.Knowing.{shown}
 use Rattle.diva_ooo.proofs.Windowing.{reg_last_of, reg_none_of}
 use Rattle.diva_ooo.proofs.window.Window.reg.Goals as goal
@@ -7,7 +7,7 @@ use Rattle.diva_ooo.proofs.window.Window.reg.Goals as goal
 pub returns-in-Some : goal.returns-in-Some
 returns-in-Some c =
     let w = c.self.inside.entries.items in
-    let e : Entry = shown c.entry.inside in
+    let e : WindowEntry = shown c.entry.inside in
     let there : slice_get w c.in-Some.place ≡ Some c.unwrap-entry.result.now = search rules in
     let here : slice_get w c.in-Some.place ≡ Some e = there ∙ ap Some (sym c.entry.view_is) in
     let before : c.args.at ≤ length c.args.self.now = omega arith in

@@ -1,0 +1,301 @@
+// Moments at which the last instruction is taken back.
+use diva_core::{Cause, Diff, Field, FlushRow};
+use diva_machine::End;
+use diva_test_programs::{FIVE, Program};
+
+/// Who hands claims over.
+#[derive(Clone, Copy, Debug)]
+pub(super) enum Leader {
+    Lockstep,
+    Scalar,
+    /// As `Lockstep`, but for the value of the claim of this cycle.
+    Misled(u64),
+}
+
+/// What is seen of a machine of width 1 behind an undo, and where it ends when it goes on.
+pub(super) struct Row {
+    pub name: &'static str,
+    pub program: Program,
+    pub port: u32,
+    pub leader: Leader,
+    /// How many turns are taken before the undo.
+    pub turns: u32,
+    /// How many cycles have run then, fewer where the machine has ended.
+    pub cycles: u64,
+    /// Behind the undo: the count, the pc, a register with its word, the word at 32, and what was put.
+    pub count: u64,
+    pub pc: u32,
+    pub reg: (u8, u32),
+    pub word: u32,
+    pub output: &'static str,
+    /// The places of the records that the last cycle committed.
+    pub last: &'static [u32],
+    pub flush: Option<FlushRow>,
+    /// At the end: how it ended, the count, the cycles, the word at 32, and what was put.
+    pub end: End,
+    pub end_count: u64,
+    pub end_cycles: u64,
+    pub end_word: u32,
+    pub end_output: &'static str,
+}
+
+/// `addi x1, x0, -1`, `sw x1, 32(x0)`, `sh x0, 34(x0)`, `sb x0, 33(x0)`, `lw x2, 32(x0)`, and the halt; the word at 32 is 44332211.
+/// It becomes ffffffff, 0000ffff and then 000000ff.
+const STORES: Program = Program {
+    size: 64,
+    words: &[
+        0xfff0_0093,
+        0x0210_2023,
+        0x0200_1123,
+        0x0200_00a3,
+        0x0200_2103,
+        0x05d0_0893,
+        0x0000_0073,
+        0,
+        0x4433_2211,
+    ],
+};
+
+/// `addi x10, x0, 65`, `addi x17, x0, 1`, the `ecall` that puts `A`, and the halt with 65.
+const PUTS: Program = Program {
+    size: 64,
+    words: &[
+        0x0410_0513,
+        0x0010_0893,
+        0x0000_0073,
+        0x05d0_0893,
+        0x0000_0073,
+    ],
+};
+
+/// `addi x1, x0, 5` and `ebreak`.
+const BREAKS: Program = Program {
+    size: 64,
+    words: &[0x0050_0093, 0x0010_0073],
+};
+
+/// `addi x0, x0, 5` and `ebreak`.
+const IGNORES: Program = Program {
+    size: 64,
+    words: &[0x0050_0013, 0x0010_0073],
+};
+
+/// A word is stored over by `STORES` under `Lockstep`, and taken back in the cycle of its commit.
+const A_WORD: Row = Row {
+    name: "a word that is owed",
+    program: STORES,
+    port: 1,
+    leader: Leader::Lockstep,
+    turns: 14,
+    cycles: 14,
+    count: 1,
+    pc: 4,
+    reg: (1, 0xffff_ffff),
+    word: 0x4433_2211,
+    output: "",
+    last: &[4],
+    flush: None,
+    end: End::Halt(0),
+    end_count: 7,
+    end_cycles: 56,
+    end_word: 0x0000_00ff,
+    end_output: "",
+};
+
+/// `Lockstep` hands a claim over in the cycle behind a commit or an undo, and it commits six cycles later: an instruction
+/// takes 7 cycles. Under `Scalar` each cycle from the seventh on commits one, and behind an undo in cycle c each from c + 7 on.
+pub(super) static ROWS: [Row; 14] = [
+    Row {
+        name: "a register, back to the start",
+        turns: 7,
+        cycles: 7,
+        count: 0,
+        pc: 0,
+        reg: (1, 0),
+        last: &[0],
+        ..A_WORD
+    },
+    A_WORD,
+    Row {
+        name: "a half over a word",
+        turns: 21,
+        cycles: 21,
+        count: 2,
+        pc: 8,
+        word: 0xffff_ffff,
+        last: &[8],
+        ..A_WORD
+    },
+    Row {
+        name: "a byte over a half",
+        turns: 28,
+        cycles: 28,
+        count: 3,
+        pc: 12,
+        word: 0x0000_ffff,
+        last: &[12],
+        ..A_WORD
+    },
+    // The byte is in memory, and the load's claim has waited since cycle 29.
+    Row {
+        name: "a byte that is in memory, with a claim pending",
+        turns: 30,
+        cycles: 30,
+        count: 3,
+        pc: 12,
+        word: 0x0000_ffff,
+        last: &[],
+        end_cycles: 58,
+        ..A_WORD
+    },
+    Row {
+        name: "a load",
+        turns: 35,
+        cycles: 35,
+        count: 4,
+        pc: 16,
+        reg: (2, 0),
+        word: 0x0000_00ff,
+        last: &[16],
+        ..A_WORD
+    },
+    // Memory takes a store in cycles 6 and 12. Of the seven claims of cycles 1 to 7, three or four have committed.
+    Row {
+        name: "a half over a word that is owed, with four claims pending",
+        port: 6,
+        leader: Leader::Scalar,
+        turns: 9,
+        cycles: 9,
+        count: 2,
+        pc: 8,
+        word: 0xffff_ffff,
+        last: &[8],
+        end_cycles: 20,
+        ..A_WORD
+    },
+    Row {
+        name: "a byte over two stores that are owed, with three claims pending",
+        port: 6,
+        leader: Leader::Scalar,
+        turns: 10,
+        cycles: 10,
+        count: 3,
+        pc: 12,
+        word: 0x0000_ffff,
+        last: &[12],
+        end_cycles: 20,
+        ..A_WORD
+    },
+    Row {
+        name: "a write to x0",
+        program: IGNORES,
+        turns: 7,
+        cycles: 7,
+        count: 0,
+        pc: 0,
+        reg: (0, 0),
+        word: 0,
+        last: &[0],
+        end: End::Trap(3),
+        end_count: 2,
+        end_cycles: 21,
+        end_word: 0,
+        ..A_WORD
+    },
+    Row {
+        name: "a put",
+        program: PUTS,
+        turns: 21,
+        cycles: 21,
+        count: 2,
+        pc: 8,
+        reg: (10, 65),
+        word: 0,
+        last: &[8],
+        end: End::Halt(65),
+        end_count: 5,
+        end_cycles: 42,
+        end_word: 0,
+        end_output: "A",
+        ..A_WORD
+    },
+    Row {
+        name: "what comes behind a put",
+        program: PUTS,
+        turns: 28,
+        cycles: 28,
+        count: 3,
+        pc: 12,
+        reg: (17, 1),
+        word: 0,
+        output: "A",
+        last: &[12],
+        end: End::Halt(65),
+        end_count: 5,
+        end_cycles: 42,
+        end_word: 0,
+        end_output: "A",
+        ..A_WORD
+    },
+    Row {
+        name: "a halt",
+        program: PUTS,
+        turns: 35,
+        cycles: 35,
+        count: 4,
+        pc: 16,
+        reg: (17, 93),
+        word: 0,
+        output: "A",
+        last: &[16],
+        end: End::Halt(65),
+        end_count: 5,
+        end_cycles: 42,
+        end_word: 0,
+        end_output: "A",
+        ..A_WORD
+    },
+    Row {
+        name: "a trap",
+        program: BREAKS,
+        turns: 16,
+        cycles: 14,
+        count: 1,
+        pc: 4,
+        reg: (1, 5),
+        word: 0,
+        last: &[4],
+        end: End::Trap(3),
+        end_count: 2,
+        end_cycles: 21,
+        end_word: 0,
+        ..A_WORD
+    },
+    // The wrong claim of cycle 8 is judged in cycle 14, and the instruction that it is of runs solo since then.
+    Row {
+        name: "a register, with an instruction solo",
+        program: FIVE,
+        leader: Leader::Misled(8),
+        turns: 16,
+        cycles: 16,
+        count: 0,
+        pc: 0,
+        reg: (1, 0),
+        word: 0,
+        last: &[],
+        flush: Some(FlushRow {
+            cycle: 14,
+            at: 1,
+            cause: Cause::Differs(Diff {
+                field: Field::Value,
+                claimed: 92,
+                due: 93,
+            }),
+        }),
+        end: End::Halt(0),
+        end_count: 3,
+        end_cycles: 37,
+        end_word: 0,
+        ..A_WORD
+    },
+];

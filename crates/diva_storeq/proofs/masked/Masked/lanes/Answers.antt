@@ -1,6 +1,0 @@
--- Each bit of the mask fills its byte.
-use Rattle.diva_storeq.proofs.Lanes.{lanes_are}
-use Rattle.diva_storeq.proofs.masked.Masked.lanes.Goals as goal
-
-pub returns : goal.returns
-returns c = λ i lt. rw c.from.ensures (lanes_are c.args.self.now.mask i c.requires lt)

@@ -1,0 +1,378 @@
+// Command lines over small executables.
+mod files;
+
+use super::refusals::USAGE;
+use crate::cores::{Counting, Flipped};
+use diva_cli::top;
+use diva_core::Core;
+use diva_ooo::Ooo;
+use diva_outside::{MemFile, MemFiles, MemSink};
+use diva_test_programs::FIVE_FILE;
+use files::{GAP, HIGH, ODD, OUTSIDE, ROOM, THREE, WRITES};
+use std::alloc::Global;
+use std::fmt::Write;
+use std::process::Abort;
+use std::test::Fail;
+
+/// The bytes that the sink takes, more than any of these runs writes.
+const SINK: usize = 1 << 16;
+
+/// What the program answers.
+#[derive(Drop)]
+struct Answer {
+    status: u8,
+    text: Vec<u8>,
+}
+
+/// Runs the program on a command line, over a file `a.elf` with these bytes and the commands `a.commands`.
+fn run_program<C: Core>(
+    alloc: Global,
+    core: &mut C,
+    line: &str,
+    file: &[u8],
+) -> Result<Answer, Fail> {
+    let mut words = Vec::new(alloc);
+    for word in line.split_whitespace() {
+        words.push(word)?;
+    }
+    let mut there = Vec::new(alloc);
+    for (name, bytes) in [("a.elf", file), ("a.commands", COMMANDS)] {
+        let bytes = Vec::from_slice(alloc, bytes)?;
+        there.push(MemFile::new(String::from_str(alloc, name)?, bytes))?;
+    }
+    let mut files = MemFiles::new(there, Vec::new(alloc));
+    let mut sink = MemSink::new(alloc, SINK, Vec::new(alloc))?;
+    let status = top(alloc, &words, &mut files, &mut sink, core);
+    Ok(Answer {
+        status,
+        text: Vec::from_slice(alloc, sink.bytes())?,
+    })
+}
+
+/// The commands that are answered: two steps, a register, and the rest.
+const COMMANDS: &[u8] = b"step 2\nreg 17\nstep 5\n";
+
+/// What these commands write of the three instructions.
+const REPLIES: &str = "at 2 pc 0001005c\nx17 0000005d\nended 3 halt 0\n";
+
+/// What the three instructions write where they are claimed one by one, up to the pc.
+const THREE_COUNTS: &str = "\
+end halt 0
+count 3
+cycles 21
+flushes 0 silent 0
+output 0
+x0 00000000 x1 00000005 x2 00000000 x3 00000000
+x4 00000000 x5 00000000 x6 00000000 x7 00000000
+x8 00000000 x9 00000000 x10 00000000 x11 00000000
+x12 00000000 x13 00000000 x14 00000000 x15 00000000
+x16 00000000 x17 0000005d x18 00000000 x19 00000000
+x20 00000000 x21 00000000 x22 00000000 x23 00000000
+x24 00000000 x25 00000000 x26 00000000 x27 00000000
+x28 00000000 x29 00000000 x30 00000000 x31 00000000
+";
+
+/// What stands behind that, by the options and by the file.
+static THREE_RUNS: [(&str, &[u8], &str); 7] = [
+    ("", &THREE, "pc 0001005c\n"),
+    ("--room 64", &THREE, "pc 0001005c\n"),
+    // Memory ends behind the third word, or behind the room.
+    (
+        "--dump 1005c:8",
+        &THREE,
+        "pc 0001005c\nmem 0001005c 73000000........\n",
+    ),
+    (
+        "--room 4 --dump 1005c:12",
+        &THREE,
+        "pc 0001005c\nmem 0001005c 7300000000000000........\n",
+    ),
+    // Behind the memory of an image there is no room.
+    ("--room 64", &FIVE_FILE, "pc 00000008\n"),
+    (
+        "--dump 3c:8",
+        &FIVE_FILE,
+        "pc 00000008\nmem 0000003c 00000000........\n",
+    ),
+    (
+        "--room 64 --dump 3c:8",
+        &FIVE_FILE,
+        "pc 00000008\nmem 0000003c 00000000........\n",
+    ),
+];
+
+#[test]
+fn three_instructions(rt: HostRuntime) -> Result<(), Fail> {
+    let alloc = rt.alloc();
+    for &(options, file, rest) in &THREE_RUNS {
+        let line = format!(in alloc; "run a.elf --core lockstep {options}")?;
+        let answer = run_program(alloc, &mut Flipped, line.as_str(), file)?;
+        let text = format!(in alloc; "{THREE_COUNTS}{rest}")?;
+        assert_eq!(rt; answer.status, 0, "{line}");
+        assert_eq!(rt; str::from_utf8(&answer.text)?, text.as_str(), "{line}");
+    }
+    Ok(())
+}
+
+/// The tape of the three instructions where they are claimed one by one: in the cycles 1, 8 and 15 of 21.
+const THREE_TAPE: &str = "\
+00010054 00500093 00000000 00000000 00000000 00000005 00010058 00000000
+
+
+
+
+
+
+00010058 05d00893 00000000 00000000 00000000 0000005d 0001005c 00000000
+
+
+
+
+
+
+0001005c 00000073 0000005d 00000000 00000000 00000000 0001005c 00000100
+
+
+
+
+
+
+";
+
+/// What is written of the three instructions where each bit of the first claim is flipped in turn.
+const THREE_CAMPAIGN: &str = "\
+runs 256
+same 256
+flushed 256
+silent 0
+end halt 0
+count 3
+output 0
+x0 00000000 x1 00000005 x2 00000000 x3 00000000
+x4 00000000 x5 00000000 x6 00000000 x7 00000000
+x8 00000000 x9 00000000 x10 00000000 x11 00000000
+x12 00000000 x13 00000000 x14 00000000 x15 00000000
+x16 00000000 x17 0000005d x18 00000000 x19 00000000
+x20 00000000 x21 00000000 x22 00000000 x23 00000000
+x24 00000000 x25 00000000 x26 00000000 x27 00000000
+x28 00000000 x29 00000000 x30 00000000 x31 00000000
+pc 0001005c
+";
+
+/// Command lines over the three instructions, and what they write.
+static THREE_TEXTS: [(&str, &str); 6] = [
+    (
+        "dis a.elf",
+        "\
+00010054 00500093 addi x1, x0, 5
+00010058 05d00893 addi x17, x0, 93
+0001005c 00000073 ecall
+",
+    ),
+    ("campaign a.elf 1", THREE_CAMPAIGN),
+    ("tape a.elf --core lockstep", THREE_TAPE),
+    ("tape a.elf --core lockstep --room 64", THREE_TAPE),
+    ("debug a.elf a.commands --core scalar", REPLIES),
+    ("debug a.elf a.commands --core scalar --room 64", REPLIES),
+];
+
+#[test]
+fn listings_campaigns_tapes_and_replies(rt: HostRuntime) -> Result<(), Fail> {
+    for &(line, text) in &THREE_TEXTS {
+        let answer = run_program(rt.alloc(), &mut Flipped, line, &THREE)?;
+        assert_eq!(rt; answer.status, 0, "{line}");
+        assert_eq!(rt; str::from_utf8(&answer.text)?, text, "{line}");
+    }
+    Ok(())
+}
+
+/// Command lines, and the numbers behind `DIVA` in the image that they write: the version, base, size, entry, one segment, its
+/// address, and how many bytes it has, which are the three instructions.
+static MIGRATED: [(&str, &[u8], [u32; 7]); 4] = [
+    (
+        "migrate a.elf",
+        &THREE,
+        [2, 0x1_0054, 12, 0x1_0054, 1, 0x1_0054, 12],
+    ),
+    (
+        "migrate a.elf --room 64",
+        &THREE,
+        [2, 0x1_0054, 76, 0x1_0054, 1, 0x1_0054, 12],
+    ),
+    ("migrate a.elf", &FIVE_FILE, [2, 0, 64, 0, 1, 0, 12]),
+    (
+        "migrate a.elf --room 64",
+        &FIVE_FILE,
+        [2, 0, 64, 0, 1, 0, 12],
+    ),
+];
+
+#[test]
+fn images_of_executables(rt: HostRuntime) -> Result<(), Fail> {
+    let alloc = rt.alloc();
+    for &(line, file, numbers) in &MIGRATED {
+        let mut due = Vec::from_slice(alloc, b"DIVA")?;
+        for number in numbers {
+            due.extend_from_slice(&number.to_le_bytes())?;
+        }
+        due.extend_from_slice(&FIVE_FILE[24..])?;
+        let answer = run_program(alloc, &mut Flipped, line, file)?;
+        assert_eq!(rt; answer.status, 0, "{line}");
+        assert_eq!(rt; answer.text.as_slice(), due.as_slice(), "{line}");
+    }
+    Ok(())
+}
+
+/// Words that are not a valid command line.
+static MISUSED: [&str; 12] = [
+    "run a.elf --room 2",
+    "run a.elf --room 16777216",
+    "tape a.elf --room 2",
+    "tape a.elf --room 16777216",
+    "debug a.elf a.commands --room 2",
+    "debug a.elf a.commands --room 16777216",
+    "migrate a.elf --room 2",
+    "migrate a.elf --room 16777216",
+    "dis a.elf --room 4",
+    "asm a.commands --room 4",
+    "soak 1 1 --room 4",
+    "campaign a.elf 1 --room 4",
+];
+
+#[test]
+fn rooms_that_are_misused(rt: HostRuntime) -> Result<(), Fail> {
+    for &line in &MISUSED {
+        compare_unasked(&rt, rt.alloc(), line, &THREE, 2, USAGE)?;
+    }
+    Ok(())
+}
+
+/// Compares status and text where nothing is run: the program's own core is not asked.
+fn compare_unasked(
+    rt: &impl Abort,
+    alloc: Global,
+    line: &str,
+    file: &[u8],
+    status: u8,
+    text: &str,
+) -> Result<(), Fail> {
+    let mut core = Counting { calls: 0 };
+    let answer = run_program(alloc, &mut core, line, file)?;
+    assert_eq!(rt; answer.status, status, "{line}");
+    assert_eq!(rt; str::from_utf8(&answer.text)?, text, "{line}");
+    assert_eq!(rt; core.calls, 0, "{line}");
+    Ok(())
+}
+
+/// The commands that read an executable.
+const COMMAND_LINES: [&str; 5] = [
+    "run a.elf",
+    "tape a.elf",
+    "debug a.elf a.commands",
+    "migrate a.elf",
+    "dis a.elf",
+];
+
+/// The three instructions with the type of a shared object, and without their words.
+#[test]
+fn three_instructions_that_are_refused(rt: HostRuntime) -> Result<(), Fail> {
+    let alloc = rt.alloc();
+    let mut shared = THREE;
+    shared[16] = 3;
+    for &line in &COMMAND_LINES {
+        compare_unasked(&rt, alloc, line, &shared, 5, "refused image 22 at 16\n")?;
+        compare_unasked(
+            &rt,
+            alloc,
+            line,
+            &THREE[..84],
+            5,
+            "refused image 27 at 52\n",
+        )?;
+    }
+    Ok(())
+}
+
+/// Executables with the room that each is given, and what is written of their fault.
+static REFUSED: [(&[u8], u32, &str); 4] = [
+    (&HIGH, 228, "refused image 29 at 0\n"),
+    (&GAP, 16_777_212, "refused image 29 at 0\n"),
+    (&GAP, 16_740_356, "refused image 29 at 0\n"),
+    (&ROOM, 0, "refused image 30 at 24\n"),
+];
+
+#[test]
+fn rooms_that_are_refused(rt: HostRuntime) -> Result<(), Fail> {
+    let alloc = rt.alloc();
+    for &(file, room, text) in &REFUSED {
+        for command in [
+            "run a.elf",
+            "tape a.elf",
+            "debug a.elf a.commands",
+            "migrate a.elf",
+        ] {
+            let line = format!(in alloc; "{command} --room {room}")?;
+            compare_unasked(&rt, alloc, line.as_str(), file, 5, text)?;
+        }
+    }
+    Ok(())
+}
+
+/// The cores that need no tape.
+const CORES: [&str; 7] = [
+    "own", "lockstep", "scalar", "silent", "flood", "echo", "noise",
+];
+
+/// Executables with the room that each is given, the status, and the lines of end, count and output. Those that halt and have no room
+/// ended so after as many instructions in `qemu-riscv32`, an emulator that is independent of this repository.
+static RUNS: [(&str, &[u8], u32, u8, &str); 13] = [
+    ("three", &THREE, 0, 0, "end halt 0\ncount 3\noutput 0\n"),
+    ("three", &THREE, 64, 0, "end halt 0\ncount 3\noutput 0\n"),
+    ("gap", &GAP, 0, 0, "end halt 120\ncount 526\noutput 0\n"),
+    (
+        "gap",
+        &GAP,
+        16_740_352,
+        0,
+        "end halt 120\ncount 526\noutput 0\n",
+    ),
+    ("odd", &ODD, 0, 0, "end halt 44\ncount 14\noutput 0\n"),
+    ("odd", &ODD, 16, 0, "end halt 44\ncount 14\noutput 0\n"),
+    ("room", &ROOM, 4, 3, "end trap 2\ncount 1\noutput 0\n"),
+    ("room", &ROOM, 64, 3, "end trap 2\ncount 1\noutput 0\n"),
+    ("high", &HIGH, 0, 3, "end trap 7\ncount 3\noutput 0\n"),
+    ("high", &HIGH, 224, 0, "end halt 9\ncount 8\noutput 0\n"),
+    ("outside", &OUTSIDE, 0, 3, "end trap 5\ncount 3\noutput 0\n"),
+    ("outside", &OUTSIDE, 4, 0, "end halt 3\ncount 6\noutput 0\n"),
+    ("writes", &WRITES, 0, 0, "end halt 11\ncount 10\noutput 0\n"),
+];
+
+/// The lines of end, count and output.
+fn lasting_lines(alloc: Global, text: &str) -> Result<String, Fail> {
+    let mut lines = String::new(alloc);
+    for line in text.lines() {
+        if ["end", "count", "out"]
+            .iter()
+            .any(|word| line.starts_with(word))
+        {
+            writeln!(lines, "{line}")?;
+        }
+    }
+    Ok(lines)
+}
+
+/// The same comes under every core. The slowest one takes 70 cycles an instruction.
+#[test]
+fn executables_under_every_core(rt: HostRuntime) -> Result<(), Fail> {
+    let alloc = rt.alloc();
+    for &(name, file, room, status, due) in &RUNS {
+        for core in CORES {
+            let line = format!(in alloc; "run a.elf --core {core} --room {room} --cycles 100000")?;
+            let answer = run_program(alloc, &mut Ooo::new(alloc)?, line.as_str(), file)?;
+            assert_eq!(rt; answer.status, status, "{name}: {line}");
+            let lines = lasting_lines(alloc, str::from_utf8(&answer.text)?)?;
+            assert_eq!(rt; lines.as_str(), due, "{name}: {line}");
+        }
+    }
+    Ok(())
+}
