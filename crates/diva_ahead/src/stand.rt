@@ -1,5 +1,8 @@
 // The core's own state, to read.
-ghost use Rattle.std.specs.Prelude.{◌≡◌};
+ghost use Rattle.std.specs.Prelude.{◌≡◌, ◌%◌};
+ghost use Rattle.diva_isa.specs.Kind.{size};
+ghost use Rattle.diva_isa.specs.State.{number_of};
+ghost use Rattle.diva_ahead.specs.Ahead.{seen};
 
 use crate::ahead::Ahead;
 use diva_core::View;
@@ -35,6 +38,11 @@ impl Look for Stand<'_> {
     }
 
     #[inline(always)]
+    fn number(&self, addr: u32, width: Width) -> Option<u32> {
+        read_number(self.ahead, &self.view.copied(), addr, width)
+    }
+
+    #[inline(always)]
     #[tactic(auto, using(diva_core::proofs::Laying::effects_there))]
     fn has(&self, addr: u32, width: Width) -> bool {
         self.view.has(addr, width)
@@ -46,5 +54,24 @@ impl Look for Stand<'_> {
 
     fn out_len(&self) -> u32 {
         self.ahead.out_len()
+    }
+}
+
+/// The number that the bytes of a width from an address on are, as the core sees them. Loads alone ask for it, so it is read by a
+/// call, which is made on a copy of the view: the view itself can then stay in registers.
+#[inline(never)]
+#[tactic(auto, using(diva_core::proofs::Bypassing::half_none, diva_core::proofs::Bypassing::half_high_none))]
+fn read_number(ahead: &Ahead, view: &View<'_>, addr: u32, width: Width) -> Option<u32>
+    requires { addr % size width ≡ 0 }
+    ensures { result ≡ number_of (seen ahead.now view.now) (size width) addr }
+{
+    let stand = Stand { ahead, view };
+    match width {
+        Width::Byte => Some(u32::from(stand.byte(addr)?)),
+        Width::Half => Some(u32::from(u16::from_le_bytes([
+            stand.byte(addr)?,
+            stand.byte(addr + 1)?,
+        ]))),
+        Width::Word => stand.word(addr),
     }
 }

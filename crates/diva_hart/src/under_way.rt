@@ -1,5 +1,5 @@
 // What is under way between two commits.
-ghost use Rattle.std.specs.Prelude.{◌≡◌, ◌≤◌, ◌<◌, ◌+◌, ◌-◌, ◌^◌, ◌&&◌, [], length, min, Some, IfOk, is_none, nat_le, not, true};
+ghost use Rattle.std.specs.Prelude.{◌≡◌, ◌≤◌, ◌<◌, ◌+◌, ◌-◌, ◌^◌, ◌&&◌, [], length, Some, IfOk, is_none, nat_le, not, true};
 ghost use Rattle.circular_buffer.specs.Buffer.{buffer};
 ghost use Rattle.diva_core.specs.Timed.{room_of};
 ghost use Rattle.diva_core.specs.Told.{told_of};
@@ -65,20 +65,6 @@ impl UnderWay {
         let most = free.min(self.width as usize);
         match self.recover {
             Recover::Running if goes_on => most,
-            _ => 0,
-        }
-    }
-
-    /// How many of so many claims the coming cycle of a hart accepts.
-    #[inline(always)]
-    pub fn admits(&self, hart: &HartArch, claims: usize) -> usize
-        ensures { result ≡ min (room_of (told_machine hart.now.state 1 0 self.now)) claims }
-    {
-        match self.recover {
-            Recover::Running if hart.goes_on() => {
-                let free = self.pending.capacity() - self.pending.len();
-                claims.min(self.width as usize).min(free)
-            }
             _ => 0,
         }
     }

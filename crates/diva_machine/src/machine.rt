@@ -355,19 +355,20 @@ impl Machine {
         ensures stays { goes_on self.old.timed.arch ≡ false → self.new.entries ≡ self.old.entries }
     {
         if self.parts.goes_on() {
-            let count = self.admits(list.len());
+            let count = self.room().min(list.len());
             self.parts.cycle(list.as_slice(), count, stages);
         } else {
             self.parts.forget_last();
         }
     }
 
-    /// How many of so many claims the coming cycle accepts.
-    #[inline(always)]
-    pub(crate) fn admits(&self, claims: usize) -> usize
-        ensures { result ≡ min (room_of self.now.timed) claims }
+    /// How many claims the coming cycle accepts at most.
+    #[cold]
+    #[inline(never)]
+    pub(crate) fn room(&self) -> usize
+        ensures { result ≡ room_of self.now.timed }
     {
-        self.parts.admits(claims)
+        self.parts.room()
     }
 
     /// The same for a machine that goes on, where it is known for how many claims of the list there is room.

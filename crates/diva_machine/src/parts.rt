@@ -101,14 +101,6 @@ impl Parts {
         self.under.room(self.arch.own())
     }
 
-    /// How many of so many claims the coming cycle accepts.
-    #[inline(always)]
-    pub fn admits(&self, claims: usize) -> usize
-        ensures { result ≡ min (room_of self.now.timed) claims }
-    {
-        self.under.admits(self.arch.own(), claims)
-    }
-
     /// What a core is told before the coming cycle.
     #[inline(always)]
     pub fn told(&self) -> Told

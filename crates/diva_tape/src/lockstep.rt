@@ -23,7 +23,8 @@ impl Core for Lockstep {
     }
 }
 
-/// Hands over the due record, where there is room. Most calls find a claim pending, so this is called.
+/// Hands over the due record, where there is room. In most calls a claim is pending, and none of this is asked for.
+#[cold]
 #[inline(never)]
 fn hand_over(room: u32, view: &View<'_>, out: &mut Claims)
     requires { out.old ≡ [] }

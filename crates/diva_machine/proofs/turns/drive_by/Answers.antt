@@ -1,4 +1,4 @@
-use Rattle.std.proofs.Common.{◌≡◌, ◌+◌, true, sym, ◌∙◌, ap, not, arith}
+use Rattle.std.proofs.Common.{◌≡◌, true, sym, ◌∙◌, ap, not, arith}
 use Rattle.std.proofs.Math.Bool.{not-not}
 use Rattle.diva_isa.specs.State.{goes_on}
 use Rattle.diva_core.proofs.Outcomes.{cycle-cycles}
