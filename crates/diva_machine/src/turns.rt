@@ -83,10 +83,6 @@ fn ask<C: Core>(m: &Machine, core: &mut C, list: &mut Claims) -> usize
     ensures asked { C.gives core.old (told_of m.now.timed) m.now.timed.arch list.new core.new }
     ensures count { result ≡ min (room_of m.now.timed) (length list.new) }
 {
-    // So that the compiler knows it too: then nothing that is told has to ask for it.
-    if !m.goes_on() {
-        unreachable!();
-    }
     list.clear();
     let told = m.told();
     core.cycle(&told, &m.view(), list);
