@@ -5,6 +5,7 @@ use Rattle.std.proofs.lemmas.List.{length-map}
 use Rattle.std.proofs.lemmas.Grind.{common_steps}
 use Rattle.std.proofs.lemmas.Bool.{eqb-false, eqb-true}
 use Rattle.std.proofs.lemmas.Bool.Decides.{nat_tests}
+use Rattle.diva_memory.specs.Bytes.{Bytes, byte_at, number_at}
 use Rattle.diva_memory.proofs.Writing.{same_number}
 use Rattle.diva_isa.specs.State.{State, byte_of, memory_of, number_of, reg_of, word_of}
 use Rattle.diva_isa.specs.Regs.{with_reg}
@@ -156,12 +157,12 @@ pub word_kept : (s t : State) (a : ℕ) → ((i : ℕ) → i < 4 → byte_of s (
 word_kept s t a h = rw (same_number (memory_of s) (memory_of t) 4 a h) refl
 
 -- a half word of which a byte is outside
-pub half_none : (s : State) (a : ℕ) → byte_of s a ≡ None → number_of s 2 a ≡ None
-half_none s a h = rw h refl
+pub half_none : (m : Bytes) (a : ℕ) → byte_at m a ≡ None → number_at m 2 a ≡ None
+half_none m a h = rw h refl
 
 high_none : (low : Option ℕ) → option_and_then (λ (b : ℕ). option_map (λ (c : ℕ). b + 2 ^ 8 * c) None) low ≡ None
 high_none None = refl
 high_none (Some b) = refl
 
-pub half_high_none : (s : State) (a : ℕ) → byte_of s (a + 1) ≡ None → number_of s 2 a ≡ None
-half_high_none s a h = rw h (high_none (byte_of s a))
+pub half_high_none : (m : Bytes) (a : ℕ) → byte_at m (a + 1) ≡ None → number_at m 2 a ≡ None
+half_high_none m a h = rw h (high_none (byte_at m a))

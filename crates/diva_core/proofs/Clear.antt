@@ -9,7 +9,7 @@ use Rattle.diva_decode.specs.declared.instr.Instr.{Instr}
 use Rattle.diva_isa.specs.Kind.{kind, size}
 use Rattle.diva_isa.specs.declared.kind.Width.{Width}
 use Rattle.diva_isa.specs.declared.kind.Width.TheVariants.{Byte, Half, Word}
-use Rattle.diva_isa.specs.State.{State, byte_of, word_of}
+use Rattle.diva_isa.specs.State.{State, byte_of, number_of, word_of}
 use Rattle.diva_isa.specs.Step.{effect, effect_by, effect_of}
 use Rattle.diva_isa.specs.declared.effect.Effect.{Effect}
 use Rattle.diva_isa.specs.declared.effect.Effect.TheVariants.{Nothing, Writes, Stores, Puts}
@@ -22,7 +22,7 @@ use Rattle.diva_core.specs.Effects.{is_apart}
 use Rattle.diva_core.specs.Entries.{may_store, MayStore}
 use Rattle.diva_core.specs.Older.{older, with_claims}
 use Rattle.diva_core.proofs.Forms.{stores_none}
-use Rattle.diva_core.proofs.Laying.{effects_byte, effects_word}
+use Rattle.diva_core.proofs.Laying.{effects_byte, effects_number, effects_word}
 
 -- ---- what is apart
 
@@ -91,6 +91,9 @@ older_apart (e ∷ entries) (suc k) a n h =
 
 pub clear_word : (s : State) (entries : List Entry) (k a : ℕ) → list_all (λ e. is_apart (effect_of e.claim) a 4) entries ≡ true → word_of (with_claims s (older entries k)) a ≡ word_of s a
 clear_word s entries k a h = effects_word s (map effect_of (older entries k)) a (older_apart entries k a 4 h)
+
+pub clear_number : (s : State) (entries : List Entry) (k a n : ℕ) → list_all (λ e. is_apart (effect_of e.claim) a n) entries ≡ true → number_of (with_claims s (older entries k)) n a ≡ number_of s n a
+clear_number s entries k a n h = effects_number s (map effect_of (older entries k)) a n (older_apart entries k a n h)
 
 pub clear_byte : (s : State) (entries : List Entry) (k a : ℕ) → list_all (λ e. is_apart (effect_of e.claim) a 1) entries ≡ true → byte_of (with_claims s (older entries k)) a ≡ byte_of s a
 clear_byte s entries k a h = effects_byte s (map effect_of (older entries k)) a (older_apart entries k a 1 h)

@@ -85,14 +85,17 @@ effects_apart_byte s (e ∷ effects) a n i h lt =
     ∙ effect_byte s e (a + i)
     ∙ over_none (byte_of s (a + i)) (byte_in e (a + i)) (apart_byte e a n i each.0 lt)
 
--- effects that store not this byte, or none of its bytes, leave a byte or a word as it is
+-- effects that store not this byte, or none of its bytes, leave a byte, a number or a word as it is
 pub effects_byte : (s : State) (effects : List Effect) (a : ℕ) → list_all (λ e. is_apart e a 1) effects ≡ true → byte_of (with_effects s effects) a ≡ byte_of s a
 effects_byte s effects a h =
     let here : a + 0 ≡ a = omega arith in
     ap (byte_of (with_effects s effects)) (sym here) ∙ effects_apart_byte s effects a 1 0 h (omega arith) ∙ ap (byte_of s) here
 
+pub effects_number : (s : State) (effects : List Effect) (a n : ℕ) → list_all (λ e. is_apart e a n) effects ≡ true → number_of (with_effects s effects) n a ≡ number_of s n a
+effects_number s effects a n h = same_number (memory_of (with_effects s effects)) (memory_of s) n a (λ i lt. effects_apart_byte s effects a n i h lt)
+
 pub effects_word : (s : State) (effects : List Effect) (a : ℕ) → list_all (λ e. is_apart e a 4) effects ≡ true → word_of (with_effects s effects) a ≡ word_of s a
-effects_word s effects a h = rw (same_number (memory_of (with_effects s effects)) (memory_of s) 4 a (λ i lt. effects_apart_byte s effects a 4 i h lt)) refl
+effects_word s effects a h = rw (effects_number s effects a 4 h) refl
 
 -- a word that is not there is not there with the effects laid over
 pub effects_word_none : (s : State) (effects : List Effect) (a : ℕ) → word_of s a ≡ None → word_of (with_effects s effects) a ≡ None

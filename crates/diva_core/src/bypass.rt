@@ -1,5 +1,7 @@
 // The state in which a pending claim stands.
-ghost use Rattle.std.specs.Prelude.{◌≡◌, ◌≤◌, length};
+ghost use Rattle.std.specs.Prelude.{◌≡◌, ◌≤◌, ◌%◌, length};
+ghost use Rattle.diva_isa.specs.Kind.{size};
+ghost use Rattle.diva_isa.specs.State.{number_of};
 ghost use Rattle.diva_core.specs.Older.{before_entry, bypassed, older};
 
 use crate::pending::Pending;
@@ -97,20 +99,15 @@ impl Look for Bypass<'_> {
         Some(self.pending.word_after(from, self.at, addr, bytes))
     }
 
-    #[tactic(auto, using(crate::proofs::Bypassing::half_none, crate::proofs::Bypassing::half_high_none))]
+    #[inline(always)]
     fn number(&self, addr: u32, width: Width) -> Option<u32> {
-        match width {
-            Width::Byte => {
-                let byte = self.byte(addr)?;
-                Some(u32::from(byte))
-            }
-            Width::Half => {
-                let low = self.byte(addr)?;
-                let high = self.byte(addr + 1)?;
-                Some(u32::from(u16::from_le_bytes([low, high])))
-            }
-            Width::Word => self.word(addr),
+        if self.at == 0 {
+            return self.view.number(addr, width);
         }
+        if self.pending.is_clear(addr, width.size()) {
+            return self.view.number(addr, width);
+        }
+        number_after(self.pending, self.at, &self.view.copied(), addr, width)
     }
 
     #[tactic(auto, using(crate::proofs::Laying::effects_there))]
@@ -132,5 +129,35 @@ impl Look for Bypass<'_> {
             return len;
         }
         self.pending.out_len_after(self.at, len)
+    }
+}
+
+/// The same number as a call, which is made on a copy of the view where claims are older: the view itself can then stay in
+/// registers.
+#[inline(never)]
+#[tactic(auto, using(crate::proofs::Bypassing::half_none, crate::proofs::Bypassing::half_high_none))]
+fn number_after(
+    pending: &Pending,
+    at: usize,
+    view: &View<'_>,
+    addr: u32,
+    width: Width,
+) -> Option<u32>
+    requires place { at ≤ length pending.now.items }
+    requires addr { addr % size width ≡ 0 }
+    ensures { result ≡ number_of (bypassed view.now (older pending.now.items at)) (size width) addr }
+{
+    let state = Bypass { pending, at, view };
+    match width {
+        Width::Byte => {
+            let byte = state.byte(addr)?;
+            Some(u32::from(byte))
+        }
+        Width::Half => {
+            let low = state.byte(addr)?;
+            let high = state.byte(addr + 1)?;
+            Some(u32::from(u16::from_le_bytes([low, high])))
+        }
+        Width::Word => state.word(addr),
     }
 }

@@ -1,7 +1,8 @@
 // The committed state as a core sees it.
 ghost use Rattle.std.specs.Prelude.{◌≡◌, ◌<◌, ◌≤◌, ◌%◌, ◌^◌, length};
 ghost use Rattle.diva_isa.specs.Kind.{size};
-ghost use Rattle.diva_isa.specs.State.{State, reg_of, byte_of, word_of, number_of, output_limit};
+ghost use Rattle.diva_memory.specs.Bytes.{number_at};
+ghost use Rattle.diva_isa.specs.State.{State, reg_of, byte_of, word_of, output_limit};
 ghost use Rattle.diva_storeq.specs.Stores.{laid};
 
 use crate::output::Output;
@@ -134,24 +135,6 @@ impl View<'_> {
         self.queue.word(self.memory, addr)
     }
 
-    /// The number that the bytes of a width from an address on are. Loads alone ask for it, so it is read by a call, which is made
-    /// on a copy of the view: the view itself can then stay in registers.
-    #[inline(never)]
-    #[tactic(auto, using(crate::proofs::Bypassing::half_none, crate::proofs::Bypassing::half_high_none))]
-    fn read_number(&self, addr: u32, width: Width) -> Option<u32>
-        requires { addr % size width ≡ 0 }
-        ensures { result ≡ number_of self.now (size width) addr }
-    {
-        match width {
-            Width::Byte => Some(u32::from(self.byte(addr)?)),
-            Width::Half => Some(u32::from(u16::from_le_bytes([
-                self.byte(addr)?,
-                self.byte(addr + 1)?,
-            ]))),
-            Width::Word => self.word(addr),
-        }
-    }
-
     /// How many instructions have committed: at most 2^62.
     #[inline(always)]
     pub fn instret(&self) -> u64
@@ -207,7 +190,7 @@ impl Look for View<'_> {
 
     #[inline(always)]
     fn number(&self, addr: u32, width: Width) -> Option<u32> {
-        self.copied().read_number(addr, width)
+        number_in(self.memory, self.queue, addr, width)
     }
 
     #[inline(always)]
@@ -223,5 +206,23 @@ impl Look for View<'_> {
     #[inline(always)]
     fn out_len(&self) -> u32 {
         View::out_len(self)
+    }
+}
+
+/// The number that the bytes of a width from an address on are, as they are once all stores are in memory. Loads alone ask for
+/// it, so it is read by a call, which is handed memory and the queue alone: a view can then stay in registers.
+#[inline(never)]
+#[tactic(auto, using(crate::proofs::Bypassing::half_none, crate::proofs::Bypassing::half_high_none))]
+fn number_in(memory: &Memory, queue: &StoreQueue, addr: u32, width: Width) -> Option<u32>
+    requires { addr % size width ≡ 0 }
+    ensures { result ≡ number_at (laid memory.now queue.now.items) (size width) addr }
+{
+    match width {
+        Width::Byte => Some(u32::from(queue.byte(memory, addr)?)),
+        Width::Half => Some(u32::from(u16::from_le_bytes([
+            queue.byte(memory, addr)?,
+            queue.byte(memory, addr + 1)?,
+        ]))),
+        Width::Word => queue.word(memory, addr),
     }
 }

@@ -1,5 +1,5 @@
 // What is under way between two commits.
-ghost use Rattle.std.specs.Prelude.{◌≡◌, ◌≤◌, ◌<◌, ◌+◌, ◌-◌, ◌^◌, ◌&&◌, [], length, Some, IfOk, is_none, nat_le, not, true};
+ghost use Rattle.std.specs.Prelude.{◌≡◌, ◌≤◌, ◌<◌, ◌+◌, ◌-◌, ◌^◌, ◌&&◌, ◌==◌, [], length, Some, IfOk, is_none, nat_le, not, true};
 ghost use Rattle.circular_buffer.specs.Buffer.{buffer};
 ghost use Rattle.diva_core.specs.Timed.{room_of};
 ghost use Rattle.diva_core.specs.Told.{told_of};
@@ -60,7 +60,19 @@ impl UnderWay {
         ensures width { result ≤ self.now.width }
         ensures total { result ≤ 64 - length self.now.pending.items }
     {
-        let goes_on = hart.goes_on();
+        self.room_where(hart, hart.goes_on())
+    }
+
+    /// The same, where it is known whether the hart goes on.
+    #[inline(always)]
+    fn room_where(&self, hart: &HartArch, goes_on: bool) -> usize
+        requires { goes_on ≡ (hart.now.state.end == 0) }
+        ensures value { result ≡ room_of (told_machine hart.now.state 1 0 self.now) }
+        ensures fits { result ≤ self.now.pending.capacity - length self.now.pending.items }
+        ensures width { result ≤ self.now.width }
+        ensures total { result ≤ 64 - length self.now.pending.items }
+    {
+        let _ = hart;
         let free = self.pending.capacity() - self.pending.len();
         let most = free.min(self.width as usize);
         match self.recover {
@@ -86,7 +98,19 @@ impl UnderWay {
         requires epoch { self.now.log.flushes + self.now.undos < 2 ^ 63 }
         ensures { result ≡ told_of (told_machine hart.now.state port.now cycles self.now) }
     {
-        let room = self.room(hart) as u32;
+        self.told_where(hart, hart.goes_on(), port, cycles)
+    }
+
+    /// The same, where it is known whether the hart goes on.
+    #[inline(always)]
+    pub fn told_where(&self, hart: &HartArch, goes_on: bool, port: &Port, cycles: u64) -> Told
+        requires goes_on { goes_on ≡ (hart.now.state.end == 0) }
+        requires width { self.now.width ≤ 4 }
+        requires cycles { cycles < 2 ^ 63 }
+        requires epoch { self.now.log.flushes + self.now.undos < 2 ^ 63 }
+        ensures { result ≡ told_of (told_machine hart.now.state port.now cycles self.now) }
+    {
+        let room = self.room_where(hart, goes_on) as u32;
         let pending = self.pending.len() as u32;
         let idle = self.watchdog.idle();
         let by_then = u64::from(idle) + DEPTH + u64::from(port.period());
@@ -99,7 +123,7 @@ impl UnderWay {
             room,
             idle,
             due: pending == 0 && room > 0 && by_then >= u64::from(self.watchdog.limit()),
-            ended: !hart.goes_on(),
+            ended: !goes_on,
         }
     }
 

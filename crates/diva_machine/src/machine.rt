@@ -1,5 +1,5 @@
 // The machine between cycles.
-ghost use Rattle.std.specs.Prelude.{◌≡◌, ◌⊎◌, ◌↔◌, ◌+◌, ◌-◌, ◌*◌, ◌<◌, ◌≤◌, ◌^◌, ◌∷◌, ◌++◌, ℕ, [], List, length, map, min, not, slice_get, None, Some, IsNone, IfOk, true, false};
+ghost use Rattle.std.specs.Prelude.{◌≡◌, ◌⊎◌, ◌↔◌, ◌+◌, ◌-◌, ◌*◌, ◌<◌, ◌≤◌, ◌^◌, ◌∷◌, ◌++◌, ℕ, [], List, length, map, min, not, slice_get, None, Some, IsNone, IfOk, IsTrue, true, false};
 ghost use Rattle.diva_isa.specs.State.{goes_on, GoesOn, output_limit};
 ghost use Rattle.diva_isa.specs.End.{end_of, end_number};
 ghost use Rattle.diva_isa.specs.Step.{steps};
@@ -355,11 +355,20 @@ impl Machine {
         ensures stays { goes_on self.old.timed.arch ≡ false → self.new.entries ≡ self.old.entries }
     {
         if self.parts.goes_on() {
-            let count = self.room().min(list.len());
-            self.parts.cycle(list.as_slice(), count, stages);
+            let room = self.room();
+            let _ = self.parts.cycle(list, room, stages);
         } else {
             self.parts.forget_last();
         }
+    }
+
+    /// What a core is told before the coming cycle of a machine that goes on: whether it does is not asked.
+    #[inline(always)]
+    pub(crate) fn told_open(&self) -> Told
+        requires { goes_on self.now.timed.arch ≡ true }
+        ensures { result ≡ told_of self.now.timed }
+    {
+        self.parts.told_open()
     }
 
     /// How many claims the coming cycle accepts at most.
@@ -371,12 +380,33 @@ impl Machine {
         self.parts.room()
     }
 
-    /// The same for a machine that goes on, where it is known for how many claims of the list there is room.
+    /// The same as a call, for the few cycles in which a core hands over more than there is room for. Answers whether an instruction
+    /// may have committed: `false` only where none did.
+    #[cold]
+    #[inline(never)]
+    pub(crate) fn cycle_called<S: Stages>(&mut self, list: &Claims, stages: &mut S) -> bool
+        requires cycles { self.old.timed.cycles < 2 ^ 60 }
+        requires stages_sound { S.sound stages.old }
+        ensures stages_sound { S.sound stages.new }
+        ensures led { (first : S) (before : List Question) → S.led first before stages.old
+            → S.led first (before ++ asked_of self.old.timed) stages.new }
+        ensures was { IsMachine self.old.timed }
+        ensures cycled { self.new.timed ≡ cycle_of self.old.timed list.now }
+        ensures last { self.new.last
+            ≡ dues (self.new.timed.count - self.old.timed.count) self.old.timed.arch }
+        ensures none { result ≡ false → self.new.last ≡ [] }
+        ensures stays { goes_on self.old.timed.arch ≡ false → self.new.entries ≡ self.old.entries }
+    {
+        self.cycle_by(list, stages);
+        !self.parts.last.is_empty()
+    }
+
+    /// The same for a machine that goes on, where there is room for all claims of the list.
     #[inline(always)]
-    pub(crate) fn cycle_within<S: Stages>(&mut self, list: &Claims, count: usize, stages: &mut S)
+    fn cycle_fitting<S: Stages>(&mut self, list: &Claims, stages: &mut S) -> bool
         requires goes_on { goes_on self.old.timed.arch ≡ true }
         requires cycles { self.old.timed.cycles < 2 ^ 60 }
-        requires count { count ≡ min (room_of self.old.timed) (length list.now) }
+        requires fits { length list.now ≤ room_of self.old.timed }
         requires stages_sound { S.sound stages.old }
         ensures stages_sound { S.sound stages.new }
         ensures led { (first : S) (before : List Question) → S.led first before stages.old
@@ -384,16 +414,40 @@ impl Machine {
         ensures cycled { self.new.timed ≡ cycle_of self.old.timed list.now }
         ensures last { self.new.last
             ≡ dues (self.new.timed.count - self.old.timed.count) self.old.timed.arch }
+        ensures none { result ≡ false → self.new.last ≡ [] }
     {
-        self.parts.cycle(list.as_slice(), count, stages);
+        self.parts.cycle(list, Claims::MOST, stages)
     }
 
-    /// Whether the last cycle has ended the machine: only one in which an instruction committed can.
+    /// The same for a machine that goes on, where it is known whether there is room for all claims of the list.
     #[inline(always)]
-    pub(crate) fn has_just_ended(&self) -> bool
-        requires { self.now.last ≡ [] → goes_on self.now.timed.arch ≡ true }
+    pub(crate) fn cycle_within<S: Stages>(&mut self, list: &Claims, fits: bool, stages: &mut S) -> bool
+        requires goes_on { goes_on self.old.timed.arch ≡ true }
+        requires cycles { self.old.timed.cycles < 2 ^ 60 }
+        requires fits { IsTrue fits → length list.now ≤ room_of self.old.timed }
+        requires stages_sound { S.sound stages.old }
+        ensures stages_sound { S.sound stages.new }
+        ensures led { (first : S) (before : List Question) → S.led first before stages.old
+            → S.led first (before ++ asked_of self.old.timed) stages.new }
+        ensures cycled { self.new.timed ≡ cycle_of self.old.timed list.now }
+        ensures last { self.new.last
+            ≡ dues (self.new.timed.count - self.old.timed.count) self.old.timed.arch }
+        ensures none { result ≡ false → self.new.last ≡ [] }
+    {
+        if fits {
+            self.cycle_fitting(list, stages)
+        } else {
+            self.cycle_called(list, stages)
+        }
+    }
+
+    /// Whether the last cycle has ended the machine, where it is known whether an instruction may have committed in it: only then can
+    /// it have.
+    #[inline(always)]
+    pub(crate) fn has_just_ended(&self, committed: bool) -> bool
+        requires { committed ≡ false → goes_on self.now.timed.arch ≡ true }
         ensures { result ≡ not (goes_on self.now.timed.arch) }
     {
-        !self.parts.last.is_empty() && !self.parts.goes_on()
+        committed && !self.parts.goes_on()
     }
 }

@@ -31,7 +31,7 @@ use crate::arch::Arch;
 use crate::phases::Judged;
 use crate::stages::{LAST_STAGE, Stages, fill};
 use diva_commit::Committed;
-use diva_core::{Cause, Claim, Config, Entry, FutureFile, Records, Told};
+use diva_core::{Cause, Claim, Claims, Config, Entry, FutureFile, Records, Told};
 use diva_decode::decode;
 use diva_hart::{DEPTH, Port, UnderWay};
 use diva_image::Image;
@@ -110,6 +110,18 @@ impl Parts {
         ensures { result ≡ told_of self.now.timed }
     {
         self.under.told(self.arch.own(), &self.port, self.cycles)
+    }
+
+    /// The same of a machine that goes on.
+    #[inline(always)]
+    pub fn told_open(&self) -> Told
+        requires goes_on { goes_on self.now.timed.arch ≡ true }
+        requires width { self.now.timed.config.width ≤ 4 }
+        requires cycles { self.now.timed.cycles < 2 ^ 63 }
+        requires epoch { epoch_of self.now.timed < 2 ^ 63 }
+        ensures { result ≡ told_of self.now.timed }
+    {
+        self.under.told_where(self.arch.own(), true, &self.port, self.cycles)
     }
 
     /// Takes the last instruction back, which overwrote `u`.
@@ -478,21 +490,22 @@ impl Parts {
         self.arch.goes_on() && matches!(self.under.recover, Recover::Running)
     }
 
-    /// Phase 4: so many claims of a list, the first, become pending, where any may. In most cycles there is none.
+    /// Phase 4: the first claims of a list, so many at most, become pending, where any may. In most cycles there is none, which
+    /// is asked of the list here: so nothing of it has to be at hand till now.
     #[inline(always)]
-    fn accept_within(&mut self, list: &[Claim], count: usize)
-        requires list { count ≤ length list.now }
-        requires room { length self.old.timed.pending + count ≤ self.old.timed.config.window }
+    fn accept_within(&mut self, list: &Claims, most: usize)
+        requires room { length self.old.timed.pending + min most (length list.now) ≤ self.old.timed.config.window }
         ensures timed { self.new.timed ≡ record self.old.timed {
           pending = self.old.timed.pending
-              ++ map (accepted_in self.old.timed.cycles) (if is_open self.old.timed then take count list.now else []);
+              ++ map (accepted_in self.old.timed.cycles) (if is_open self.old.timed then take (min most (length list.now)) list.now else []);
         } }
         ensures rest { self.new ≡ record self.old { timed = self.new.timed; entries = self.new.entries } }
         ensures staged { IsStaged self.old.timed.cycles self.old → IsStaged self.new.timed.cycles self.new }
         ensures solo { IsSoloFilled self.old.timed.cycles self.old → IsSoloFilled self.new.timed.cycles self.new }
     {
-        if count > 0 && self.is_open() {
-            self.accept(&list[..count]);
+        if !list.is_empty() && self.is_open() {
+            let count = list.len().min(most);
+            self.accept(&list.as_slice()[..count]);
         }
     }
 
@@ -549,12 +562,13 @@ impl Parts {
         self.flush(Cause::Silent(limit));
     }
 
-    /// One cycle of a machine that goes on, and has room for so many claims of the list.
+    /// One cycle of a machine that goes on, and has room for as many claims of the list as there are up to `most`. Answers whether
+    /// an instruction may have committed: `false` only where none did.
     #[inline(always)]
     #[tactic(auto, unfolding(diva_core::specs::Cycle::cycle_under, diva_core::specs::Cycle::drained, diva_core::specs::Cycle::accepts))]
-    pub fn cycle<S: Stages>(&mut self, list: &[Claim], count: usize, stages: &mut S)
+    pub fn cycle<S: Stages>(&mut self, list: &Claims, most: usize, stages: &mut S) -> bool
         requires goes_on { GoesOn self.old.timed.arch }
-        requires count { count ≡ min (room_of self.old.timed) (length list.now) }
+        requires count { min most (length list.now) ≡ min (room_of self.old.timed) (length list.now) }
         requires machine { IsMachine self.old.timed }
         requires cycles { self.old.timed.cycles < 2 ^ 60 }
         requires staged { IsStaged self.old.timed.cycles self.old }
@@ -566,18 +580,20 @@ impl Parts {
         ensures timed { self.new.timed ≡ cycle_of self.old.timed list.now }
         ensures last { self.new.last
             ≡ dues (self.new.timed.count - self.old.timed.count) self.old.timed.arch }
+        ensures none { result ≡ false → self.new.last ≡ [] }
         ensures staged { IsStaged self.new.timed.cycles self.new }
         ensures solo { IsSoloFilled self.new.timed.cycles self.new }
     {
-        self.recall_room(count);
+        self.recall_room(list.len().min(most));
         self.forget_last();
         self.cycles += 1;
         self.drain();
         self.commits();
         self.advance(stages);
-        self.accept_within(list, count);
+        self.accept_within(list, most);
         let committed = !self.last.is_empty();
         self.watch(committed);
+        committed
     }
 }
 

@@ -1,5 +1,5 @@
 // A machine and a core, turn by turn.
-ghost use Rattle.std.specs.Prelude.{◌≡◌, ◌+◌, ◌-◌, ◌≤◌, ◌<◌, ◌^◌, ◌↔◌, ◌⊎◌, ◌++◌, List, [], length, min, true, false};
+ghost use Rattle.std.specs.Prelude.{◌≡◌, ◌+◌, ◌-◌, ◌≤◌, ◌<◌, ◌^◌, ◌↔◌, ◌⊎◌, ◌++◌, IsTrue, List, [], length, true, false};
 ghost use Rattle.diva_isa.specs.State.{goes_on};
 ghost use Rattle.diva_core.specs.Told.{told_of};
 ghost use Rattle.diva_core.specs.Cycle.{cycle_of};
@@ -67,31 +67,27 @@ pub(crate) fn turn_by<C: Core, S: Stages>(
     ensures last { m.new.last ≡ dues (m.new.timed.count - m.old.timed.count) m.old.timed.arch }
 {
     if m.goes_on() {
-        let count = ask(m, core, list);
-        m.cycle_within(list, count, stages);
+        let fits = ask(m, core, list);
+        let _ = m.cycle_within(list, fits, stages);
     } else {
         list.clear();
-        m.cycle_by(list, stages);
+        let _ = m.cycle_called(list, stages);
     }
 }
 
-/// The first half of a turn of a machine that goes on: the core is asked. Gives for how many claims of the list there is room in
-/// the cycle that follows.
+/// The first half of a turn of a machine that goes on: the core is asked. Whether there is room for all claims of the list in the
+/// cycle that follows.
 #[inline(always)]
-fn ask<C: Core>(m: &Machine, core: &mut C, list: &mut Claims) -> usize
+fn ask<C: Core>(m: &Machine, core: &mut C, list: &mut Claims) -> bool
     requires { goes_on m.now.timed.arch ≡ true }
     ensures asked { C.gives core.old (told_of m.now.timed) m.now.timed.arch list.new core.new }
-    ensures count { result ≡ min (room_of m.now.timed) (length list.new) }
+    ensures fits { IsTrue result → length list.new ≤ room_of m.now.timed }
 {
     list.clear();
-    let told = m.told();
+    let told = m.told_open();
     core.cycle(&told, &m.view(), list);
     // Few lists have more claims than there is room for. A core that waits asks for no room, and then none is worked out.
-    if list.len() <= told.room as usize {
-        list.len()
-    } else {
-        m.room()
-    }
+    list.len() <= told.room as usize
 }
 
 /// Takes turns until the machine ends or the budget's cycles are run. On an ended machine nothing
@@ -149,9 +145,9 @@ pub(crate) fn drive_by<C: Core, S: Stages>(
     let last = m.cycles() + budget;
     // Each half of a turn is made part of the loop: as one function they would be too large for that.
     while m.cycles() < last {
-        let count = ask(m, core, &mut list);
-        m.cycle_within(&list, count, stages);
-        if m.has_just_ended() {
+        let fits = ask(m, core, &mut list);
+        let committed = m.cycle_within(&list, fits, stages);
+        if m.has_just_ended(committed) {
             return Drive::Ended;
         }
     }

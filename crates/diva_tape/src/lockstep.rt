@@ -18,9 +18,19 @@ impl Core for Lockstep {
     #[inline(always)]
     fn cycle(&mut self, told: &Told, view: &View<'_>, out: &mut Claims) {
         if told.pending == 0 {
-            hand_over(told.room, &view.copied(), out);
+            hand_over_now(told.room, view, out);
         }
     }
+}
+
+/// The call that hands over, on a copy of the view. The copy is made here and not where each call of the core passes, which would
+/// clear its place for it.
+#[inline(always)]
+fn hand_over_now(room: u32, view: &View<'_>, out: &mut Claims)
+    requires { out.old ≡ [] }
+    ensures { out.new ≡ (if nat_lt 0 room then record_of view.now ∷ [] else []) }
+{
+    hand_over(room, &view.copied(), out);
 }
 
 /// Hands over the due record, where there is room. In most calls a claim is pending, and none of this is asked for.

@@ -10,7 +10,7 @@ use Rattle.diva_machine.proofs.machine.Machine.cycle_by.Goals as goal
 pub invariant_of-self : goal.invariant_of-self
 invariant_of-self g c =
     let same : c.self.inside.parts.timed ≡ c.args.self.now.timed = ap (λ (z : Machine). z.timed) c.self.view_is in
-    (sound_again c.self.inside.parts.timed c.cycle.new.self.timed c.as_slice.result.now c.self.invariant.0 c.cycle.ensures.timed (sym c.goes_on.ensures ∙ c.if-goes_on.true) (subst (λ (m : Timed). m.cycles < 2 ^ 60) (sym same) c.requires.cycles), (c.cycle.ensures.staged, c.cycle.ensures.solo))
+    (sound_again c.self.inside.parts.timed c.cycle.new.self.timed c.args.list.now c.self.invariant.0 c.cycle.ensures.timed (sym c.goes_on.ensures ∙ c.if-goes_on.true) (subst (λ (m : Timed). m.cycles < 2 ^ 60) (sym same) c.requires.cycles), (c.cycle.ensures.staged, c.cycle.ensures.solo))
 
 pub invariant_of-self-else-goes_on : goal.invariant_of-self-else-goes_on
 invariant_of-self-else-goes_on g c =

@@ -1,4 +1,4 @@
-use Rattle.std.proofs.Common.{ℕ, ◌≡◌, ◌+◌, ◌-◌, ◌==◌, ◌&&◌, if◌then◌else◌, None, Some, true, false, not, subst, ap, sym, ◌∙◌, List, [], ◌++◌, map, take, refl, length, arith}
+use Rattle.std.proofs.Common.{ℕ, ◌≡◌, ◌+◌, ◌-◌, ◌==◌, ◌&&◌, if◌then◌else◌, None, Some, true, false, not, subst, ap, sym, ◌∙◌, List, [], ◌++◌, map, min, take, refl, length, arith}
 use Rattle.std.proofs.Math.Bool.{not-not}
 use Rattle.diva_isa.specs.State.{goes_on}
 use Rattle.std.proofs.lemmas.List.{take_min}
@@ -53,7 +53,7 @@ admits g c =
     let n : Timed = c.commits.new.self.timed in
     let within = λ (m : Timed) (claims : List Record). record m { pending = m.pending ++ map (accepted_in m.cycles) (if is_open m then claims else []) } in
     c.accept_within.ensures.timed
-    ∙ ap (λ (z : Parts). within z.timed (take c.args.count c.args.list.now)) c.advance.ensures.rest
+    ∙ ap (λ (z : Parts). within z.timed (take (min c.args.most (length c.args.list.now)) c.args.list.now)) c.advance.ensures.rest
     ∙ ap (λ (k : ℕ). within n (take k c.args.list.now)) c.requires.count
     ∙ ap (within n) (take_min (room_of c.args.self.now.timed) c.args.list.now)
     ∙ accepts_open c.args.self.now.timed n c.args.list.now (tells g c)
