@@ -5,7 +5,7 @@ use Rattle.std.proofs.lemmas.Grind.{common_steps}
 use Rattle.std.proofs.lemmas.List.{append_assoc, drop-drop, length-append, length-drop, length-replicate, length-take, length-take-le}
 use Rattle.diva_image.specs.Elf.{can_load, elf_size, end_of_loads, first_load, has_bytes, is_dynamic, is_load, load_fault, loaded_from, rounded_down, memory_end, program_header_of, program_header_size, program_headers_in}
 use Rattle.std.specs.Prelude.{IsSome}
-use Rattle.diva_image.specs.Inner.{IsExtent}
+use Rattle.diva_image.specs.Inner.{IsExtent, end_of_bytes}
 use Rattle.diva_image.specs.declared.elf_header.ProgramHeader.{ProgramHeader}
 use Rattle.diva_image.specs.declared.fault.Fault.{Fault}
 
@@ -234,6 +234,53 @@ more_loaded base all memory more file h rest made some below end appended =
 pub same_loaded : (addr : ℕ) (h : ProgramHeader) (rest : List ProgramHeader) (file : List ℕ) → has_bytes h ≡ false
     → loaded_from addr (h ∷ rest) file ≡ loaded_from addr rest file
 same_loaded addr h rest file none = rw none refl
+
+-- how much memory the bytes of the file fill
+bytes_above : (least size place : ℕ) (hs : List ProgramHeader) → load_fault least size place hs ≡ None → least ≤ end_of_bytes least hs
+bytes_above least size place [] none = omega arith
+bytes_above least size place (h ∷ rest) none =
+    elim (bool_cases (has_bytes h)) [
+      | inl some ↦
+          let now = load_now least size place h rest none some in
+          let above = bytes_above (h.p_vaddr + h.p_filesz) size place rest now.2 in
+          rw some (omega (arith, now.0, above))
+      | inr other ↦ rw other (bytes_above least size place rest (load_later least size place h rest none))
+    ]
+
+length-filled : (addr low size place : ℕ) (hs : List ProgramHeader) (file : List ℕ) → load_fault addr size place hs ≡ None
+    → length (loaded_from addr hs file) ≤ end_of_bytes low hs - addr
+length-filled addr low size place [] file none = omega arith
+length-filled addr low size place (h ∷ rest) file none =
+    elim (bool_cases (has_bytes h)) [
+      | inl some ↦
+          let now = load_now addr size place h rest none some in
+          let above = bytes_above (h.p_vaddr + h.p_filesz) size place rest now.2 in
+          let ih = length-filled (h.p_vaddr + h.p_filesz) (h.p_vaddr + h.p_filesz) size place rest file now.2 in
+          rw some (simp (length-append, length-replicate, length-take) (omega (arith, now.0, above, ih)))
+      | inr other ↦ rw other (length-filled addr low size place rest file (load_later addr size place h rest none))
+    ]
+
+pub loaded_room : (addr size : ℕ) (hs : List ProgramHeader) (file : List ℕ) → load_fault addr size 0 hs ≡ None
+    → length (loaded_from addr hs file) ≤ end_of_bytes 0 hs - addr
+loaded_room addr size hs file none = length-filled addr 0 size 0 hs file none
+
+-- there is room for the next load where there is for all
+pub room_for_load : (base : ℕ) (all memory file : List ℕ) (h : ProgramHeader) (rest : List ProgramHeader) (room : ℕ)
+    → all ≡ memory ++ loaded_from (base + length memory) (h ∷ rest) file → length all ≤ room → has_bytes h ≡ true
+    → base + length memory ≤ h.p_vaddr → h.p_offset + h.p_filesz ≤ length file → h.p_vaddr - base + h.p_filesz ≤ room
+room_for_load base all memory file h rest room made fits some below inside =
+    let zeros : List ℕ = replicate (h.p_vaddr - (base + length memory)) 0 in
+    let part = take h.p_filesz (drop h.p_offset file) in
+    let behind = loaded_from (h.p_vaddr + h.p_filesz) rest file in
+    let at_h : loaded_from (base + length memory) (h ∷ rest) file ≡ zeros ++ part ++ behind = rw some refl in
+    let whole = ap length (made ∙ ap (λ (m : List ℕ). memory ++ m) at_h) in
+    let first = length-append memory (zeros ++ part ++ behind) in
+    let second = length-append (zeros ++ part) behind in
+    let third = length-append zeros part in
+    let gap = length-replicate {A = ℕ} (h.p_vaddr - (base + length memory)) 0 in
+    let left = length-drop h.p_offset file in
+    let taken : length part ≡ h.p_filesz = length-take-le h.p_filesz (drop h.p_offset file) (omega (arith, left, inside)) in
+    omega (arith, whole, first, second, third, gap, taken, fits, below)
 
 -- what loads without fault come to
 pub extent_is : (size place : ℕ) (hs : List ProgramHeader) (first : Option ℕ) (end : ℕ) → load_fault 0 size place hs ≡ None

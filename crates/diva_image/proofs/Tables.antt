@@ -1,13 +1,13 @@
 -- The segments of a file.
-use Rattle.std.proofs.Common.{◌≡◌, ◌≤◌, ◌<◌, ℕ, get_or, zero, suc, ◌+◌, ◌-◌, ◌*◌, Bool, List, [], ◌∷◌, ◌++◌, length, take, drop, Option, Some, None, true, false, if◌then◌else◌, refl, arith, ◌∙◌, ap, subst}
+use Rattle.std.proofs.Common.{◌≡◌, ◌≤◌, ◌<◌, ℕ, get_or, zero, suc, ◌+◌, ◌-◌, ◌*◌, Bool, List, [], ◌∷◌, ◌++◌, length, take, drop, replicate, slice_get, Option, Some, None, true, false, if◌then◌else◌, refl, arith, ◌∙◌, ap, subst}
 use Rattle.std.specs.List.{flat_map, sum_by}
 use Rattle.std.proofs.lemmas.List.Sums.{sum_by-cons}
 use Rattle.diva_image.specs.declared.fault.Fault.{Fault}
 use Rattle.std.proofs.lemmas.Grind.{common_steps, flat_map-append}
-use Rattle.std.proofs.lemmas.List.{append-nil, drop-drop, drop_more, length-append, length-replicate, length-take, take_more}
+use Rattle.std.proofs.lemmas.List.{append-nil, drop-drop, drop_more, length-append, length-replicate, length-take, length-take-le, take_more}
 use Rattle.std.proofs.Math.ListN.{drop_of_length-le}
 use Rattle.diva_image.specs.Header.{header_of, header_size, length_fault, word_at}
-use Rattle.diva_image.specs.Inner.{ArePlaced}
+use Rattle.diva_image.specs.Inner.{ArePlaced, end_of_segments}
 use Rattle.diva_image.specs.Segments.{behind, data_place, is_between, memory_from, pair_size, segment_fault, segmented_fault, segments_in, segments_of, table_fault}
 use Rattle.diva_image.specs.declared.header.Header.{Header}
 use Rattle.diva_image.specs.declared.segment.Segment.{Segment}
@@ -69,6 +69,56 @@ length-memory_from least most [] bytes p = omega arith
 length-memory_from least most (s ∷ rest) bytes p =
     let ih = length-memory_from (behind s) most rest (drop s.len bytes) p.3 in
     simp (length-append, length-replicate, length-take) (omega arith)
+
+-- where the last of them ends
+end_at : (addr : ℕ) (s : Segment) (rest : List Segment) (last : Segment) (at : ℕ) → at ≡ length rest → slice_get (s ∷ rest) at ≡ Some last
+    → end_of_segments addr (s ∷ rest) ≡ behind last
+end_at addr s [] last zero len is-last = let same : s ≡ last = cc in ap behind same
+end_at addr s [] last (suc at) len is-last = cc
+end_at addr s (t ∷ rest) last zero len is-last = cc
+end_at addr s (t ∷ rest) last (suc at) len is-last = end_at (behind s) t rest last at (omega (arith, len)) is-last
+
+pub end_of_last : (addr : ℕ) (ss : List Segment) (last : Segment) → slice_get ss (length ss - 1) ≡ Some last → end_of_segments addr ss ≡ behind last
+end_of_last addr [] last is-last = cc
+end_of_last addr (s ∷ rest) last is-last = end_at addr s rest last (length (s ∷ rest) - 1) (omega arith) is-last
+
+none_at : (end : ℕ) (s : Segment) (rest : List Segment) (at : ℕ) (addr : ℕ) → at ≡ length rest → slice_get (s ∷ rest) at ≡ None → end ≡ addr
+none_at end s [] zero addr len none = cc
+none_at end s [] (suc at) addr len none = cc
+none_at end s (t ∷ rest) zero addr len none = cc
+none_at end s (t ∷ rest) (suc at) addr len none = none_at end t rest at addr (omega (arith, len)) none
+
+pub end_of_none : (addr : ℕ) (ss : List Segment) → slice_get ss (length ss - 1) ≡ None → end_of_segments addr ss ≡ addr
+end_of_none addr [] none = refl
+end_of_none addr (s ∷ rest) none = none_at (end_of_segments addr (s ∷ rest)) s rest (length (s ∷ rest) - 1) addr (omega arith) none
+
+end_above : (least most : ℕ) (ss : List Segment) → ArePlaced least most ss → least ≤ end_of_segments least ss
+end_above least most [] p = omega arith
+end_above least most (s ∷ rest) p = let ih = end_above (behind s) most rest p.3 in omega (arith, p.1, ih)
+
+pub memory_room : (least most : ℕ) (ss : List Segment) (bytes : List ℕ) → ArePlaced least most ss
+    → length (memory_from least ss bytes) ≤ end_of_segments least ss - least
+memory_room least most [] bytes p = omega arith
+memory_room least most (s ∷ rest) bytes p =
+    let ih = memory_room (behind s) most rest (drop s.len bytes) p.3 in
+    let above = end_above (behind s) most rest p.3 in
+    simp (length-append, length-replicate, length-take) (omega (arith, p.1, ih, above))
+
+-- there is room for the next one where there is for all
+pub room_for_next : (addr : ℕ) (all memory bytes : List ℕ) (s : Segment) (rest : List Segment) (room : ℕ)
+    → all ≡ memory ++ memory_from (addr + length memory) (s ∷ rest) bytes → length all ≤ room
+    → addr + length memory ≤ s.addr → s.len ≤ length bytes → s.addr - addr + s.len ≤ room
+room_for_next addr all memory bytes s rest room made fits below long =
+    let zeros = replicate (s.addr - (addr + length memory)) 0 in
+    let part = take s.len bytes in
+    let behind' = memory_from (behind s) rest (drop s.len bytes) in
+    let whole = ap length made in
+    let first = length-append memory (zeros ++ part ++ behind') in
+    let second = length-append (zeros ++ part) behind' in
+    let third = length-append zeros part in
+    let gap = length-replicate {A = ℕ} (s.addr - (addr + length memory)) 0 in
+    let taken : length part ≡ s.len = length-take-le s.len bytes long in
+    omega (arith, whole, first, second, third, gap, taken, fits, below)
 
 -- wider bounds
 pub placed-wider : (least least' most most' : ℕ) (ss : List Segment) → least' ≤ least → most ≤ most' → ArePlaced least most ss → ArePlaced least' most' ss

@@ -3,7 +3,8 @@ use Rattle.std.specs.Prelude.{◌≡◌, ◌≤◌, ◌<◌, ℕ, zero, suc, ◌
 use Rattle.diva_image.specs.Layout.{most_size}
 use Rattle.diva_image.specs.Header.{head_fault, header_of, header_size}
 use Rattle.diva_image.specs.Segments.{behind}
-use Rattle.diva_image.specs.Elf.{elf_header_fault, elf_header_of, elf_header_size, program_header_size}
+use Rattle.diva_image.specs.Elf.{elf_header_fault, elf_header_of, elf_header_size, has_bytes, program_header_size}
+use Rattle.diva_image.specs.declared.elf_header.ProgramHeader.{ProgramHeader}
 use Rattle.diva_image.specs.declared.fault.Kind.{Kind}
 use Rattle.diva_image.specs.declared.fault.Kind.TheVariants.{ShortHeader, Magic, Version, Base, Size, Entry, Length, CutShort, TrailingBytes, ManySegments, ShortTable, Segment as OfSegment, ShortElf, ElfIdentity, ElfType, ElfMachine, ProgramHeaderSize, ProgramHeaders, Dynamic, Load, NoLoad, ElfSize, ElfEntry}
 use Rattle.diva_image.specs.declared.header.Header.{Header}
@@ -36,6 +37,11 @@ pub record IsHeader (bytes : List ℕ) (h : Header) : Type 0 where
 abbrev pub ArePlaced : (least most : ℕ) → List Segment → Type 0
 ArePlaced least most [] = Unit {0}
 ArePlaced least most (s ∷ rest) = (0 < s.len) × (least ≤ s.addr) × (behind s ≤ most) × ArePlaced (behind s) most rest
+
+-- the address behind the last of them, or the given one where there is none
+abbrev pub end_of_segments : ℕ → List Segment → ℕ
+end_of_segments addr [] = addr
+end_of_segments addr (s ∷ rest) = end_of_segments (behind s) rest
 
 -- segments with a block more behind them, at most n + 1: the block goes on the last segment where that ends at the block,
 -- or there are as many as there may be
@@ -82,3 +88,8 @@ pub record IsElf (bytes : List ℕ) : Type 0 where
 abbrev pub IsExtent : Option ℕ → (end : ℕ) → Type 0
 IsExtent None end = Unit {0}
 IsExtent (Some first) end = (first < end) × (end ≤ 2 ^ 32)
+
+-- the address behind the last byte of the file that is loaded, or the given one where none is
+abbrev pub end_of_bytes : ℕ → List ProgramHeader → ℕ
+end_of_bytes end [] = end
+end_of_bytes end (h ∷ rest) = if has_bytes h then end_of_bytes (h.p_vaddr + h.p_filesz) rest else end_of_bytes end rest

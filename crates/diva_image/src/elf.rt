@@ -1,16 +1,16 @@
 // An executable to an image, or to its first fault.
-ghost use Rattle.std.specs.Prelude.{ℕ, List, ◌∷◌, ◌≡◌, ◌≤◌, ◌<◌, ◌+◌, ◌-◌, ◌*◌, ◌%◌, ◌^◌, ◌++◌, length, drop, take, replicate, IfOk, IfErr, OnOk, IsNone, IsSome, None, Some};
+ghost use Rattle.std.specs.Prelude.{ℕ, List, ◌∷◌, ◌≡◌, ◌≤◌, ◌<◌, ◌+◌, ◌-◌, ◌*◌, ◌%◌, ◌^◌, ◌++◌, [], length, drop, take, replicate, vec_capacity, IfOk, IfErr, OnOk, IsNone, IsSome, None, Some};
 ghost use Rattle.std.specs.Option.{option_or};
 ghost use Rattle.diva_image.specs.Elf.{bounds_fault, elf_header_fault, elf_size, end_of_loads, first_load, load_fault, loaded_from, rounded_down};
 ghost use Rattle.diva_image.specs.Elf.{program_header_size, program_headers_in};
 ghost use Rattle.diva_image.specs.ImageLayout.{ReadsElf};
 ghost use Rattle.diva_image.specs.declared.elf_header.ProgramHeader.{ProgramHeader};
-ghost use Rattle.diva_image.specs.Inner.{IsElf, IsExtent, IsPlaced};
+ghost use Rattle.diva_image.specs.Inner.{IsElf, IsExtent, IsPlaced, end_of_bytes};
 
 use crate::elf_header::{ELF_HEADER_SIZE, ElfHeader, PROGRAM_HEADER_SIZE, ProgramHeader};
 use crate::fault::{Fault, Kind};
 use crate::header::{MOST_SIZE, has_entry};
-use crate::memory::append_at;
+use crate::memory::{append_at, room_between};
 use crate::{Image, ImageFault, Payload};
 use std::alloc::{AllocError, Global};
 
@@ -21,7 +21,7 @@ struct Extent {
     first: Option<u32>,
     /// The address behind the last one, and 0 where there is none.
     end: u64,
-    /// The address behind the last byte of the file that is loaded, as far as there is one.
+    /// The address behind the last byte of the file that is loaded, and 0 where none is.
     filled: u64,
 }
 
@@ -37,7 +37,7 @@ struct Bounds {
 /// The image of an executable: an ELF file of 32 bits for RISC-V, whose loads are what memory begins with. Behind the last of them memory
 /// has `room` bytes more, for the stack. The error is the file's first fault, or `Memory` where memory runs out.
 ///
-/// The time that it takes is linear in the bytes and in the payload, of which it takes the memory once.
+/// The time that it takes is linear in the bytes and in the payload.
 #[tactic(auto, unfolding(crate::specs::Elf::elf_fault))]
 pub fn read_elf(alloc: Global, bytes: &[u8], room: u32) -> Result<Image, ImageFault>
     requires short { length bytes.now < 2 ^ 32 }
@@ -109,6 +109,7 @@ fn extent_of(table: &[u8], header: &ElfHeader, len: usize) -> Result<Extent, Fau
     requires long { program_header_size * header.now.e_phnum ≤ length table.now }
     ensures first { IfOk result (λ extent. extent.first ≡ first_load (program_headers_in header.now.e_phnum table.now)) }
     ensures end { IfOk result (λ extent. extent.end ≡ end_of_loads 0 (program_headers_in header.now.e_phnum table.now)) }
+    ensures filled { IfOk result (λ extent. extent.filled ≡ end_of_bytes 0 (program_headers_in header.now.e_phnum table.now)) }
     ensures faultless { OnOk result (load_fault 0 len header.now.e_phoff (program_headers_in header.now.e_phnum table.now) ≡ None) }
     ensures fault { IfErr result (λ fault. load_fault 0 len header.now.e_phoff (program_headers_in header.now.e_phnum table.now) ≡ Some fault) }
 {
@@ -136,6 +137,8 @@ impl Extent {
             → option_or self.first (first_load (header ∷ rest)) ≡ option_or extent.first (first_load rest)) }
         ensures end { IfOk result (λ extent. (rest : List ProgramHeader)
             → end_of_loads self.end (header ∷ rest) ≡ end_of_loads extent.end rest) }
+        ensures filled { IfOk result (λ extent. (rest : List ProgramHeader)
+            → end_of_bytes self.filled (header ∷ rest) ≡ end_of_bytes extent.filled rest) }
         ensures passes { IfOk result (λ extent. (rest : List ProgramHeader)
             → load_fault self.end len place (header ∷ rest) ≡ load_fault extent.end len (place + program_header_size) rest) }
         ensures fault { IfErr result (λ fault. (rest : List ProgramHeader) → load_fault self.end len place (header ∷ rest) ≡ Some fault) }
@@ -200,8 +203,8 @@ fn rounded_down(n: u64) -> u64
     n / 4 * 4
 }
 
-/// The bytes of memory from its first address to the last byte of the file that is loaded, by a table of program headers. They are
-/// taken at once.
+/// The bytes of memory from its first address to the last byte of the file that is loaded, by a table of program headers. Room for all
+/// of them is taken before the first one.
 fn loaded_from(
     alloc: Global,
     bytes: &[u8],
@@ -212,32 +215,41 @@ fn loaded_from(
 ) -> Result<Vec<u8>, AllocError>
     requires long { program_header_size * count ≤ length table.now }
     requires loads { load_fault bounds.now.base (length bytes.now) 0 (program_headers_in count table.now) ≡ None }
+    requires filled { filled ≡ end_of_bytes 0 (program_headers_in count table.now) }
     ensures { IfOk result (λ memory. memory.items ≡ loaded_from bounds.now.base (program_headers_in count table.now) bytes.now) }
 {
-    let most = filled.saturating_sub(u64::from(bounds.base));
-    let mut memory = Vec::with_capacity(alloc, most as usize)?;
-    for at in 0..count {
-        let load = ProgramHeader::read(&table[PROGRAM_HEADER_SIZE * at..]);
-        if load.has_bytes() {
-            append_load(&mut memory, bounds.base, load, bytes)?;
-        }
-    }
+    let mut memory = room_between(alloc, bounds.base, filled)?;
+    append_loads(&mut memory, bounds.base, table, count, bytes);
     Ok(memory)
 }
 
-/// Appends the bytes that a program header loads of a file, in a memory that begins at base.
-fn append_load(
-    memory: &mut Vec<u8>,
-    base: u32,
-    load: ProgramHeader,
-    bytes: &[u8],
-) -> Result<(), AllocError>
+/// Appends the bytes that a table of program headers loads of a file, in a memory that begins at base and has just the room for them.
+#[tactic(auto, using(crate::proofs::Loads::loaded_room))]
+fn append_loads(memory: &mut Vec<u8>, base: u32, table: &[u8], count: usize, bytes: &[u8])
+    requires empty { memory.old.items ≡ [] }
+    requires exact { vec_capacity memory.old ≡ end_of_bytes 0 (program_headers_in count table.now) - base }
+    requires long { program_header_size * count ≤ length table.now }
+    requires loads { load_fault base (length bytes.now) 0 (program_headers_in count table.now) ≡ None }
+    ensures { memory.new.items ≡ loaded_from base (program_headers_in count table.now) bytes.now }
+{
+    for at in 0..count {
+        let load = ProgramHeader::read(&table[PROGRAM_HEADER_SIZE * at..]);
+        if load.has_bytes() {
+            append_load(memory, base, load, bytes);
+        }
+    }
+}
+
+/// Appends the bytes that a program header loads of a file, in a memory that begins at base. They find room there.
+fn append_load(memory: &mut Vec<u8>, base: u32, load: ProgramHeader, bytes: &[u8])
     requires behind { base + length memory.old.items ≤ load.p_vaddr }
     requires inside { load.p_offset + load.p_filesz ≤ length bytes.now }
-    ensures { OnOk result (memory.new.items
-        ≡ memory.old.items ++ replicate (load.p_vaddr - base - length memory.old.items) 0 ++ take load.p_filesz (drop load.p_offset bytes.now)) }
+    requires room { load.p_vaddr - base + load.p_filesz ≤ vec_capacity memory.old }
+    ensures appended { memory.new.items
+        ≡ memory.old.items ++ replicate (load.p_vaddr - base - length memory.old.items) 0 ++ take load.p_filesz (drop load.p_offset bytes.now) }
+    ensures room { vec_capacity memory.old ≤ vec_capacity memory.new }
 {
     let from = load.p_offset as usize;
     let part = &bytes[from..from + load.p_filesz as usize];
-    append_at(memory, (load.p_vaddr - base) as usize, part)
+    append_at(memory, (load.p_vaddr - base) as usize, part);
 }

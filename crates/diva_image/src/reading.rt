@@ -15,7 +15,7 @@ use std::alloc::Global;
 
 /// The image of the bytes, in version 1 or 2. The error is their first fault, or `Memory` where memory runs out.
 ///
-/// The time that it takes is linear in the bytes and in the payload, of which it takes the memory once.
+/// The time that it takes is linear in the bytes and in the payload.
 #[tactic(auto, unfolding(crate::specs::Images::fault_of))]
 pub fn read(alloc: Global, bytes: &[u8]) -> Result<Image, ImageFault>
     ensures { Reads bytes.now result }

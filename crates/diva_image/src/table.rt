@@ -1,14 +1,14 @@
 // What stands behind the header in version 2: the table of segments, and their bytes.
-ghost use Rattle.std.specs.Prelude.{◌≡◌, ◌≤◌, ◌+◌, ◌*◌, ◌^◌, length, drop, IfOk, IfErr, OnOk, IsNone, Some, None};
+ghost use Rattle.std.specs.Prelude.{◌≡◌, ◌≤◌, ◌+◌, ◌-◌, ◌*◌, ◌^◌, [], length, drop, vec_capacity, IfOk, IfErr, OnOk, IsNone, Some, None};
 ghost use Rattle.std.specs.List.{sum_by};
 ghost use Rattle.diva_image.specs.Header.{header_of, header_size};
-ghost use Rattle.diva_image.specs.Inner.{ArePlaced, IsHeader};
+ghost use Rattle.diva_image.specs.Inner.{ArePlaced, IsHeader, end_of_segments};
 ghost use Rattle.diva_image.specs.Segments.{data_place, memory_from, most_segments, pair_size, segment_fault, segmented_fault};
 ghost use Rattle.diva_image.specs.Segments.{segmented_payload, segments_in, segments_of, table_fault};
 
 use crate::fault::{Fault, Kind};
 use crate::header::{HEADER_SIZE, Header, length_fault};
-use crate::memory::append_at;
+use crate::memory::{append_at, room_between};
 use crate::segment::Segment;
 use crate::segments::{MOST_SEGMENTS, Segments};
 use byteorder::{ByteOrder, LittleEndian};
@@ -110,7 +110,7 @@ pub(crate) fn total(segments: &[Segment]) -> u32
     segments.iter().map(|segment| segment.len).sum()
 }
 
-/// The bytes of memory from an address to the end of the last segment. They are taken at once.
+/// The bytes of memory from an address to the end of the last segment. Room for all of them is taken before the first one.
 pub(crate) fn memory_from(
     alloc: Global,
     addr: u32,
@@ -121,16 +121,35 @@ pub(crate) fn memory_from(
     requires long { sum_by (λ s. s.len) segments.now ≤ length bytes.now }
     ensures { IfOk result (λ memory. memory.items ≡ memory_from addr segments.now bytes.now) }
 {
-    let end = match segments.last() {
-        Some(last) => last.behind(),
-        None => u64::from(addr),
-    };
-    let mut memory = Vec::with_capacity(alloc, end.saturating_sub(u64::from(addr)) as usize)?;
+    let mut memory = room_between(alloc, addr, end_of(addr, segments))?;
+    append_segments(&mut memory, addr, segments, bytes);
+    Ok(memory)
+}
+
+/// Appends the bytes of segments, in a memory that begins at an address and has just the room for them.
+#[tactic(auto, using(crate::proofs::Tables::memory_room, crate::proofs::Tables::room_for_next))]
+fn append_segments(memory: &mut Vec<u8>, addr: u32, segments: &[Segment], bytes: &[u8])
+    requires empty { memory.old.items ≡ [] }
+    requires exact { vec_capacity memory.old ≡ end_of_segments addr segments.now - addr }
+    requires placed { ArePlaced addr (addr + 2 ^ 24) segments.now }
+    requires long { sum_by (λ s. s.len) segments.now ≤ length bytes.now }
+    ensures { memory.new.items ≡ memory_from addr segments.now bytes.now }
+{
     let mut rest = bytes;
     for segment in segments {
         let (front, behind) = rest.split_at(segment.len as usize);
-        append_at(&mut memory, (segment.addr - addr) as usize, front)?;
+        append_at(memory, (segment.addr - addr) as usize, front);
         rest = behind;
     }
-    Ok(memory)
+}
+
+/// The address behind the last segment, or the given one where there is none.
+#[tactic(auto, using(crate::proofs::Tables::end_of_last, crate::proofs::Tables::end_of_none))]
+fn end_of(addr: u32, segments: &[Segment]) -> u64
+    ensures { result ≡ end_of_segments addr segments.now }
+{
+    match segments.last() {
+        Some(last) => last.behind(),
+        None => u64::from(addr),
+    }
 }

@@ -3,6 +3,7 @@ use Rattle.std.proofs.Common.{◌≡◌, ◌+◌, ◌-◌, ◌*◌, ◌∷◌, �
 use Rattle.std.specs.Option.{option_or}
 use Rattle.std.proofs.lemmas.List.{take_rest}
 use Rattle.diva_image.specs.Elf.{end_of_loads, first_load, load_fault, program_header_of, program_header_size, program_headers_in}
+use Rattle.diva_image.specs.Inner.{end_of_bytes}
 use Rattle.diva_image.specs.declared.elf_header.ProgramHeader.{ProgramHeader}
 use Rattle.diva_image.proofs.Loads.{next_header, no_fault, none_left, option_or_none}
 use Rattle.diva_image.proofs.elf.extent_of.Goals as goal
@@ -33,6 +34,7 @@ loop-at-preserved c =
           ∙ ap (λ (p : ℕ). load_fault c.in-Ok.next.end c.args.len p rest) later;
       first = c.loop-at.invariant.first ∙ ap (λ (hs : List ProgramHeader). option_or c.loop-at.extent.first (first_load hs)) next ∙ c.in-Ok.ensures.first rest;
       end = c.loop-at.invariant.end ∙ ap (end_of_loads c.loop-at.extent.end) next ∙ c.in-Ok.ensures.end rest;
+      filled = c.loop-at.invariant.filled ∙ ap (end_of_bytes c.loop-at.extent.filled) next ∙ c.in-Ok.ensures.filled rest;
     }
 
 pub returns-clause-first : goal.returns-clause-first
@@ -44,6 +46,11 @@ pub returns-clause-end : goal.returns-clause-end
 returns-clause-end c =
     let left = none_left c.args.header.now.e_phnum c.loop-at.at c.args.table.now c.loop-at-test.false in
     sym (c.loop-at.invariant.end ∙ ap (end_of_loads c.loop-at.extent.end) left)
+
+pub returns-clause-filled : goal.returns-clause-filled
+returns-clause-filled c =
+    let left = none_left c.args.header.now.e_phnum c.loop-at.at c.args.table.now c.loop-at-test.false in
+    sym (c.loop-at.invariant.filled ∙ ap (end_of_bytes c.loop-at.extent.filled) left)
 
 pub returns-clause-faultless : goal.returns-clause-faultless
 returns-clause-faultless c =

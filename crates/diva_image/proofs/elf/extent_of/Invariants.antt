@@ -1,6 +1,7 @@
 use Rattle.std.proofs.Common.{◌≡◌, ◌+◌, ◌-◌, ◌*◌, drop}
 use Rattle.std.specs.Option.{option_or}
 use Rattle.diva_image.specs.Elf.{end_of_loads, first_load, load_fault, program_header_size, program_headers_in}
+use Rattle.diva_image.specs.Inner.{end_of_bytes}
 use Rattle.diva_image.proofs.elf.extent_of.Given as goal
 
 abbrev pub invariant-loop-at : goal.invariant-loop-at
@@ -11,4 +12,5 @@ invariant-loop-at l =
       fault : load_fault 0 l.len l.header.e_phoff all ≡ load_fault l.extent.end l.len (l.header.e_phoff + program_header_size * l.at) rest;
       first : first_load all ≡ option_or l.extent.first (first_load rest);
       end : end_of_loads 0 all ≡ end_of_loads l.extent.end rest;
+      filled : end_of_bytes 0 all ≡ end_of_bytes l.extent.filled rest;
     }
