@@ -1,5 +1,6 @@
 // The files of the operating system.
-ghost use Rattle.std.specs.Prelude.{◌≡◌, ◌≤◌, ◌<◌, ◌≢◌, ◌⊎◌, IfOk, IfSome, IsErrOf, length};
+ghost use Rattle.std.specs.Prelude.{◌≡◌, ◌≤◌, ◌<◌, ◌≢◌, ◌⊎◌, IfOk, IfErr, IfSome, IsErrOf, length};
+ghost use Rattle.std.specs.Io.KnownBytes.{ReadConsumes};
 ghost use Rattle.diva_outside.specs.Causes.{Rose};
 ghost use Rattle.diva_outside.specs.Files.{unknown, Has, IsMissing, IsLonger};
 
@@ -86,8 +87,15 @@ fn read_file<R: rt::Files>(
 ) -> Result<Vec<u8>, LoadFault>
     ensures { IfOk result (λ v. length v.items ≤ limit) }
 {
-    let mut file = fs::open(rt, name).map_err(|_| LoadFault::Failed)?;
+    let mut file = open_file(rt, name)?;
     read_whole(&mut file, alloc, limit)
+}
+
+/// Opens the file. One that can't be opened has failed.
+fn open_file<R: rt::Files>(rt: &R, name: &str) -> Result<R::File, LoadFault>
+    ensures { IfErr result (λ fault. fault ≡ LoadFault.Failed) }
+{
+    fs::open(rt, name).map_err(|_| LoadFault::Failed)
 }
 
 /// Reads to the end, or until there are more bytes than `limit`.
@@ -100,7 +108,7 @@ fn read_whole<R: Read>(file: &mut R, alloc: Global, limit: usize) -> Result<Vec<
     let mut bytes = Vec::new(alloc);
     let mut buffer = [0; 4096];
     loop {
-        let count = file.read(&mut buffer).map_err(|_| LoadFault::Failed)?;
+        let count = read_some(file, &mut buffer)?;
         if count == 0 {
             return Ok(bytes);
         }
@@ -109,4 +117,13 @@ fn read_whole<R: Read>(file: &mut R, alloc: Global, limit: usize) -> Result<Vec<
         }
         bytes.extend_from_slice(&buffer[..count])?;
     }
+}
+
+/// Reads bytes that come next, none only at the end. A file that can't be read has failed.
+fn read_some<R: Read>(file: &mut R, buffer: &mut [u8]) -> Result<usize, LoadFault>
+    ensures bound { IfOk result (λ count. count ≤ length buffer.new) }
+    ensures bytes { ReadConsumes (R.remaining file.old) (R.remaining file.new) result buffer.new }
+    ensures failed { IfErr result (λ fault. fault ≡ LoadFault.Failed) }
+{
+    file.read(buffer).map_err(|_| LoadFault::Failed)
 }
