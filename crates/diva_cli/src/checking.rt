@@ -8,7 +8,7 @@ ghost use Rattle.diva_core.specs.Machine.{IsMachine};
 ghost use Rattle.diva_core.specs.Headline.{dues};
 ghost use Rattle.diva_machine.specs.Drives.{Drives};
 ghost use Rattle.diva_vote.specs.Votes.{AtLeastTwo};
-ghost use Rattle.diva_vote.specs.declared.lanes.EitherLane.TheVariants.{Honest};
+ghost use Rattle.diva_vote.specs.declared.lanes.EitherLane.TheVariants.{Honest, Liar};
 
 use diva_args::LanePlace;
 use diva_core::{Claims, Core};
@@ -26,7 +26,9 @@ struct Lanes {
 impl Lanes {
     /// The lanes of which the one in this place lies.
     fn with_liar(place: LanePlace) -> Self
-        ensures { AtLeastTwo (result.first ≡ Honest) (result.second ≡ Honest) (result.third ≡ Honest) }
+        ensures places { ((result.first ≡ Liar) ↔ (place ≡ LanePlace.First))
+            × (((result.second ≡ Liar) ↔ (place ≡ LanePlace.Second)) × ((result.third ≡ Liar) ↔ (place ≡ LanePlace.Third))) }
+        ensures honest { AtLeastTwo (result.first ≡ Honest) (result.second ≡ Honest) (result.third ≡ Honest) }
     {
         let lane = |at| if at == place {
             EitherLane::Liar
