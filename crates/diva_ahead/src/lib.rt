@@ -2,11 +2,12 @@
 //!
 //! - `ahead`: where such a core stands, `Ahead`.
 //! - `ring`: what it handed over, laid over the machine's memory, `Ring`.
-//! - `effects`: which effects change memory.
-//! - `stand`: the core's own state, to read.
+//! - `effects`: which effects change memory, `is_store`.
+//! - `stand`: the core's own state, to read, `Stand`.
 //!
 //! `specs/Effects.antt` says what records do one after the other, `specs/Ahead.antt` what the core keeps and how it
-//! changes. `proofs/` has what follows: that such a core sees the state to which its claims lead.
+//! changes; `Inner` is for private contracts alone. `proofs/` has what follows: that such a core sees the state to which its claims
+//! lead.
 #![tactic(auto)]
 
 mod ahead;

@@ -9,6 +9,11 @@
 //! - `job`: `Job` and its parts, whose types keep the ranges of the numbers. `campaign`: those of the command `campaign`.
 //! - `file_name`: `FileName`, the name of a file.
 //! - `fault`: `ArgsFault`, why there is no job.
+//!
+//! `specs/Line.antt` says which job the words ask for, over the table of commands (`Command`) and the rules on values (`Values`);
+//! `specs/Drawn.antt` the same of the program that draws runs. `specs/Options.antt` has what contracts see of a job, with the ranges
+//! of its numbers, `specs/Fault.antt` why there is none, and `specs/Plain.antt` what a plain line is. `Table` is for private
+//! contracts alone.
 #![tactic(auto)]
 
 mod campaign;

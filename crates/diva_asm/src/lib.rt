@@ -9,8 +9,10 @@
 //!   them. `names`: a walk over a table of names.
 //! - `listing`: `list_line`, the line of a word.
 //!
-//! `docs/FORMATS.md` has the language of a source. `specs/Sources.antt` has the image of a source, `specs/Mnemonics.antt` the table of mnemonics, and `specs/Listing.antt` the
-//! text of a word.
+//! `docs/FORMATS.md` has the language of a source. `specs/Sources.antt` has the image of a source, or its first fault, over the
+//! passes of `Laying` and `Building`, with `Labels`, where labels stand, and `Kinds`, the kinds of faults. `Texts` says how a line is
+//! cut, `Statements` and `Operands` what it says then. `specs/Mnemonics.antt` has the table of mnemonics, and
+//! `specs/Listing.antt` the line of a word and the listing of an image. `Reads` and `Inner` are for private contracts alone.
 #![tactic(auto)]
 
 mod assembling;

@@ -1,7 +1,8 @@
 //! The whole program, over the files, the sink and the core that it is handed.
 //!
 //! - `program`: `top`, from the words to the status; `work` has an arm for each command;
-//! - `run` (with `tape`), `duo`, `debug`, `asm`, `dis`, `migrate`, `soak`, `campaign`: these commands;
+//! - `pipeline`: `pipeline_top`, the same for the program that draws runs;
+//! - `run` (with `tape`), `duo`, `debug`, `asm`, `dis`, `migrate`, `soak`, `campaign`: these commands; `drawing`: `log` and `draw`;
 //! - `files`: the kinds of files, and how a file of any kind is loaded and read; `loading`: the files of a job, one after another;
 //! - `driving`: the core that the command line chose, and what is done with it and a machine;
 //! - `tasks`: the things that are done with a core and a machine, under a script;
@@ -11,18 +12,19 @@
 //! - `writing`: what is written otherwise, and the status that goes with it;
 //! - `lines`: the lines that are written where no job is done;
 //! - `stop`: why a job is not done, and why there is no whole answer;
-//! - `sure`: the program over files and a sink that never fail;
-//! - `laws`: that the text of a run, and that of `soak`, is determined.
+//! - `sure`: `top_sure`, the program over files and a sink that never fail;
+//! - `laws`: that the text of a run, and that of `soak`, is determined (`own_run_is_determined`), and that what is promised of
+//!   the text of a run is the same with a liar in any place and without (`one_liar_is_outvoted`).
 //!
 //! What is promised, each part in a file of `specs/`, in the order in which it is best read:
 //!
-//! - `Asked`: what the program is asked; `Changes`: what became of what it was handed;
+//! - `Asked`: what the program is asked; `Changes`: what became of what it was handed; `Lines`: the lines where no job is done;
 //! - `Statuses`: what each status says; `Answers`: what is answered, and why;
 //! - `Wanted`: which files a job wants, and what is wrong with their bytes; `Stops`: at which of them loading stops;
 //! - `Texts`: the text of each command; `Runs`: that of `run`, with what holds of the machine; `Driven`: what drove it;
-//! - `TapeTexts`: the text of `tape`; `DebugTexts`, with `Replies`: that of `debug`; `ImageTexts`: those of `asm`, `dis` and `migrate`;
-//!   `SoakTexts`: that of `soak`; `DuoTexts`: that of `duo`; `CampaignTexts`: that of `campaign`; `Cuts`: in which part of a
-//!   text a sink failed;
+//! - `TapeTexts`: the text of `tape`; `DebugTexts`, with `Replies`: that of `debug`, and `Sessions`: what holds of its machine, and
+//!   what drove it; `ImageTexts`: those of `asm`, `dis` and `migrate`; `SoakTexts`: that of `soak`; `DuoTexts`: that of `duo`;
+//!   `CampaignTexts`: that of `campaign`; `DrawTexts`: those of `log` and `draw`; `Cuts`: in which part of a text a sink failed;
 //! - `Determined`: what is determined of a run.
 //!
 //! `Tasks` and `Parts` are what the parts of the program promise one another. What each command promises, and so the whole

@@ -16,9 +16,10 @@
 //! `specs/` holds the timed machine that contracts speak of: the machine and what a core is told of
 //! it (`Timed`, `Told`), its cycle phase by phase (`Cycle`), first differences (`Difference`), what is
 //! noted of pending claims (`Entries`), the state in which each of them stands (`Older`, over
-//! `Effects`), what the oldest of them leave in the registers (`Future`), what each stage of the checker compares (`Stages`), turns of a machine and a core (`History`), what holds between
-//! cycles (`Machine`), right lists and calm machines (`Right`), the machine without its last instruction (`Undone`), and the
-//! words of what a cycle, a turn and a run promise (`Headline`).
+//! `Effects`), what the oldest of them leave in the registers (`Future`), what each stage of the checker compares (`Stages`),
+//! turns of a machine and a core (`History`), what holds between cycles (`Machine`), right lists and calm machines (`Right`), the
+//! machine without its last instruction (`Undone`), sessions, which are turns and instructions that are taken back (`Legs`), and the
+//! words of what a cycle, a turn and a run promise (`Headline`). `Inner` is for private contracts alone.
 //! `proofs/` has the laws that follow.
 #![tactic(auto)]
 

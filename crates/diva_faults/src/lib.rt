@@ -7,8 +7,10 @@
 //! - `faulty`: a core under a script, `Faulty`. `laws`: what holds of every script.
 //! - `schedule`: the rows of a script by cycle. `lists`: what a row makes of a list.
 //!
-//! `specs/Reading.antt` has the script of a text, `specs/Lists.antt` what a script makes of a list, `specs/Spoiled.antt`
-//! what a core under a script means, `specs/Flips.antt` the rows of a campaign.
+//! `specs/Reading.antt` has the script of a text, with `Kinds` the kinds of its faults, `specs/Rows.antt` the ranges of a
+//! row's numbers, `specs/Lists.antt` what a script makes of a list, `specs/Schedules.antt` when some rows make of it what others do,
+//! `specs/Spoiled.antt` what a core under a script means, `specs/Flips.antt` the rows of a campaign. `Inner` is for private
+//! contracts alone.
 #![tactic(auto)]
 
 mod fault;

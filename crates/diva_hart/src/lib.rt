@@ -7,7 +7,8 @@
 //! - `ends`: how a drive stopped, `Drive`.
 //!
 //! `specs/Start.antt` says in which state an image starts, `specs/HartArch.antt` what state a hart sees, and what becomes of it by a
-//! record; `specs/UnderWay.antt` says which timed machine a state and what is under way make up.
+//! record; `specs/UnderWay.antt` says which timed machine a state and what is under way make up, and `specs/Log.antt` what a log
+//! has.
 #![tactic(auto)]
 
 mod arch;

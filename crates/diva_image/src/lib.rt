@@ -17,6 +17,11 @@
 //! - `table`: the segments of a file, and their faults; `segments`, `segment`: lists of segments.
 //! - `memory`: the bytes that memory begins with, part after part.
 //! - `fault`: `ImageFault`, why bytes are not an image.
+//!
+//! `specs/`, in the order in which it is best read: `Layout` says what an image is, and when two begin the same; `Header`,
+//! `Segments` and `Images` which image a file is, or what its first fault is, and the bytes in version 1; `Elf` the same of an
+//! executable; `ImageLayout` what is read of either; `Migrated` the bytes in version 2; `Programs` what a command takes for an
+//! image. `Inner` is for private contracts alone.
 #![tactic(auto)]
 
 mod elf;

@@ -1,20 +1,21 @@
 //! The meaning of the instruction table.
 //!
-//! - `kind`: the kinds of operations, and how many bytes a load or a store moves.
-//! - `arithmetic`: what an operation computes, whether a branch is taken, what a load makes of its bytes.
-//! - `look`: a state that can be read.
-//! - `record`: the record of one instruction, and its parts.
-//! - `trap`: the traps by number.
-//! - `end`: how a state has ended, as a word and as a number.
-//! - `due`: the record of a state's next instruction, and each part of it by itself.
-//! - `effect`: what a record does besides moving the pc and being counted.
-//! - `regs`: the 32 registers.
-//! - `undo`: what an instruction overwrites, so that it can be taken back.
-//! - `plain`: the machine that does one instruction after another.
+//! - `kind`: the kinds of operations, `Kind`, and how many bytes a load or a store moves, `Width`.
+//! - `arithmetic`: what an operation computes, `alu`, whether a branch is taken, what a load makes of its bytes.
+//! - `look`: a state that can be read, `Look`.
+//! - `record`: the record of one instruction, `Record`, and its parts.
+//! - `trap`: the traps by number, `Trap`.
+//! - `end`: how a state has ended, as a word and as a number, `End`.
+//! - `due`: the record of a state's next instruction, `record_of`, and each part of it by itself.
+//! - `effect`: what a record does besides moving the pc and being counted, `Effect` and `effect_of`.
+//! - `regs`: the 32 registers, `Regs`.
+//! - `undo`: what an instruction overwrites, so that it can be taken back, `Undo` and `undo_of`.
+//! - `plain`: the machine that does one instruction after another, `Plain`.
 //!
 //! The definitions that contracts cite are in `specs/`: a state in `State`; the record and what it does in `Step`, with
-//! a table of it, kind by kind; what an operation computes in `Alu`; how a state
-//! ends in `End`; what an instruction overwrites, and putting it back, in `Undo`. What follows from them is in `proofs/`.
+//! a table of it, kind by kind; the kind of each operation in `Kind`, and what it computes in `Alu`; writing a register in `Regs`;
+//! how a state ends in `End`, and the traps by number in `Trap`; a state with a count in `Plain`; what an instruction overwrites,
+//! and putting it back, in `Undo`. `Inner` is for private contracts alone. What follows from them is in `proofs/`.
 //! (RISC-V Unprivileged ISA, chapters RV32I 2.1 and M 2.0.)
 #![tactic(auto)]
 

@@ -6,7 +6,8 @@
 //! - `span`: `Span`, up to which item such stores go in a list of many things, and their interval.
 //!
 //! What is inside, what a read gives and what a write changes is defined in `specs/Bytes.antt`,
-//! which the crates above cite for their states too.
+//! which the crates above cite for their states too; what lies in an interval in `specs/Interval.antt`, and in a span in
+//! `specs/Span.antt`.
 #![tactic(auto)]
 
 mod interval;

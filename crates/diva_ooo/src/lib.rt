@@ -10,7 +10,8 @@
 //! - `laws`: what follows of its calls.
 //!
 //! `specs/Ooo.antt` has one definition for each of the six steps of a call, over `WindowEntry`, `Finish`, `Issue` and `Profile` beside it.
-//! `specs/Known.antt` and `Board.antt` are what the parts of the core promise one another; `Known` is what the code notes with an entry.
+//! `specs/Known.antt`, `Board.antt` and `MarkSets.antt` are what the parts of the core promise one another; `Known` is what the code
+//! notes with an entry.
 #![tactic(auto)]
 
 mod board;

@@ -12,13 +12,18 @@
 //! - `mem_sink`: `MemSink`, a sink in memory, where puts fail as a test asks for it.
 //! - `sure_sink`: `SureSink`, a sink that never fails.
 //! - `line`: `Line`, a line of text, written piece by piece.
-//! - `line_list`: lines that are made one at a time, and how lines are put into a sink.
+//! - `line_list`: `LineList`, lines that are made one at a time, and `put_lines`, how lines are put into a sink.
 //! - `text_lines`: `lines`, the lines of a text. `line_words`: `words`, the words of a line, and the line without its comment.
 //! - `line_reader`: the trait `LineReader`, what lines are read to, and `fold_lines`, which reads them all. `item_reader`: the
 //!   trait `ItemReader`, by which a line with words is read to an item, and `read_items`, which reads them all. `text_fault`:
 //!   `TextFault`, why a text was not read; `LineStop`, why a line was not taken, and the kinds of its faults, `FaultKind`.
-//! - `numbers`: the hex and decimal numbers that words spell. `next_words`: the next word of a line as a number, or what is
+//! - `numbers`: `hex` and `decimal`, the numbers that words spell. `next_words`: the next word of a line as a number, or what is
 //!   wrong with it, `WordFault`.
+//!
+//! `specs/` says what is known of files (`Files`, `Named`, `MemFiles`) and of what a sink took (`Sink`, `MemSink`, `StdSink`), and
+//! how the faults of both are counted (`Causes`, `Faults`); how numbers and bytes are written (`Text`), and what words and numbers
+//! a line has (`Words`, `Numbers`, `NextWords`); the lines of a text, and how they are read one after the other, to what is due or
+//! to the first fault (`Lines`, `Items`, `Steps`, `TextFaults`).
 #![tactic(auto)]
 
 mod disk_files;

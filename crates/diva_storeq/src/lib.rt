@@ -4,7 +4,8 @@
 //! - `masked`: `Masked`, what it writes to the word of memory in which it lies.
 //! - `queue`: `StoreQueue`, all of them in order, and how memory is read through them.
 //!
-//! Memory with the stores laid over it is `laid` of `specs/Stores.antt`.
+//! Memory with the stores laid over it is `laid` of `specs/Stores.antt`; what a masked word writes is in `specs/Masked.antt`.
+//! `Width` beside them is for private contracts alone.
 #![tactic(auto)]
 
 mod masked;

@@ -15,7 +15,8 @@
 //!
 //! `specs/Lists.antt` says what Lockstep, Silent, Flood and Echo hand over, `specs/Scalar.antt` what Scalar does,
 //! `specs/Noise.antt` what Noise does, `specs/TapeCalls.antt` what a core does that plays a tape. `specs/Tapes.antt` has the
-//! lists of a text, and `specs/TapeText.antt` the text of some lists. `specs/Programs.antt` says which programs run.
+//! lists of a text, with `Kinds` the kinds of its faults, and `specs/TapeText.antt` the text of some lists; `TapeParts` is how a tape
+//! keeps them. `specs/Programs.antt` says which programs run. `LineParts` is for private contracts alone.
 #![tactic(auto)]
 
 mod echo;
