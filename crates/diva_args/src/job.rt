@@ -62,7 +62,7 @@ pub struct Setup {
     /// no such word nothing is laid over.
     pub script: Option<FileName>,
     /// `--width`, `--window`, `--stores`, `--watchdog` and `--port`: the claims accepted and judged in a cycle at most (1 to 4;
-    /// 2 by default), the claims pending at most (8 to 64; 16 by default), the undrained stores at most (1 to 6; 4 by default),
+    /// 2 by default), the claims pending at most (8 to 64; 16 by default), the owed stores at most (1 to 6; 4 by default),
     /// the watchdog's limit in cycles (16 to 1,024; 64 by default), and how many cycles there are from one store that memory's
     /// port takes to the next (1 to 6; 1 by default).
     pub config: Config,

@@ -6,7 +6,7 @@ ghost use Rattle.diva_core.specs.Machine.{IsConfig, config_in_range, least_confi
 use std::marker::Model;
 
 /// The machine's numbers: the claims accepted and judged in a cycle at most (1 to 4), the claims
-/// pending at most (8 to 64), the undrained stores at most (1 to 6), the watchdog's limit in
+/// pending at most (8 to 64), the owed stores at most (1 to 6), the watchdog's limit in
 /// cycles (16 to 1024), and how many cycles there are from one store that memory's port takes to the next
 /// (1 to 6).
 #[derive(Clone, Copy, Debug)]
@@ -103,7 +103,7 @@ impl Config {
         self.window
     }
 
-    /// The undrained stores at most.
+    /// The owed stores at most.
     pub fn stores(&self) -> u32
         ensures { result ≡ self.now.stores }
     {

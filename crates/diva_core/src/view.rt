@@ -11,7 +11,7 @@ use diva_memory::{Memory, Readable};
 use diva_storeq::StoreQueue;
 use std::marker::Model;
 
-/// The committed state, to read only: memory with the undrained stores laid over it.
+/// The committed state, to read only: memory with the owed stores laid over it.
 #[derive(Drop)]
 pub struct View<'a> {
     regs: &'a Regs,

@@ -174,7 +174,7 @@ impl Parts {
         let _ = count;
     }
 
-    /// Phase 1: where the port opens, the oldest undrained store goes to memory.
+    /// Phase 1: where the port opens, the oldest owed store goes to memory.
     #[inline(always)]
     #[tactic(auto, unfolding(diva_core::specs::Cycle::drained))]
     fn drain(&mut self)

@@ -2,7 +2,7 @@
 //! definitions, and computing with them gives the worked values. So the definitions mean what was
 //! meant.
 //!
-//! The machine's numbers are 2 claims accepted and judged in a cycle, 16 pending, 4 undrained
+//! The machine's numbers are 2 claims accepted and judged in a cycle, 16 pending, 4 owed
 //! stores, a watchdog's limit of 64 cycles and a port that takes a store in each cycle, where no
 //! others are given.
 ghost use Rattle.std.specs.Prelude.{◌≡◌, [], ◌∷◌};
