@@ -1,6 +1,7 @@
 // Command lines over small executables.
 mod files;
 
+use super::harts::PAIR_TEXT;
 use super::refusals::USAGE;
 use crate::cores::{Counting, Flipped};
 use diva_cli::top;
@@ -108,6 +109,28 @@ fn three_instructions(rt: HostRuntime) -> Result<(), Fail> {
         let line = format!(in alloc; "run a.elf --core lockstep {options}")?;
         let answer = run_program(alloc, &mut Flipped, line.as_str(), file)?;
         let text = format!(in alloc; "{THREE_COUNTS}{rest}")?;
+        assert_eq!(rt; answer.status, 0, "{line}");
+        assert_eq!(rt; str::from_utf8(&answer.text)?, text.as_str(), "{line}");
+    }
+    Ok(())
+}
+
+/// What two harts write of the three instructions: what they write of `FIVE`, the same instructions at 0, but for the pc.
+fn pair_of_three(alloc: Global) -> Result<String, Fail> {
+    Ok(PAIR_TEXT.replace(alloc, "pc 00000008", "pc 0001005c")?)
+}
+
+#[test]
+fn three_instructions_on_two_harts(rt: HostRuntime) -> Result<(), Fail> {
+    let alloc = rt.alloc();
+    let pair = pair_of_three(alloc)?;
+    for (options, memory) in [
+        ("--dump 1005c:8", "73000000........"),
+        ("--room 4 --dump 1005c:12", "7300000000000000........"),
+    ] {
+        let line = format!(in alloc; "duo a.elf --core lockstep {options}")?;
+        let answer = run_program(alloc, &mut Flipped, line.as_str(), &THREE)?;
+        let text = format!(in alloc; "{pair}mem 0001005c {memory}\n")?;
         assert_eq!(rt; answer.status, 0, "{line}");
         assert_eq!(rt; str::from_utf8(&answer.text)?, text.as_str(), "{line}");
     }
@@ -224,9 +247,11 @@ fn images_of_executables(rt: HostRuntime) -> Result<(), Fail> {
 }
 
 /// Words that are not a valid command line.
-static MISUSED: [&str; 12] = [
+static MISUSED: [&str; 14] = [
     "run a.elf --room 2",
     "run a.elf --room 16777216",
+    "duo a.elf --room 2",
+    "duo a.elf --room 16777216",
     "tape a.elf --room 2",
     "tape a.elf --room 16777216",
     "debug a.elf a.commands --room 2",
@@ -265,12 +290,14 @@ fn compare_unasked(
 }
 
 /// The commands that read an executable.
-const COMMAND_LINES: [&str; 5] = [
+const COMMAND_LINES: [&str; 7] = [
     "run a.elf",
+    "duo a.elf",
     "tape a.elf",
     "debug a.elf a.commands",
     "migrate a.elf",
     "dis a.elf",
+    "campaign a.elf 1",
 ];
 
 /// The three instructions with the type of a shared object, and without their words.
@@ -307,6 +334,7 @@ fn rooms_that_are_refused(rt: HostRuntime) -> Result<(), Fail> {
     for &(file, room, text) in &REFUSED {
         for command in [
             "run a.elf",
+            "duo a.elf",
             "tape a.elf",
             "debug a.elf a.commands",
             "migrate a.elf",
