@@ -23,7 +23,7 @@ mod texts;
 mod traces;
 
 use crate::cores::{Counting, Differing, Flipped};
-use diva_cli::top;
+use diva_cli::{pipeline_top, top};
 use diva_core::Core;
 use diva_outside::{Fail as SinkFail, MemFile, MemFiles, MemSink, What};
 use diva_test_programs::{FIVE_FILE, Program, image_file};
@@ -197,7 +197,7 @@ fn run_program<C: Core>(core: &mut C, line: &str, outside: Outside) -> Result<An
     let mut files = NotingFiles::new(alloc, MemFiles::new(there, outside.load_fails));
     let sink = MemSink::new(alloc, outside.room, outside.put_fails)?;
     let mut sink = NotingSink::new(alloc, sink)?;
-    let status = top(alloc, &words, &mut files, &mut sink, core);
+    let status = run_words(alloc, &words, &mut files, &mut sink, core);
     let puts = sink.puts().ok_or("a put was not noted")?;
     Ok(Answer {
         status,
@@ -205,6 +205,20 @@ fn run_program<C: Core>(core: &mut C, line: &str, outside: Outside) -> Result<An
         loads: files.into_loads(),
         puts: Vec::from_slice(alloc, puts)?,
     })
+}
+
+/// Runs the program whose command these words begin with: the one that draws runs, or the other.
+fn run_words<C: Core>(
+    alloc: Global,
+    words: &[&str],
+    files: &mut NotingFiles,
+    sink: &mut NotingSink,
+    core: &mut C,
+) -> u8 {
+    match words {
+        ["log" | "draw", ..] => pipeline_top(alloc, words, files, sink, core),
+        _ => top(alloc, words, files, sink, core),
+    }
 }
 
 /// What `FIVE` writes where it is claimed one by one, to the letter.

@@ -1,18 +1,17 @@
 // Runs that are drawn: in text, and as a log for a viewer.
 use crate::cores::Counting;
 use diva_cli::pipeline_top;
-use diva_outside::{Fail as SinkFail, MemFile, MemFiles, MemSink};
+use diva_outside::{MemFile, MemFiles, MemSink};
 use diva_test_programs::FIVE_FILE;
 use std::alloc::Global;
-use std::process::Abort;
 use std::test::Fail;
 
 /// A line of the program that draws runs on the image `FIVE`, with this script, and the status and the text that are due.
-struct Drawn {
-    line: &'static str,
+pub(super) struct Drawn {
+    pub line: &'static str,
     script: &'static [u8],
-    status: u8,
-    text: &'static str,
+    pub status: u8,
+    pub text: &'static str,
 }
 
 /// The usage line of that program.
@@ -22,7 +21,7 @@ usage: diva_pipeline log|draw IMAGE, with the options of run, or the words of di
 
 /// The claim of cycle 1 has a wrong value, which the stage that executes finds in cycle 5. It flushes in cycle 7, and its
 /// instruction runs solo.
-const LOGGED: &str = "\
+pub(super) const LOGGED: &str = "\
 Kanata\t0004
 C=\t0
 C\t1
@@ -53,7 +52,7 @@ S\t1\t0\tfetch
 ";
 
 /// Each row as it is drawn where it ends, and the scale.
-static ROWS: [Drawn; 8] = [
+pub(super) static ROWS: [Drawn; 8] = [
     Drawn {
         line: "draw a.diva --core scalar",
         script: b"",
@@ -128,8 +127,8 @@ cycle                       1  2  3
     },
 ];
 
-/// What the program answers on a row, over a sink that fails so.
-fn answer(alloc: Global, row: &Drawn, fails: Vec<SinkFail>) -> Result<(u8, Vec<u8>), Fail> {
+/// What the program answers on a row.
+fn answer(alloc: Global, row: &Drawn) -> Result<(u8, Vec<u8>), Fail> {
     let mut words = Vec::new(alloc);
     for word in row.line.split_whitespace() {
         words.push(word)?;
@@ -146,7 +145,7 @@ fn answer(alloc: Global, row: &Drawn, fails: Vec<SinkFail>) -> Result<(u8, Vec<u
         ))?;
     }
     let mut files = MemFiles::new(there, Vec::new(alloc));
-    let mut sink = MemSink::new(alloc, 1 << 16, fails)?;
+    let mut sink = MemSink::new(alloc, 1 << 16, Vec::new(alloc))?;
     let mut core = Counting { calls: 0 };
     let status = pipeline_top(alloc, &words, &mut files, &mut sink, &mut core);
     Ok((status, Vec::from_slice(alloc, sink.bytes())?))
@@ -156,26 +155,9 @@ fn answer(alloc: Global, row: &Drawn, fails: Vec<SinkFail>) -> Result<(u8, Vec<u
 fn runs_that_are_drawn(rt: HostRuntime) -> Result<(), Fail> {
     let alloc = rt.alloc();
     for row in &ROWS {
-        let (status, text) = answer(alloc, row, Vec::new(alloc))?;
+        let (status, text) = answer(alloc, row)?;
         assert_eq!(rt; status, row.status, "{}", row.line);
         assert_eq!(rt; str::from_utf8(&text)?, row.text, "{}", row.line);
-    }
-    Ok(())
-}
-
-/// The drawing of the first row is 41 puts: the name, the cells and the line feed of each of its rows, and of the scale.
-#[test]
-fn drawings_that_are_cut(rt: HostRuntime) -> Result<(), Fail> {
-    let alloc = rt.alloc();
-    let row = &ROWS[0];
-    for call in 1..=42 {
-        let mut fails = Vec::new(alloc);
-        fails.push(SinkFail { call, takes: 0 })?;
-        let (status, text) = answer(alloc, row, fails)?;
-        let due = row.text.as_bytes();
-        assert!(rt; due.starts_with(&text), "put {call}");
-        assert_eq!(rt; status, if call <= 41 { 9 } else { 0 }, "put {call}");
-        assert_eq!(rt; text.len() < due.len(), call <= 41, "put {call}");
     }
     Ok(())
 }

@@ -1,5 +1,6 @@
 // The order of loads and of puts, and what follows where each of them in turn fails.
 use super::campaigns::FIVE_CAMPAIGN;
+use super::drawings::{self, LOGGED};
 use super::harts::PAIR_TEXT;
 use super::noting::Load;
 use super::refusals::USAGE;
@@ -18,9 +19,17 @@ use std::process::Abort;
 use std::test::Fail;
 
 /// Command lines, and the kinds of the files that they load, in order.
-static LOADS: [(&str, &[What]); 14] = [
+static LOADS: [(&str, &[What]); 16] = [
     ("run a.diva", &[What::Image]),
     ("run a.diva --script a.script", &[What::Image, What::Script]),
+    (
+        "log a.diva --core tape --tape a.tape --script a.script",
+        &[What::Image, What::Script, What::Tape],
+    ),
+    (
+        "draw a.diva --liar 2 --core tape --tape a.tape --script a.script",
+        &[What::Image, What::Script, What::Tape],
+    ),
     (
         "run a.diva --core tape --tape a.tape",
         &[What::Image, What::Tape],
@@ -148,6 +157,55 @@ fn puts_that_fail(rt: HostRuntime) -> Result<(), Fail> {
     Ok(())
 }
 
+/// Runs that are drawn: one that goes on as a log, in which the first claim of the program's own core is wrong, and as a drawing one that
+/// halts, also with a liar, and one that goes on.
+#[test]
+fn puts_that_fail_of_drawn_runs(rt: HostRuntime) -> Result<(), Fail> {
+    let alloc = rt.alloc();
+    let log = blocks_of(alloc, LOGGED)?;
+    compare_puts(&rt, alloc, "log a.diva --cycles 8", 4, &log)?;
+    let (halts, goes_on) = (&drawings::ROWS[0], &drawings::ROWS[2]);
+    for (line, drawn) in [
+        (halts.line, halts),
+        ("draw a.diva --liar 0 --core scalar", halts),
+        (goes_on.line, goes_on),
+    ] {
+        let cells = cells_of(alloc, drawn.text)?;
+        compare_puts(&rt, alloc, line, drawn.status, &cells)?;
+    }
+    Ok(())
+}
+
+/// The puts of a log: its first two lines, of each cycle the lines of what goes on or begins, and each line of what ends.
+fn blocks_of(alloc: Global, text: &str) -> Result<Vec<Vec<u8>>, Fail> {
+    let mut pieces = Vec::new(alloc);
+    let mut piece = Vec::new(alloc);
+    for line in text.lines() {
+        if line.starts_with("C\t") || line.starts_with("R\t") {
+            pieces.push(piece)?;
+            piece = Vec::new(alloc);
+        }
+        piece.extend_from_slice(line.as_bytes())?;
+        piece.push(b'\n')?;
+    }
+    pieces.push(piece)?;
+    Ok(pieces)
+}
+
+/// The puts of a drawing: of each line the name, which has 26 bytes, the cells, which have three each, and the line feed.
+fn cells_of(alloc: Global, text: &str) -> Result<Vec<Vec<u8>>, Fail> {
+    let mut pieces = Vec::new(alloc);
+    for line in text.lines() {
+        let (name, cells) = line.as_bytes().split_at_checked(26).ok_or("no name")?;
+        pieces.push(Vec::from_slice(alloc, name)?)?;
+        for cell in cells.chunks(3) {
+            pieces.push(Vec::from_slice(alloc, cell)?)?;
+        }
+        pieces.push(Vec::from_slice(alloc, b"\n")?)?;
+    }
+    Ok(pieces)
+}
+
 /// Compares the puts of a text, each of whose lines is one.
 fn compare_lines(
     rt: &impl Abort,
@@ -248,10 +306,22 @@ fn run_cut<C: Core>(
 ///
 /// The instructions of `FIVE` commit in the cycles 7, 14 and 21, and the four of the seed's image in 7, 14, 21 and 28. What a
 /// machine left is put when it has ended, a commit line in its cycle, and the line of a tape in each cycle: in the cycles 1, 8 and
-/// 15 it has a claim and so two puts. `step 2` ends in cycle 14, and `step 5` in 21.
-static CALLS: [(&str, &[u64]); 5] = [
+/// 15 it has a claim and so two puts. `step 2` ends in cycle 14, and `step 5` in 21. A log begins before the first cycle, and has one
+/// put in each, and one more where an instruction commits. A drawing has an instruction where it commits: the first one is a name, 7
+/// cells and a line feed, which are 9 puts.
+static CALLS: [(&str, &[u64]); 7] = [
     ("run a.diva --core own", &[21, 21]),
     ("run a.diva --core own --trace", &[7, 14, 21, 21, 21]),
+    (
+        "log a.diva --core own",
+        &[
+            0, 1, 2, 3, 4, 5, 6, 7, 7, 8, 9, 10, 11, 12, 13, 14, 14, 15, 16, 17, 18, 19, 20, 21, 21,
+        ],
+    ),
+    (
+        "draw a.diva --core own --liar 0",
+        &[7, 7, 7, 7, 7, 7, 7, 7, 7, 14],
+    ),
     (
         "tape a.diva --core own",
         &[
