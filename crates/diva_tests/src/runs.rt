@@ -101,7 +101,12 @@ fn file_name(what: What) -> &'static str {
 
 /// The image of `FIVE`, and an empty file of each other kind, where nothing fails.
 fn five_files(alloc: Global) -> Result<Outside, AllocError> {
-    Ok(Outside::sound(alloc, Vec::from_slice(alloc, &FIVE_FILE)?))
+    image_files(alloc, &FIVE_FILE)
+}
+
+/// An image with these bytes, and an empty file of each other kind, where nothing fails.
+fn image_files(alloc: Global, image: &[u8]) -> Result<Outside, AllocError> {
+    Ok(Outside::sound(alloc, Vec::from_slice(alloc, image)?))
 }
 
 /// Runs the program as `compare_by` does, with `Flipped` as its own core.

@@ -55,6 +55,26 @@ const FIRST_CYCLE: Row = Row {
     rest: "pc 00000008\n",
 };
 
+/// In one cycle nothing is judged.
+pub(super) const ONE_CYCLE: Row = Row {
+    line: "campaign a.diva 1 --cycles 1",
+    status: 4,
+    counts: "runs 256\nsame 256\nflushed 0\nsilent 0\nend none\ncount 0\noutput 0\n",
+    registers: &[],
+    rest: "pc 00000000\n",
+    ..FIRST_CYCLE
+};
+
+/// The only instruction traps.
+pub(super) const TRAPPED: Row = Row {
+    program: BREAK,
+    status: 3,
+    counts: "runs 256\nsame 256\nflushed 256\nsilent 0\nend trap 3\ncount 1\noutput 0\n",
+    registers: &[],
+    rest: "pc 00000000\n",
+    ..FIRST_CYCLE
+};
+
 /// Campaigns with their statuses and texts.
 static ROWS: [Row; 11] = [
     FIRST_CYCLE,
@@ -86,15 +106,7 @@ static ROWS: [Row; 11] = [
         counts: "runs 512\nsame 256\nflushed 256\nsilent 0\nend halt 0\ncount 3\noutput 0\n",
         ..FIRST_CYCLE
     },
-    // In one cycle nothing is judged.
-    Row {
-        line: "campaign a.diva 1 --cycles 1",
-        status: 4,
-        counts: "runs 256\nsame 256\nflushed 0\nsilent 0\nend none\ncount 0\noutput 0\n",
-        registers: &[],
-        rest: "pc 00000000\n",
-        ..FIRST_CYCLE
-    },
+    ONE_CYCLE,
     // One commits in each 7 cycles; with a flush the first in cycle 13, and the 19th in cycle 139.
     Row {
         line: "campaign a.diva 2 --cycles 140",
@@ -115,14 +127,7 @@ static ROWS: [Row; 11] = [
         rest: "pc 00000000\n",
         ..FIRST_CYCLE
     },
-    Row {
-        program: BREAK,
-        status: 3,
-        counts: "runs 256\nsame 256\nflushed 256\nsilent 0\nend trap 3\ncount 1\noutput 0\n",
-        registers: &[],
-        rest: "pc 00000000\n",
-        ..FIRST_CYCLE
-    },
+    TRAPPED,
     Row {
         program: PUTS,
         counts: "\

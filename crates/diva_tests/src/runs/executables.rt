@@ -1,5 +1,5 @@
 // Command lines over small executables.
-mod files;
+pub(super) mod files;
 
 use super::harts::PAIR_TEXT;
 use super::refusals::USAGE;
@@ -115,8 +115,13 @@ fn three_instructions(rt: HostRuntime) -> Result<(), Fail> {
     Ok(())
 }
 
-/// What two harts write of the three instructions: what they write of `FIVE`, the same instructions at 0, but for the pc.
-fn pair_of_three(alloc: Global) -> Result<String, Fail> {
+/// What is written of them where nothing is dumped.
+pub(super) fn three_text(alloc: Global) -> Result<String, Fail> {
+    Ok(format!(in alloc; "{THREE_COUNTS}pc 0001005c\n")?)
+}
+
+/// What two harts write of them: what they write of `FIVE`, the same instructions at 0, but for the pc.
+pub(super) fn pair_of_three(alloc: Global) -> Result<String, Fail> {
     Ok(PAIR_TEXT.replace(alloc, "pc 00000008", "pc 0001005c")?)
 }
 

@@ -1,27 +1,41 @@
 // The order of loads and of puts, and what follows where each of them in turn fails.
-use super::campaigns::FIVE_CAMPAIGN;
+use super::campaigns::{FIVE_CAMPAIGN, ONE_CYCLE, TRAPPED};
 use super::drawings::{self, LOGGED};
-use super::harts::PAIR_TEXT;
+use super::executables::files::THREE;
+use super::executables::{pair_of_three, three_text};
+use super::harts::{PAIR_TEXT, PAIRS, pair_text};
 use super::noting::Load;
 use super::refusals::USAGE;
 use super::sessions::{STEPS_COMMANDS, STEPS_TEXT};
 use super::soaks::{FLIPPED_LINES, LEFT};
 use super::sources::{FIVE_LISTING, FIVE_SOURCE};
+use super::tables::ROWS;
 use super::tapes::{FLOODED, IN_LOCKSTEP};
+use super::texts::text_due;
 use super::traces::FIVE_TRACE;
-use super::{Answer, FIVE_TEXT, Outside, compare_unasked, file_name, five_files, run_program};
+use super::{Answer, FIVE_TEXT, Outside, compare_unasked, file_name, image_files, run_program};
 use crate::cores::{Counting, Flipped};
 use diva_core::Core;
 use diva_outside::{Fail as SinkFail, What};
-use diva_test_programs::{FIVE_FILE, FIVE_SEGMENTED};
+use diva_test_programs::{FIVE_FILE, FIVE_SEGMENTED, image_file};
 use std::alloc::Global;
 use std::process::Abort;
 use std::test::Fail;
 
+/// What is taken for an image, the length to which it is cut where it is to be refused, and its fault then.
+type Loaded = (&'static [u8], usize, &'static str);
+
+/// An image, and an executable of the same instructions.
+static IMAGES: [Loaded; 2] = [(&FIVE_FILE, 35, "8 at 35"), (&THREE, 84, "27 at 52")];
+
 /// Command lines, and the kinds of the files that they load, in order.
-static LOADS: [(&str, &[What]); 16] = [
+static LOADS: [(&str, &[What]); 17] = [
     ("run a.diva", &[What::Image]),
     ("run a.diva --script a.script", &[What::Image, What::Script]),
+    (
+        "run a.diva --liar 1 --core tape --tape a.tape --script a.script",
+        &[What::Image, What::Script, What::Tape],
+    ),
     (
         "log a.diva --core tape --tape a.tape --script a.script",
         &[What::Image, What::Script, What::Tape],
@@ -60,10 +74,12 @@ static LOADS: [(&str, &[What]); 16] = [
 #[test]
 fn loads_in_order(rt: HostRuntime) -> Result<(), Fail> {
     let alloc = rt.alloc();
-    for &(line, files) in &LOADS {
-        let answer = run_program(&mut Flipped, line, five_files(alloc)?)?;
-        assert_eq!(rt; answer.status, 0, "{line}");
-        compare_loads(&rt, line, &answer.loads, files);
+    for &(image, ..) in &IMAGES {
+        for &(line, files) in &LOADS {
+            let answer = run_program(&mut Flipped, line, image_files(alloc, image)?)?;
+            assert_eq!(rt; answer.status, 0, "{line}");
+            compare_loads(&rt, line, &answer.loads, files);
+        }
     }
     Ok(())
 }
@@ -81,28 +97,53 @@ fn compare_loads(rt: &impl Abort, line: &str, loads: &[Load], files: &[What]) {
 /// loaded.
 #[test]
 fn loads_that_stop(rt: HostRuntime) -> Result<(), Fail> {
-    let alloc = rt.alloc();
-    for &(line, files) in &LOADS {
-        for (place, &what) in files.iter().enumerate() {
-            let due = files.get(..=place).ok_or("no such place")?;
-            for (outside, status, text) in stops_at(alloc, place as u64 + 1, what)? {
-                let loads = compare_unasked(&rt, line, outside, status, text.as_str())?;
-                compare_loads(&rt, line, &loads, due);
-            }
+    for &image in &IMAGES {
+        for &(line, files) in &LOADS {
+            compare_stops(&rt, rt.alloc(), image, line, files)?;
+        }
+    }
+    Ok(())
+}
+
+/// Compares status, text and loads where each of these files in turn stops the program.
+fn compare_stops(
+    rt: &impl Abort,
+    alloc: Global,
+    image: Loaded,
+    line: &str,
+    files: &[What],
+) -> Result<(), Fail> {
+    for (place, &what) in files.iter().enumerate() {
+        let due = files.get(..=place).ok_or("no such place")?;
+        for (outside, status, text) in stops_at(alloc, image, place as u64 + 1, what)? {
+            let loads = compare_unasked(rt, line, outside, status, text.as_str())?;
+            compare_loads(rt, line, &loads, due);
         }
     }
     Ok(())
 }
 
 /// Files of which the one of this kind stops the program where this call loads it: the load fails, there is no such
-/// file, or it has one byte too many. With the status and the text that are due.
-fn stops_at(alloc: Global, call: u64, what: What) -> Result<[(Outside, u8, String); 3], Fail> {
-    let mut failing = five_files(alloc)?;
+/// file, or it is refused, an image because it is cut and another file for its one byte. With the status and the text that are due.
+fn stops_at(
+    alloc: Global,
+    image: Loaded,
+    call: u64,
+    what: What,
+) -> Result<[(Outside, u8, String); 3], Fail> {
+    let (image, cut, fault_when_cut) = image;
+    let mut failing = image_files(alloc, image)?;
     failing.load_fails.push(call)?;
-    let mut missing = five_files(alloc)?;
+    let mut missing = image_files(alloc, image)?;
     missing.absent = Some(what);
+    let mut faulty = image_files(alloc, image)?;
+    if what == What::Image {
+        faulty.file.truncate(cut);
+    } else {
+        faulty = faulty.with(what, b"?")?;
+    }
     let (word, fault) = match what {
-        What::Image => ("image", "9 at 36"),
+        What::Image => ("image", fault_when_cut),
         What::Script => ("script", "1 at 1"),
         What::Tape => ("tape", "1 at 1"),
         What::Source => ("source", "1 at 1"),
@@ -113,13 +154,14 @@ fn stops_at(alloc: Global, call: u64, what: What) -> Result<[(Outside, u8, Strin
     Ok([
         (failing, 8, unreadable.clone()?),
         (missing, 8, unreadable),
-        (five_files(alloc)?.with(what, b"?")?, 5, refused),
+        (faulty, 5, refused),
     ])
 }
 
 /// Command lines, with the status and the text that are due where no put fails.
-static TEXTS: [(&str, u8, &str); 8] = [
+static TEXTS: [(&str, u8, &str); 9] = [
     ("run a.diva --core lockstep", 0, FIVE_TEXT),
+    ("run a.diva --core lockstep --liar 1", 0, FIVE_TEXT),
     ("duo a.diva --core lockstep", 0, PAIR_TEXT),
     ("campaign a.diva 1", 0, FIVE_CAMPAIGN),
     ("debug a.diva a.commands --core scalar", 0, STEPS_TEXT),
@@ -133,18 +175,23 @@ static TEXTS: [(&str, u8, &str); 8] = [
 fn puts_that_fail(rt: HostRuntime) -> Result<(), Fail> {
     let alloc = rt.alloc();
     for &(line, status, text) in &TEXTS {
-        compare_lines(&rt, alloc, line, status, text)?;
+        compare_lines(&rt, alloc, &FIVE_FILE, line, status, text)?;
     }
     let trace = format!(in alloc; "{FIVE_TRACE}{FIVE_TEXT}")?;
-    let line = "run a.diva --core lockstep --trace";
-    compare_lines(&rt, alloc, line, 0, trace.as_str())?;
+    for line in [
+        "run a.diva --core lockstep --trace",
+        "run a.diva --core lockstep --trace --liar 2",
+    ] {
+        compare_lines(&rt, alloc, &FIVE_FILE, line, 0, trace.as_str())?;
+    }
     let soaked = format!(in alloc; "{FLIPPED_LINES}{LEFT}")?;
-    compare_lines(&rt, alloc, "soak 1 1", 0, soaked.as_str())?;
+    compare_lines(&rt, alloc, &FIVE_FILE, "soak 1 1", 0, soaked.as_str())?;
     for (line, status, tape) in [
         ("tape a.diva --core lockstep", 0, IN_LOCKSTEP),
         ("tape a.diva --core flood --cycles 1", 4, FLOODED),
     ] {
-        compare_puts(&rt, alloc, line, status, &claims_of(alloc, tape)?)?;
+        let claims = claims_of(alloc, tape)?;
+        compare_puts(&rt, alloc, &FIVE_FILE, line, status, &claims)?;
     }
     for (line, file) in [
         ("asm a.s", FIVE_FILE.as_slice()),
@@ -152,7 +199,36 @@ fn puts_that_fail(rt: HostRuntime) -> Result<(), Fail> {
     ] {
         let mut image = Vec::new(alloc);
         image.push(Vec::from_slice(alloc, file)?)?;
-        compare_puts(&rt, alloc, line, 0, &image)?;
+        compare_puts(&rt, alloc, &FIVE_FILE, line, 0, &image)?;
+    }
+    Ok(())
+}
+
+/// Runs that don't halt have another status only where no put fails: those of `run`, none of which has a script or a tape, two campaigns
+/// and those on two harts. The others are of an executable.
+#[test]
+fn puts_that_fail_over_other_images(rt: HostRuntime) -> Result<(), Fail> {
+    let alloc = rt.alloc();
+    for row in ROWS.iter().chain(&[ONE_CYCLE, TRAPPED]) {
+        if row.status != 0 {
+            let image = image_file(alloc, row.program)?;
+            let text = text_due(alloc, row)?;
+            compare_lines(&rt, alloc, &image, row.line, row.status, text.as_str())?;
+        }
+    }
+    for pair in &PAIRS {
+        if pair.status != 0 {
+            let image = image_file(alloc, pair.program)?;
+            let text = pair_text(alloc, pair)?;
+            compare_lines(&rt, alloc, &image, pair.line, pair.status, text.as_str())?;
+        }
+    }
+    for (line, text) in [
+        ("run a.diva --core lockstep", three_text(alloc)?),
+        ("run a.diva --core lockstep --liar 0", three_text(alloc)?),
+        ("duo a.diva --core lockstep", pair_of_three(alloc)?),
+    ] {
+        compare_lines(&rt, alloc, &THREE, line, 0, text.as_str())?;
     }
     Ok(())
 }
@@ -163,7 +239,7 @@ fn puts_that_fail(rt: HostRuntime) -> Result<(), Fail> {
 fn puts_that_fail_of_drawn_runs(rt: HostRuntime) -> Result<(), Fail> {
     let alloc = rt.alloc();
     let log = blocks_of(alloc, LOGGED)?;
-    compare_puts(&rt, alloc, "log a.diva --cycles 8", 4, &log)?;
+    compare_puts(&rt, alloc, &FIVE_FILE, "log a.diva --cycles 8", 4, &log)?;
     let (halts, goes_on) = (&drawings::ROWS[0], &drawings::ROWS[2]);
     for (line, drawn) in [
         (halts.line, halts),
@@ -171,7 +247,7 @@ fn puts_that_fail_of_drawn_runs(rt: HostRuntime) -> Result<(), Fail> {
         (goes_on.line, goes_on),
     ] {
         let cells = cells_of(alloc, drawn.text)?;
-        compare_puts(&rt, alloc, line, drawn.status, &cells)?;
+        compare_puts(&rt, alloc, &FIVE_FILE, line, drawn.status, &cells)?;
     }
     Ok(())
 }
@@ -210,11 +286,13 @@ fn cells_of(alloc: Global, text: &str) -> Result<Vec<Vec<u8>>, Fail> {
 fn compare_lines(
     rt: &impl Abort,
     alloc: Global,
+    image: &[u8],
     line: &str,
     status: u8,
     text: &str,
 ) -> Result<(), Fail> {
-    compare_puts(rt, alloc, line, status, &lines_of(alloc, text)?)
+    let pieces = lines_of(alloc, text)?;
+    compare_puts(rt, alloc, image, line, status, &pieces)
 }
 
 /// The lines of a text, each of which is a put.
@@ -249,6 +327,7 @@ fn claims_of(alloc: Global, tape: &str) -> Result<Vec<Vec<u8>>, Fail> {
 fn compare_puts(
     rt: &impl Abort,
     alloc: Global,
+    image: &[u8],
     line: &str,
     status: u8,
     pieces: &[Vec<u8>],
@@ -261,13 +340,13 @@ fn compare_puts(
         for takes in [0, 1, piece.len().saturating_sub(1)] {
             let mut due = written.clone()?;
             due.extend_from_slice(piece.get(..takes).ok_or("the piece is empty")?)?;
-            let answer = run_cut(alloc, &mut Flipped, line, SinkFail { call, takes })?;
+            let answer = run_cut(alloc, &mut Flipped, image, line, call, takes)?;
             compare_put(rt, line, &answer, 9, &due, &puts);
         }
         written.extend_from_slice(piece)?;
     }
     let call = puts.len() as u64 + 1;
-    let answer = run_cut(alloc, &mut Flipped, line, SinkFail { call, takes: 0 })?;
+    let answer = run_cut(alloc, &mut Flipped, image, line, call, 0)?;
     compare_put(rt, line, &answer, status, &written, &puts);
     Ok(())
 }
@@ -287,17 +366,19 @@ fn compare_put(
     assert_eq!(rt; answer.puts.as_slice(), puts, "{line}, put {number}");
 }
 
-/// What the program answers on sound files and a sink one of whose puts fails.
+/// What the program answers on sound files with this image, and a sink of which this put fails and takes so many bytes.
 fn run_cut<C: Core>(
     alloc: Global,
     core: &mut C,
+    image: &[u8],
     line: &str,
-    fail: SinkFail,
+    call: u64,
+    takes: usize,
 ) -> Result<Answer, Fail> {
-    let mut outside = five_files(alloc)?
+    let mut outside = image_files(alloc, image)?
         .with(What::Source, FIVE_SOURCE)?
         .with(What::Commands, STEPS_COMMANDS.as_bytes())?;
-    outside.put_fails.push(fail)?;
+    outside.put_fails.push(SinkFail { call, takes })?;
     run_program(core, line, outside)
 }
 
@@ -309,9 +390,14 @@ fn run_cut<C: Core>(
 /// 15 it has a claim and so two puts. `step 2` ends in cycle 14, and `step 5` in 21. A log begins before the first cycle, and has one
 /// put in each, and one more where an instruction commits. A drawing has an instruction where it commits: the first one is a name, 7
 /// cells and a line feed, which are 9 puts.
-static CALLS: [(&str, &[u64]); 7] = [
+static CALLS: [(&str, &[u64]); 9] = [
     ("run a.diva --core own", &[21, 21]),
+    ("run a.diva --core own --liar 1", &[21, 21]),
     ("run a.diva --core own --trace", &[7, 14, 21, 21, 21]),
+    (
+        "run a.diva --core own --trace --liar 2",
+        &[7, 14, 21, 21, 21],
+    ),
     (
         "log a.diva --core own",
         &[
@@ -340,7 +426,7 @@ fn calls_before_a_put_that_fails(rt: HostRuntime) -> Result<(), Fail> {
         for (place, &due) in calls.iter().enumerate() {
             let call = place as u64 + 1;
             let mut core = Counting { calls: 0 };
-            let answer = run_cut(alloc, &mut core, line, SinkFail { call, takes: 0 })?;
+            let answer = run_cut(alloc, &mut core, &FIVE_FILE, line, call, 0)?;
             assert_eq!(rt; (answer.status, core.calls), (9, due), "{line}, put {call}");
         }
     }

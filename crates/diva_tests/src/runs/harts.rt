@@ -9,11 +9,11 @@ use std::test::Fail;
 
 /// A run of one program on two harts.
 #[derive(Clone, Copy)]
-struct Pair {
+pub(super) struct Pair {
     /// The command line; the program's file is `a.diva`.
-    line: &'static str,
-    program: Program,
-    status: u8,
+    pub line: &'static str,
+    pub program: Program,
+    pub status: u8,
     cycles: u32,
     /// Of each hart, the lines of its numbers and of its output.
     counts: [&'static str; 2],
@@ -116,7 +116,7 @@ const FENCED_PAIR: Pair = Pair {
     memory: "",
 };
 
-static PAIRS: [Pair; 9] = [
+pub(super) static PAIRS: [Pair; 9] = [
     FENCED_PAIR,
     // Slots of a word each, in shared memory.
     Pair {
@@ -244,7 +244,7 @@ static PAIRS: [Pair; 9] = [
 ];
 
 /// The whole text of a run on two harts.
-fn pair_text(alloc: Global, pair: &Pair) -> Result<String, Fail> {
+pub(super) fn pair_text(alloc: Global, pair: &Pair) -> Result<String, Fail> {
     let mut text = format!(in alloc; "cycles {}\n", pair.cycles)?;
     let harts = [pair.first, pair.second];
     for (number, (counts, hart)) in pair.counts.iter().zip(harts).enumerate() {

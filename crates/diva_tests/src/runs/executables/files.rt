@@ -1,7 +1,7 @@
 // Small executables. GNU `as` and `ld` laid them, the first four byte by byte.
 
 /// `addi x1, x0, 5`, `addi x17, x0, 93` and `ecall`, which lie at 10054 hex and are entered there.
-pub(super) const THREE: [u8; 96] = [
+pub(crate) const THREE: [u8; 96] = [
     0x7f, 0x45, 0x4c, 0x46, 0x01, 0x01, 0x01, 0, 0, 0, 0, 0, 0, 0, 0, 0, 0x02, 0, 0xf3, 0, 0x01, 0,
     0, 0, 0x54, 0, 0x01, 0, 0x34, 0, 0, 0, 0, 0, 0, 0, 0, 0, 0, 0, 0x34, 0, 0x20, 0, 0x01, 0, 0, 0,
     0, 0, 0, 0, 0x01, 0, 0, 0, 0x54, 0, 0, 0, 0x54, 0, 0x01, 0, 0x54, 0, 0x01, 0, 0x0c, 0, 0, 0,
