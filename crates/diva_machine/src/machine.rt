@@ -78,7 +78,7 @@ impl Machine {
         self.parts.told()
     }
 
-    /// The committed state, memory with the owed stores laid over it.
+    /// The committed state, memory with the undrained stores laid over it.
     pub fn view(&self) -> View<'_>
         ensures shows { result ≡ record self.now.timed.arch { end = 0 } }
         ensures goes_on { goes_on self.now.timed.arch ≡ true → result ≡ self.now.timed.arch }
@@ -320,7 +320,7 @@ impl Machine {
         self.cycle_by(list, &mut panel);
     }
 
-    /// Takes the last instruction back, which overwrote `u`. All owed stores are put to memory before. What the core has in
+    /// Takes the last instruction back, which overwrote `u`. All undrained stores are put to memory before. What the core has in
     /// flight is dropped; cycles and log stay, and so do the records of the last cycle.
     #[tactic(auto, using(diva_core::proofs::Undoing::undone_stays, diva_core::proofs::Undoing::undone_calm, diva_core::proofs::Pacing::will_count))]
     pub fn undo(&mut self, u: &Undo)
@@ -416,7 +416,7 @@ impl Machine {
             ≡ dues (self.new.timed.count - self.old.timed.count) self.old.timed.arch }
         ensures none { result ≡ false → self.new.last ≡ [] }
     {
-        self.parts.cycle(list, Claims::MOST, stages)
+        self.parts.cycle(list, usize::MAX, stages)
     }
 
     /// The same for a machine that goes on, where it is known whether there is room for all claims of the list.
