@@ -421,7 +421,12 @@ impl Machine {
 
     /// The same for a machine that goes on, where it is known whether there is room for all claims of the list.
     #[inline(always)]
-    pub(crate) fn cycle_within<S: Stages>(&mut self, list: &Claims, fits: bool, stages: &mut S) -> bool
+    pub(crate) fn cycle_within<S: Stages>(
+        &mut self,
+        list: &Claims,
+        fits: bool,
+        stages: &mut S,
+    ) -> bool
         requires goes_on { goes_on self.old.timed.arch ≡ true }
         requires cycles { self.old.timed.cycles < 2 ^ 60 }
         requires fits { IsTrue fits → length list.now ≤ room_of self.old.timed }

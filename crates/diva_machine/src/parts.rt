@@ -121,7 +121,8 @@ impl Parts {
         requires epoch { epoch_of self.now.timed < 2 ^ 63 }
         ensures { result ≡ told_of self.now.timed }
     {
-        self.under.told_where(self.arch.own(), true, &self.port, self.cycles)
+        self.under
+            .told_where(self.arch.own(), true, &self.port, self.cycles)
     }
 
     /// Takes the last instruction back, which overwrote `u`.
