@@ -1,5 +1,5 @@
 -- What rows make of a list in one cycle, where they stand in the order of their cycles.
-use Rattle.std.proofs.Common.{◌≡◌, ◌≢◌, ◌<◌, ◌≤◌, ℕ, ◌+◌, max, List, [], ◌∷◌, take, drop, length, get_or, fold, Bool, true, false, cond, ◌||◌, refl, ap, sym, subst, ◌∙◌, ◌-◌, arith}
+use Rattle.std.proofs.Common.{◌≡◌, ◌≢◌, ◌<◌, ◌≤◌, ℕ, ◌+◌, max, min, List, [], ◌∷◌, take, drop, length, get_or, fold, Bool, true, false, cond, ◌||◌, refl, ap, sym, subst, ◌∙◌, ◌-◌, ◌^◌, arith}
 use Rattle.std.specs.Prelude.{◌==◌, nat_le, nat_lt, filter}
 use Rattle.std.specs.List.{All, list_any}
 use Rattle.std.specs.List.Sorted.{IsNonDecreasingBy, IsPartitionedBy, IsPartitionPoint, IsPermutation, IsStableByKey, ties}
@@ -8,7 +8,7 @@ use Rattle.std.specs.Fn.{Called, ComputesKey}
 use Rattle.std.proofs.lemmas.Bool.{eq-eqb, ne_eqb}
 use Rattle.std.proofs.lemmas.Grind.{common_steps}
 use Rattle.std.proofs.lemmas.List.{take-append-drop, take_rest, get_or-take, get_or-drop, length-take, length-drop}
-use Rattle.std.proofs.lemmas.List.Elements.{All-head, All-tail}
+use Rattle.std.proofs.lemmas.List.Elements.{All-cons, All-head, All-nil, All-tail}
 use Rattle.std.proofs.lemmas.List.Folds.{list_any-append, list_any_none}
 use Rattle.std.proofs.lemmas.List.Sums.{fold-append}
 use Rattle.std.proofs.lemmas.List.Sorted.{list_any-IsPermutation, IsPartitionPoint-from_clause}
@@ -20,7 +20,8 @@ use Rattle.diva_faults.specs.declared.rows.Row.TheVariants.{Lane, Hush}
 use Rattle.diva_faults.specs.Lists.{is_hush_in, with_row, with_row_in, scripted}
 use Rattle.diva_faults.specs.Rows.{row_cycle}
 use Rattle.diva_faults.specs.Schedules.{AreLike}
-use Rattle.diva_faults.specs.Inner.{end_of, hush_end, latest_end}
+use Rattle.diva_faults.specs.Touched.{end_of, end_of_rows, first_touched}
+use Rattle.diva_faults.specs.Inner.{hush_end, latest_end}
 
 -- ---- rows that do nothing in a cycle
 
@@ -56,11 +57,28 @@ scripted-idle : (now : ℕ) (rows : List Row) (list : List Record) → All (IsId
 unfolding scripted
 scripted-idle now rows list idle = rw (list_any-idle now rows idle) (fold-idle now rows list idle)
 
-pub before_first : (now first : ℕ) (rows : List Row) (list : List Record) → All (λ row. first ≤ row_cycle row) rows → now < first → scripted rows now list ≡ list
-before_first now first rows list begins before = scripted-idle now rows list (λ k d h. is_idle-before now (get_or rows k d) (let b = begins k d h in omega arith))
+-- a cycle before all that are touched
+all-before : (now from : ℕ) (rows : List Row) → now < fold (λ first row. min first (row_cycle row)) from rows → (now < from) × All (IsIdle now) rows
+all-before now from [] before = (before, All-nil (IsIdle now))
+all-before now from (row ∷ rows) before =
+    let more = all-before now (min from (row_cycle row)) rows before in
+    let least : now < min from (row_cycle row) = more.0 in
+    (omega arith, All-cons (IsIdle now) row rows (is_idle-before now row (omega arith)) more.1)
 
-pub behind_end : (now end : ℕ) (rows : List Row) (list : List Record) → All (λ row. end_of row ≤ end) rows → end ≤ now → scripted rows now list ≡ list
-behind_end now end rows list ends behind = scripted-idle now rows list (λ k d h. is_idle-behind now (get_or rows k d) (let b = ends k d h in omega arith))
+-- a cycle behind them
+all-behind : (now from : ℕ) (rows : List Row) → fold (λ end row. max end (end_of row)) from rows ≤ now → (from ≤ now) × All (IsIdle now) rows
+all-behind now from [] behind = (behind, All-nil (IsIdle now))
+all-behind now from (row ∷ rows) behind =
+    let more = all-behind now (max from (end_of row)) rows behind in
+    let most : max from (end_of row) ≤ now = more.0 in
+    (omega arith, All-cons (IsIdle now) row rows (is_idle-behind now row (omega arith)) more.1)
+
+-- the rows change nothing in a cycle before the first that they touch, nor in one behind the last
+pub before_first : (now : ℕ) (rows : List Row) (list : List Record) → now < first_touched rows → scripted rows now list ≡ list
+before_first now rows list before = scripted-idle now rows list (all-before now (2 ^ 64 - 1) rows before).1
+
+pub behind_end : (now : ℕ) (rows : List Row) (list : List Record) → end_of_rows rows ≤ now → scripted rows now list ≡ list
+behind_end now rows list behind = scripted-idle now rows list (all-behind now 0 rows behind).1
 
 -- ---- the rows of a cycle
 

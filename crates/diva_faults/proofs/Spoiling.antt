@@ -1,11 +1,14 @@
 -- Turns of a core under a script, seen as turns of the core that was lent.
-use Rattle.std.proofs.Common.{◌≡◌, ℕ, List, [], ◌∷◌, length, refl, sym, ◌∙◌, ap, subst, arith}
+use Rattle.std.proofs.Common.{◌≡◌, ℕ, ◌+◌, ◌<◌, ◌≤◌, List, [], ◌∷◌, length, refl, sym, ◌∙◌, ap, subst, arith}
 use Rattle.diva_isa.specs.State.{State}
 use Rattle.diva_isa.specs.declared.record.Record.{Record}
 use Rattle.diva_core.specs.Cycle.{cycle_of}
 use Rattle.diva_core.specs.History.{Meaning, IsHistory, Turns, lists_of}
+use Rattle.diva_core.specs.Machine.{IsMachine}
 use Rattle.diva_core.specs.Timed.{Timed}
 use Rattle.diva_core.specs.Told.{Told, told_of}
+use Rattle.diva_core.proofs.Keeping.{stays}
+use Rattle.diva_core.proofs.Outcomes.{cycle-cycles}
 use Rattle.diva_faults.specs.declared.rows.Row.{Row}
 use Rattle.diva_faults.specs.declared.faulty.Faulty.{Faulty}
 use Rattle.diva_faults.specs.Lists.{scripted}
@@ -32,6 +35,35 @@ pub history-none : {C : Type 0} (gives : Meaning C) (m : Timed) (core : C) (hist
 history-none gives m core [] last after h = h
 history-none gives m core (turn ∷ rest) last after h =
     (h.0, (none-spoiled gives core (told_of m) m.arch turn.0 turn.1 h.1.0, history-none gives (cycle_of m turn.0) turn.1 rest last after h.1.1))
+
+-- ---- cycles that no row touches
+
+-- a history of a core in cycles in which the rows change nothing is a history of the core under the script
+history-untouched : {C : Type 0} (gives : Meaning C) (rows : List Row) (m : Timed) (core : C) (history : List (List Record × C)) (last : Timed) (after : C)
+    → IsMachine m
+    → ((now : ℕ) (list : List Record) → m.cycles < now → now ≤ m.cycles + length history → scripted rows now list ≡ list)
+    → IsHistory gives m core history last after → IsHistory (spoiled rows gives) m core history last after
+history-untouched gives rows m core [] last after inv untouched h = h
+history-untouched gives rows m core (turn ∷ rest) last after inv untouched h =
+    let next : (cycle_of m turn.0).cycles ≡ m.cycles + 1 = cycle-cycles m turn.0 inv h.0 in
+    let one : spoiled rows gives core (told_of m) m.arch turn.0 turn.1 =
+    record { inner = turn.0; given = h.1.0; laid = sym (untouched (m.cycles + 1) turn.0 (omega arith) (omega arith)) } in
+    let more : IsHistory (spoiled rows gives) (cycle_of m turn.0) turn.1 rest last after =
+    history-untouched gives rows (cycle_of m turn.0) turn.1 rest last after (stays m turn.0 inv)
+    (λ now list later within. untouched now list (omega arith) (omega arith)) h.1.1 in
+    (h.0, (one, more))
+
+-- so turns of a core in such cycles are its turns under the script
+pub Turns-untouched : {C : Type 0} (gives : Meaning C) (rows : List Row) (m : Timed) (core : C) (last : Timed) (after : C)
+    → IsMachine m
+    → ((now : ℕ) (list : List Record) → m.cycles < now → now ≤ last.cycles → scripted rows now list ≡ list)
+    → Turns gives m core last after → Turns (spoiled rows gives) m core last after
+Turns-untouched gives rows m core last after inv untouched t =
+    record {
+      history = t.history;
+      good = history-untouched gives rows m core t.history last after inv (λ now list later within. untouched now list later (let e = t.each in omega arith)) t.good;
+      each = t.each;
+    }
 
 -- ---- logs of a core that has another one inside
 

@@ -1,15 +1,12 @@
 -- What only private contracts of this crate cite. A reader of its promises can pass over it.
-use Rattle.std.specs.Prelude.{◌≡◌, ℕ, ◌+◌, ◌<◌, ◌≤◌, max, List, length, take, fold, slice_index}
+use Rattle.std.specs.Prelude.{◌≡◌, ℕ, ◌+◌, ◌<◌, max, List, length, take, fold, slice_index}
 use Rattle.std.specs.List.{All}
 use Rattle.std.specs.List.Sorted.{IsNonDecreasingBy}
 use Rattle.diva_faults.specs.declared.rows.Row.{Row}
 use Rattle.diva_faults.specs.declared.rows.Row.TheVariants.{Lane, Hush}
 use Rattle.diva_faults.specs.Rows.{IsRow, row_cycle}
-
--- the cycle behind the last one that a row touches
-abbrev pub end_of : Row → ℕ
-end_of (Lane cycle lane change) = cycle + 1
-end_of (Hush cycle cycles) = cycle + cycles
+use Rattle.diva_faults.specs.Schedules.{AreLike}
+use Rattle.diva_faults.specs.Touched.{end_of_rows, first_touched}
 
 -- the cycle behind the last one of a hush, and 0 for another row
 abbrev pub hush_end : Row → ℕ
@@ -20,12 +17,16 @@ hush_end (Hush cycle cycles) = cycle + cycles
 abbrev pub latest_end : List Row → ℕ
 latest_end rows = fold (λ latest row. max latest (hush_end row)) 0 rows
 
--- the rows stand in the order of their cycles; beside each is the latest end of the hushes up to it; none touches a cycle
--- before `first`, or one from `end` on
-pub record IsSchedule (rows : List Row) (hush_ends : List ℕ) (first end : ℕ) : Type 0 where
+-- the rows stand in the order of their cycles; beside each is the latest end of the hushes up to it
+pub record IsSchedule (rows : List Row) (hush_ends : List ℕ) : Type 0 where
   pub ranges : All IsRow rows
   pub sorted : IsNonDecreasingBy row_cycle rows
   pub beside : length hush_ends ≡ length rows
   pub latest : (k : ℕ) → k < length rows → slice_index hush_ends k ≡ latest_end (take (k + 1) rows)
-  pub begins : All (λ row. first ≤ row_cycle row) rows
-  pub ends : All (λ row. end_of row ≤ end) rows
+
+-- the schedule is of these rows; the first cycle that one of them touches, and the one behind the last, are known
+pub record IsScript (rows schedule : List Row) (first end : ℕ) : Type 0 where
+  pub ranges : All IsRow rows
+  pub like : AreLike schedule rows
+  pub begins : first ≡ first_touched rows
+  pub ends : end ≡ end_of_rows rows

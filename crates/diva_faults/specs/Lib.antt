@@ -5,5 +5,6 @@ pub mod Reading
 pub mod Rows
 pub mod Schedules
 pub mod Spoiled
+pub mod Touched
 -- what only private contracts cite
 pub mod Inner

@@ -1,16 +1,16 @@
 //! Fault scripts: what is to go wrong in a core, cycle by cycle.
 //!
 //! - `rows`: what a row of a script does, `Row` and `Change`.
-//! - `script`: the rows of a text, `Script`. `reading`: how they are read, line by line and word by word. `fault`: why a
-//!   text is no script, `ScriptFault`.
+//! - `script`: the rows of a text, with the first cycle that they touch and the one behind the last, `Script`. `reading`: how
+//!   they are read, line by line and word by word. `fault`: why a text is no script, `ScriptFault`.
 //! - `flips`: the rows of a campaign, which flip one bit each.
 //! - `faulty`: a core under a script, `Faulty`. `laws`: what holds of every script.
 //! - `schedule`: the rows of a script by cycle. `lists`: what a row makes of a list.
 //!
 //! `specs/Reading.antt` has the script of a text, with `Kinds` the kinds of its faults, `specs/Rows.antt` the ranges of a
 //! row's numbers, `specs/Lists.antt` what a script makes of a list, `specs/Schedules.antt` when some rows make of it what others do,
-//! `specs/Spoiled.antt` what a core under a script means, `specs/Flips.antt` the rows of a campaign. `Inner` is for private
-//! contracts alone.
+//! `specs/Touched.antt` which cycles the rows touch, `specs/Spoiled.antt` what a core under a script means, `specs/Flips.antt` the
+//! rows of a campaign. `Inner` is for private contracts alone.
 #![tactic(auto)]
 
 mod fault;

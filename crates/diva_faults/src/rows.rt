@@ -1,7 +1,8 @@
 // What the rows of a script do.
 ghost use Rattle.std.specs.Prelude.{◌≡◌};
 ghost use Rattle.diva_faults.specs.Rows.{row_cycle, IsRow};
-ghost use Rattle.diva_faults.specs.Inner.{end_of, hush_end};
+ghost use Rattle.diva_faults.specs.Touched.{end_of};
+ghost use Rattle.diva_faults.specs.Inner.{hush_end};
 
 use diva_core::Field;
 

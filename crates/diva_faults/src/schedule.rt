@@ -5,7 +5,7 @@ ghost use Rattle.std.specs.List.Sorted.{IsNonDecreasingBy, IsPartitionPoint};
 ghost use Rattle.diva_faults.specs.Lists.{with_row, scripted};
 ghost use Rattle.diva_faults.specs.Rows.{row_cycle, IsRow};
 ghost use Rattle.diva_faults.specs.Schedules.{AreLike};
-ghost use Rattle.diva_faults.specs.Inner.{end_of, hush_end, latest_end};
+ghost use Rattle.diva_faults.specs.Inner.{latest_end};
 
 use crate::rows::Row;
 use diva_core::Claims;
@@ -14,17 +14,12 @@ use std::marker::Model;
 
 /// The rows of a script in the order of their cycles, those of one cycle in the file's order.
 ///
-/// A cycle before the first that a row touches, or behind the last, costs two comparisons; any other costs two binary
-/// searches and the rows that name it.
+/// A cycle costs two binary searches, and the rows that name it.
 #[derive(Debug, Drop)]
 pub(crate) struct Schedule {
     rows: Vec<Row>,
     /// Beside each row, the cycle behind the last one of the hushes up to it, 0 where there is none.
     hush_ends: Vec<u32>,
-    /// The first cycle that a row touches.
-    first: u64,
-    /// The cycle behind the last one that a row touches.
-    end: u64,
 }
 
 impl Model for Schedule {
@@ -36,7 +31,7 @@ impl Model for Schedule {
 
     ghost view = { λ s. s.rows.items };
 
-    ghost invariant = { λ s. IsSchedule s.rows.items s.hush_ends.items s.first s.end };
+    ghost invariant = { λ s. IsSchedule s.rows.items s.hush_ends.items };
 }
 
 impl Schedule {
@@ -47,8 +42,6 @@ impl Schedule {
         Schedule {
             rows: Vec::new(alloc),
             hush_ends: Vec::new(alloc),
-            first: u64::MAX,
-            end: 0,
         }
     }
 
@@ -59,29 +52,12 @@ impl Schedule {
     {
         let rows = by_cycle(alloc, rows)?;
         let hush_ends = hush_ends_of(alloc, &rows)?;
-        let first = first_of(&rows);
-        let end = end_of(&rows);
-        Ok(Schedule {
-            rows,
-            hush_ends,
-            first,
-            end,
-        })
+        Ok(Schedule { rows, hush_ends })
     }
 
-    /// Lays the rows of a cycle over a list.
-    #[inline(always)]
-    pub(crate) fn lay(&self, cycle: u64, list: &mut Claims)
-        ensures { list.new ≡ scripted self.now cycle list.old }
-    {
-        if self.first <= cycle && cycle < self.end {
-            self.lay_found(cycle, list);
-        }
-    }
-
-    /// The same, by looking the rows up.
+    /// Lays the rows of a cycle over a list. It is called, so that what is made part of a core's loop stays small.
     #[inline(never)]
-    fn lay_found(&self, cycle: u64, list: &mut Claims)
+    pub(crate) fn lay(&self, cycle: u64, list: &mut Claims)
         ensures { list.new ≡ scripted self.now cycle list.old }
     {
         let begun = begun_by(&self.rows, cycle);
@@ -155,27 +131,4 @@ fn hush_ends_of(alloc: Global, rows: &[Row]) -> Result<Vec<u32>, AllocError>
         ends.push(latest)?;
     }
     Ok(ends)
-}
-
-/// The first cycle that a row touches.
-fn first_of(rows: &[Row]) -> u64
-    ensures { All (λ row. result ≤ row_cycle row) rows.now }
-{
-    let mut first = u64::MAX;
-    for row in rows {
-        first = first.min(u64::from(row.cycle()));
-    }
-    first
-}
-
-/// The cycle behind the last one that a row touches.
-fn end_of(rows: &[Row]) -> u64
-    requires { All IsRow rows.now }
-    ensures { All (λ row. end_of row ≤ result) rows.now }
-{
-    let mut end = 0;
-    for row in rows {
-        end = end.max(u64::from(row.end()));
-    }
-    end
 }

@@ -5,6 +5,7 @@ ghost use Rattle.diva_outside.specs.TextFaults.{IsFirstFault};
 ghost use Rattle.diva_faults.specs.Lists.{scripted};
 ghost use Rattle.diva_faults.specs.Reading.{script_of};
 ghost use Rattle.diva_faults.specs.Rows.{IsRow};
+ghost use Rattle.diva_faults.specs.Touched.{end_of_rows, first_touched};
 
 use crate::fault::ScriptFault;
 use crate::reading::read_rows;
@@ -16,25 +17,30 @@ use std::marker::Model;
 
 /// The rows of a script: at most 4,096, in the order of the file.
 ///
+/// A cycle before the first that a row touches, or behind the last, costs two comparisons where a core is asked under the script,
+/// and nothing where it is asked by itself: no row changes its list there. `first_cycle` and `end_cycle` say which cycles these are.
+///
 /// No call but `read` and `of_row` takes memory.
 #[derive(Debug, Drop)]
 pub struct Script {
     rows: Vec<Row>,
     schedule: Schedule,
+    /// The first cycle that a row touches.
+    first: u64,
+    /// The cycle behind the last one that a row touches.
+    end: u64,
 }
 
 impl Model for Script {
     ghost use Rattle.std.specs.Prelude.{List};
-    ghost use Rattle.std.specs.List.{All};
     ghost use Rattle.diva_faults.specs.declared.rows.Row.{Row};
-    ghost use Rattle.diva_faults.specs.Rows.{IsRow};
-    ghost use Rattle.diva_faults.specs.Schedules.{AreLike};
+    ghost use Rattle.diva_faults.specs.Inner.{IsScript};
 
     ghost Value = { List Row };
 
     ghost view = { λ s. s.rows.items };
 
-    ghost invariant = { λ s. All IsRow s.rows.items × AreLike s.schedule s.rows.items };
+    ghost invariant = { λ s. IsScript s.rows.items s.schedule s.first s.end };
 }
 
 impl Script {
@@ -58,6 +64,8 @@ impl Script {
         Script {
             rows: Vec::new(alloc),
             schedule: Schedule::none(alloc),
+            first: u64::MAX,
+            end: 0,
         }
     }
 
@@ -79,12 +87,28 @@ impl Script {
         &self.rows
     }
 
+    /// The first cycle that a row touches. Where there is no row, it is 2^64-1, and no machine comes to it.
+    pub fn first_cycle(&self) -> u64
+        ensures { result ≡ first_touched self.now }
+    {
+        self.first
+    }
+
+    /// The cycle behind the last one that a row touches, 0 where there is no row.
+    pub fn end_cycle(&self) -> u64
+        ensures { result ≡ end_of_rows self.now }
+    {
+        self.end
+    }
+
     /// Lays the rows of a cycle over the list of that cycle.
     #[inline(always)]
     pub(crate) fn lay(&self, cycle: u64, list: &mut Claims)
         ensures { list.new ≡ scripted self.now cycle list.old }
     {
-        self.schedule.lay(cycle, list);
+        if self.first <= cycle && cycle < self.end {
+            self.schedule.lay(cycle, list);
+        }
     }
 
     fn of(alloc: Global, rows: Vec<Row>) -> Result<Self, AllocError>
@@ -92,6 +116,36 @@ impl Script {
         ensures { IfOk result (λ script. script ≡ rows.items) }
     {
         let schedule = Schedule::new(alloc, &rows)?;
-        Ok(Script { rows, schedule })
+        let first = first_of(&rows);
+        let end = end_of(&rows);
+        Ok(Script {
+            rows,
+            schedule,
+            first,
+            end,
+        })
     }
+}
+
+/// The first cycle that a row touches.
+fn first_of(rows: &[Row]) -> u64
+    ensures { result ≡ first_touched rows.now }
+{
+    let mut first = u64::MAX;
+    for row in rows {
+        first = first.min(u64::from(row.cycle()));
+    }
+    first
+}
+
+/// The cycle behind the last one that a row touches.
+fn end_of(rows: &[Row]) -> u64
+    requires { All IsRow rows.now }
+    ensures { result ≡ end_of_rows rows.now }
+{
+    let mut end = 0;
+    for row in rows {
+        end = end.max(u64::from(row.end()));
+    }
+    end
 }

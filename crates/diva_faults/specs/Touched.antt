@@ -1,0 +1,18 @@
+-- The cycles that the rows of a script touch: a hush those whose lists it empties, another row the one that it names.
+use Rattle.std.specs.Prelude.{ℕ, ◌+◌, ◌-◌, ◌^◌, max, min, List, fold}
+use Rattle.diva_faults.specs.declared.rows.Row.{Row}
+use Rattle.diva_faults.specs.declared.rows.Row.TheVariants.{Lane, Hush}
+use Rattle.diva_faults.specs.Rows.{row_cycle}
+
+-- the cycle behind the last one that a row touches
+abbrev pub end_of : Row → ℕ
+end_of (Lane cycle lane change) = cycle + 1
+end_of (Hush cycle cycles) = cycle + cycles
+
+-- the first cycle that a row touches, and 2^64-1 where there is no row
+abbrev pub first_touched : List Row → ℕ
+first_touched rows = fold (λ first row. min first (row_cycle row)) (2 ^ 64 - 1) rows
+
+-- the cycle behind the last one that a row touches, and 0 where there is no row
+abbrev pub end_of_rows : List Row → ℕ
+end_of_rows rows = fold (λ end row. max end (end_of row)) 0 rows
