@@ -21,10 +21,8 @@ use Rattle.diva_core.proofs.Turning.{IsHistory-rule, IsHistory-run, length-lists
 use Rattle.diva_hart.specs.declared.ends.Drive.{Drive}
 use Rattle.diva_hart.specs.declared.ends.Drive.TheVariants.{Ended, Budget}
 use Rattle.diva_faults.specs.Lists.{scripted}
-use Rattle.diva_faults.specs.Spoiled.{inside, rows_in, spoiled, spoiled_call}
-use Rattle.diva_faults.specs.declared.faulty.Faulty.{Faulty}
+use Rattle.diva_faults.specs.Spoiled.{spoiled}
 use Rattle.diva_faults.specs.declared.rows.Row.{Row}
-use Rattle.diva_faults.proofs.Spoiling.{Turns-spoiled}
 use Rattle.diva_tape.specs.Lists.{IsLockstepCall, lockstep_list}
 use Rattle.diva_args.specs.declared.campaign.CampaignOptions.{CampaignOptions}
 use Rattle.diva_args.specs.declared.job.Job.TheVariants.{Campaign}
@@ -99,21 +97,18 @@ ruled_lists rule (suc n) m inv =
 -- ---- a drive of a core that is lockstep under a script
 
 pub drove_ruled :
-    {D : Type 0} (rows : List Row) (m : Timed) (core : D) (f : Faulty D) (last : Timed) (final : Faulty D) (budget : ℕ) (r : Drive)
-    → inside f ≡ core
-    → rows_in f ≡ rows
-    → Turns (spoiled_call IsLockstepCall) m f last final
+    {D : Type 0} (rows : List Row) (m : Timed) (core : D) (last : Timed) (final : D) (budget : ℕ) (r : Drive)
+    → Turns (spoiled rows IsLockstepCall) m core last final
     → last.cycles ≤ m.cycles + budget
     → (r ≡ Ended) ↔ (goes_on last.arch ≡ false)
     → (r ≡ Budget) ↔ ((last.cycles ≡ m.cycles + budget) × (goes_on last.arch ≡ true))
     → last ≡ ruled (scripted_rule rows lockstep_list) budget m
-drove_ruled {D} rows m core f last final budget r lent script turns within ended ran =
-    let t = (Turns-spoiled IsLockstepCall rows m core f last final (inside final) lent script (λ same. refl) turns).turns in
+drove_ruled {D} rows m core last final budget r t within ended ran =
     let lists : List (List Record) = lists_of t.history in
-    let led : last ≡ run_of m lists = IsHistory-run (spoiled rows IsLockstepCall) m core t.history last (inside final) t.good in
+    let led : last ≡ run_of m lists = IsHistory-run (spoiled rows IsLockstepCall) m core t.history last final t.good in
     let follows : FollowRule (scripted_rule rows lockstep_list) m lists =
     IsHistory-rule (spoiled rows IsLockstepCall) (scripted_rule rows lockstep_list)
-    (λ n before list after h. h.laid ∙ ap (scripted rows (n.cycles + 1)) h.given) m core t.history last (inside final) t.good in
+    (λ n before list after h. h.laid ∙ ap (scripted rows (n.cycles + 1)) h.given) m core t.history last final t.good in
     let far = went_far m last budget r within ended ran in
     let many = length-lists_of t.history in
     led ∙ follows_ruled (scripted_rule rows lockstep_list) lists budget m follows (let e = t.each in let w = far.most in omega arith)

@@ -1,5 +1,6 @@
 -- The lemmas of this crate.
 pub mod Handing
+pub mod Scripting
 pub mod Cycling
 pub mod DrawRunning
 pub mod Pieces

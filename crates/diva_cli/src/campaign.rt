@@ -14,13 +14,14 @@ ghost use Rattle.diva_cli.specs.Wanted.{FileBytes, wanted};
 ghost use Rattle.diva_cli.specs.Parts.{KeepsPromises, AreCampaignRuns, HoldsCampaign, Stops, WritesText};
 
 use crate::files::{ImageFile, load};
+use crate::scripted::drive_scripted;
 use crate::stop::{Failure, Stop};
 use crate::writing::{end_status, write_stop};
 use diva_args::{CampaignCycles, CampaignOptions, LastCycle};
 use diva_core::Core;
-use diva_faults::{FLIPS_IN_CYCLE, Faulty, Script, flip_at};
+use diva_faults::{FLIPS_IN_CYCLE, Script, flip_at};
 use diva_image::Image;
-use diva_machine::{Config, Machine, drive};
+use diva_machine::{Config, Machine};
 use diva_outside::{Files, Sink, SinkFailed, put_lines};
 use diva_tape::Lockstep;
 use diva_trace::{Tally, count_line, end_line_of, write_output, write_registers, write_tally};
@@ -113,9 +114,13 @@ fn run_under(
     ensures { IfOk result (λ m. m.timed ≡ run_under script.now cycles (start_of (layout image.now))) }
 {
     let mut machine = Machine::new(alloc, image, Config::default())?;
-    let mut lockstep = Lockstep;
-    let mut core = Faulty::new(&mut lockstep, script);
-    drive(&mut machine, &mut core, u64::from(cycles.get()));
+    drive_scripted(
+        &mut machine,
+        &mut Lockstep,
+        script,
+        u64::from(cycles.get()),
+        None,
+    );
     Ok(machine)
 }
 

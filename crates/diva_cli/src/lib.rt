@@ -6,6 +6,7 @@
 //! - `files`: the kinds of files, and how a file of any kind is loaded and read; `loading`: the files of a job, one after another;
 //! - `driving`: the core that the command line chose, and what is done with it and a machine;
 //! - `tasks`: the things that are done with a core and a machine, under a script;
+//! - `scripted`: how a script is kept out of the cycles that none of its rows touches;
 //! - `checking`: how claims are checked, by the checks alone or by three lanes that vote, of which one lies;
 //! - `streaming`: texts that are written cycle by cycle, as a machine is driven;
 //! - `replying`: commands that move a machine, and the replies to them;
@@ -48,6 +49,7 @@ mod pipeline;
 mod program;
 mod replying;
 mod run;
+mod scripted;
 mod soak;
 mod stop;
 mod streaming;

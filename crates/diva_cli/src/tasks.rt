@@ -5,6 +5,7 @@ ghost use Rattle.diva_cli.specs.Tasks.{Allows, Does, Performs};
 
 use crate::checking::drive_checked;
 use crate::drawing::drive_drawing;
+use crate::scripted::drive_scripted;
 use crate::streaming::{TapeWriter, TraceWriter, drive_writing};
 use diva_args::{Format, LanePlace};
 use diva_core::Core;
@@ -27,7 +28,8 @@ pub(crate) enum Task {
 }
 
 /// Does a task with a machine and a core under a script. A script that has no rows costs nothing: it
-/// is asked once, and the loop is then the one that any other caller of `drive` has.
+/// is asked once, and the loop is then the one that any other caller of `drive` has. Where nothing is written, that is also the
+/// loop in the cycles before the first that a row touches, and behind the last.
 #[inline(always)]
 pub(crate) fn perform_under<D: Core, S: Sink>(
     script: &Script,
@@ -48,6 +50,7 @@ pub(crate) fn perform_under<D: Core, S: Sink>(
     }
 }
 
+/// The same, where the script has rows.
 fn perform_faulty<D: Core, S: Sink>(
     script: &Script,
     m: &mut Machine,
@@ -60,6 +63,10 @@ fn perform_faulty<D: Core, S: Sink>(
         (λ lists. Does task (change m.old.timed m.new.timed) lists
         (sink_change S.contents S.faults sink.old sink.new) result) }
 {
+    if let Task::Quiet(cycles, liar) = task {
+        drive_scripted(m, core, script, cycles, liar);
+        return Ok(());
+    }
     let mut faulty = Faulty::new(core, script);
     perform(m, &mut faulty, task, sink)
 }

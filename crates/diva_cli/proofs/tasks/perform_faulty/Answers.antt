@@ -1,7 +1,13 @@
--- The turns of a core under a script are those of the core that was lent.
+-- The turns of a core under a script are those of the core that was lent, in each cycle or in those that a row touches.
 use Rattle.std.proofs.Common.{rules}
-use Rattle.diva_cli.proofs.Handing.{performs_faulty}
+use Rattle.diva_faults.specs.Spoiled.{spoiled}
+use Rattle.diva_cli.proofs.Handing.{performs_faulty, performs_quiet}
 use Rattle.diva_cli.proofs.tasks.perform_faulty.Goals as goal
+
+pub returns-in-Quiet : goal.returns-in-Quiet
+returns-in-Quiet g c =
+    rw c.in-Quiet.is (performs_quiet (spoiled c.args.script.now g.D.Core.gives) _ _ _ _ _ g.S.Sink.contents g.S.Sink.faults _ c.drive_scripted.result
+    c.drive_scripted.ensures.turns c.drive_scripted.ensures.within c.drive_scripted.ensures.ended c.drive_scripted.ensures.budget)
 
 pub returns : goal.returns
 returns g c = performs_faulty g.D.Core.gives _ _ _ _ _ _ _ _ c.new-faulty.ensures.inner c.new-faulty.ensures.script (search rules) c.perform.ensures
