@@ -18,8 +18,20 @@ use operations::{branch_op, immediate_op, load_op, register_op, shift_op, store_
 ///
 /// What comes out is valid, so [`encode`](crate::encode) may be asked for its word: that is this word again, unless the
 /// instruction is FENCE, which has several words.
-#[tactic(auto, using(crate::proofs::Unique::valid_if, crate::proofs::Unique::registers_by, crate::proofs::Unique::encodes_if))]
+#[inline(never)]
 pub fn decode(word: u32) -> Option<Instr>
+    ensures row_of { result ≡ row_of word }
+    ensures encodes { IfSome result (λ i. i.op ≢ Op.Fence → encoding_of i ≡ word) }
+    ensures valid { IfSome result IsValid }
+    ensures registers { IfSome result HasRegisters }
+{
+    decode_here(word)
+}
+
+/// The same as [`decode`], made part of its caller: for the places where each instruction is decoded.
+#[inline(always)]
+#[tactic(auto, using(crate::proofs::Unique::valid_if, crate::proofs::Unique::registers_by, crate::proofs::Unique::encodes_if))]
+pub fn decode_here(word: u32) -> Option<Instr>
     ensures row_of { result ≡ row_of word }
     ensures encodes { IfSome result (λ i. i.op ≢ Op.Fence → encoding_of i ≡ word) }
     ensures valid { IfSome result IsValid }
@@ -28,6 +40,7 @@ pub fn decode(word: u32) -> Option<Instr>
     by_opcode(word)
 }
 
+#[inline(always)]
 #[tactic(auto, using(crate::proofs::Rows::row_none))]
 fn by_opcode(word: u32) -> Option<Instr>
     ensures { result ≡ row_of word }
@@ -51,6 +64,7 @@ fn by_opcode(word: u32) -> Option<Instr>
 
 // ---- one opcode at a time
 
+#[inline(always)]
 #[tactic(auto, using(crate::proofs::Rows::row_lui))]
 fn load_upper(word: u32) -> Instr
     requires { opcode word ≡ LUI }
@@ -59,6 +73,7 @@ fn load_upper(word: u32) -> Instr
     with_upper(Op::Lui, word)
 }
 
+#[inline(always)]
 #[tactic(auto, using(crate::proofs::Rows::row_auipc))]
 fn add_upper(word: u32) -> Instr
     requires { opcode word ≡ AUIPC }
@@ -67,6 +82,7 @@ fn add_upper(word: u32) -> Instr
     with_upper(Op::Auipc, word)
 }
 
+#[inline(always)]
 #[tactic(auto, using(crate::proofs::Rows::row_jal))]
 fn jump(word: u32) -> Instr
     requires { opcode word ≡ JAL }
@@ -81,6 +97,7 @@ fn jump(word: u32) -> Instr
     }
 }
 
+#[inline(always)]
 #[tactic(auto, using(crate::proofs::Rows::row_jalr))]
 fn jump_register(word: u32) -> Option<Instr>
     requires { opcode word ≡ JALR }
@@ -92,6 +109,7 @@ fn jump_register(word: u32) -> Option<Instr>
     Some(with_immediate(Op::Jalr, word))
 }
 
+#[inline(always)]
 #[tactic(auto, using(crate::proofs::Rows::row_branch))]
 fn branch(word: u32) -> Option<Instr>
     requires { opcode word ≡ BRANCH }
@@ -107,6 +125,7 @@ fn branch(word: u32) -> Option<Instr>
     })
 }
 
+#[inline(always)]
 #[tactic(auto, using(crate::proofs::Rows::row_load))]
 fn load(word: u32) -> Option<Instr>
     requires { opcode word ≡ LOAD }
@@ -116,6 +135,7 @@ fn load(word: u32) -> Option<Instr>
     Some(with_immediate(op, word))
 }
 
+#[inline(always)]
 #[tactic(auto, using(crate::proofs::Rows::row_store))]
 fn store(word: u32) -> Option<Instr>
     requires { opcode word ≡ STORE }
@@ -131,6 +151,7 @@ fn store(word: u32) -> Option<Instr>
     })
 }
 
+#[inline(always)]
 #[tactic(auto, using(crate::proofs::Rows::row_immediate))]
 fn immediate(word: u32) -> Option<Instr>
     requires code { opcode word ≡ OP_IMM }
@@ -141,6 +162,7 @@ fn immediate(word: u32) -> Option<Instr>
     Some(with_immediate(op, word))
 }
 
+#[inline(always)]
 #[tactic(auto, using(crate::proofs::Rows::row_shift))]
 fn shift(word: u32) -> Option<Instr>
     requires code { opcode word ≡ OP_IMM }
@@ -157,6 +179,7 @@ fn shift(word: u32) -> Option<Instr>
     })
 }
 
+#[inline(always)]
 #[tactic(auto, using(crate::proofs::Rows::row_register))]
 fn register(word: u32) -> Option<Instr>
     requires { opcode word ≡ OP }
@@ -222,6 +245,7 @@ fn read(word: u32) -> Option<Instr>
 // ---- the instruction of a format
 
 /// An instruction with the upper bits of a word, and a register that is written.
+#[inline(always)]
 fn with_upper(op: Op, word: u32) -> Instr
     ensures { result ≡ record { op = op; rd = rd word; rs1 = 0; rs2 = 0; imm = imm_u word } }
 {
@@ -235,6 +259,7 @@ fn with_upper(op: Op, word: u32) -> Instr
 }
 
 /// An instruction with an immediate of 12 bits, a register that is written and one that is read.
+#[inline(always)]
 fn with_immediate(op: Op, word: u32) -> Instr
     ensures { result ≡ record { op = op; rd = rd word; rs1 = rs1 word; rs2 = 0; imm = imm_i word } }
 {

@@ -4,8 +4,8 @@
 //! - `op`: [`Op`], the 50 operations.
 //! - `instr`: [`Instr`], an operation with its registers and its immediate.
 //! - `validity`: [`valid`], which instructions have a word.
-//! - `decoding`: [`decode`], from a word to its instruction, one function for each opcode. `decoding/operations`: the operation
-//!   of a word, where its opcode has several.
+//! - `decoding`: [`decode`], from a word to its instruction, one function for each opcode, and [`decode_here`], the same made
+//!   part of its caller. `decoding/operations`: the operation of a word, where its opcode has several.
 //! - `encoding`: [`encode`], from an instruction to its word, one function for each format.
 //! - `fields`: the fields of a word that stand in one place in all formats.
 //! - `immediates`: the immediate of a word, by its format.
@@ -27,7 +27,7 @@ mod op;
 mod opcodes;
 mod validity;
 
-pub use decoding::decode;
+pub use decoding::{decode, decode_here};
 pub use encoding::encode;
 pub use instr::Instr;
 pub use op::Op;

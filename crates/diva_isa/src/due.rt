@@ -1,6 +1,6 @@
 // The record of a state's next instruction, and each part of it by itself.
 
-ghost use Rattle.std.specs.Prelude.{◌≡◌, ◌≢◌, false, ℕ, ◌*◌, ◌%◌, ◌^◌, ◌<◌, IfSome, None, slice_index};
+ghost use Rattle.std.specs.Prelude.{◌≡◌, ◌≢◌, false, true, ℕ, ◌*◌, ◌%◌, ◌^◌, ◌<◌, IfSome, None, slice_index};
 ghost use Rattle.std.specs.Option.{option_and_then};
 ghost use Rattle.diva_decode.specs.Table.{HasRegisters, IsValid, row_of};
 ghost use Rattle.diva_isa.specs.State.{State, word_of};
@@ -17,7 +17,7 @@ use crate::look::Look;
 use crate::record::{OUTPUT_LIMIT, Operands, Outcome, Record};
 use crate::regs::Regs;
 use crate::trap::Trap;
-use diva_decode::{Instr, Op, decode};
+use diva_decode::{Instr, Op, decode_here};
 
 /// The service that halts the machine, as ECALL asks for it by x17.
 const HALT: u32 = 93;
@@ -44,12 +44,13 @@ pub fn record_of<L: Look>(state: &L) -> Record
 }
 
 /// What a fetched word says, `None` where there is none or it is not one of the table.
+#[inline(always)]
 pub fn decoded_of(fetched: Option<u32>) -> Option<Instr>
     ensures decoded { result ≡ option_and_then row_of fetched }
     ensures registers { IfSome result HasRegisters }
 {
     match fetched {
-        Some(word) => decode(word),
+        Some(word) => decode_here(word),
         None => None,
     }
 }
@@ -96,9 +97,18 @@ pub fn due_fetched<L: Look>(state: &L, fetched: Option<u32>, decoded: Option<Ins
         // The kinds that programs have most of are told apart first: what is done for such a kind is then one piece, and a
         // short one, since no memory is looked at.
         Some(i) => match kind_of(i.op) {
-            Kind::OpImm => due_computed(state, word, i, Kind::OpImm),
-            Kind::OpReg => due_computed(state, word, i, Kind::OpReg),
-            Kind::Branch => due_computed(state, word, i, Kind::Branch),
+            Kind::OpImm => {
+                let r = begun(state, word, i, Kind::OpImm);
+                completed(r, i, operate_with_immediate(i, &r), Kind::OpImm)
+            }
+            Kind::OpReg => {
+                let r = begun(state, word, i, Kind::OpReg);
+                completed(r, i, operate(i, &r), Kind::OpReg)
+            }
+            Kind::Branch => {
+                let r = begun(state, word, i, Kind::Branch);
+                completed(r, i, branch(i, &r), Kind::Branch)
+            }
             kind => due_looked_at(state, word, i, kind),
         },
         None => Due {
@@ -134,23 +144,6 @@ fn due_looked_at<L: Look>(state: &L, word: u32, i: &Instr, kind: Kind) -> Due
 {
     let r = begun(state, word, i, kind);
     completed(r, i, come_to(state, i, &r, kind), kind)
-}
-
-/// The same of a kind that looks at no memory, does not call the environment and does not read `instret`.
-#[inline(always)]
-fn due_computed<L: Look>(state: &L, word: u32, i: &Instr, kind: Kind) -> Due
-    requires registers { HasRegisters i.now }
-    requires memory { moves_memory kind ≡ false }
-    requires call { kind ≢ Kind.Ecall }
-    requires counter { kind ≢ Kind.Counter }
-    ensures record { let s = L.shows state.now in let a = source1 kind s i.now in let b = source2 kind s i.now in
-        let addr = address kind i.now a in
-        result.record ≡ record_with s.pc word a b addr (outcome kind s i.now s.pc a b addr) }
-    ensures effect { result.effect ≡ effect kind i.now result.record }
-    ensures register { HasRegister result.effect }
-{
-    let r = begun(state, word, i, kind);
-    completed(r, i, compute(kind, i, &r), kind)
 }
 
 /// The first five fields of the record of an instruction of a kind; the others are 0.
@@ -367,8 +360,20 @@ fn jumps_to(pc: u32, value: u32, target: u32) -> Outcome
     }
 }
 
+/// What a load comes to. With an arm for each width, what is done for one is one piece.
 #[inline(always)]
 fn load<L: Look>(state: &L, r: &Record, op: Op, width: Width) -> Outcome
+    ensures { result ≡ load (L.shows state.now) r.now.pc r.now.addr op (size width) }
+{
+    match width {
+        Width::Byte => load_bytes(state, r, op, Width::Byte),
+        Width::Half => load_bytes(state, r, op, Width::Half),
+        Width::Word => load_bytes(state, r, op, Width::Word),
+    }
+}
+
+#[inline(always)]
+fn load_bytes<L: Look>(state: &L, r: &Record, op: Op, width: Width) -> Outcome
     ensures { result ≡ load (L.shows state.now) r.now.pc r.now.addr op (size width) }
 {
     if r.addr % width.size() != 0 {
@@ -460,6 +465,19 @@ fn come_to<L: Look>(state: &L, i: &Instr, r: &Record, kind: Kind) -> Outcome
     }
 }
 
+/// What an instruction comes to that is a load or a store, by the first five fields of its record.
+#[inline(always)]
+pub fn access<L: Look>(state: &L, i: &Instr, r: &Record) -> Outcome
+    ensures { let s = L.shows state.now in moves_memory (kind i.now.op) ≡ true
+        → result ≡ outcome (kind i.now.op) s i.now r.now.pc r.now.src1 r.now.src2 r.now.addr }
+{
+    match kind_of(i.op) {
+        Kind::Load(width) => load(state, r, i.op, width),
+        Kind::Store(width) => store(state, r, width),
+        _ => continues(r.pc, 0),
+    }
+}
+
 /// What an instruction comes to that is no load and no store, by the first four fields of its record.
 #[inline(always)]
 pub fn execute<L: Look>(state: &L, i: &Instr, r: &Record) -> Outcome
@@ -485,13 +503,40 @@ fn compute(kind: Kind, i: &Instr, r: &Record) -> Outcome
         Kind::Auipc => continues(r.pc, r.pc.wrapping_add(imm)),
         Kind::Jal => jumps_to(r.pc, r.pc.wrapping_add(4), r.pc.wrapping_add(imm)),
         Kind::Jalr => jumps_to(r.pc, r.pc.wrapping_add(4), r.src1.wrapping_add(imm) & !1),
-        Kind::Branch if branch_taken(i.op, r.src1, r.src2) => {
-            jumps_to(r.pc, 0, r.pc.wrapping_add(imm))
-        }
-        Kind::OpImm => continues(r.pc, alu(i.op, r.src1, imm)),
-        Kind::OpReg => continues(r.pc, alu(i.op, r.src1, r.src2)),
+        Kind::Branch => branch(i, r),
+        Kind::OpImm => operate_with_immediate(i, r),
+        Kind::OpReg => operate(i, r),
         Kind::Ebreak => trapped(r.pc, Trap::Breakpoint),
-        Kind::Branch | Kind::Fence | Kind::Load(_) | Kind::Store(_) | Kind::Ecall | Kind::Counter =>
-            continues(r.pc, 0),
+        Kind::Fence | Kind::Load(_) | Kind::Store(_) | Kind::Ecall | Kind::Counter => {
+            continues(r.pc, 0)
+        }
     }
+}
+
+/// What a branch comes to, by the first four fields of its record.
+#[inline(always)]
+fn branch(i: &Instr, r: &Record) -> Outcome
+    ensures { (s : State) → result ≡ outcome Kind.Branch s i.now r.now.pc r.now.src1 r.now.src2 r.now.addr }
+{
+    if branch_taken(i.op, r.src1, r.src2) {
+        jumps_to(r.pc, 0, r.pc.wrapping_add(i.imm.cast_unsigned()))
+    } else {
+        continues(r.pc, 0)
+    }
+}
+
+/// What an operation on a register and an immediate comes to, by the first four fields of its record.
+#[inline(always)]
+fn operate_with_immediate(i: &Instr, r: &Record) -> Outcome
+    ensures { (s : State) → result ≡ outcome Kind.OpImm s i.now r.now.pc r.now.src1 r.now.src2 r.now.addr }
+{
+    continues(r.pc, alu(i.op, r.src1, i.imm.cast_unsigned()))
+}
+
+/// What an operation on two registers comes to, by the first four fields of its record.
+#[inline(always)]
+fn operate(i: &Instr, r: &Record) -> Outcome
+    ensures { (s : State) → result ≡ outcome Kind.OpReg s i.now r.now.pc r.now.src1 r.now.src2 r.now.addr }
+{
+    continues(r.pc, alu(i.op, r.src1, r.src2))
 }

@@ -33,8 +33,8 @@ mod undo;
 
 pub use arithmetic::{alu, branch_taken, load_value};
 pub use due::{
-    Due, address, decoded_of, due_as, due_by, due_fetched, execute, fetch, finish, record_by,
-    record_of, sources, sources_in,
+    Due, access, address, decoded_of, due_as, due_by, due_fetched, execute, fetch, finish,
+    record_by, record_of, sources, sources_in,
 };
 pub use effect::{Effect, effect_by, effect_of};
 pub use end::End;
