@@ -101,6 +101,15 @@ impl Memory {
         Some(word_of(bytes))
     }
 
+    /// The half word at `addr`, `None` exactly where one of its two bytes is outside.
+    pub fn half(&self, addr: u32) -> Option<u16>
+        ensures { result ≡ number_at self.now 2 addr }
+    {
+        let at = self.place(addr);
+        let bytes = self.bytes.get(at..at + 2)?;
+        Some(half_of(bytes))
+    }
+
     /// Where an address stands among the bytes. One before the first address wraps round to behind the last byte, since
     /// memory ends at 2^32 at the latest: so one comparison tells what is outside.
     #[inline(always)]
@@ -145,4 +154,13 @@ fn word_of(bytes: &[u8]) -> u32
     ensures bytes { (i : ℕ) → i < 4 → slice_get bytes.now i ≡ Some (word_byte result i) }
 {
     LittleEndian::read_u32(bytes)
+}
+
+/// The half word that two bytes are, the lowest first.
+#[inline]
+fn half_of(bytes: &[u8]) -> u16
+    requires { length bytes.now ≡ 2 }
+    ensures { number_at (record { base = 0; items = bytes.now }) 2 0 ≡ Some result }
+{
+    LittleEndian::read_u16(bytes)
 }

@@ -33,6 +33,9 @@ module _ (interval : Interval) (entries : List Masked) (a n : ℕ) (within : All
   pub apart_byte : 1 ≤ n → (m : Bytes) → byte_at (laid m entries) a ≡ byte_at m a
   apart_byte some m = let here : a + 0 ≡ a = omega arith in rw here at (bytes_stay m entries a n 0 each (omega arith))
 
+  pub apart_half : 2 ≤ n → (m : Bytes) → number_at (laid m entries) 2 a ≡ number_at m 2 a
+  apart_half two m = same_number (laid m entries) m 2 a (λ i lt. bytes_stay m entries a n i each (omega arith))
+
   pub apart_word : 4 ≤ n → (m : Bytes) → word_at (laid m entries) a ≡ word_at m a
   apart_word four m =
       test_same (a % 4 == 0) (number_at (laid m entries) 4 a) (number_at m 4 a) (same_number (laid m entries) m 4 a (λ i lt. bytes_stay m entries a n i each (omega arith)))

@@ -114,3 +114,16 @@ word_none m n lacks a h = test_none (a % 4 == 0) (number_at m 4 a) (number_at n 
 
 pub laid_word_none : (m : Bytes) (entries : List Masked) (a : ℕ) → word_at m a ≡ None → word_at (laid m entries) a ≡ None
 laid_word_none m entries a h = word_none m (laid m entries) (laid_none m entries) a h
+
+-- ---- half words
+
+-- a half word of which a byte is outside
+pub half_none : (m : Bytes) (a : ℕ) → byte_at m a ≡ None → number_at m 2 a ≡ None
+half_none m a h = rw h refl
+
+high_none : (low : Option ℕ) → option_and_then (λ (b : ℕ). option_map (λ (c : ℕ). b + 2 ^ 8 * c) None) low ≡ None
+high_none None = refl
+high_none (Some b) = refl
+
+pub half_high_none : (m : Bytes) (a : ℕ) → byte_at m (a + 1) ≡ None → number_at m 2 a ≡ None
+half_high_none m a h = rw h (high_none (byte_at m a))

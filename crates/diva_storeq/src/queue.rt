@@ -2,7 +2,7 @@
 ghost use Rattle.std.specs.Prelude.{◌≡◌, ◌≤◌, ◌<◌, ℕ, ◌+◌, ◌-◌, ◌%◌, ◌^◌, ◌==◌, ◌⊎◌, ◌↔◌, [], ◌∷◌, ◌++◌, drop, take, length, slice_get, IfOk, IsSome, IsTrue};
 ghost use Rattle.std.specs.Option.{ForSome};
 ghost use Rattle.circular_buffer.specs.Buffer.{Buffer, buffer};
-ghost use Rattle.diva_memory.specs.Bytes.{Bytes, IsInside, byte_at, word_at};
+ghost use Rattle.diva_memory.specs.Bytes.{Bytes, IsInside, byte_at, number_at, word_at};
 
 use crate::{Masked, Store};
 use circular_buffer::HeapCircularBuffer;
@@ -119,6 +119,7 @@ impl StoreQueue {
 
     /// The byte at `addr` as it is once all stores are in memory, `None` exactly where `addr` is
     /// outside.
+    #[inline(always)]
     pub fn byte(&self, memory: &Memory, addr: u32) -> Option<u8>
         ensures value { result ≡ byte_at (laid memory.now self.now.items) addr }
         ensures inside { IsSome result ↔ IsInside memory.now addr 1 }
@@ -126,11 +127,50 @@ impl StoreQueue {
         if self.is_clear(addr, 1) {
             return memory.byte(addr);
         }
+        self.byte_over(memory, addr)
+    }
+
+    /// The same, with the entries laid over it one after the other.
+    #[cold]
+    #[inline(never)]
+    fn byte_over(&self, memory: &Memory, addr: u32) -> Option<u8>
+        ensures value { result ≡ byte_at (laid memory.now self.now.items) addr }
+        ensures inside { IsSome result ↔ IsInside memory.now addr 1 }
+    {
         let mut byte = memory.byte(addr)?;
         for entry in self.entries.iter() {
             byte = entry.byte(addr).unwrap_or(byte);
         }
         Some(byte)
+    }
+
+    /// The half word at `addr`, a multiple of 2, as it is once all stores are in memory, `None` exactly where a byte of it is
+    /// outside.
+    #[inline(always)]
+    pub fn half(&self, memory: &Memory, addr: u32) -> Option<u16>
+        requires { addr % 2 ≡ 0 }
+        ensures { result ≡ number_at (laid memory.now self.now.items) 2 addr }
+    {
+        if self.is_clear(addr, 2) {
+            return memory.half(addr);
+        }
+        self.half_over(memory, addr)
+    }
+
+    /// The same, with the entries laid over its bytes one after the other.
+    #[cold]
+    #[inline(never)]
+    fn half_over(&self, memory: &Memory, addr: u32) -> Option<u16>
+        requires { addr % 2 ≡ 0 }
+        ensures { result ≡ number_at (laid memory.now self.now.items) 2 addr }
+    {
+        let mut low = memory.byte(addr)?;
+        let mut high = memory.byte(addr + 1)?;
+        for entry in &self.entries {
+            low = entry.byte(addr).unwrap_or(low);
+            high = entry.byte(addr + 1).unwrap_or(high);
+        }
+        Some(u16::from_le_bytes([low, high]))
     }
 
     /// The word at `addr` as it is once all stores are in memory, `None` exactly where `addr` is not
@@ -150,6 +190,7 @@ impl StoreQueue {
     #[inline(always)]
     fn is_clear(&self, addr: u32, n: u32) -> bool
         ensures byte { IsTrue result → 1 ≤ n → (m : Bytes) → byte_at (laid m self.now.items) addr ≡ byte_at m addr }
+        ensures half { IsTrue result → 2 ≤ n → (m : Bytes) → number_at (laid m self.now.items) 2 addr ≡ number_at m 2 addr }
         ensures word { IsTrue result → 4 ≤ n → (m : Bytes) → word_at (laid m self.now.items) addr ≡ word_at m addr }
     {
         self.entries.is_empty() || self.interval.is_apart(addr, n)

@@ -3,7 +3,7 @@ use Rattle.std.proofs.Common.{◌≡◌, None, sym, rules, map}
 use Rattle.std.proofs.lemmas.List.{map-append}
 use Rattle.diva_memory.specs.Bytes.{byte_at}
 use Rattle.diva_storeq.proofs.Laying.{laid_none, laid_more}
-use Rattle.diva_storeq.proofs.queue.StoreQueue.byte.Goals as goal
+use Rattle.diva_storeq.proofs.queue.StoreQueue.byte_over.Goals as goal
 
 pub returns-in_err-byte-clause-value : goal.returns-in_err-byte-clause-value
 returns-in_err-byte-clause-value c =
