@@ -60,7 +60,7 @@ impl Look for Stand<'_> {
 /// The number that the bytes of a width from an address on are, as the core sees them. Loads alone ask for it, so it is read by a
 /// call, which is made on a copy of the view: the view itself can then stay in registers.
 #[inline(never)]
-#[tactic(auto, using(diva_core::proofs::Bypassing::half_none, diva_core::proofs::Bypassing::half_high_none))]
+#[tactic(auto, using(diva_storeq::proofs::Laying::half_none, diva_storeq::proofs::Laying::half_high_none))]
 fn read_number(ahead: &Ahead, view: &View<'_>, addr: u32, width: Width) -> Option<u32>
     requires { addr % size width ≡ 0 }
     ensures { result ≡ number_of (seen ahead.now view.now) (size width) addr }

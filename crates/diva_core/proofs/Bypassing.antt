@@ -1,13 +1,12 @@
 -- The state in which a pending claim stands, one older claim at a time.
-use Rattle.std.proofs.Common.{◌≡◌, ◌≢◌, ◌<◌, ◌≤◌, ℕ, zero, suc, ◌+◌, ◌-◌, ◌*◌, ◌^◌, ◌%◌, ◌==◌, ◌&&◌, not, ◌⊎◌, inl, inr, Bool, false, List, [], ◌∷◌, length, map, slice_get, slice_index, Option, Some, None, true, if◌then◌else◌, refl, sym, ap, ◌∙◌, arith, add-one, length-take}
+use Rattle.std.proofs.Common.{◌≡◌, ◌≢◌, ◌<◌, ◌≤◌, ℕ, zero, suc, ◌+◌, ◌-◌, ◌^◌, ◌%◌, ◌==◌, ◌&&◌, not, ◌⊎◌, inl, inr, Bool, false, List, [], ◌∷◌, length, map, slice_get, slice_index, Some, true, if◌then◌else◌, refl, sym, ap, ◌∙◌, arith, add-one, length-take}
 use Rattle.std.proofs.lemmas.Option.{none-some, same_Some}
 use Rattle.std.proofs.lemmas.List.{length-map}
 use Rattle.std.proofs.lemmas.Grind.{common_steps}
 use Rattle.std.proofs.lemmas.Bool.{eqb-false, eqb-true}
 use Rattle.std.proofs.lemmas.Bool.Decides.{nat_tests}
-use Rattle.diva_memory.specs.Bytes.{Bytes, byte_at, number_at}
 use Rattle.diva_memory.proofs.Writing.{same_number}
-use Rattle.diva_isa.specs.State.{State, byte_of, memory_of, number_of, reg_of, word_of}
+use Rattle.diva_isa.specs.State.{State, byte_of, memory_of, reg_of, word_of}
 use Rattle.diva_isa.specs.Regs.{with_reg}
 use Rattle.diva_isa.specs.Kind.{kind}
 use Rattle.diva_isa.specs.declared.kind.Kind.{Kind}
@@ -21,7 +20,6 @@ use Rattle.diva_isa.specs.declared.record.Record.{Record}
 use Rattle.diva_core.specs.declared.pending.Entry.{Entry}
 use Rattle.diva_core.specs.Effects.{is_apart, with_effects}
 use Rattle.diva_core.specs.Older.{after, before_entry, bypassed, led, older, with_claims}
-use Rattle.std.specs.Option.{option_and_then, option_map}
 use Rattle.diva_core.proofs.Forms.{writes_target}
 use Rattle.diva_core.proofs.Laying.{apart_byte, effect_byte, over_none}
 
@@ -155,14 +153,3 @@ apart_kept s e a i h lt = effect_byte s e (a + i) ∙ over_none (byte_of s (a + 
 
 pub word_kept : (s t : State) (a : ℕ) → ((i : ℕ) → i < 4 → byte_of s (a + i) ≡ byte_of t (a + i)) → word_of s a ≡ word_of t a
 word_kept s t a h = rw (same_number (memory_of s) (memory_of t) 4 a h) refl
-
--- a half word of which a byte is outside
-pub half_none : (m : Bytes) (a : ℕ) → byte_at m a ≡ None → number_at m 2 a ≡ None
-half_none m a h = rw h refl
-
-high_none : (low : Option ℕ) → option_and_then (λ (b : ℕ). option_map (λ (c : ℕ). b + 2 ^ 8 * c) None) low ≡ None
-high_none None = refl
-high_none (Some b) = refl
-
-pub half_high_none : (m : Bytes) (a : ℕ) → byte_at m (a + 1) ≡ None → number_at m 2 a ≡ None
-half_high_none m a h = rw h (high_none (byte_at m a))

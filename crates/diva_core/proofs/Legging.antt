@@ -1,13 +1,12 @@
 -- What follows of legs, and of the parts of a session.
-use Rattle.std.proofs.Common.{◌≡◌, ℕ, ◌+◌, true, List, [], ◌∷◌, ◌++◌, length, map, refl, ap, sym, ◌∙◌, subst, arith}
-use Rattle.diva_isa.specs.State.{State, goes_on}
+use Rattle.std.proofs.Common.{◌≡◌, List, [], ◌∷◌, ◌++◌, map, refl, ap, ◌∙◌, subst}
 use Rattle.diva_isa.specs.declared.record.Record.{Record}
 use Rattle.diva_isa.specs.declared.undo.Undo.{Undo}
 use Rattle.diva_core.specs.Timed.{Timed}
 use Rattle.diva_core.specs.Cycle.{cycle_of, run_of}
-use Rattle.diva_core.specs.Told.{Told, told_of}
+use Rattle.diva_core.specs.Told.{told_of}
 use Rattle.diva_core.specs.History.{Meaning, FollowRule, IsHistory, lists_of}
-use Rattle.diva_core.specs.Legs.{AreLegs, EachPart, Handed, IsLeg, Leg, OfLists, Part, TakenBack, Turned, WentBack, core_after, core_behind, handed_in, part_of, run_part, run_parts}
+use Rattle.diva_core.specs.Legs.{AreLegs, EachPart, Handed, IsLeg, Leg, OfLists, Part, TakenBack, Turned, WentBack, core_after, core_behind, part_of, run_part, run_parts}
 use Rattle.diva_core.specs.Machine.{IsMachine}
 use Rattle.diva_core.specs.Right.{AreRight, IsCalm, StaysCalm}
 use Rattle.diva_core.specs.Undone.{CanUndoAll, undone, undone_all}

@@ -83,31 +83,18 @@ impl Look for Bypass<'_> {
     #[inline(always)]
     #[tactic(auto, using(crate::proofs::Laying::effects_word_none, crate::proofs::Clear::clear_word))]
     fn word(&self, addr: u32) -> Option<u32> {
-        let word = self.view.word(addr)?;
         if self.at == 0 || self.pending.is_clear(addr, 4) {
-            return Some(word);
+            return self.view.word(addr);
         }
-        let Some(from) = self.pending.first_into(self.at, addr) else {
-            return Some(word);
-        };
-        let bytes = [
-            self.view.byte(addr)?,
-            self.view.byte(addr + 1)?,
-            self.view.byte(addr + 2)?,
-            self.view.byte(addr + 3)?,
-        ];
-        Some(self.pending.word_after(from, self.at, addr, bytes))
+        self.view.word_behind(self.pending, self.at, addr)
     }
 
     #[inline(always)]
     fn number(&self, addr: u32, width: Width) -> Option<u32> {
-        if self.at == 0 {
+        if self.at == 0 || self.pending.is_clear(addr, width.size()) {
             return self.view.number(addr, width);
         }
-        if self.pending.is_clear(addr, width.size()) {
-            return self.view.number(addr, width);
-        }
-        number_after(self.pending, self.at, &self.view.copied(), addr, width)
+        self.view.number_behind(self.pending, self.at, addr, width)
     }
 
     #[tactic(auto, using(crate::proofs::Laying::effects_there))]
@@ -129,35 +116,5 @@ impl Look for Bypass<'_> {
             return len;
         }
         self.pending.out_len_after(self.at, len)
-    }
-}
-
-/// The same number as a call, which is made on a copy of the view where claims are older: the view itself can then stay in
-/// registers.
-#[inline(never)]
-#[tactic(auto, using(crate::proofs::Bypassing::half_none, crate::proofs::Bypassing::half_high_none))]
-fn number_after(
-    pending: &Pending,
-    at: usize,
-    view: &View<'_>,
-    addr: u32,
-    width: Width,
-) -> Option<u32>
-    requires place { at ≤ length pending.now.items }
-    requires addr { addr % size width ≡ 0 }
-    ensures { result ≡ number_of (bypassed view.now (older pending.now.items at)) (size width) addr }
-{
-    let state = Bypass { pending, at, view };
-    match width {
-        Width::Byte => {
-            let byte = state.byte(addr)?;
-            Some(u32::from(byte))
-        }
-        Width::Half => {
-            let low = state.byte(addr)?;
-            let high = state.byte(addr + 1)?;
-            Some(u32::from(u16::from_le_bytes([low, high])))
-        }
-        Width::Word => state.word(addr),
     }
 }

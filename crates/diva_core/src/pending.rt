@@ -12,7 +12,7 @@ ghost use Rattle.diva_core.specs.Entries.{fresh, has_store_opcode, pending_claim
 use crate::claims::Claim;
 use crate::differences::Diff;
 use circular_buffer::HeapCircularBuffer;
-use diva_decode::{Instr, decode};
+use diva_decode::{Instr, decode, decode_here};
 use diva_isa::{Effect, effect_by};
 use diva_memory::Span;
 use std::alloc::{AllocError, Global};
@@ -216,7 +216,7 @@ impl Pending {
         ensures capacity { self.new.capacity ≡ self.old.capacity }
     {
         let noted = self.entries.get_mut(at).unwrap();
-        noted.decoded = decode(noted.claim.word);
+        noted.decoded = decode_here(noted.claim.word);
     }
 
     /// Puts a claim behind the others, neither decoded nor checked yet.

@@ -2,10 +2,12 @@
 ghost use Rattle.std.specs.Prelude.{◌≡◌, ◌<◌, ◌≤◌, ◌%◌, ◌^◌, length};
 ghost use Rattle.diva_isa.specs.Kind.{size};
 ghost use Rattle.diva_memory.specs.Bytes.{number_at};
-ghost use Rattle.diva_isa.specs.State.{State, reg_of, byte_of, word_of, output_limit};
+ghost use Rattle.diva_isa.specs.State.{State, reg_of, byte_of, number_of, word_of, output_limit};
+ghost use Rattle.diva_core.specs.Older.{older, with_claims};
 ghost use Rattle.diva_storeq.specs.Stores.{laid};
 
 use crate::output::Output;
+use crate::pending::Pending;
 use diva_isa::{Look, Regs, Width};
 use diva_memory::{Memory, Readable};
 use diva_storeq::StoreQueue;
@@ -135,6 +137,33 @@ impl View<'_> {
         self.queue.word(self.memory, addr)
     }
 
+    /// The word at an address after the oldest `count` claims, `None` exactly where the address is no multiple of 4 or a byte is
+    /// outside memory. The call is handed memory and the queue alone: the view itself can then stay in registers.
+    #[inline(always)]
+    pub(crate) fn word_behind(&self, pending: &Pending, count: usize, addr: u32) -> Option<u32>
+        requires { count ≤ length pending.now.items }
+        ensures { result ≡ word_of (with_claims self.now (older pending.now.items count)) addr }
+    {
+        pending.word_behind(count, self.memory, self.queue, addr)
+    }
+
+    /// The number that the bytes of a width from an address on are after the oldest `count` claims, `None` exactly where one of
+    /// them is outside memory. The address is a multiple of the width. It is called as [`word_behind`](Self::word_behind) is.
+    #[inline(always)]
+    pub(crate) fn number_behind(
+        &self,
+        pending: &Pending,
+        count: usize,
+        addr: u32,
+        width: Width,
+    ) -> Option<u32>
+        requires count { count ≤ length pending.now.items }
+        requires addr { addr % size width ≡ 0 }
+        ensures { result ≡ number_of (with_claims self.now (older pending.now.items count)) (size width) addr }
+    {
+        pending.number_behind(count, self.memory, self.queue, addr, width)
+    }
+
     /// How many instructions have committed: at most 2^62.
     #[inline(always)]
     pub fn instret(&self) -> u64
@@ -188,9 +217,15 @@ impl Look for View<'_> {
         View::word(self, addr)
     }
 
+    /// Each width is read in its own way, and of what is read by a call, the call is handed memory and the queue alone: a view can
+    /// then stay in registers.
     #[inline(always)]
     fn number(&self, addr: u32, width: Width) -> Option<u32> {
-        number_in(self.memory, self.queue, addr, width)
+        match width {
+            Width::Byte => byte_number(self.memory, self.queue, addr),
+            Width::Half => half_number(self.memory, self.queue, addr),
+            Width::Word => View::word(self, addr),
+        }
     }
 
     #[inline(always)]
@@ -209,20 +244,19 @@ impl Look for View<'_> {
     }
 }
 
-/// The number that the bytes of a width from an address on are, as they are once all stores are in memory. Loads alone ask for
-/// it, so it is read by a call, which is handed memory and the queue alone: a view can then stay in registers.
+/// The byte at an address, as it is once all stores are in memory, as a number.
 #[inline(never)]
-#[tactic(auto, using(crate::proofs::Bypassing::half_none, crate::proofs::Bypassing::half_high_none))]
-fn number_in(memory: &Memory, queue: &StoreQueue, addr: u32, width: Width) -> Option<u32>
-    requires { addr % size width ≡ 0 }
-    ensures { result ≡ number_at (laid memory.now queue.now.items) (size width) addr }
+fn byte_number(memory: &Memory, queue: &StoreQueue, addr: u32) -> Option<u32>
+    ensures { result ≡ number_at (laid memory.now queue.now.items) 1 addr }
 {
-    match width {
-        Width::Byte => Some(u32::from(queue.byte(memory, addr)?)),
-        Width::Half => Some(u32::from(u16::from_le_bytes([
-            queue.byte(memory, addr)?,
-            queue.byte(memory, addr + 1)?,
-        ]))),
-        Width::Word => queue.word(memory, addr),
-    }
+    Some(u32::from(queue.byte(memory, addr)?))
+}
+
+/// The number that the half word at an address is, once all stores are in memory. The address is a multiple of 2.
+#[inline(never)]
+fn half_number(memory: &Memory, queue: &StoreQueue, addr: u32) -> Option<u32>
+    requires { addr % 2 ≡ 0 }
+    ensures { result ≡ number_at (laid memory.now queue.now.items) 2 addr }
+{
+    Some(u32::from(queue.half(memory, addr)?))
 }

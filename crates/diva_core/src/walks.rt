@@ -2,15 +2,19 @@
 //
 // Each begins with what the state has before them, and tells what it has after them.
 ghost use Rattle.std.specs.Prelude.{◌≡◌, ◌+◌, ◌<◌, ◌≤◌, ◌%◌, ℕ, length, None, Some, IfSome};
-ghost use Rattle.diva_isa.specs.State.{State, byte_of, reg_of, word_of, output_limit};
+ghost use Rattle.diva_isa.specs.Kind.{size};
+ghost use Rattle.diva_isa.specs.State.{State, byte_of, memory_of, number_of, reg_of, word_of, output_limit};
 ghost use Rattle.diva_isa.specs.Step.{effect_of, with_effect};
 ghost use Rattle.diva_core.specs.Entries.{IsDecoded};
 ghost use Rattle.diva_core.specs.Older.{older, with_claims};
 ghost use Rattle.diva_core.specs.Inner.{HasBytes};
+ghost use Rattle.diva_storeq.specs.Stores.{laid};
 
 use crate::effects::{byte_in, is_apart};
 use crate::pending::{Entry, Pending};
-use diva_isa::{Effect, Operands};
+use diva_isa::{Effect, Operands, Width};
+use diva_memory::Memory;
+use diva_storeq::StoreQueue;
 
 impl Pending {
     /// The claim at a place, as the next one to walk over.
@@ -87,6 +91,63 @@ impl Pending {
             latest = byte_in(&self.next_effect(place), addr).unwrap_or(latest);
         }
         latest
+    }
+
+    /// The number that the bytes of a width from an address on are after the oldest `count` claims, over memory with the stores of
+    /// the queue laid over it; `None` exactly where one of them is outside. The address is a multiple of the width. Few reads meet
+    /// a claim's store, so it is a call.
+    #[inline(never)]
+    pub(crate) fn number_behind(
+        &self,
+        count: usize,
+        memory: &Memory,
+        queue: &StoreQueue,
+        addr: u32,
+        width: Width,
+    ) -> Option<u32>
+        requires count { count ≤ length self.now.items }
+        requires addr { addr % size width ≡ 0 }
+        ensures { (s : State) → memory_of s ≡ laid memory.now queue.now.items
+            → result ≡ number_of (with_claims s (older self.now.items count)) (size width) addr }
+    {
+        match width {
+            Width::Byte => {
+                let byte = self.byte_after(count, addr, queue.byte(memory, addr)?);
+                Some(u32::from(byte))
+            }
+            Width::Half => {
+                let low = self.byte_after(count, addr, queue.byte(memory, addr)?);
+                let high = self.byte_after(count, addr + 1, queue.byte(memory, addr + 1)?);
+                Some(u32::from(u16::from_le_bytes([low, high])))
+            }
+            Width::Word => self.word_behind(count, memory, queue, addr),
+        }
+    }
+
+    /// The word at an address, in the same way; `None` also where the address is no multiple of 4.
+    #[inline(never)]
+    pub(crate) fn word_behind(
+        &self,
+        count: usize,
+        memory: &Memory,
+        queue: &StoreQueue,
+        addr: u32,
+    ) -> Option<u32>
+        requires { count ≤ length self.now.items }
+        ensures { (s : State) → memory_of s ≡ laid memory.now queue.now.items
+            → result ≡ word_of (with_claims s (older self.now.items count)) addr }
+    {
+        let word = queue.word(memory, addr)?;
+        let Some(from) = self.first_into(count, addr) else {
+            return Some(word);
+        };
+        let bytes = [
+            queue.byte(memory, addr)?,
+            queue.byte(memory, addr + 1)?,
+            queue.byte(memory, addr + 2)?,
+            queue.byte(memory, addr + 3)?,
+        ];
+        Some(self.word_after(from, count, addr, bytes))
     }
 
     /// The first of the oldest `count` claims that stores into the word at an address.
