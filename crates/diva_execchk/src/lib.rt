@@ -5,8 +5,9 @@
 //! themselves.
 #![tactic(auto)]
 
-ghost use Rattle.std.specs.Prelude.{◌≡◌, ◌<◌, [], ◌∷◌, length, None, Some, slice_get};
+ghost use Rattle.std.specs.Prelude.{◌≡◌, ◌<◌, [], ◌∷◌, length, true, None, Some, slice_get};
 ghost use Rattle.diva_decode.specs.Table.{row_of};
+ghost use Rattle.diva_isa.specs.Kind.{kind, moves_memory};
 ghost use Rattle.diva_isa.specs.State.{State};
 ghost use Rattle.diva_isa.specs.Step.{record_of};
 ghost use Rattle.diva_isa.specs.declared.record.Record.{Record};
@@ -15,9 +16,9 @@ ghost use Rattle.diva_core.specs.Difference.{difference_in};
 ghost use Rattle.diva_core.specs.Older.{before_entry};
 ghost use Rattle.diva_core.specs.Stages.{Answers, address_fields, execute_fields, is_memory, is_memory_by, memory_fields, outcome_fields, read_fields};
 
-use diva_core::{Bypass, Claim, Diff, Field, Pending, View};
+use diva_core::{Bypass, Claim, Diff, Entry, Field, Pending, View};
 use diva_decode::{Instr, decode};
-use diva_isa::{Look, Outcome, Record, address, execute, fetch, finish, kind_of};
+use diva_isa::{Look, Outcome, Record, access, address, execute, fetch, finish, kind_of};
 
 /// The first difference in addr and, but for loads and stores, in value, next and end between the claim at a place (the oldest
 /// is at 0) and the record that is due after the older claims, `None` where there is none. Where the older claims have ended
@@ -47,12 +48,29 @@ pub fn check_memory(pending: &Pending, at: usize, view: &View<'_>) -> Option<Dif
 {
     let entry = pending.at(at);
     match entry.decoded {
-        Some(decoded) if is_memory(Some(decoded)) => {
-            compare_outcome(&entry.claim, Some(decoded), &Bypass::new(pending, at, view))
-        }
+        Some(i) if is_memory(Some(i)) => check_access(pending, at, entry, &i, view),
         Some(_) => None,
         None => check_memory_anew(pending, at, &view.copied()),
     }
+}
+
+/// The same of a claim that is at hand, and whose word is known to say a load or a store.
+#[inline(always)]
+pub fn check_access(
+    pending: &Pending,
+    at: usize,
+    entry: &Entry,
+    i: &Instr,
+    view: &View<'_>,
+) -> Option<Diff>
+    requires place { at < length pending.now.items }
+    requires entry { slice_get pending.now.items at ≡ Some entry.now }
+    requires says { row_of entry.now.claim.word ≡ Some i.now }
+    requires access { moves_memory (kind i.now.op) ≡ true }
+    ensures { Answers address_fields memory_fields (before_entry view.now pending.now.items at) entry.now.claim result }
+{
+    let state = Bypass::new(pending, at, view);
+    compare_with(&entry.claim, access(&state, i, &entry.claim))
 }
 
 /// The same, where what the word says was not noted.

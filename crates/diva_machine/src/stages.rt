@@ -1,17 +1,21 @@
 // The checker's stages: what a pending claim passes through at each age, and what the solo instruction does.
-ghost use Rattle.std.specs.Prelude.{◌≡◌, ◌≤◌, ◌<◌, ◌+◌, ◌-◌, ℕ, length, map, None, Some, slice_get, slice_set};
+ghost use Rattle.std.specs.Prelude.{◌≡◌, ◌≤◌, ◌<◌, ◌+◌, ◌-◌, ℕ, length, map, true, None, Some, slice_get, slice_set, IsTrue};
 ghost use Rattle.std.specs.Option.{option_or};
 ghost use Rattle.diva_decode.specs.Table.{row_of};
 ghost use Rattle.diva_core.specs.declared.pending.Entry.{Entry};
 ghost use Rattle.diva_core.specs.Entries.{pending_claim_of};
 ghost use Rattle.diva_core.specs.Future.{IsFuture};
+ghost use Rattle.diva_core.specs.Older.{before_entry};
+ghost use Rattle.diva_core.specs.Stages.{Answers, address_fields, memory_fields};
+ghost use Rattle.diva_isa.specs.Kind.{kind, moves_memory};
 ghost use Rattle.diva_isa.specs.State.{State};
 ghost use Rattle.diva_machine.specs.Staged.{IsFilled, last_stage};
 ghost use Rattle.diva_machine.specs.Inner.{HasPassed, age_of};
 
 use crate::arch::Arch;
-use diva_core::{Diff, Field, FutureFile, Pending, View};
-use diva_execchk::is_memory;
+use diva_core::{Diff, Entry, Field, FutureFile, Pending, View};
+use diva_decode::Instr;
+use diva_execchk::{check_access, is_memory};
 use diva_isa::Record;
 use diva_vote::{Stage, check};
 
@@ -196,25 +200,28 @@ fn pass_last(pending: &mut Pending, at: usize, arch: &Arch)
     ensures capacity { pending.new.capacity ≡ pending.old.capacity }
     ensures advanced { HasPassed arch.now.state LAST_STAGE at pending.old.items pending.new.items }
 {
-    match pending.at(at).decoded {
-        Some(decoded) if !is_memory(Some(decoded)) => {}
-        _ => pass_access(pending, at, arch),
+    let entry = pending.at(at);
+    let agrees = match entry.decoded {
+        Some(i) => !is_memory(Some(i)) || access_agrees(pending, at, entry, &i, arch),
+        None => false,
+    };
+    if !agrees {
+        note_check(Stage::Memory, pending, at, arch);
     }
 }
 
-/// The same of a load or a store, or where what the word says was not noted.
+/// Whether a claim that is at hand, and whose word says a load or a store, agrees with what is due of it. It is a call: few claims
+/// are one.
 #[inline(never)]
-fn pass_access(pending: &mut Pending, at: usize, arch: &Arch)
-    requires { at < length pending.old.items }
-    ensures waits { map pending_claim_of pending.new.items ≡ map pending_claim_of pending.old.items }
-    ensures capacity { pending.new.capacity ≡ pending.old.capacity }
-    ensures advanced { HasPassed arch.now.state LAST_STAGE at pending.old.items pending.new.items }
+fn access_agrees(pending: &Pending, at: usize, entry: &Entry, i: &Instr, arch: &Arch) -> bool
+    requires place { at < length pending.now.items }
+    requires entry { slice_get pending.now.items at ≡ Some entry.now }
+    requires says { row_of entry.now.claim.word ≡ Some i.now }
+    requires access { moves_memory (kind i.now.op) ≡ true }
+    ensures { IsTrue result → Answers address_fields memory_fields
+        (before_entry (record arch.now.state { end = 0 }) pending.now.items at) entry.now.claim None }
 {
-    if pending.at(at).decoded.is_none()
-        || diva_execchk::check_memory(pending, at, &arch.view()).is_some()
-    {
-        note_check(Stage::Memory, pending, at, arch);
-    }
+    check_access(pending, at, entry, i, &arch.view()).is_none()
 }
 
 /// Notes what the check of a stage finds in the claim at a place.

@@ -23,7 +23,7 @@ returns-in_err-high c =
 pub loop-entry-preserved : goal.loop-entry-preserved
 loop-entry-preserved c =
     let more = laid_more c.args.memory.now (map (λ e. e.now) c.loop-entry.yielded) c.in-Some.entry.now in
-    simp map-append
-    ( rw (c.unwrap_or-low.ensures, c.byte-in-loop-entry.ensures) (more c.args.addr c.loop-entry.low c.loop-entry.invariant.0)
-    , rw (c.unwrap_or-high.ensures, c.byte-in-loop-entry-2.ensures) (more (c.args.addr + 1) c.loop-entry.high c.loop-entry.invariant.1)
+    simp map-append (
+      rw (c.unwrap_or-low.ensures, c.byte-in-loop-entry.ensures) (more c.args.addr c.loop-entry.low c.loop-entry.invariant.0),
+      rw (c.unwrap_or-high.ensures, c.byte-in-loop-entry-2.ensures) (more (c.args.addr + 1) c.loop-entry.high c.loop-entry.invariant.1),
     )
