@@ -1,5 +1,5 @@
 -- What a command takes for an image: an image's file, or an executable, behind whose loads memory has room.
-use Rattle.std.specs.Prelude.{◌≡◌, ℕ, ⊤, Bool, List, ◌∷◌, codes, nat_eq, Option, Result, Ok, Err, None, if◌then◌else◌}
+use Rattle.std.specs.Prelude.{◌≡◌, ℕ, Bool, List, ◌∷◌, codes, nat_eq, Option, Result, Ok, Err, None, if◌then◌else◌}
 use Rattle.std.specs.List.{starts_with}
 use Rattle.diva_image.specs.declared.image.Image.{Image}
 use Rattle.diva_image.specs.declared.fault.Fault.{Fault}
@@ -23,8 +23,8 @@ fault_in room bytes = if is_elf bytes then elf_fault room bytes else fault_of by
 unfoldable pub image_in : (room : ℕ) → List ℕ → Layout
 image_in room bytes = if is_elf bytes then elf_of room bytes else image_of bytes
 
--- the file is read to its image or refused for its first fault, unless memory runs out
+-- the file is refused for its first fault; where it has none, it is read to its image, or memory runs out
 abbrev pub ReadsIn : (room : ℕ) → List ℕ → Result Image ImageFault → Type 0
 ReadsIn room bytes (Ok i) = (fault_in room bytes ≡ None) × (image_in room bytes ≡ layout i)
 ReadsIn room bytes (Err (Bad kind place)) = fault_in room bytes ≡ fault kind place
-ReadsIn room bytes (Err Memory) = ⊤
+ReadsIn room bytes (Err Memory) = fault_in room bytes ≡ None

@@ -97,7 +97,7 @@ pub enum ImageFault {
         /// Where it is.
         place: u32,
     },
-    /// Out of memory.
+    /// Out of memory. It is answered only where the bytes have no fault.
     Memory,
 }
 

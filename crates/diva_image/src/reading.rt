@@ -13,7 +13,8 @@ use crate::version::Version;
 use crate::{Image, ImageFault, Payload};
 use std::alloc::Global;
 
-/// The image of the bytes, in version 1 or 2. The error is their first fault, or `Memory` where memory runs out.
+/// The image of the bytes, in version 1 or 2. The error is their first fault or, where they have none, `Memory` if memory runs
+/// out.
 ///
 /// The time that it takes is linear in the bytes and in the payload.
 #[tactic(auto, unfolding(crate::specs::Images::fault_of))]
