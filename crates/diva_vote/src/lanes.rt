@@ -1,7 +1,7 @@
 // The lane that is the checks, the one that always lies, and one that is either.
 ghost use Rattle.std.specs.Prelude.{◌≡◌, ◌<◌, length, slice_get, Some};
 ghost use Rattle.diva_core.specs.declared.pending.Entry.{Entry};
-ghost use Rattle.diva_vote.specs.Lanes.{IsHonest, IsLie};
+ghost use Rattle.diva_vote.specs.Lanes.{IsHonest, IsLie, IsSaidByLiar};
 
 use crate::lane::Lane;
 use crate::stage::{Stage, check};
@@ -45,6 +45,7 @@ impl Lane for Liar {
     fn judge(&mut self, stage: Stage, pending: &Pending, at: usize, view: &View<'_>) -> Option<Diff>
         requires { at < length pending.now.items }
         ensures lies { IsLie stage view.now pending.now.items at result }
+        ensures few { IsSaidByLiar result }
         ensures same { self.new ≡ self.old }
     {
         match check(stage, pending, at, view) {
@@ -75,6 +76,7 @@ impl Lane for EitherLane {
         requires { at < length pending.now.items }
         ensures honest { self.old ≡ EitherLane.Honest → IsHonest stage view.now pending.now.items at result }
         ensures lies { self.old ≡ EitherLane.Liar → IsLie stage view.now pending.now.items at result }
+        ensures few { self.old ≡ EitherLane.Liar → IsSaidByLiar result }
         ensures same { self.new ≡ self.old }
     {
         match self {
