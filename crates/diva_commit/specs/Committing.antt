@@ -19,7 +19,7 @@ use Rattle.diva_core.specs.Cycle.{puts_store}
 use Rattle.diva_commit.specs.declared.commits.Committed.{Committed}
 use Rattle.diva_commit.specs.declared.commits.Committed.TheVariants.{GoesOn, Halt, Trap, Held, Differs}
 
--- the state of these parts, m being memory with the undrained stores laid over it
+-- the state of these parts, m being memory with the stores that are not in it yet laid over it
 abbrev pub state_of : (regs : List ℕ) (pc : ℕ) → Bytes → (output : List ℕ) (instret end : ℕ) → State
 state_of regs pc m output instret end =
     record { regs = regs; pc = pc; base = m.base; bytes = m.items; output = output; instret = instret; end = end }

@@ -65,7 +65,7 @@ begun m = record m { cycles = m.cycles + 1 }
 abbrev pub port_opens : Timed → Bool
 port_opens m = m.cycles % m.config.port == 0
 
--- phase 1, drain: where the port opens, the oldest undrained store goes to memory
+-- phase 1, drain: where the port opens, the oldest store that is not in memory yet goes there
 unfoldable pub drained : Timed → Timed
 drained m = record m { owed = if port_opens m then m.owed - 1 else m.owed }
 

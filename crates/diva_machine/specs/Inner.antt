@@ -13,8 +13,8 @@ use Rattle.diva_memory.specs.Bytes.{Bytes}
 use Rattle.diva_storeq.specs.declared.masked.Masked.{Masked}
 use Rattle.diva_commit.specs.Committing.{AreInside}
 use Rattle.diva_core.specs.Cycle.{Judgement, Commit, Flush, Wait, judged_under, judgement_under, stores_wait}
-use Rattle.diva_machine.specs.declared.phases.Judged.{Judged}
-use Rattle.diva_machine.specs.declared.phases.Judged.TheVariants.{Committed, Ended, Flushed, Waits}
+use Rattle.diva_machine.specs.declared.front.Judged.{Judged}
+use Rattle.diva_machine.specs.declared.front.Judged.TheVariants.{Committed, Ended, Flushed, Waits}
 use Rattle.diva_core.specs.declared.pending.Entry.{Entry}
 use Rattle.diva_core.specs.Entries.{pending_claim_of}
 use Rattle.diva_core.specs.Future.{committed_file, without_oldest}
@@ -47,8 +47,8 @@ pub record Arch : Type 0 where
   pub owed : ℕ
   pub stores : ℕ
 
--- what holds of the committed state: memory ends at 2^32 at the latest, and the undrained stores lie inside it
-pub record IsKept (m : Bytes) (stores : List Masked) : Type 0 where
+-- what holds of the committed state: memory ends at 2^32 at the latest, and the stores that are not in it yet lie inside
+pub record HasStoresInside (m : Bytes) (stores : List Masked) : Type 0 where
   pub range : m.base + length m.items ≤ 2 ^ 32
   pub inside : AreInside m stores
 
@@ -76,12 +76,12 @@ judged_by (Flush d) goes = Flushed
 judged_by Wait goes = Waits
 
 -- claims may be accepted behind the commit phase, if there was room before it: the machine goes on, and no instruction runs solo
-abbrev pub is_open : Timed → Bool
-is_open m = goes_on m.arch && is_none m.solo
+abbrev pub takes_claims : Timed → Bool
+takes_claims m = goes_on m.arch && is_none m.solo
 
 -- that is so exactly where the machine goes on and has not flushed, m being the one before that phase and n the one behind it
 abbrev pub Tells : (m n : Timed) → Type 0
-Tells m n = is_open n ≡ (goes_on n.arch && (n.flushes == m.flushes))
+Tells m n = takes_claims n ≡ (goes_on n.arch && (n.flushes == m.flushes))
 
 -- the age at which a claim passes through a stage that compares
 abbrev pub age_of : Stage → ℕ

@@ -78,7 +78,7 @@ impl Machine {
         self.parts.told()
     }
 
-    /// The committed state, memory with the undrained stores laid over it.
+    /// The committed state, memory with the stores that are not in it yet laid over it.
     pub fn view(&self) -> View<'_>
         ensures shows { result ≡ record self.now.timed.arch { end = 0 } }
         ensures goes_on { goes_on self.now.timed.arch ≡ true → result ≡ self.now.timed.arch }
@@ -320,8 +320,8 @@ impl Machine {
         self.cycle_by(list, &mut panel);
     }
 
-    /// Takes the last instruction back, which overwrote `u`. All undrained stores are put to memory before. What the core has in
-    /// flight is dropped; cycles and log stay, and so do the records of the last cycle.
+    /// Takes the last instruction back, which overwrote `u`. All stores that are not in memory yet are put there before. What the core
+    /// has in flight is dropped; cycles and log stay, and so do the records of the last cycle.
     #[tactic(auto, using(diva_core::proofs::Undoing::undone_stays, diva_core::proofs::Undoing::undone_calm, diva_core::proofs::Pacing::will_count))]
     pub fn undo(&mut self, u: &Undo)
         requires { CanUndo self.old.timed u.now }
@@ -364,11 +364,11 @@ impl Machine {
 
     /// What a core is told before the coming cycle of a machine that goes on: whether it does is not asked.
     #[inline(always)]
-    pub(crate) fn told_open(&self) -> Told
+    pub(crate) fn told_going_on(&self) -> Told
         requires { goes_on self.now.timed.arch ≡ true }
         ensures { result ≡ told_of self.now.timed }
     {
-        self.parts.told_open()
+        self.parts.told_going_on()
     }
 
     /// How many claims the coming cycle accepts at most.

@@ -25,10 +25,10 @@ ghost use Rattle.diva_vote.specs.Questions.{Question};
 ghost use Rattle.diva_machine.specs.Asked.{asked_at, asked_in, asked_of};
 ghost use Rattle.diva_machine.specs.Inner.{judged, judged_by, judgement_of, KeepsBounds, Tells};
 ghost use Rattle.diva_machine.specs.Staged.{last_stage, IsFilled, IsSoloFilled, IsStaged};
-ghost use Rattle.diva_machine.specs.Inner.{is_open, left, IsAdvanced};
+ghost use Rattle.diva_machine.specs.Inner.{left, takes_claims, IsAdvanced};
 
 use crate::arch::Arch;
-use crate::phases::Judged;
+use crate::front::Judged;
 use crate::stages::{LAST_STAGE, Stages, fill};
 use diva_commit::Committed;
 use diva_core::{Cause, Claim, Claims, Config, Entry, FutureFile, Records, Told};
@@ -114,7 +114,7 @@ impl Parts {
 
     /// The same of a machine that goes on.
     #[inline(always)]
-    pub fn told_open(&self) -> Told
+    pub fn told_going_on(&self) -> Told
         requires goes_on { goes_on self.now.timed.arch ≡ true }
         requires width { self.now.timed.config.width ≤ 4 }
         requires cycles { self.now.timed.cycles < 2 ^ 63 }
@@ -485,8 +485,8 @@ impl Parts {
 
     /// Whether claims may be accepted behind the commit phase, if there was room before it.
     #[inline(always)]
-    fn is_open(&self) -> bool
-        ensures { result ≡ is_open self.now.timed }
+    fn takes_claims(&self) -> bool
+        ensures { result ≡ takes_claims self.now.timed }
     {
         self.arch.goes_on() && matches!(self.under.recover, Recover::Running)
     }
@@ -498,13 +498,13 @@ impl Parts {
         requires room { length self.old.timed.pending + min most (length list.now) ≤ self.old.timed.config.window }
         ensures timed { self.new.timed ≡ record self.old.timed {
           pending = self.old.timed.pending
-              ++ map (accepted_in self.old.timed.cycles) (if is_open self.old.timed then take (min most (length list.now)) list.now else []);
+              ++ map (accepted_in self.old.timed.cycles) (if takes_claims self.old.timed then take (min most (length list.now)) list.now else []);
         } }
         ensures rest { self.new ≡ record self.old { timed = self.new.timed; entries = self.new.entries } }
         ensures staged { IsStaged self.old.timed.cycles self.old → IsStaged self.new.timed.cycles self.new }
         ensures solo { IsSoloFilled self.old.timed.cycles self.old → IsSoloFilled self.new.timed.cycles self.new }
     {
-        if !list.is_empty() && self.is_open() {
+        if !list.is_empty() && self.takes_claims() {
             let count = list.len().min(most);
             self.accept(&list.as_slice()[..count]);
         }
@@ -541,7 +541,7 @@ impl Parts {
     {
         if committed {
             self.under.watchdog.rest();
-        } else if self.under.watchdog.wait() && self.is_open() {
+        } else if self.under.watchdog.wait() && self.takes_claims() {
             self.bark();
         }
     }

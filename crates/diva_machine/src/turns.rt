@@ -84,7 +84,7 @@ fn ask<C: Core>(m: &Machine, core: &mut C, list: &mut Claims) -> bool
     ensures fits { IsTrue result → length list.new ≤ room_of m.now.timed }
 {
     list.clear();
-    let told = m.told_open();
+    let told = m.told_going_on();
     core.cycle(&told, &m.view(), list);
     // Few lists have more claims than there is room for. A core that waits asks for no room, and then none is worked out.
     list.len() <= told.room as usize

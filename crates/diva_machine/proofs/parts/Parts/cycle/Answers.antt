@@ -9,7 +9,7 @@ use Rattle.diva_core.specs.Cycle.{accepted_in, accepts, begun, commits_under, cy
 use Rattle.diva_core.specs.Headline.{dues}
 use Rattle.diva_core.proofs.Passing.{alone_stores}
 use Rattle.diva_machine.specs.Asked.{asked_in, asked_of}
-use Rattle.diva_machine.specs.Inner.{is_open, Tells}
+use Rattle.diva_machine.specs.Inner.{takes_claims, Tells}
 use Rattle.diva_machine.specs.Staged.{Parts}
 use Rattle.diva_machine.proofs.Staging.{staged_begun}
 use Rattle.diva_machine.proofs.Fronts.{watched-count, accepts-count, none-due}
@@ -51,7 +51,7 @@ tells g c none =
 admits : (g : given.Over) (c : goal.After-watch g) → c.accept_within.new.self.timed ≡ accepts c.args.self.now.timed c.args.list.now c.commits.new.self.timed
 admits g c =
     let n : Timed = c.commits.new.self.timed in
-    let within = λ (m : Timed) (claims : List Record). record m { pending = m.pending ++ map (accepted_in m.cycles) (if is_open m then claims else []) } in
+    let within = λ (m : Timed) (claims : List Record). record m { pending = m.pending ++ map (accepted_in m.cycles) (if takes_claims m then claims else []) } in
     c.accept_within.ensures.timed
     ∙ ap (λ (z : Parts). within z.timed (take (min c.args.most (length c.args.list.now)) c.args.list.now)) c.advance.ensures.rest
     ∙ ap (λ (k : ℕ). within n (take k c.args.list.now)) c.requires.count
