@@ -2,7 +2,10 @@
 use Rattle.std.proofs.Common.{◌≡◌, ℕ, ◌+◌, ◌<◌, ◌≤◌, Bool, true, false, List, [], ◌∷◌, map, drop, length, Option, Some, None, refl, ap, sym, ◌∙◌, arith, slice_get, subst, if◌then◌else◌}
 use Rattle.std.proofs.lemmas.Bool.{le-leb, lt-leb}
 use Rattle.std.proofs.lemmas.Option.{none-some, same_Some}
-use Rattle.diva_isa.specs.State.{State, goes_on}
+use Rattle.std.specs.Option.{option_and_then, unwrap_or}
+use Rattle.diva_decode.specs.Table.{row_of}
+use Rattle.diva_isa.specs.State.{State, goes_on, word_of}
+use Rattle.diva_isa.proofs.Parts.{row_of_zero, word_is}
 use Rattle.diva_isa.specs.declared.record.Record.{Record}
 use Rattle.diva_isa.specs.Step.{record_of}
 use Rattle.diva_core.specs.declared.differences.Diff.{Diff}
@@ -19,6 +22,14 @@ use Rattle.diva_commit.specs.Committing.{state_of}
 use Rattle.diva_hart.specs.HartArch.{HartState, seen}
 use Rattle.diva_duo.specs.Duo.{Hart}
 use Rattle.diva_duo.specs.Inner.{NonePastEnd, judge_next}
+
+-- what the word of a due record says is what the fetched word does
+says_by : (o : Option ℕ) (w : ℕ) → w ≡ unwrap_or o 0 → option_and_then row_of o ≡ row_of w
+says_by None w h = sym row_of_zero ∙ ap row_of (sym h)
+says_by (Some v) w h = ap row_of (sym h)
+
+pub word_says : (o : Option ℕ) (s : State) → o ≡ word_of s s.pc → option_and_then row_of o ≡ row_of (record_of s).word
+word_says o s h = says_by o (record_of s).word (word_is s ∙ ap (λ (x : Option ℕ). unwrap_or x 0) (sym h))
 
 first_is : (items : List Entry) (e : Entry) → slice_get items 0 ≡ Some e → items ≡ e ∷ drop 1 items
 first_is [] e h = absurd (none-some _ h)

@@ -20,10 +20,10 @@ ghost use Rattle.diva_duo.specs.Duo.{drained_hart, hart_cycle, has_ended, new_ha
 ghost use Rattle.diva_duo.specs.Inner.{judge_next, Grown, NonePastEnd, CanCycle, KeepsBounds};
 
 use diva_core::{Cause, Claim, Config, FlushRow, Told, View, first_difference};
-use diva_decode::{Instr, decode};
+use diva_decode::Instr;
 use diva_hart::{DEPTH, HartArch, Port, UnderWay};
 use diva_image::Image;
-use diva_isa::{Effect, End, Kind, Record, effect_by, kind_of, record_of};
+use diva_isa::{Effect, End, Kind, Record, decoded_of, effect_by, fetch, kind_of, record_by};
 use diva_memory::Memory;
 use diva_watchdog::Recover;
 use std::alloc::{AllocError, Global};
@@ -230,12 +230,11 @@ impl Hart {
             return false;
         }
         let claim = front.claim;
-        let due = record_of(&self.view(memory));
+        let (due, decoded) = due_of(&self.view(memory));
         if let Some(diff) = first_difference(&claim, &due) {
             self.flush(cycles, Cause::Differs(diff));
             return false;
         }
-        let decoded = decode(due.word);
         if self.waits(decoded, &due) {
             return false;
         }
@@ -283,9 +282,9 @@ impl Hart {
             Recover::Running => self.judge(memory, cycles, self.under.width),
             Recover::Solo(start) => {
                 if cycles >= DEPTH && cycles - DEPTH == start {
-                    let due = record_of(&self.view(memory));
+                    let (due, decoded) = due_of(&self.view(memory));
                     self.under.recover = Recover::Running;
-                    self.settle(memory, decode(due.word), &due);
+                    self.settle(memory, decoded, &due);
                 }
             }
         }
@@ -341,4 +340,15 @@ impl Hart {
         self.accept(cycles, room, flushes, list);
         self.watch(cycles, count);
     }
+}
+
+/// The record that is due in a state, and what its word says: it is decoded once.
+#[inline(always)]
+fn due_of(view: &View<'_>) -> (Record, Option<Instr>)
+    ensures record { result.0 ≡ record_of view.now }
+    ensures decoded { result.1 ≡ row_of result.0.word }
+{
+    let fetched = fetch(view);
+    let decoded = decoded_of(fetched);
+    (record_by(view, fetched, decoded), decoded)
 }

@@ -34,7 +34,7 @@ returns-in-Some-first_difference-clause-judges c = λ next.
     let waits : m.pending ≡ map pending_claim_of items = ap (λ (x : Hart). x.pending) (sym c.self.view_is) in
     let old : e.cycle + depth ≤ c.args.cycles = omega arith in
     let on : h.state.end ≡ 0 = front_goes_on h items e c.requires.none_past_end waits first in
-    let due : c.record_of-due.result ≡ record_of m.arch = due_is c.args.memory.now h c.view.result c.record_of-due.result c.view.ensures c.record_of-due.ensures on in
+    let due : c.due_of-decoded.result.0 ≡ record_of m.arch = due_is c.args.memory.now h c.view.result c.due_of-decoded.result.0 c.view.ensures c.due_of-decoded.ensures.record on in
     let look : first_difference e.claim (record_of m.arch) ≡ c.first_difference.result = ap (first_difference e.claim) (sym due) ∙ sym c.first_difference.ensures.first in
     differs m items e first waits old c.in-Some-first_difference.diff (look ∙ c.in-Some-first_difference.is) next
     ∙ sym (c.flush.ensures.timed c.args.memory.now)
@@ -49,7 +49,7 @@ returns-then-waits-clause-judges c = λ next.
     let waits : m.pending ≡ map pending_claim_of items = ap (λ (x : Hart). x.pending) (sym c.self.view_is) in
     let old : e.cycle + depth ≤ c.args.cycles = omega arith in
     let on : h.state.end ≡ 0 = front_goes_on h items e c.requires.none_past_end waits first in
-    let due : c.record_of-due.result ≡ record_of m.arch = due_is c.args.memory.now h c.view.result c.record_of-due.result c.view.ensures c.record_of-due.ensures on in
+    let due : c.due_of-decoded.result.0 ≡ record_of m.arch = due_is c.args.memory.now h c.view.result c.due_of-decoded.result.0 c.view.ensures c.due_of-decoded.ensures.record on in
     let look : first_difference e.claim (record_of m.arch) ≡ c.first_difference.result = ap (first_difference e.claim) (sym due) ∙ sym c.first_difference.ensures.first in
     held m items e first waits old (look ∙ c.in_default-first_difference.is) (ap (fences_wait m.config.stores m.owed) (sym due) ∙ sym c.waits.ensures ∙ c.if-waits.true) next
 
@@ -63,7 +63,7 @@ returns-else-not-goes_on-clause-judges c = λ next.
     let waits : m.pending ≡ map pending_claim_of items = ap (λ (x : Hart). x.pending) (sym c.self.view_is) in
     let old : e.cycle + depth ≤ c.args.cycles = omega arith in
     let on : h.state.end ≡ 0 = front_goes_on h items e c.requires.none_past_end waits first in
-    let due : c.record_of-due.result ≡ record_of m.arch = due_is c.args.memory.now h c.view.result c.record_of-due.result c.view.ensures c.record_of-due.ensures on in
+    let due : c.due_of-decoded.result.0 ≡ record_of m.arch = due_is c.args.memory.now h c.view.result c.due_of-decoded.result.0 c.view.ensures c.due_of-decoded.ensures.record on in
     let look : first_difference e.claim (record_of m.arch) ≡ c.first_difference.result = ap (first_difference e.claim) (sym due) ∙ sym c.first_difference.ensures.first in
     let ps : List PendingClaim = map pending_claim_of c.pop.new.self.items in
     let n : Timed = timed c.args.cycles c.args.memory.now c.settle.new.self in
@@ -71,7 +71,7 @@ returns-else-not-goes_on-clause-judges c = λ next.
     let with_cap = λ (x : Hart). record (timed c.args.cycles c.args.memory.now x) { config = record x.config { window = c.pop.new.self.capacity }; pending = ps } in
     let popped = ap with_cap c.self.view_is ∙ ap (λ (k : ℕ). record m { config = record m.config { window = k }; pending = ps }) (sym cap) in
     let is : n ≡ committed (record m { pending = ps }) (record_of m.arch) =
-    c.settle.ensures.timed c.args.cycles ∙ ap (λ (z : Timed). committed z c.record_of-due.result) popped ∙ ap (committed (record m { pending = ps })) due in
+    c.settle.ensures.timed c.args.cycles ∙ ap (λ (z : Timed). committed z c.due_of-decoded.result.0) popped ∙ ap (committed (record m { pending = ps })) due in
     let rest : drop 1 m.pending ≡ ps = ap (drop 1) waits ∙ ap (λ (b : Buffer Entry). drop 1 (map pending_claim_of b.items)) c.pop.ensures in
     let goes = free m items e first waits old (look ∙ c.in_default-first_difference.is) (ap (fences_wait m.config.stores m.owed) (sym due) ∙ sym c.waits.ensures ∙ c.if-waits.false) next in
     let ran : goes_on n.arch ≡ true = ap (λ (x : Hart). x.state.end == 0) (sym c.self-2.view_is) ∙ sym c.goes_on.ensures ∙ c.if-not-goes_on.false in
@@ -87,7 +87,7 @@ returns-then-not-goes_on-clause-judges c = λ next.
     let waits : m.pending ≡ map pending_claim_of items = ap (λ (x : Hart). x.pending) (sym c.self.view_is) in
     let old : e.cycle + depth ≤ c.args.cycles = omega arith in
     let on : h.state.end ≡ 0 = front_goes_on h items e c.requires.none_past_end waits first in
-    let due : c.record_of-due.result ≡ record_of m.arch = due_is c.args.memory.now h c.view.result c.record_of-due.result c.view.ensures c.record_of-due.ensures on in
+    let due : c.due_of-decoded.result.0 ≡ record_of m.arch = due_is c.args.memory.now h c.view.result c.due_of-decoded.result.0 c.view.ensures c.due_of-decoded.ensures.record on in
     let look : first_difference e.claim (record_of m.arch) ≡ c.first_difference.result = ap (first_difference e.claim) (sym due) ∙ sym c.first_difference.ensures.first in
     let ps : List PendingClaim = map pending_claim_of c.pop.new.self.items in
     let n : Timed = timed c.args.cycles c.args.memory.now c.settle.new.self in
@@ -95,7 +95,7 @@ returns-then-not-goes_on-clause-judges c = λ next.
     let with_cap = λ (x : Hart). record (timed c.args.cycles c.args.memory.now x) { config = record x.config { window = c.pop.new.self.capacity }; pending = ps } in
     let popped = ap with_cap c.self.view_is ∙ ap (λ (k : ℕ). record m { config = record m.config { window = k }; pending = ps }) (sym cap) in
     let is : n ≡ committed (record m { pending = ps }) (record_of m.arch) =
-    c.settle.ensures.timed c.args.cycles ∙ ap (λ (z : Timed). committed z c.record_of-due.result) popped ∙ ap (committed (record m { pending = ps })) due in
+    c.settle.ensures.timed c.args.cycles ∙ ap (λ (z : Timed). committed z c.due_of-decoded.result.0) popped ∙ ap (committed (record m { pending = ps })) due in
     let rest : drop 1 m.pending ≡ ps = ap (drop 1) waits ∙ ap (λ (b : Buffer Entry). drop 1 (map pending_claim_of b.items)) c.pop.ensures in
     let goes = free m items e first waits old (look ∙ c.in_default-first_difference.is) (ap (fences_wait m.config.stores m.owed) (sym due) ∙ sym c.waits.ensures ∙ c.if-waits.false) next in
     let off : goes_on n.arch ≡ false = ap (λ (x : Hart). x.state.end == 0) (sym c.self-2.view_is) ∙ sym c.goes_on.ensures ∙ c.if-not-goes_on.true in
@@ -115,11 +115,11 @@ returns-else-not-goes_on-clause-grown c =
     let first : slice_get items 0 ≡ Some e = sym c.in-Some.ensures in
     let waits : h.pending ≡ map pending_claim_of items = ap (λ (x : Hart). x.pending) (sym c.self.view_is) in
     let on : h.state.end ≡ 0 = front_goes_on h items e c.requires.none_past_end waits first in
-    let due = due_is c.args.memory.now h c.view.result c.record_of-due.result c.view.ensures c.record_of-due.ensures on in
-    let b : c.settle.new.self.state.buffer ≡ h.state.buffer ++ buffered c.record_of-due.result =
-    c.settle.ensures.buffer ∙ ap (λ (x : Hart). x.state.buffer ++ buffered c.record_of-due.result) c.self.view_is in
+    let due = due_is c.args.memory.now h c.view.result c.due_of-decoded.result.0 c.view.ensures c.due_of-decoded.ensures.record on in
+    let b : c.settle.new.self.state.buffer ≡ h.state.buffer ++ buffered c.due_of-decoded.result.0 =
+    c.settle.ensures.buffer ∙ ap (λ (x : Hart). x.state.buffer ++ buffered c.due_of-decoded.result.0) c.self.view_is in
     let r : Grown c.args.memory.now h c.settle.new.self =
-    grown_at c.args.memory.now h c.settle.new.self c.args.cycles _ c.record_of-due.result (c.settle.ensures.timed c.args.cycles)
+    grown_at c.args.memory.now h c.settle.new.self c.args.cycles _ c.due_of-decoded.result.0 (c.settle.ensures.timed c.args.cycles)
     (ap (λ (x : Hart). x.state.instret) c.self.view_is) (ap (λ (x : Hart). seen c.args.memory.now x.state) c.self.view_is) due b in
     r
 
@@ -131,11 +131,11 @@ returns-then-not-goes_on-clause-grown c =
     let first : slice_get items 0 ≡ Some e = sym c.in-Some.ensures in
     let waits : h.pending ≡ map pending_claim_of items = ap (λ (x : Hart). x.pending) (sym c.self.view_is) in
     let on : h.state.end ≡ 0 = front_goes_on h items e c.requires.none_past_end waits first in
-    let due = due_is c.args.memory.now h c.view.result c.record_of-due.result c.view.ensures c.record_of-due.ensures on in
-    let b : c.settle.new.self.state.buffer ≡ h.state.buffer ++ buffered c.record_of-due.result =
-    c.settle.ensures.buffer ∙ ap (λ (x : Hart). x.state.buffer ++ buffered c.record_of-due.result) c.self.view_is in
+    let due = due_is c.args.memory.now h c.view.result c.due_of-decoded.result.0 c.view.ensures c.due_of-decoded.ensures.record on in
+    let b : c.settle.new.self.state.buffer ≡ h.state.buffer ++ buffered c.due_of-decoded.result.0 =
+    c.settle.ensures.buffer ∙ ap (λ (x : Hart). x.state.buffer ++ buffered c.due_of-decoded.result.0) c.self.view_is in
     let r : Grown c.args.memory.now h c.settle.new.self =
-    grown_at c.args.memory.now h c.settle.new.self c.args.cycles _ c.record_of-due.result (c.settle.ensures.timed c.args.cycles)
+    grown_at c.args.memory.now h c.settle.new.self c.args.cycles _ c.due_of-decoded.result.0 (c.settle.ensures.timed c.args.cycles)
     (ap (λ (x : Hart). x.state.instret) c.self.view_is) (ap (λ (x : Hart). seen c.args.memory.now x.state) c.self.view_is) due b in
     let s = subst (Grown c.args.memory.now h) (sym c.self-2.view_is) r in
     record { counted = s.counted; stepped = s.stepped; buffer = s.buffer }
