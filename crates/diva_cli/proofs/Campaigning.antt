@@ -1,5 +1,5 @@
 -- Runs under lockstep with a script, and what is written of those of a campaign.
-use Rattle.std.proofs.Common.{◌≡◌, ◌↔◌, ℕ, zero, suc, ◌+◌, ◌*◌, ◌≤◌, true, false, List, [], ◌∷◌, length, Result, Ok, Err, IfOk, refl, ap, sym, ◌∙◌, subst, arith, inl, inr}
+use Rattle.std.proofs.Common.{◌≡◌, ℕ, zero, suc, ◌+◌, ◌*◌, ◌≤◌, true, false, List, [], ◌∷◌, length, Result, Ok, Err, IfOk, refl, ap, sym, ◌∙◌, subst, arith, inl, inr}
 use Rattle.std.proofs.lemmas.Bool.{cases_Bool, true≢false}
 use Rattle.diva_outside.specs.Text.{Text}
 use Rattle.diva_outside.specs.declared.sink.SinkFailed.{SinkFailed}
@@ -11,15 +11,13 @@ use Rattle.diva_isa.specs.declared.record.Record.{Record}
 use Rattle.diva_core.specs.Timed.{Timed, default_config, depth, new_timed}
 use Rattle.diva_core.specs.Cycle.{cycle_of, run_of}
 use Rattle.diva_core.specs.Headline.{EndsAfter}
-use Rattle.diva_core.specs.History.{FollowRule, Meaning, Turns, lists_of}
+use Rattle.diva_core.specs.History.{FollowRule, Meaning, lists_of}
 use Rattle.diva_core.specs.Machine.{IsMachine}
 use Rattle.diva_core.proofs.Ending.{same_end}
 use Rattle.diva_core.proofs.Keeping.{stays}
 use Rattle.diva_core.proofs.Outcomes.{cycle-cycles, cycle-off}
 use Rattle.diva_core.proofs.Starting.{new-machine}
 use Rattle.diva_core.proofs.Turning.{IsHistory-rule, IsHistory-run, length-lists_of}
-use Rattle.diva_hart.specs.declared.ends.Drive.{Drive}
-use Rattle.diva_hart.specs.declared.ends.Drive.TheVariants.{Ended, Budget}
 use Rattle.diva_faults.specs.Lists.{scripted}
 use Rattle.diva_faults.specs.Spoiled.{spoiled}
 use Rattle.diva_faults.specs.declared.rows.Row.{Row}
@@ -33,10 +31,10 @@ use Rattle.diva_cli.specs.Changes.{PutsTo, SinkChange, change}
 use Rattle.diva_cli.specs.Driven.{scripted_rule}
 use Rattle.diva_cli.specs.Parts.{AreCampaignRuns, WritesText}
 use Rattle.diva_cli.specs.Runs.{EndsWith, IsWhole, end_status}
+use Rattle.diva_cli.specs.Tasks.{DrivesFor}
 use Rattle.diva_cli.specs.Wanted.{FileBytes}
 use Rattle.diva_trace.specs.Text.{campaign_text}
 use Rattle.diva_cli.proofs.Counting.{all_same, same_by_state}
-use Rattle.diva_cli.proofs.Handing.{went_far}
 use Rattle.diva_cli.proofs.Running.{ends_with, run_from_start}
 use Rattle.diva_cli.proofs.Soaking.{sizes_fit}
 
@@ -97,22 +95,19 @@ ruled_lists rule (suc n) m inv =
 -- ---- a drive of a core that is lockstep under a script
 
 pub drove_ruled :
-    {D : Type 0} (rows : List Row) (m : Timed) (core : D) (last : Timed) (final : D) (budget : ℕ) (r : Drive)
-    → Turns (spoiled rows IsLockstepCall) m core last final
-    → last.cycles ≤ m.cycles + budget
-    → (r ≡ Ended) ↔ (goes_on last.arch ≡ false)
-    → (r ≡ Budget) ↔ ((last.cycles ≡ m.cycles + budget) × (goes_on last.arch ≡ true))
+    {D : Type 0} (rows : List Row) (m : Timed) (core : D) (last : Timed) (final : D) (budget : ℕ)
+    → DrivesFor (spoiled rows IsLockstepCall) budget (change m last) (change core final)
     → last ≡ ruled (scripted_rule rows lockstep_list) budget m
-drove_ruled {D} rows m core last final budget r t within ended ran =
+drove_ruled {D} rows m core last final budget d =
+    let t = d.turns in
     let lists : List (List Record) = lists_of t.history in
     let led : last ≡ run_of m lists = IsHistory-run (spoiled rows IsLockstepCall) m core t.history last final t.good in
     let follows : FollowRule (scripted_rule rows lockstep_list) m lists =
     IsHistory-rule (spoiled rows IsLockstepCall) (scripted_rule rows lockstep_list)
     (λ n before list after h. h.laid ∙ ap (scripted rows (n.cycles + 1)) h.given) m core t.history last final t.good in
-    let far = went_far m last budget r within ended ran in
     let many = length-lists_of t.history in
-    led ∙ follows_ruled (scripted_rule rows lockstep_list) lists budget m follows (let e = t.each in let w = far.most in omega arith)
-    (λ on. (let e = t.each in let w = far.whole (ap (λ (k : Timed). goes_on k.arch) led ∙ on) in omega arith))
+    led ∙ follows_ruled (scripted_rule rows lockstep_list) lists budget m follows (let e = t.each in let w = d.most in omega arith)
+    (λ on. (let e = t.each in let w = d.whole (ap (λ (k : Timed). goes_on k.arch) led ∙ on) in omega arith))
 
 -- ---- what holds of each run
 

@@ -28,7 +28,7 @@ use Rattle.diva_cli.specs.declared.driving.CoreInUse.{CoreInUse}
 use Rattle.diva_cli.specs.declared.driving.CoreInUse.TheVariants.{Own, Lockstep, Scalar, Silent, Flood, Echo, Noise, Tape}
 use Rattle.diva_cli.specs.Changes.{change, sink_change}
 use Rattle.diva_cli.specs.Driven.{scripted_lists, scripted_rule}
-use Rattle.diva_cli.specs.Tasks.{AreHandedBy, IsQuiet, Performs, PerformsBy}
+use Rattle.diva_cli.specs.Tasks.{AreHandedBy, DrivesFor, IsQuiet, Performs, PerformsBy}
 
 -- ---- under a script
 
@@ -64,34 +64,28 @@ performs_faulty gives script m core f last final after this lent rows ends p =
 
 -- ---- a drive of which nothing is written
 
-pub record WentFar (m last : Timed) (budget : ℕ) : Type 0 where
-  pub most : last.cycles ≤ m.cycles + budget
-  pub whole : goes_on last.arch ≡ true → last.cycles ≡ m.cycles + budget
-
-pub went_far :
-    (m last : Timed) (budget : ℕ) (r : Drive)
-    → last.cycles ≤ m.cycles + budget
-    → (r ≡ Ended) ↔ (goes_on last.arch ≡ false)
-    → (r ≡ Budget) ↔ ((last.cycles ≡ m.cycles + budget) × (goes_on last.arch ≡ true))
-    → WentFar m last budget
-went_far m last budget Ended most ends runs = record { most = most; whole = λ on. absurd (true≢false (sym on ∙ ends.0 refl)) }
-went_far m last budget Budget most ends runs = record { most = most; whole = λ on. (runs.0 refl).0 }
-
-pub performs_quiet :
-    {D S : Type 0} (gives : Meaning D) (budget : ℕ) (m : Timed) (core : D) (last : Timed) (after : D) (contents : S → Option (List ℕ)) (faults : S → ℕ) (s : S) (r : Drive)
+-- what a drive answers of how it ended
+pub drives_for :
+    {D : Type 0} (gives : Meaning D) (m : Timed) (core : D) (last : Timed) (after : D) (budget : ℕ) (r : Drive)
     → Turns gives m core last after
     → last.cycles ≤ m.cycles + budget
     → (r ≡ Ended) ↔ (goes_on last.arch ≡ false)
     → (r ≡ Budget) ↔ ((last.cycles ≡ m.cycles + budget) × (goes_on last.arch ≡ true))
+    → DrivesFor gives budget (change m last) (change core after)
+drives_for gives m core last after budget Ended t most ends runs = record { turns = t; most = most; whole = λ on. absurd (true≢false (sym on ∙ ends.0 refl)) }
+drives_for gives m core last after budget Budget t most ends runs = record { turns = t; most = most; whole = λ on. (runs.0 refl).0 }
+
+pub performs_quiet :
+    {D S : Type 0} (gives : Meaning D) (budget : ℕ) (m : Timed) (core : D) (last : Timed) (after : D) (contents : S → Option (List ℕ)) (faults : S → ℕ) (s : S)
+    → DrivesFor gives budget (change m last) (change core after)
     → Performs gives (change m last) (change core after) (λ lists. IsQuiet budget (change m last) lists (sink_change contents faults s s) (Ok tt))
-performs_quiet gives budget m core last after contents faults s r t within ended ran =
-    let far = went_far m last budget r within ended ran in
-    let l = length-lists_of t.history in
+performs_quiet gives budget m core last after contents faults s d =
+    let l = length-lists_of d.turns.history in
     record {
-      turns = t;
+      turns = d.turns;
       done = record {
-        most = (let e = t.each in let w = far.most in omega arith);
-        whole = λ on. (let e = t.each in let w = far.whole on in omega arith);
+        most = (let e = d.turns.each in let w = d.most in omega arith);
+        whole = λ on. (let e = d.turns.each in let w = d.whole on in omega arith);
         never_fails = refl;
         contents = refl;
         faults = refl;

@@ -34,7 +34,7 @@ use Rattle.diva_cli.specs.Wanted.{FileBytes}
 use Rattle.diva_cli.specs.SoakTexts.{HasSoaked, IsSoakRun, soak_cycles, soak_setup, soak_start}
 use Rattle.diva_cli.specs.Driven.{AreHanded, ByTurns}
 use Rattle.diva_cli.specs.Parts.{Soaks, WritesPart, WritesWhole}
-use Rattle.diva_cli.proofs.Handing.{went_far}
+use Rattle.diva_cli.proofs.Handing.{drives_for}
 use Rattle.diva_cli.proofs.Running.{handed_for, run_from_start}
 
 pub sizes_fit : IsConfig default_config
@@ -75,7 +75,7 @@ pub drove :
     → (r ≡ Budget) ↔ ((last.cycles ≡ m.cycles + budget) × (goes_on last.arch ≡ true))
     → Soaks gives options (change core after) last
 drove gives options m core last after budget r is all t within ended ran =
-    let far = went_far m last budget r within ended ran in
+    let far = drives_for gives m core last after budget r t within ended ran in
     let none : m.cycles ≡ 0 = ap (λ (n : Timed). n.cycles) is in
     record {
       turns = subst (λ (n : Timed). Turns gives n core last after) is t;

@@ -159,6 +159,13 @@ run_task true cycles liar = Trace cycles liar
 
 -- ---- by a core
 
+-- a core drove a machine, in turns that the core's meaning allows: for so many cycles at most, and for just so many where the machine
+-- goes on
+pub record DrivesFor {D : Type 0} (gives : Meaning D) (cycles : ℕ) (machine : Change Timed) (core : Change D) : Type 0 where
+  pub turns : Turns gives machine.before core.before machine.after core.after
+  pub most : machine.after.cycles ≤ machine.before.cycles + cycles
+  pub whole : goes_on machine.after.arch ≡ true → machine.after.cycles ≡ machine.before.cycles + cycles
+
 -- a core took turns with a machine, and this holds of the lists of the turns
 pub record Performs {D : Type 0} (gives : Meaning D) (machine : Change Timed) (core : Change D)
     (this : List (List Record) → Type 0) : Type 0 where

@@ -14,7 +14,6 @@ returns c =
     let start = start_of (layout c.args.image.now) in
     let begun : c.in_ok-machine.machine.timed ≡ new_timed default_config start = c.in_ok-machine.ensures.timed ∙ ap (λ (z : Config). new_timed z start) c.default.ensures in
     let same : c.from.result ≡ c.args.cycles = cc in
-    drove_ruled c.args.script.now _ _ _ _ c.from.result c.drive_scripted.result
-    c.drive_scripted.ensures.turns c.drive_scripted.ensures.within c.drive_scripted.ensures.ended c.drive_scripted.ensures.budget
+    drove_ruled c.args.script.now _ _ _ _ c.from.result c.drive_scripted.ensures
     ∙ ap (λ (n : ℕ). ruled (scripted_rule c.args.script.now lockstep_list) n c.in_ok-machine.machine.timed) same
     ∙ ap (ruled (scripted_rule c.args.script.now lockstep_list) c.args.cycles) begun

@@ -1,9 +1,12 @@
 -- A line for each task.
-use Rattle.diva_cli.proofs.Handing.{performs_quiet}
+use Rattle.diva_cli.proofs.Handing.{drives_for, performs_quiet}
 use Rattle.diva_cli.proofs.tasks.perform.Goals as goal
 
 pub returns-in-Quiet : goal.returns-in-Quiet
-returns-in-Quiet g c = rw c.in-Quiet.is (performs_quiet g.D.Core.gives _ _ _ _ _ g.S.Sink.contents g.S.Sink.faults _ c.drive_checked.result c.drive_checked.ensures.drives.turns c.drive_checked.ensures.within c.drive_checked.ensures.ended c.drive_checked.ensures.budget)
+returns-in-Quiet g c =
+    rw c.in-Quiet.is (performs_quiet g.D.Core.gives _ _ _ _ _ g.S.Sink.contents g.S.Sink.faults _
+    (drives_for g.D.Core.gives _ _ _ _ _ c.drive_checked.result
+    c.drive_checked.ensures.drives.turns c.drive_checked.ensures.within c.drive_checked.ensures.ended c.drive_checked.ensures.budget))
 
 pub returns-in-Trace : goal.returns-in-Trace
 returns-in-Trace g c = rw c.in-Trace.is c.drive_writing.ensures
