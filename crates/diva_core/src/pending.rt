@@ -126,9 +126,6 @@ impl Pending {
     ghost use Rattle.diva_core.specs.Entries.{IsDecoded};
     ghost use Rattle.diva_core.specs.declared.pending.Entry.{Entry};
 
-    /// The most claims that are pending.
-    pub const MOST: usize = 64;
-
     /// No pending claim, with room for `q`, 64 at most. The one error is that memory runs out.
     pub fn new(alloc: Global, q: usize) -> Result<Self, AllocError>
         requires { q ≤ 64 }

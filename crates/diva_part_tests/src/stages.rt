@@ -11,6 +11,9 @@ use std::alloc::{AllocError, Global};
 use std::test::Fail;
 use tables::{COUNT, READS, ROWS, Stage};
 
+/// The most claims that wait at once.
+const MOST_PENDING: usize = 64;
+
 /// What memory begins with: zeros up to 32, then the word 44332211, and the words of `rdinstret x1` and `rdinstreth x1`.
 static BYTES: [u8; 44] = [
     0, 0, 0, 0, 0, 0, 0, 0, 0, 0, 0, 0, 0, 0, 0, 0, 0, 0, 0, 0, 0, 0, 0, 0, 0, 0, 0, 0, 0, 0, 0, 0,
@@ -19,7 +22,7 @@ static BYTES: [u8; 44] = [
 
 /// The claims, all accepted in the first cycle.
 fn pending(alloc: Global, claims: &[Record]) -> Result<Pending, AllocError> {
-    let mut pending = Pending::new(alloc, Pending::MOST)?;
+    let mut pending = Pending::new(alloc, MOST_PENDING)?;
     for claim in claims {
         if pending.len() < pending.capacity() {
             pending.push(*claim, 1);
@@ -50,7 +53,7 @@ fn answer_in(pending: &Pending) -> Option<Diff> {
     let youngest = pending.len() - 1;
     let mut future = FutureFile::new();
     for at in 0..youngest {
-        if future.claims() < Pending::MOST {
+        if future.claims() < MOST_PENDING {
             future.keep(pending.at(at));
         }
     }
