@@ -160,6 +160,30 @@ fn rows_of_a_script(rt: HostRuntime) -> Result<(), Fail> {
     Ok(())
 }
 
+/// Scripts with the first cycle that a row of theirs touches, and the one behind the last.
+static TOUCHED: [(&str, u64, u64); 6] = [
+    ("", u64::MAX, 0),
+    ("at 7 lane 0 lose", 7, 8),
+    ("at 7 hush 3", 7, 10),
+    ("at 9 lane 0 lose\nat 2 hush 4\nat 3 lane 1 double", 2, 10),
+    ("at 5 hush 1000\nat 900 lane 0 lose", 5, 1005),
+    (
+        "at 1000000000 lane 7 flip pc 1",
+        1_000_000_000,
+        1_000_000_001,
+    ),
+];
+
+#[test]
+fn cycles_that_rows_touch(rt: HostRuntime) -> Result<(), Fail> {
+    for &(text, first, end) in &TOUCHED {
+        let script = Script::read(rt.alloc(), text.as_bytes())?;
+        assert_eq!(rt; script.first_cycle(), first, "{text:?}");
+        assert_eq!(rt; script.end_cycle(), end, "{text:?}");
+    }
+    Ok(())
+}
+
 /// Hands over `count` claims in each call, of the values 0, 1 and so on, and counts the calls.
 #[derive(Drop)]
 struct Steady {
