@@ -183,7 +183,7 @@ struct Answer {
 fn run_program<C: Core>(core: &mut C, line: &str, outside: Outside) -> Result<Answer, Fail> {
     let alloc = outside.alloc;
     let mut words = Vec::new(alloc);
-    for word in line.split_whitespace() {
+    for word in line.split(' ').filter(|word| !word.is_empty()) {
         words.push(if word == "''" { "" } else { word })?;
     }
     let absent = outside.absent;

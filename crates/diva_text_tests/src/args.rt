@@ -461,7 +461,7 @@ fn lines_of_the_program_that_draws(rt: HostRuntime) -> Result<(), Fail> {
 /// The words of a line, in which an empty word is written `''`.
 fn words_of(alloc: Global, line: &str) -> Result<Vec<&str>, AllocError> {
     let mut words = Vec::new(alloc);
-    for word in line.split_whitespace() {
+    for word in line.split(' ').filter(|word| !word.is_empty()) {
         words.push(if word == "''" { "" } else { word })?;
     }
     Ok(words)

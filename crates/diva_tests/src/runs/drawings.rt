@@ -130,7 +130,7 @@ cycle                       1  2  3
 /// What the program answers on a row.
 fn answer(alloc: Global, row: &Drawn) -> Result<(u8, Vec<u8>), Fail> {
     let mut words = Vec::new(alloc);
-    for word in row.line.split_whitespace() {
+    for word in row.line.split(' ').filter(|word| !word.is_empty()) {
         words.push(word)?;
     }
     if !row.script.is_empty() {

@@ -33,7 +33,7 @@ fn run_program<C: Core>(
     file: &[u8],
 ) -> Result<Answer, Fail> {
     let mut words = Vec::new(alloc);
-    for word in line.split_whitespace() {
+    for word in line.split(' ').filter(|word| !word.is_empty()) {
         words.push(word)?;
     }
     let mut there = Vec::new(alloc);
