@@ -60,20 +60,23 @@ impl UnderWay {
         ensures width { result ≤ self.now.width }
         ensures total { result ≤ 64 - length self.now.pending.items }
     {
-        self.room_where(hart, hart.goes_on())
+        self.room_where(hart, hart.goes_on(), self.pending.len())
     }
 
-    /// The same, where it is known whether the hart goes on.
+    /// The same, where it is known whether the hart goes on, and how many claims are pending.
     #[inline(always)]
-    fn room_where(&self, hart: &HartArch, goes_on: bool) -> usize
-        requires { goes_on ≡ (hart.now.state.end == 0) }
+    fn room_where(&self, hart: &HartArch, goes_on: bool, pending: usize) -> usize
+        requires goes_on { goes_on ≡ (hart.now.state.end == 0) }
+        requires pending { pending ≡ length self.now.pending.items }
         ensures value { result ≡ room_of (told_machine hart.now.state 1 0 self.now) }
         ensures fits { result ≤ self.now.pending.capacity - length self.now.pending.items }
         ensures width { result ≤ self.now.width }
         ensures total { result ≤ 64 - length self.now.pending.items }
     {
         let _ = hart;
-        let free = self.pending.capacity() - self.pending.len();
+        // Asked for the proof alone: no more claims are pending than there is room for.
+        let _ = self.pending.len();
+        let free = self.pending.capacity() - pending;
         let most = free.min(self.width as usize);
         match self.recover {
             Recover::Running if goes_on => most,
@@ -110,8 +113,13 @@ impl UnderWay {
         requires epoch { self.now.log.flushes + self.now.undos < 2 ^ 63 }
         ensures { result ≡ told_of (told_machine hart.now.state port.now cycles self.now) }
     {
-        let room = self.room_where(hart, goes_on) as u32;
         let pending = self.pending.len() as u32;
+        // Worked out apart where nothing is pending: a core that waits for that asks for no room elsewhere, and then none is.
+        let room = if pending == 0 {
+            self.room_where(hart, goes_on, 0)
+        } else {
+            self.room_where(hart, goes_on, self.pending.len())
+        } as u32;
         let idle = self.watchdog.idle();
         let by_then = u64::from(idle) + DEPTH + u64::from(port.period());
         Told {
