@@ -25,10 +25,10 @@ use std::alloc::Global;
 ///
 /// | status | comes |
 /// |---|---|
-/// | 0 | the run halted; of the commands that run nothing to its end, the whole text was written |
+/// | 0 | the run halted, of two harts both, of a campaign the first run; of the commands that run nothing to its end, the whole text was written |
 /// | 2 | the words are not a valid command line; the usage line is written |
-/// | 3 | the run trapped |
-/// | 4 | exactly the cycles asked for were run, and the machine goes on |
+/// | 3 | the run trapped, of a campaign the first one; of two harts both have ended, and one by a trap at least |
+/// | 4 | exactly the cycles asked for were run, and the machine goes on; of two harts one does, or owes a store |
 /// | 5 | the first file that can't be used has a fault, or is too long; a line says so |
 /// | 8 | the first file that can't be used can't be read; a line says so |
 /// | 9 | the sink failed; a prefix of the text was written |

@@ -53,8 +53,9 @@ pub fn scalar_is_right_behind_undos()
         → EachPart (OfLists AreRight) m (map part_of legs) }
 {}
 
-/// `Scalar` may lead again after each flush, whatever the machine was handed: at once, since while an instruction runs solo
-/// there is no room and `Scalar` takes no epoch; and where that instruction commits the machine is calm, with nothing
+/// `Scalar` may lead again after each flush, whatever the machine was handed, if it has taken no epoch yet, or none that is
+/// later than the machine's, which stays so in each cycle in which it is asked: at once, since while an instruction runs
+/// solo there is no room and `Scalar` takes no epoch; and where that instruction commits the machine is calm, with nothing
 /// pending, and its epoch is still not `Scalar`'s. So it may where the last instruction is taken back.
 pub fn scalar_may_lead_again()
     ensures flushed { (m : Timed) (before after : Ahead) (list handed : List Record)
