@@ -1,5 +1,5 @@
 -- Turns that are drawn, one by one; and what is written of a run that is drawn.
-use Rattle.std.proofs.Common.{◌≡◌, ◌⊎◌, ◌≤◌, ◌<◌, ℕ, zero, suc, ◌+◌, ◌*◌, ◌^◌, List, [], ◌∷◌, ◌++◌, length, Option, Some, None, Result, Ok, Err, OnOk, OnErr, IfOk, IfErr, true, false, refl, inl, inr, ap, sym, ◌∙◌, append_assoc, append-nil, arith, subst, length-append}
+use Rattle.std.proofs.Common.{◌≡◌, ◌⊎◌, ◌≤◌, ℕ, ◌+◌, ◌*◌, ◌^◌, List, [], ◌∷◌, ◌++◌, length, Option, Some, None, Result, Ok, Err, OnOk, OnErr, true, refl, inl, inr, ap, sym, ◌∙◌, append_assoc, append-nil, arith, subst, length-append}
 use Rattle.diva_isa.specs.End.{end_of}
 use Rattle.diva_isa.specs.State.{State, goes_on}
 use Rattle.diva_isa.specs.declared.record.Record.{Record}
@@ -18,14 +18,14 @@ use Rattle.diva_outside.proofs.Sinks.{past_nothing, puts_nothing, puts_past, put
 use Rattle.diva_args.specs.declared.job.DrawOptions.{DrawOptions}
 use Rattle.diva_args.specs.declared.job.Format.{Format}
 use Rattle.diva_args.specs.declared.job.Job.TheVariants.{Draw}
-use Rattle.diva_drawing.specs.Rows.{Pen, begun_rows}
+use Rattle.diva_drawing.specs.Rows.{Pen}
 use Rattle.diva_drawing.specs.Snapshot.{AreSnapshots, IsSnapshot, Snapshot}
 use Rattle.diva_cli.specs.declared.loading.Ready.{Ready}
-use Rattle.diva_cli.specs.Changes.{HasFailed, SinkChange, Takes, TakesPart, TakesPast, change, sink_change}
+use Rattle.diva_cli.specs.Changes.{HasFailed, SinkChange, Takes, TakesPast, change, sink_change}
 use Rattle.diva_cli.specs.Cuts.{BeforeLast}
-use Rattle.diva_cli.specs.DrawTexts.{HasDrawing, HasFailedIn, IsDrawnPart, IsDrawnWhole, begin_text, cycle_text, cycles_drawn, drawn_text, end_text, front_text, pen_after, pen_at, pen_behind}
+use Rattle.diva_cli.specs.DrawTexts.{HasDrawing, IsDrawnPart, IsDrawnWhole, begin_text, cycle_text, cycles_drawn, drawn_text, end_text, front_text, pen_after, pen_at, pen_behind}
 use Rattle.diva_cli.specs.Parts.{IsReady, WritesPart, WritesWhole}
-use Rattle.diva_cli.specs.Runs.{EndsWith, IsRunOver, IsWhole, end_status, start_in}
+use Rattle.diva_cli.specs.Runs.{IsRunOver, IsWhole, end_status, start_in}
 use Rattle.diva_cli.specs.Tasks.{IsCutDrawing, IsDrawn, IsDrawnIn, Performs, PerformsBy}
 use Rattle.diva_cli.specs.Wanted.{FileBytes}
 use Rattle.diva_cli.proofs.Cycling.{lists_more}

@@ -7,6 +7,7 @@ pub mod Pieces
 pub mod Running
 pub mod Replaying
 pub mod Stopping
+pub mod Unfailing
 pub mod Preparing
 pub mod Working
 pub mod Alone

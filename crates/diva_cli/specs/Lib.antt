@@ -19,6 +19,7 @@ pub mod DrawTexts
 pub mod Texts
 pub mod Answers
 pub mod Statuses
+pub mod Sure
 pub mod Determined
 -- what only private contracts cite
 pub mod Parts

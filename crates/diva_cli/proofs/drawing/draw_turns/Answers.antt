@@ -1,5 +1,5 @@
 -- One turn more, with what was drawn of it.
-use Rattle.std.proofs.Common.{◌+◌, ◌≤◌, ◌<◌, ◌*◌, ◌^◌, ap, sym, ◌∙◌, arith}
+use Rattle.std.proofs.Common.{◌+◌, ap, sym, ◌∙◌, arith}
 use Rattle.std.proofs.lemmas.Result.{err_from_is_err_and}
 use Rattle.diva_core.specs.Timed.{Timed}
 use Rattle.diva_core.proofs.Outcomes.{cycle-cycles}
