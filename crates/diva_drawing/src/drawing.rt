@@ -1,5 +1,6 @@
 // A run as a drawing in text.
-ghost use Rattle.std.specs.Prelude.{◌≡◌, ◌≤◌, length, map};
+ghost use Rattle.std.specs.Prelude.{◌≡◌, ◌≤◌, ◌++◌, codes, length, map};
+ghost use Rattle.std.specs.List.{concat};
 ghost use Rattle.diva_outside.specs.Sink.{Puts};
 ghost use Rattle.diva_drawing.specs.Drawing.{cell, claim_row, committed_claims, drawn_cycle, drawn_end, dropped_claim_rows, dropped_claims, ended_solo, first_drop, last_letter, letter, listed_in, name_text, number_cell, padded, row_text, rows_text, scale_text, solo_rows};
 
@@ -169,12 +170,20 @@ fn put_row<S: Sink>(row: &DrawnRow, sink: &mut S) -> Result<(), SinkFailed>
     ensures { Puts (row_text row.now)
         (S.contents sink.old) (S.contents sink.new) (S.faults sink.old) (S.faults sink.new) result }
 {
-    put_line(&name_line(&row.claim), sink)?;
     let cells = Cells {
         row,
         last: row.last,
     };
-    put_lines(&cells, sink)?;
+    put_cells(&name_line(&row.claim), &cells, sink)
+}
+
+/// Puts a name, with cells behind it, as one line.
+fn put_cells<L: LineList, S: Sink>(name: &Line, cells: &L, sink: &mut S) -> Result<(), SinkFailed>
+    ensures { Puts (name.now ++ concat (L.lines cells.now) ++ codes "\n")
+        (S.contents sink.old) (S.contents sink.new) (S.faults sink.old) (S.faults sink.new) result }
+{
+    put_line(name, sink)?;
+    put_lines(cells, sink)?;
     sink.put(b"\n")
 }
 
@@ -286,9 +295,7 @@ fn put_scale<S: Sink>(last: u64, sink: &mut S) -> Result<(), SinkFailed>
     ensures { Puts (scale_text last)
         (S.contents sink.old) (S.contents sink.new) (S.faults sink.old) (S.faults sink.new) result }
 {
-    put_line(&padded(b"cycle"), sink)?;
-    put_lines(&Scale { last }, sink)?;
-    sink.put(b"\n")
+    put_cells(&padded(b"cycle"), &Scale { last }, sink)
 }
 
 /// The numbers of the cycles up to a last one.
