@@ -1,5 +1,5 @@
 -- What an entry reads of memory.
-use Rattle.std.proofs.Common.{◌≡◌, ◌<◌, ◌≤◌, ℕ, suc, ◌+◌, ◌-◌, ◌^◌, arith, append_assoc, length, List, [], ◌∷◌, ◌++◌, take, drop, map, Some, None, Bool, true, false, refl, ap, sym, ◌∙◌, slice_get}
+use Rattle.std.proofs.Common.{◌≡◌, ◌<◌, ◌≤◌, ℕ, suc, ◌+◌, ◌-◌, ◌^◌, arith, append_assoc, length, List, [], ◌∷◌, ◌++◌, take, drop, map, Option, Some, None, Bool, true, false, refl, ap, sym, ◌∙◌, slice_get}
 use Rattle.std.specs.Prelude.{nat_lt}
 use Rattle.std.proofs.lemmas.Bool.Decides.{nat_tests}
 use Rattle.std.proofs.lemmas.Grind.{common_steps}
@@ -12,7 +12,7 @@ use Rattle.diva_isa.specs.declared.effect.Effect.TheVariants.{Nothing, Writes, S
 use Rattle.diva_isa.specs.declared.kind.Width.TheVariants.{Word}
 use Rattle.diva_core.specs.Cycle.{is_store}
 use Rattle.diva_core.specs.Effects.{byte_in, is_apart, with_effects}
-use Rattle.diva_core.proofs.Laying.{effects_append, effects_byte, effects_more, effects_none, effects_word, effects_word_none}
+use Rattle.diva_core.proofs.Laying.{effects_append, effects_more, effects_none, effects_word_none}
 use Rattle.diva_ooo.specs.WindowEntry.{WindowEntry}
 use Rattle.diva_ahead.proofs.Whole.{apart_more, whole_more}
 use Rattle.diva_ooo.specs.MarkSets.{holds_at}
@@ -87,28 +87,18 @@ NoneStores w from to = (i : ℕ) → from ≤ i → i < to → holds_at (λ e. i
 up_to : (w : List WindowEntry) (from to : ℕ) → from ≤ to → NoneStores w from to → NoneStores w from (from + (to - from))
 up_to w from to le none = λ i h k. none i h (omega arith)
 
-pub byte_quiet : (s : State) (ring : List Effect) (w : List WindowEntry) (from to a b : ℕ) → from ≤ to → NoneStores w from to
-    → byte_of (with_effects s (ring ++ effects (take from w))) a ≡ Some b
-    → byte_of (with_effects s (ring ++ effects (take to w))) a ≡ Some b
-byte_quiet s ring w from to a b le none h =
+-- what is read at an address, where stores that are apart from n bytes there leave it
+pub quiet : (read : State → ℕ → Option ℕ) (n : ℕ) → ((s : State) (es : List Effect) (a : ℕ) → list_all (λ d. is_apart d a n) es ≡ true → read (with_effects s es) a ≡ read s a)
+    → (s : State) (ring : List Effect) (w : List WindowEntry) (from to a b : ℕ) → from ≤ to → NoneStores w from to
+    → read (with_effects s (ring ++ effects (take from w))) a ≡ Some b
+    → read (with_effects s (ring ++ effects (take to w))) a ≡ Some b
+quiet read n kept s ring w from to a b le none h =
     let at : from + (to - from) ≡ to = omega arith in
     let k = to - from in
-    let quiet = all_quiet (take k (drop from w)) a 1 (λ i. none_by (nat_lt i k) (λ e. is_store (done_by e.result)) w from k i refl (up_to w from to le none)) in
-    ap (λ (n : ℕ). byte_of (with_effects s (ring ++ effects (take n w))) a) (sym at)
-    ∙ ap (λ (t : State). byte_of t a) (seen_more s ring w from k)
-    ∙ effects_byte (with_effects s (ring ++ effects (take from w))) (effects (take k (drop from w))) a quiet
-    ∙ h
-
-pub word_quiet : (s : State) (ring : List Effect) (w : List WindowEntry) (from to a b : ℕ) → from ≤ to → NoneStores w from to
-    → word_of (with_effects s (ring ++ effects (take from w))) a ≡ Some b
-    → word_of (with_effects s (ring ++ effects (take to w))) a ≡ Some b
-word_quiet s ring w from to a b le none h =
-    let at : from + (to - from) ≡ to = omega arith in
-    let k = to - from in
-    let quiet = all_quiet (take k (drop from w)) a 4 (λ i. none_by (nat_lt i k) (λ e. is_store (done_by e.result)) w from k i refl (up_to w from to le none)) in
-    ap (λ (n : ℕ). word_of (with_effects s (ring ++ effects (take n w))) a) (sym at)
-    ∙ ap (λ (t : State). word_of t a) (seen_more s ring w from k)
-    ∙ effects_word (with_effects s (ring ++ effects (take from w))) (effects (take k (drop from w))) a quiet
+    let apart = all_quiet (take k (drop from w)) a n (λ i. none_by (nat_lt i k) (λ e. is_store (done_by e.result)) w from k i refl (up_to w from to le none)) in
+    ap (λ (i : ℕ). read (with_effects s (ring ++ effects (take i w))) a) (sym at)
+    ∙ ap (λ (t : State). read t a) (seen_more s ring w from k)
+    ∙ kept (with_effects s (ring ++ effects (take from w))) (effects (take k (drop from w))) a apart
     ∙ h
 
 -- no entry yet

@@ -4,9 +4,10 @@ use Rattle.diva_isa.specs.declared.effect.Effect.{Effect}
 use Rattle.diva_isa.specs.declared.effect.Effect.TheVariants.{Stores}
 use Rattle.diva_isa.specs.declared.kind.Width.TheVariants.{Word}
 use Rattle.diva_core.specs.Effects.{is_apart, with_effects}
+use Rattle.diva_core.proofs.Laying.{effects_word}
 use Rattle.diva_ooo.specs.WindowEntry.{WindowEntry}
 use Rattle.diva_ooo.proofs.Knowing.{shown}
-use Rattle.diva_ooo.proofs.Reading.{effects, none_yet, older_word_none, word_apart, word_quiet, word_whole}
+use Rattle.diva_ooo.proofs.Reading.{effects, none_yet, older_word_none, quiet, word_apart, word_whole}
 use Rattle.diva_ooo.proofs.flight.Flight.find_word.Goals as goal
 use Rattle.diva_ahead.specs.Effects.{done_by}
 use Rattle.diva_ooo.proofs.flight.Flight.find_word.Goals.{in-Stores-Word-default-default, in_default-effect}
@@ -38,7 +39,7 @@ loop-place-preserved c =
     let e : WindowEntry = shown c.entry.inside in
     let does = c.entry.invariant.effect in
     let here : slice_get f.window.now place ≡ Some e = c.entry-entry.ensures ∙ ap Some (sym c.entry.view_is) in
-    let quiet = word_quiet f.view.now f.ahead.now.ring f.window.now c.loop-place.from place c.args.addr latest next.0.behind (λ i h k. next.0.first i h k) c.loop-place.invariant.seen in
+    let same = quiet word_of 4 effects_word f.view.now f.ahead.now.ring f.window.now c.loop-place.from place c.args.addr latest next.0.behind (λ i h k. next.0.first i h k) c.loop-place.invariant.seen in
     record {
       seen =
           elim c.match-effect.branch [
@@ -47,9 +48,9 @@ loop-place-preserved c =
                 let stores : c.entry.inside.effect ≡ Stores Word c.args.addr v = search rules in
                 let whole : done_by e.result ≡ Stores Word c.args.addr v = sym does ∙ stores in
                 let fits : v < 2 ^ 32 = search rules in
-                rw w.latest-is (word_whole f.view.now f.ahead.now.ring f.window.now place e c.args.addr v latest here whole fits quiet)
+                rw w.latest-is (word_whole f.view.now f.ahead.now.ring f.window.now place e c.args.addr v latest here whole fits same)
             | in_default-effect w ↦
-                rw w.latest-is (word_apart f.view.now f.ahead.now.ring f.window.now place e c.args.addr latest here (ap (λ (d : Effect). is_apart d c.args.addr 4) (sym does) ∙ sym w.is_apart.ensures ∙ w.if-is_apart.true) quiet)
+                rw w.latest-is (word_apart f.view.now f.ahead.now.ring f.window.now place e c.args.addr latest here (ap (λ (d : Effect). is_apart d c.args.addr 4) (sym does) ∙ sym w.is_apart.ensures ∙ w.if-is_apart.true) same)
           ];
       within = omega arith;
     }
@@ -57,4 +58,4 @@ loop-place-preserved c =
 pub returns : goal.returns
 returns c =
     let f = c.args.self.now in
-    sym (word_quiet f.view.now f.ahead.now.ring f.window.now c.loop-place.from f.at c.args.addr c.loop-place.latest c.loop-place.invariant.within (λ i h k. c.in_default.ensures.none refl i h k) c.loop-place.invariant.seen)
+    sym (quiet word_of 4 effects_word f.view.now f.ahead.now.ring f.window.now c.loop-place.from f.at c.args.addr c.loop-place.latest c.loop-place.invariant.within (λ i h k. c.in_default.ensures.none refl i h k) c.loop-place.invariant.seen)

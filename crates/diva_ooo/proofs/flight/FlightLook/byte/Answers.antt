@@ -2,8 +2,9 @@ use Rattle.std.proofs.Common.{◌≡◌, None, Some, arith, sym, ap, ◌∙◌, 
 use Rattle.diva_isa.specs.State.{byte_of}
 use Rattle.diva_isa.specs.declared.effect.Effect.{Effect}
 use Rattle.diva_core.specs.Effects.{with_effects}
+use Rattle.diva_core.proofs.Laying.{effects_byte}
 use Rattle.diva_ooo.proofs.Knowing.{shown}
-use Rattle.diva_ooo.proofs.Reading.{byte_next, byte_quiet, effects, none_yet, older_none}
+use Rattle.diva_ooo.proofs.Reading.{byte_next, effects, none_yet, older_none, quiet}
 use Rattle.diva_ooo.proofs.flight.FlightLook.byte.Goals as goal
 
 pub returns-in_err-byte : goal.returns-in_err-byte
@@ -28,14 +29,14 @@ loop-place-preserved c =
     let f = c.args.self.now in
     let next = c.in-Some.ensures.some in
     let before = next.1 in
-    let quiet = byte_quiet f.view.now f.ahead.now.ring f.window.now c.loop-place.from c.in-Some.place c.args.addr c.loop-place.byte next.0.behind (λ i h k. next.0.first i h k) c.loop-place.invariant.seen in
+    let same = quiet byte_of 1 effects_byte f.view.now f.ahead.now.ring f.window.now c.loop-place.from c.in-Some.place c.args.addr c.loop-place.byte next.0.behind (λ i h k. next.0.first i h k) c.loop-place.invariant.seen in
     record {
       seen = rw (c.unwrap_or-byte.ensures, c.byte_in.ensures, c.entry.invariant.effect)
-          (byte_next f.view.now f.ahead.now.ring f.window.now c.in-Some.place (shown c.entry.inside) c.args.addr c.loop-place.byte (c.entry-entry.ensures ∙ ap Some (sym c.entry.view_is)) quiet);
+          (byte_next f.view.now f.ahead.now.ring f.window.now c.in-Some.place (shown c.entry.inside) c.args.addr c.loop-place.byte (c.entry-entry.ensures ∙ ap Some (sym c.entry.view_is)) same);
       within = omega arith;
     }
 
 pub returns : goal.returns
 returns c =
     let f = c.args.self.now in
-    sym (byte_quiet f.view.now f.ahead.now.ring f.window.now c.loop-place.from f.at c.args.addr c.loop-place.byte c.loop-place.invariant.within (λ i h k. c.in_default.ensures.none refl i h k) c.loop-place.invariant.seen)
+    sym (quiet byte_of 1 effects_byte f.view.now f.ahead.now.ring f.window.now c.loop-place.from f.at c.args.addr c.loop-place.byte c.loop-place.invariant.within (λ i h k. c.in_default.ensures.none refl i h k) c.loop-place.invariant.seen)
