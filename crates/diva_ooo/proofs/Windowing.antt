@@ -6,6 +6,7 @@ use Rattle.std.proofs.lemmas.List.{append-nil}
 use Rattle.diva_isa.specs.Regs.{with_reg}
 use Rattle.diva_ooo.specs.WindowEntry.{WindowEntry, profile_of}
 use Rattle.diva_ooo.specs.declared.board.Board.{Board}
+use Rattle.diva_ooo.specs.declared.profile.Profile.{Profile}
 use Rattle.diva_ooo.specs.Board.{IsBoard, IsLastOf, can_at, could_at, has_result, writes}
 use Rattle.diva_ooo.specs.Issue.{can_begin, is_available, is_done, is_free, is_ready, is_waiting, written}
 use Rattle.diva_ooo.specs.MarkSets.{holds_at}
@@ -135,24 +136,31 @@ could_here_of older [] at e is = absurd (cc)
 could_here_of older (x ∷ w) zero e is = let here : x ≡ e = cc in ap (could older) here ∙ ap (λ (o : List WindowEntry). could o e) (sym (append-nil older))
 could_here_of older (x ∷ w) (suc at) e is = could_here_of (older ++ x ∷ []) w at e is ∙ ap (λ (o : List WindowEntry). could o e) (append_assoc older (x ∷ []) (take at w))
 
-pub could_not : (w : List WindowEntry) (at : ℕ) (e : WindowEntry) → slice_get w at ≡ Some e → (is_available (take at w) (profile_of e).rs1 && is_available (take at w) (profile_of e).rs2) ≡ false → could_at [] w at ≡ false
-could_not w at e is none = could_here_of [] w at e is ∙ rw none (and_off (is_waiting e.progress))
-
 no_sources : (a b c d : Bool) → (b && c) ≡ false → (a && ((b && c) && d)) ≡ false
 no_sources a b c d none = rw none (and_off a)
 
 all_sources : (a b c d : Bool) → a ≡ true → (b && c) ≡ true → d ≡ (a && ((b && c) && d))
 all_sources a b c d is h = rw (is, h) refl
 
-pub can_not : (w : List WindowEntry) (at : ℕ) (e : WindowEntry) → slice_get w at ≡ Some e → (is_available (take at w) (profile_of e).rs1 && is_available (take at w) (profile_of e).rs2) ≡ false → can_at [] w at ≡ false
-unfolding is_ready
-can_not w at e is none = can_here w at e is ∙ no_sources (is_waiting e.progress) (is_available (take at w) (profile_of e).rs1) (is_available (take at w) (profile_of e).rs2) (is_free (profile_of e).class (take at w)) none
+-- the entry at a place, whose profile is noted, and whether it was found to have its sources
+module _ (w : List WindowEntry) (at : ℕ) (e : WindowEntry) (here : slice_get w at ≡ Some e) (noted : Profile) (profile : noted ≡ profile_of e)
+    (found : Bool) (asked : found ≡ (is_available (take at w) noted.rs1 && is_available (take at w) noted.rs2)) where
+  sources : (is_available (take at w) (profile_of e).rs1 && is_available (take at w) (profile_of e).rs2) ≡ found
+  sources = ap (λ (p : Profile). is_available (take at w) p.rs1 && is_available (take at w) p.rs2) (sym profile) ∙ sym asked
 
-pub can_if_free : (w : List WindowEntry) (at : ℕ) (e : WindowEntry) → slice_get w at ≡ Some e → is_waiting e.progress ≡ true → (is_available (take at w) (profile_of e).rs1 && is_available (take at w) (profile_of e).rs2) ≡ true
-    → is_free (profile_of e).class (take at w) ≡ can_at [] w at
-unfolding is_ready
-can_if_free w at e is waits sources =
-    all_sources (is_waiting e.progress) (is_available (take at w) (profile_of e).rs1) (is_available (take at w) (profile_of e).rs2) (is_free (profile_of e).class (take at w)) waits sources ∙ sym (can_here w at e is)
+  pub could_not : found ≡ false → could_at [] w at ≡ false
+  could_not lacks = could_here_of [] w at e here ∙ rw (sources ∙ lacks) (and_off (is_waiting e.progress))
+
+  pub can_not : found ≡ false → can_at [] w at ≡ false
+  unfolding is_ready
+  can_not lacks = can_here w at e here ∙ no_sources (is_waiting e.progress) (is_available (take at w) (profile_of e).rs1) (is_available (take at w) (profile_of e).rs2) (is_free (profile_of e).class (take at w)) (sources ∙ lacks)
+
+  pub can_if_free : is_waiting e.progress ≡ true → found ≡ true → is_free noted.class (take at w) ≡ can_at [] w at
+  unfolding is_ready
+  can_if_free waits some =
+      ap (λ (p : Profile). is_free p.class (take at w)) profile
+      ∙ all_sources (is_waiting e.progress) (is_available (take at w) (profile_of e).rs1) (is_available (take at w) (profile_of e).rs2) (is_free (profile_of e).class (take at w)) waits (sources ∙ some)
+      ∙ sym (can_here w at e here)
 
 -- ---- the oldest goes
 
