@@ -1,33 +1,23 @@
 -- A drive under a script, of which the core is asked by itself before the first cycle that a row touches, and behind the last.
-use Rattle.std.proofs.Common.{◌≡◌, ℕ, ◌+◌, ◌-◌, min, true, false, List, [], ◌∷◌, ◌++◌, sym, ◌∙◌, subst, arith, length-append}
+use Rattle.std.proofs.Common.{◌≡◌, ℕ, ◌+◌, ◌-◌, min, true, false, List, ◌++◌, sym, ◌∙◌, arith, length-append}
 use Rattle.std.proofs.lemmas.Bool.{true≢false}
 use Rattle.diva_isa.specs.State.{goes_on}
-use Rattle.diva_isa.specs.declared.record.Record.{Record}
-use Rattle.diva_core.specs.Cycle.{cycle_of}
-use Rattle.diva_core.specs.History.{IsHistory, Meaning, Turns, lists_of}
+use Rattle.diva_core.specs.History.{Meaning, Turns}
 use Rattle.diva_core.specs.Machine.{IsMachine}
 use Rattle.diva_core.specs.Timed.{Timed}
-use Rattle.diva_core.proofs.Progressing.{run-stays}
-use Rattle.diva_core.proofs.Turning.{IsHistory-run}
+use Rattle.diva_core.proofs.Pacing.{turns-stay}
 use Rattle.diva_faults.specs.Spoiled.{spoiled}
 use Rattle.diva_faults.specs.Touched.{end_of_rows, first_touched}
 use Rattle.diva_faults.specs.declared.rows.Row.{Row}
 use Rattle.diva_faults.proofs.Laying.{before_first, behind_end}
 use Rattle.diva_faults.proofs.Spoiling.{Turns-untouched}
+use Rattle.diva_machine.proofs.Counting.{IsHistory-then}
 use Rattle.diva_cli.specs.Changes.{change}
 use Rattle.diva_cli.specs.Tasks.{DrivesFor}
 
 -- ---- turns, and turns behind them
 
-IsHistory-then : {C : Type 0} (gives : Meaning C) (m : Timed) (core : C) (history : List (List Record × C)) (mid : Timed) (between : C) (more : List (List Record × C)) (last : Timed) (final : C)
-    → IsHistory gives m core history mid between → IsHistory gives mid between more last final
-    → IsHistory gives m core (history ++ more) last final
-IsHistory-then gives m core [] mid between more last final h then =
-    subst (λ (n : Timed). IsHistory gives n core more last final) h.0 (subst (λ c. IsHistory gives mid c more last final) h.1 then)
-IsHistory-then gives m core (turn ∷ history) mid between more last final h then =
-    (h.0, (h.1.0, IsHistory-then gives (cycle_of m turn.0) turn.1 history mid between more last final h.1.1 then))
-
-pub Turns-then : {C : Type 0} (gives : Meaning C) (m : Timed) (core : C) (mid : Timed) (between : C) (last : Timed) (final : C)
+Turns-then : {C : Type 0} (gives : Meaning C) (m : Timed) (core : C) (mid : Timed) (between : C) (last : Timed) (final : C)
     → Turns gives m core mid between → Turns gives mid between last final → Turns gives m core last final
 Turns-then gives m core mid between last final t then =
     record {
@@ -35,10 +25,6 @@ Turns-then gives m core mid between last final t then =
       good = IsHistory-then gives m core t.history mid between then.history last final t.good then.good;
       each = (let e = t.each in let f = then.each in let l = length-append t.history then.history in omega arith);
     }
-
-pub Turns-stay : {C : Type 0} (gives : Meaning C) (m : Timed) (core : C) (last : Timed) (final : C) → IsMachine m → Turns gives m core last final → IsMachine last
-Turns-stay gives m core last final inv t =
-    subst IsMachine (sym (IsHistory-run gives m core t.history last final t.good)) (run-stays m (lists_of t.history) inv)
 
 -- ---- the three parts, of which the first is of `few` cycles, and leads to `one`, and the second is of `more`, and leads to `two`
 
@@ -56,7 +42,7 @@ module _ {C : Type 0} (gives : Meaning C) (rows : List Row) (m : Timed) (core : 
   ended_before off =
       record { turns = turns_before; most = (let w = first.most in omega arith); whole = λ on. absurd (true≢false (sym on ∙ off)) }
 
-  module _ (more : ℕ) (two : Timed) (after : C) (on_one : goes_on one.arch ≡ true)
+  module _ (more : ℕ) (two : Timed) (after : C)
       (touched : more ≡ min (m.cycles + budget) (end_of_rows rows - 1) - one.cycles)
       (second : DrivesFor (spoiled rows gives) more (change one two) (change between after)) where
     turns_touched : Turns (spoiled rows gives) m core two after
@@ -82,7 +68,7 @@ module _ {C : Type 0} (gives : Meaning C) (rows : List Row) (m : Timed) (core : 
         let t = third.most in
         record {
           turns = Turns-then (spoiled rows gives) m core two after last final turns_touched
-              (Turns-untouched gives rows two after last final (Turns-stay (spoiled rows gives) m core two after inv turns_touched)
+              (Turns-untouched gives rows two after last final (turns-stay (spoiled rows gives) m core two after inv turns_touched)
               (λ now list later within. behind_end now rows list (omega arith)) third.turns);
           most = omega arith;
           whole = λ on. (let s = third.whole on in omega arith);

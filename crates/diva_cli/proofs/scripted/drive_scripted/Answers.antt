@@ -16,14 +16,14 @@ returns-then-not-goes_on-3 g c =
     ended_touched g.C.Core.gives c.args.script.now _ _ _ _ _ _ c.goes_on.ensures.machine (omega (arith, c.cycles_before-before.ensures))
     (drives_for g.C.Core.gives _ _ _ _ _ c.drive_checked.result
     c.drive_checked.ensures.drives.turns c.drive_checked.ensures.within c.drive_checked.ensures.ended c.drive_checked.ensures.budget)
-    _ _ _ (cc) (omega (arith, c.cycles_before-touched.ensures)) c.drive_touched.ensures (cc)
+    _ _ _ (omega (arith, c.cycles_before-touched.ensures)) c.drive_touched.ensures (cc)
 
 pub returns : goal.returns
 returns g c =
     drives_behind g.C.Core.gives c.args.script.now _ _ _ _ _ _ c.goes_on.ensures.machine (omega (arith, c.cycles_before-before.ensures))
     (drives_for g.C.Core.gives _ _ _ _ _ c.drive_checked.result
     c.drive_checked.ensures.drives.turns c.drive_checked.ensures.within c.drive_checked.ensures.ended c.drive_checked.ensures.budget)
-    _ _ _ (cc) (omega (arith, c.cycles_before-touched.ensures)) c.drive_touched.ensures
+    _ _ _ (omega (arith, c.cycles_before-touched.ensures)) c.drive_touched.ensures
     _ _ _ (cc) (omega arith)
     (drives_for g.C.Core.gives _ _ _ _ _ c.drive_checked-2.result
     c.drive_checked-2.ensures.drives.turns c.drive_checked-2.ensures.within c.drive_checked-2.ensures.ended c.drive_checked-2.ensures.budget)
