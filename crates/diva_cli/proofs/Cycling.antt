@@ -1,5 +1,5 @@
 -- Texts that are written cycle by cycle.
-use Rattle.std.proofs.Common.{◌≡◌, ◌≤◌, ◌<◌, ℕ, ◌+◌, ◌-◌, ◌*◌, ◌^◌, List, [], ◌∷◌, ◌++◌, length, Option, Result, Ok, Err, OnOk, OnErr, true, false, refl, ap, sym, ◌∙◌, append_assoc, append-nil, arith, subst, length-append}
+use Rattle.std.proofs.Common.{◌≡◌, ◌≤◌, ◌<◌, ℕ, ◌+◌, ◌-◌, ◌*◌, ◌^◌, List, [], ◌∷◌, ◌++◌, length, Option, Result, Ok, Err, OnOk, OnErr, true, false, refl, ap, sym, ◌∙◌, append_assoc, append-nil, arith, subst}
 use Rattle.std.proofs.Math.Nat.{mul-le-mul_right}
 use Rattle.std.proofs.lemmas.Bool.{true≢false}
 use Rattle.std.proofs.lemmas.List.Elements.{All-nil, All-push}
@@ -13,7 +13,9 @@ use Rattle.diva_core.specs.History.{Meaning, Turns, lists_of}
 use Rattle.diva_core.specs.Machine.{IsMachine}
 use Rattle.diva_core.specs.Headline.{committed_in, dues}
 use Rattle.diva_core.proofs.Outcomes.{cycle-cycles}
-use Rattle.diva_core.proofs.Turning.{IsHistory-more, IsHistory-run, length-lists_of}
+use Rattle.diva_core.proofs.Pacing.{turns-stay}
+use Rattle.diva_core.proofs.Turning.{IsHistory-run, length-lists_of}
+use Rattle.diva_machine.proofs.Driving.{turns_more}
 use Rattle.diva_outside.specs.Sink.{AppendsPast, Puts}
 use Rattle.diva_outside.specs.declared.sink.SinkFailed.{SinkFailed}
 use Rattle.diva_outside.proofs.Sinks.{puts_nothing, puts_past, puts_then}
@@ -38,6 +40,10 @@ text_more text m (first ∷ lists) list =
 
 -- ---- turns were taken, and the text of each was put
 
+-- none was taken
+abbrev pub no_turn : {D : Type 0} (gives : Meaning D) (m : Timed) (core : D) → Turns gives m core m core
+no_turn gives m core = record { history = []; good = (refl, refl); each = omega arith }
+
 module _ {D : Type 0} (gives : Meaning D) (text : CycleText) (says : List Record → Type 0) (m : Timed) (core : D) (old : Option (List ℕ)) (before : ℕ) where
   -- where the sink failed, it did so in the last of these cycles
   abbrev pub CutIn : List (List Record) → (new : Option (List ℕ)) → Type 0
@@ -54,7 +60,7 @@ module _ {D : Type 0} (gives : Meaning D) (text : CycleText) (says : List Record
   pub writes_none : WritesSoFar 0 m core old before (Ok tt)
   writes_none =
       record {
-        turns = record { history = []; good = (refl, refl); each = omega arith };
+        turns = no_turn gives m core;
         many = omega arith;
         said = All-nil says;
         put = puts_nothing old before;
@@ -64,19 +70,16 @@ module _ {D : Type 0} (gives : Meaning D) (text : CycleText) (says : List Record
   module _ (n : ℕ) (mid : Timed) (between : D) (now : Option (List ℕ)) (g : ℕ) (so_far : WritesSoFar n mid between now g (Ok tt)) where
     -- a turn, and its text or a part of it
     writes_more : (list : List Record) (after : D) (new : Option (List ℕ)) (h : ℕ) (result : Result (Unit {0}) SinkFailed)
-        → IsMachine mid
+        → IsMachine m
         → goes_on mid.arch ≡ true
         → gives between (told_of mid) mid.arch list after
         → Puts (text mid.count (committed_in mid list) list) now new g h result
         → OnOk result (says list)
         → WritesSoFar (n + 1) (cycle_of mid list) after new h result
-    writes_more list after new h result sound on asked puts says_it =
+    unfolding turns_more
+    writes_more list after new h result inv on asked puts says_it =
         record {
-          turns = record {
-            history = so_far.turns.history ++ (list, after) ∷ [];
-            good = IsHistory-more gives m core so_far.turns.history mid between list after so_far.turns.good on asked;
-            each = rw length-append (let e = so_far.turns.each in let c = next in omega arith);
-          };
+          turns = turns_more gives m core mid between so_far.turns inv list after on asked;
           many = (let e = so_far.many in let c = next in omega arith);
           said = told result says_it;
           put = subst (λ (x : List ℕ). Puts x old new before h result) (sym more) (puts_then _ _ old now new before g h result so_far.put puts);
@@ -84,7 +87,7 @@ module _ {D : Type 0} (gives : Meaning D) (text : CycleText) (says : List Record
         }
       where
         next : (cycle_of mid list).cycles ≡ mid.cycles + 1
-        next = cycle-cycles mid list sound on
+        next = cycle-cycles mid list (turns-stay gives m core mid between inv so_far.turns) on
 
         told : (r : Result (Unit {0}) SinkFailed) → OnOk r (says list) → OnOk r (All says (lists_of (so_far.turns.history ++ (list, after) ∷ [])))
         told (Ok u) s = subst (All says) (sym (lists_more so_far.turns.history list after)) (All-push says (lists_of so_far.turns.history) list so_far.said s)
@@ -112,15 +115,15 @@ module _ {D : Type 0} (gives : Meaning D) (text : CycleText) (says : List Record
         → first ≡ mid.count
         → committed ≡ dues (next.count - mid.count) mid.arch
         → next ≡ cycle_of mid list
-        → IsMachine mid
+        → IsMachine m
         → goes_on mid.arch ≡ true
         → gives between (told_of mid) mid.arch list after
         → Puts (text first committed list) now new g h result
         → OnOk result (says list)
         → WritesSoFar (n + 1) next after new h result
-    writes_turn list after new h result first committed next fe ce ne sound on asked puts says_it =
+    writes_turn list after new h result first committed next fe ce ne inv on asked puts says_it =
         subst (λ (k : Timed). WritesSoFar (n + 1) k after new h result) (sym ne)
-        (writes_more list after new h result sound on asked
+        (writes_more list after new h result inv on asked
         (subst (λ (x : List Record). Puts (text mid.count x list) now new g h result) (ce ∙ ap (λ (k : Timed). dues (k.count - mid.count) mid.arch) ne)
         (subst (λ x. Puts (text x committed list) now new g h result) fe puts))
         says_it)

@@ -1,5 +1,5 @@
 -- Turns that are drawn, one by one; and what is written of a run that is drawn.
-use Rattle.std.proofs.Common.{◌≡◌, ◌⊎◌, ◌≤◌, ℕ, ◌+◌, ◌*◌, ◌^◌, List, [], ◌∷◌, ◌++◌, length, Option, Some, None, Result, Ok, Err, OnOk, OnErr, true, refl, inl, inr, ap, sym, ◌∙◌, append_assoc, append-nil, arith, subst, length-append}
+use Rattle.std.proofs.Common.{◌≡◌, ◌⊎◌, ◌≤◌, ℕ, ◌+◌, ◌*◌, ◌^◌, List, [], ◌∷◌, ◌++◌, length, Option, Some, None, Result, Ok, Err, OnOk, OnErr, true, refl, inl, inr, ap, sym, ◌∙◌, append_assoc, append-nil, arith, subst}
 use Rattle.diva_isa.specs.End.{end_of}
 use Rattle.diva_isa.specs.State.{State, goes_on}
 use Rattle.diva_isa.specs.declared.record.Record.{Record}
@@ -9,7 +9,8 @@ use Rattle.diva_core.specs.Cycle.{cycle_of, run_of}
 use Rattle.diva_core.specs.History.{Meaning, Turns, lists_of}
 use Rattle.diva_core.specs.Machine.{IsConfig, IsMachine}
 use Rattle.diva_core.proofs.Outcomes.{cycle-cycles}
-use Rattle.diva_core.proofs.Turning.{IsHistory-more, IsHistory-run, length-lists_of}
+use Rattle.diva_core.proofs.Pacing.{turns-stay}
+use Rattle.diva_core.proofs.Turning.{IsHistory-run, length-lists_of}
 use Rattle.std.proofs.Math.Nat.{mul-le-mul_right}
 use Rattle.std.specs.Io.KnownBytes.{Appends}
 use Rattle.diva_outside.specs.Sink.{AppendsPast, Puts}
@@ -20,6 +21,7 @@ use Rattle.diva_args.specs.declared.job.Format.{Format}
 use Rattle.diva_args.specs.declared.job.Job.TheVariants.{Draw}
 use Rattle.diva_drawing.specs.Rows.{Pen}
 use Rattle.diva_drawing.specs.Snapshot.{AreSnapshots, IsSnapshot, Snapshot}
+use Rattle.diva_machine.proofs.Driving.{turns_more}
 use Rattle.diva_cli.specs.declared.loading.Ready.{Ready}
 use Rattle.diva_cli.specs.Changes.{HasFailed, SinkChange, Takes, TakesPast, change, sink_change}
 use Rattle.diva_cli.specs.Cuts.{BeforeLast}
@@ -28,7 +30,7 @@ use Rattle.diva_cli.specs.Parts.{IsReady, WritesPart, WritesWhole}
 use Rattle.diva_cli.specs.Runs.{IsRunOver, IsWhole, end_status, start_in}
 use Rattle.diva_cli.specs.Tasks.{IsCutDrawing, IsDrawn, IsDrawnIn, Performs, PerformsBy}
 use Rattle.diva_cli.specs.Wanted.{FileBytes}
-use Rattle.diva_cli.proofs.Cycling.{lists_more}
+use Rattle.diva_cli.proofs.Cycling.{lists_more, no_turn}
 use Rattle.diva_cli.proofs.Running.{ends_with, over_lists, run_over, run_whole}
 
 -- ---- one cycle more
@@ -87,7 +89,7 @@ module _ {D : Type 0} (gives : Meaning D) (format : Format) (m : Timed) (core : 
   pub draws_none : DrawsSoFar 0 m core pen old before (Ok tt)
   draws_none =
       record {
-        turns = record { history = []; good = (refl, refl); each = omega arith };
+        turns = no_turn gives m core;
         many = omega arith;
         seen = [];
         are = tt;
@@ -99,19 +101,16 @@ module _ {D : Type 0} (gives : Meaning D) (format : Format) (m : Timed) (core : 
   module _ (n : ℕ) (mid : Timed) (between : D) (by_then : Pen) (now : Option (List ℕ)) (g : ℕ) (so_far : DrawsSoFar n mid between by_then now g (Ok tt)) where
     -- a turn, and its text or a part of it
     draws_more : (list : List Record) (after : D) (s : Snapshot) (new : Option (List ℕ)) (h : ℕ) (result : Result (Unit {0}) SinkFailed)
-        → IsMachine mid
+        → IsMachine m
         → goes_on mid.arch ≡ true
         → gives between (told_of mid) mid.arch list after
         → IsSnapshot (cycle_of mid list) s
         → Puts (cycle_text format by_then s list) now new g h result
         → DrawsSoFar (n + 1) (cycle_of mid list) after (pen_after by_then s) new h result
-    draws_more list after s new h result sound on asked is puts =
+    unfolding turns_more
+    draws_more list after s new h result inv on asked is puts =
         record {
-          turns = record {
-            history = so_far.turns.history ++ (list, after) ∷ [];
-            good = IsHistory-more gives m core so_far.turns.history mid between list after so_far.turns.good on asked;
-            each = rw length-append (let e = so_far.turns.each in let c = next in omega arith);
-          };
+          turns = turns_more gives m core mid between so_far.turns inv list after on asked;
           many = (let e = so_far.many in let c = next in omega arith);
           seen = so_far.seen ++ s ∷ [];
           are = subst (λ (ls : List (List Record)). AreSnapshots m ls (so_far.seen ++ s ∷ [])) (sym (lists_more so_far.turns.history list after))
@@ -131,7 +130,7 @@ module _ {D : Type 0} (gives : Meaning D) (format : Format) (m : Timed) (core : 
         same = same_length m lists so_far.seen so_far.are
 
         next : (cycle_of mid list).cycles ≡ mid.cycles + 1
-        next = cycle-cycles mid list sound on
+        next = cycle-cycles mid list (turns-stay gives m core mid between inv so_far.turns) on
 
         more : cycles_drawn format pen (lists_of (so_far.turns.history ++ (list, after) ∷ [])) (so_far.seen ++ s ∷ [])
             ≡ cycles_drawn format pen lists so_far.seen ++ cycle_text format by_then s list
@@ -154,17 +153,17 @@ module _ {D : Type 0} (gives : Meaning D) (format : Format) (m : Timed) (core : 
     -- the same, of a turn that is known by equations
     pub draws_turn : (list : List Record) (after : D) (behind : Pen) (new : Option (List ℕ)) (h : ℕ) (result : Result (Unit {0}) SinkFailed) (next : Timed)
         → next ≡ cycle_of mid list
-        → IsMachine mid
+        → IsMachine m
         → goes_on mid.arch ≡ true
         → gives between (told_of mid) mid.arch list after
         → IsSnapshot next behind.seen
         → behind ≡ pen_after by_then behind.seen
         → Puts (cycle_text format by_then behind.seen list) now new g h result
         → DrawsSoFar (n + 1) next after behind new h result
-    draws_turn list after behind new h result next ne sound on asked is pe puts =
+    draws_turn list after behind new h result next ne inv on asked is pe puts =
         subst (λ (k : Timed). DrawsSoFar (n + 1) k after behind new h result) (sym ne)
         (subst (λ (p : Pen). DrawsSoFar (n + 1) (cycle_of mid list) after p new h result) (sym pe)
-        (draws_more list after behind.seen new h result sound on asked (subst (λ (k : Timed). IsSnapshot k behind.seen) ne is) puts))
+        (draws_more list after behind.seen new h result inv on asked (subst (λ (k : Timed). IsSnapshot k behind.seen) ne is) puts))
 
 pub draws_performs :
     {D S : Type 0} (gives : Meaning D) (format : Format) (m : Timed) (core : D) (pen : Pen) (contents : S → Option (List ℕ)) (faults : S → ℕ) (s s' : S)
@@ -214,10 +213,6 @@ past_more a put text old mid new first p =
 pub new_pen : (pen : Pen) → pen.rows ≡ 0 → pen ≡ pen_at pen.seen
 new_pen pen none = ap (λ n. record { rows = n; seen = pen.seen }) none
 
--- no turn was taken
-abbrev no_turns : {D : Type 0} (gives : Meaning D) (m : Timed) (core : D) → Turns gives m core m core
-no_turns gives m core = record { history = []; good = (refl, refl); each = omega arith }
-
 module _ {D S : Type 0} (gives : Meaning D) (format : Format) (budget : ℕ) (m : Timed) (core : D) (contents : S → Option (List ℕ)) (faults : S → ℕ) (s0 s1 : S)
     (first : Snapshot) (saw : IsSnapshot m first) where
   -- the first lines were not put
@@ -225,7 +220,7 @@ module _ {D S : Type 0} (gives : Meaning D) (format : Format) (budget : ℕ) (m 
       → Performs gives (change m m) (change core core) (λ lists. IsDrawn format budget (change m m) lists (sink_change contents faults s0 s1) (Err e))
   unbegun e p =
       record {
-        turns = no_turns gives m core;
+        turns = no_turn gives m core;
         done = record { most = omega arith; first = first; saw = saw; seen = []; are = tt; whole = tt; cut = (p.failed, inl (refl, p.part)) };
       }
 

@@ -33,14 +33,14 @@ returns-in_err-draw_turn g c =
     let inv = c.loop.invariant in
     let failed = err_from_is_err_and c.from_residual.result c.from_residual.ensures.1 in
     rw failed.1 (draws_performs g.D.Core.gives c.args.format _ _ _ g.S.Sink.contents g.S.Sink.faults _ _ (c.loop.counter + 1) c.args.budget _ _ _ _
-    (draws_turn g.D.Core.gives c.args.format _ _ _ _ _ c.loop.counter _ _ _ _ _ inv.draws _ _ _ _ _ _ _ c.turn_checked.ensures.cycled inv.sound inv.on (c.turn_checked.ensures.asked inv.on) c.in_err-draw_turn.ensures.seen c.in_err-draw_turn.ensures.pen c.in_err-draw_turn.ensures.put)
+    (draws_turn g.D.Core.gives c.args.format _ _ _ _ _ c.loop.counter _ _ _ _ _ inv.draws _ _ _ _ _ _ _ c.turn_checked.ensures.cycled c.goes_on.ensures.machine inv.on (c.turn_checked.ensures.asked inv.on) c.in_err-draw_turn.ensures.seen c.in_err-draw_turn.ensures.pen c.in_err-draw_turn.ensures.put)
     (let l = c.loop-test.true in omega arith) tt)
 
 pub returns-then-not-goes_on-2 : goal.returns-then-not-goes_on-2
 returns-then-not-goes_on-2 g c =
     let inv = c.loop.invariant in
     draws_performs g.D.Core.gives c.args.format _ _ _ g.S.Sink.contents g.S.Sink.faults _ _ (c.loop.counter + 1) c.args.budget _ _ _ _
-    (draws_turn g.D.Core.gives c.args.format _ _ _ _ _ c.loop.counter _ _ _ _ _ inv.draws _ _ _ _ _ _ _ c.turn_checked.ensures.cycled inv.sound inv.on (c.turn_checked.ensures.asked inv.on) c.in_ok-draw_turn.ensures.seen c.in_ok-draw_turn.ensures.pen c.in_ok-draw_turn.ensures.put)
+    (draws_turn g.D.Core.gives c.args.format _ _ _ _ _ c.loop.counter _ _ _ _ _ inv.draws _ _ _ _ _ _ _ c.turn_checked.ensures.cycled c.goes_on.ensures.machine inv.on (c.turn_checked.ensures.asked inv.on) c.in_ok-draw_turn.ensures.seen c.in_ok-draw_turn.ensures.pen c.in_ok-draw_turn.ensures.put)
     (let l = c.loop-test.true in omega arith)
     (ended c.turn_checked.new.m.timed (c.loop.counter + 1) c.args.budget (sym c.goes_on-in-loop.ensures.value ∙ c.if-not-goes_on-2.true))
 
@@ -48,7 +48,7 @@ pub loop-preserved : goal.loop-preserved
 loop-preserved g c =
     let inv = c.loop.invariant in
     record {
-      draws = draws_turn g.D.Core.gives c.args.format _ _ _ _ _ c.loop.counter _ _ _ _ _ inv.draws _ _ _ _ _ _ _ c.turn_checked.ensures.cycled inv.sound inv.on (c.turn_checked.ensures.asked inv.on) c.in_ok-draw_turn.ensures.seen c.in_ok-draw_turn.ensures.pen c.in_ok-draw_turn.ensures.put;
+      draws = draws_turn g.D.Core.gives c.args.format _ _ _ _ _ c.loop.counter _ _ _ _ _ inv.draws _ _ _ _ _ _ _ c.turn_checked.ensures.cycled c.goes_on.ensures.machine inv.on (c.turn_checked.ensures.asked inv.on) c.in_ok-draw_turn.ensures.seen c.in_ok-draw_turn.ensures.pen c.in_ok-draw_turn.ensures.put;
       on = sym c.goes_on-in-loop.ensures.value ∙ c.if-not-goes_on-2.false;
       sound = c.turn_checked.ensures.machine;
       rows = (let r = inv.rows in let f = c.in_ok-draw_turn.ensures.few in omega arith);
