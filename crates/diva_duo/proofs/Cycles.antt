@@ -231,6 +231,20 @@ module _ (d : Duo) (inv : IsDuo d) (a b : List Record) where
     | inr goes ↦ rw (cycle_next goes, goes) next_replays
   ]
 
+  -- where the cycle of a duo that is d led to another
+  module _ (c e : Duo) (led : e ≡ duo_cycle_of c a b) (same : c ≡ d) where
+    led_here : e ≡ duo_cycle_of d a b
+    led_here = led ∙ ap (λ (z : Duo). duo_cycle_of z a b) same
+
+    pub led_stays : IsDuo e
+    led_stays = subst IsDuo (sym led_here) stays
+
+    pub led_few : (w : Which) → CountsFew w d e
+    led_few w = subst (CountsFew w d) (sym led_here) (counts_few w)
+
+    pub led_cycles : e.cycles ≤ d.cycles + 1
+    led_cycles = let n = ap (λ (z : Duo). z.cycles) led_here in let most = cycles_next in omega arith
+
 -- nothing is done where both are over
 pub actions_over : (d e : Duo) → is_over d ≡ true → actions d e ≡ []
 unfolding actions
