@@ -1,5 +1,5 @@
 -- The program headers of an executable, one after another.
-use Rattle.std.proofs.Common.{◌≡◌, ◌≤◌, ◌<◌, ℕ, suc, ◌+◌, ◌-◌, ◌*◌, ◌^◌, ◌⊎◌, inl, inr, nat_lt, Bool, List, [], ◌∷◌, ◌++◌, length, take, drop, replicate, Option, Some, None, true, false, not, if◌then◌else◌, refl, arith, ◌∙◌, ap, sym}
+use Rattle.std.proofs.Common.{◌≡◌, ◌≤◌, ◌<◌, ℕ, suc, ◌+◌, ◌-◌, ◌*◌, ◌^◌, ◌⊎◌, inl, inr, nat_lt, Bool, List, [], ◌∷◌, ◌++◌, length, take, drop, replicate, Option, Some, None, true, false, not, if◌then◌else◌, refl, arith, ◌∙◌, ap, subst, sym}
 use Rattle.std.specs.Option.{option_or}
 use Rattle.std.proofs.lemmas.Grind.{common_steps}
 use Rattle.std.proofs.lemmas.List.{append_assoc, drop-drop, length-append, length-drop, length-replicate, length-take, length-take-le}
@@ -9,17 +9,21 @@ use Rattle.diva_image.specs.Inner.{IsExtent, end_of_bytes}
 use Rattle.diva_image.specs.declared.elf_header.ProgramHeader.{ProgramHeader}
 use Rattle.diva_image.specs.declared.fault.Fault.{Fault}
 
--- those that are left begin with the next one
-pub next_header : (n at : ℕ) (table : List ℕ) → at < n
-    → program_headers_in (n - at) (drop (program_header_size * at) table)
-    ≡ program_header_of (drop (program_header_size * at) table) ∷ program_headers_in (n - (at + 1)) (drop (program_header_size * (at + 1)) table)
-next_header n at table below =
+-- those that are left, from a place on
+abbrev pub headers_from : (n at : ℕ) (table : List ℕ) → List ProgramHeader
+headers_from n at table = program_headers_in (n - at) (drop (program_header_size * at) table)
+
+-- they begin with the next one, which was read
+pub next_header : (n at : ℕ) (table : List ℕ) (h : ProgramHeader) → at < n → h ≡ program_header_of (drop (program_header_size * at) table)
+    → headers_from n at table ≡ h ∷ headers_from n (at + 1) table
+next_header n at table h below read =
     let count : n - at ≡ suc (n - (at + 1)) = omega arith in
     let later : drop program_header_size (drop (program_header_size * at) table) ≡ drop (program_header_size * (at + 1)) table
     = drop-drop program_header_size (program_header_size * at) table ∙ ap (λ (k : ℕ). drop k table) (omega arith) in
-    rw count (ap (λ (xs : List ℕ). program_header_of (drop (program_header_size * at) table) ∷ program_headers_in (n - (at + 1)) xs) later)
+    rw count (ap (λ (xs : List ℕ). program_header_of (drop (program_header_size * at) table) ∷ program_headers_in (n - (at + 1)) xs) later
+    ∙ ap (λ (x : ProgramHeader). x ∷ headers_from n (at + 1) table) (sym read))
 
-pub none_left : (n at : ℕ) (table : List ℕ) → n ≤ at → program_headers_in (n - at) (drop (program_header_size * at) table) ≡ []
+pub none_left : (n at : ℕ) (table : List ℕ) → n ≤ at → headers_from n at table ≡ []
 none_left n at table past = let count : n - at ≡ 0 = omega arith in rw count refl
 
 pub option_or_none : (found : Option ℕ) → option_or found None ≡ found
@@ -281,6 +285,18 @@ room_for_load base all memory file h rest room made fits some below inside =
     let left = length-drop h.p_offset file in
     let taken : length part ≡ h.p_filesz = length-take-le h.p_filesz (drop h.p_offset file) (omega (arith, left, inside)) in
     omega (arith, whole, first, second, third, gap, taken, fits, below)
+
+-- the next header, behind those that made up `memory`
+module _ (n at : ℕ) (table file memory : List ℕ) (base : ℕ) (h : ProgramHeader) (below : at < n) (read : h ≡ program_header_of (drop (program_header_size * at) table)) where
+  pub next_fits : load_fault (base + length memory) (length file) 0 (headers_from n at table) ≡ None → load_fault (base + length memory) (length file) 0 (h ∷ headers_from n (at + 1) table) ≡ None
+  next_fits fits = subst (λ (hs : List ProgramHeader). load_fault (base + length memory) (length file) 0 hs ≡ None) (next_header n at table h below read) fits
+
+  pub next_now : load_fault (base + length memory) (length file) 0 (headers_from n at table) ≡ None → has_bytes h ≡ true
+      → (base + length memory ≤ h.p_vaddr) × (h.p_offset + h.p_filesz ≤ length file) × (load_fault (h.p_vaddr + h.p_filesz) (length file) 0 (headers_from n (at + 1) table) ≡ None)
+  next_now fits some = load_now (base + length memory) (length file) 0 h (headers_from n (at + 1) table) (next_fits fits) some
+
+  pub next_made : (all : List ℕ) → all ≡ memory ++ loaded_from (base + length memory) (headers_from n at table) file → all ≡ memory ++ loaded_from (base + length memory) (h ∷ headers_from n (at + 1) table) file
+  next_made all made = made ∙ ap (λ (hs : List ProgramHeader). memory ++ loaded_from (base + length memory) hs file) (next_header n at table h below read)
 
 -- what loads without fault come to
 pub extent_is : (size place : ℕ) (hs : List ProgramHeader) (first : Option ℕ) (end : ℕ) → load_fault 0 size place hs ≡ None

@@ -1,32 +1,25 @@
 -- One program header after another.
-use Rattle.std.proofs.Common.{◌≡◌, ◌+◌, ◌-◌, ◌*◌, ◌∷◌, ℕ, List, drop, arith, ap, sym, ◌∙◌}
+use Rattle.std.proofs.Common.{◌≡◌, ◌+◌, ◌*◌, ℕ, List, arith, ap, sym, ◌∙◌}
 use Rattle.std.specs.Option.{option_or}
 use Rattle.std.proofs.lemmas.List.{take_rest}
-use Rattle.diva_image.specs.Elf.{end_of_loads, first_load, load_fault, program_header_of, program_header_size, program_headers_in}
+use Rattle.diva_image.specs.Elf.{end_of_loads, first_load, load_fault, program_header_size}
 use Rattle.diva_image.specs.Inner.{end_of_bytes}
 use Rattle.diva_image.specs.declared.elf_header.ProgramHeader.{ProgramHeader}
-use Rattle.diva_image.proofs.Loads.{next_header, no_fault, none_left, option_or_none}
+use Rattle.diva_image.proofs.Loads.{headers_from, next_header, no_fault, none_left, option_or_none}
 use Rattle.diva_image.proofs.elf.extent_of.Goals as goal
 
 pub returns-in-Err-clause-fault : goal.returns-in-Err-clause-fault
 returns-in-Err-clause-fault c =
-    let n = c.args.header.now.e_phnum in
     let at = c.loop-at.at in
-    let table = c.args.table.now in
-    let rest = program_headers_in (n - (at + 1)) (drop (program_header_size * (at + 1)) table) in
-    let read : c.read-program_header.result ≡ program_header_of (drop (program_header_size * at) table) = rw take_rest at c.read-program_header.ensures in
-    let next = next_header n at table c.loop-at-test.true ∙ ap (λ (h : ProgramHeader). h ∷ rest) (sym read) in
-    let place = c.args.header.now.e_phoff + program_header_size * at in
-    c.loop-at.invariant.fault ∙ ap (load_fault c.loop-at.extent.end c.args.len place) next ∙ c.in-Err.ensures.fault rest
+    let rest = headers_from c.args.header.now.e_phnum (at + 1) c.args.table.now in
+    let next = next_header c.args.header.now.e_phnum at c.args.table.now c.read-program_header.result c.loop-at-test.true (rw take_rest at c.read-program_header.ensures) in
+    c.loop-at.invariant.fault ∙ ap (load_fault c.loop-at.extent.end c.args.len (c.args.header.now.e_phoff + program_header_size * at)) next ∙ c.in-Err.ensures.fault rest
 
 pub loop-at-preserved : goal.loop-at-preserved
 loop-at-preserved c =
-    let n = c.args.header.now.e_phnum in
     let at = c.loop-at.at in
-    let table = c.args.table.now in
-    let rest = program_headers_in (n - (at + 1)) (drop (program_header_size * (at + 1)) table) in
-    let read : c.read-program_header.result ≡ program_header_of (drop (program_header_size * at) table) = rw take_rest at c.read-program_header.ensures in
-    let next = next_header n at table c.loop-at-test.true ∙ ap (λ (h : ProgramHeader). h ∷ rest) (sym read) in
+    let rest = headers_from c.args.header.now.e_phnum (at + 1) c.args.table.now in
+    let next = next_header c.args.header.now.e_phnum at c.args.table.now c.read-program_header.result c.loop-at-test.true (rw take_rest at c.read-program_header.ensures) in
     let place = c.args.header.now.e_phoff + program_header_size * at in
     let later : place + program_header_size ≡ c.args.header.now.e_phoff + program_header_size * (at + 1) = omega arith in
     record {
