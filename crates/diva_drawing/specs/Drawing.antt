@@ -13,7 +13,7 @@ use Rattle.diva_asm.specs.Listing.{list_line}
 use Rattle.diva_trace.specs.Text.{numbered}
 use Rattle.diva_drawing.specs.Snapshot.{Snapshot}
 use Rattle.diva_drawing.specs.Rows.{committed_rows, dropped_rows}
-use Rattle.diva_drawing.specs.declared.snapshot.Alone.{Alone}
+use Rattle.diva_drawing.specs.declared.snapshot.SnapshotSolo.{SnapshotSolo}
 use Rattle.diva_drawing.specs.declared.rows.Ending.{Ending}
 use Rattle.diva_drawing.specs.declared.rows.Ending.TheVariants.{Commits, Flushes, Drops, Stays}
 use Rattle.diva_drawing.specs.declared.rows.DrawnRow.{DrawnRow}
@@ -75,8 +75,8 @@ abbrev pub claim_row : (last : ℕ) → Ending → SnapshotClaim → DrawnRow
 claim_row last ending e = record { claim = e.claim; since = e.cycle; solo = false; last = last; ending = ending }
 
 -- that of an instruction that ran solo
-abbrev pub alone_row : (last : ℕ) → Ending → Alone → DrawnRow
-alone_row last ending solo = record { claim = solo.due; since = solo.since; solo = true; last = last; ending = ending }
+abbrev pub solo_row : (last : ℕ) → Ending → SnapshotSolo → DrawnRow
+solo_row last ending solo = record { claim = solo.due; since = solo.since; solo = true; last = last; ending = ending }
 
 -- the machine flushed in the cycle since the claim in front differed
 abbrev pub has_differed : (newest : Option FlushRow) → Bool
@@ -93,12 +93,12 @@ dropped_claim_rows last ending [] = []
 dropped_claim_rows last ending (c ∷ claims) = claim_row last ending c ∷ map (claim_row last Drops) claims
 
 -- the row of an instruction that ran solo, if one did
-abbrev pub solo_rows : (last : ℕ) → Ending → Option Alone → List DrawnRow
+abbrev pub solo_rows : (last : ℕ) → Ending → Option SnapshotSolo → List DrawnRow
 solo_rows last ending None = []
-solo_rows last ending (Some solo) = alone_row last ending solo ∷ []
+solo_rows last ending (Some solo) = solo_row last ending solo ∷ []
 
 -- the instruction that ran solo and committed in a cycle, if one did; the claims that committed; and those that were dropped
-abbrev pub ended_solo : (before after : Snapshot) → Option Alone
+abbrev pub ended_solo : (before after : Snapshot) → Option SnapshotSolo
 ended_solo before after = if committed_rows before after == 0 then None else before.solo
 
 abbrev pub committed_claims : (before after : Snapshot) → List SnapshotClaim

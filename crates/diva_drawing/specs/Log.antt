@@ -16,7 +16,7 @@ use Rattle.diva_trace.specs.Lines.{cause_text}
 use Rattle.diva_trace.specs.Text.{numbered}
 use Rattle.diva_drawing.specs.Snapshot.{Snapshot}
 use Rattle.diva_drawing.specs.Rows.{accepted_claims, begun_rows, committed_rows, dropped_rows, open_rows}
-use Rattle.diva_drawing.specs.declared.snapshot.Alone.{Alone}
+use Rattle.diva_drawing.specs.declared.snapshot.SnapshotSolo.{SnapshotSolo}
 use Rattle.diva_drawing.specs.declared.rows.Ending.{Ending}
 use Rattle.diva_drawing.specs.declared.rows.Ending.TheVariants.{Commits, Flushes, Drops, Stays}
 
@@ -122,7 +122,7 @@ flush_text row zero (Some flush) = cause_line row flush.cause
 flush_text row (suc age) newest = []
 
 -- the instruction that runs solo, if one does
-abbrev pub solo_text : (row place now : ℕ) → Option FlushRow → Option Alone → Text
+abbrev pub solo_text : (row place now : ℕ) → Option FlushRow → Option SnapshotSolo → Text
 solo_text row place now newest None = []
 solo_text row place now newest (Some solo) =
     stage_text (codes "solo") row place solo.due (now - solo.since) ++ flush_text row (now - solo.since) newest

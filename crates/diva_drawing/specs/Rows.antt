@@ -14,19 +14,19 @@ committed_rows before after = after.count - before.count
 
 -- the machine flushed in the cycle, or ended: what was pending is dropped, and nothing is accepted
 abbrev pub is_cut : (before after : Snapshot) → Bool
-is_cut before after = not (after.flushes == before.flushes) || not after.on
+is_cut before after = not (after.flushes == before.flushes) || not after.goes_on
 
 -- how many rows were open still, and were dropped
 abbrev pub dropped_rows : (before after : Snapshot) → ℕ
 dropped_rows before after = if is_cut before after then open_rows before - committed_rows before after else 0
 
--- how many rows go on behind the cycle
-abbrev pub kept_rows : (before after : Snapshot) → ℕ
-kept_rows before after = open_rows before - (committed_rows before after + dropped_rows before after)
+-- how many of the rows that were open are open behind the cycle too
+abbrev pub still_open_rows : (before after : Snapshot) → ℕ
+still_open_rows before after = open_rows before - (committed_rows before after + dropped_rows before after)
 
 -- how many began in it
 abbrev pub begun_rows : (before after : Snapshot) → ℕ
-begun_rows before after = open_rows after - kept_rows before after
+begun_rows before after = open_rows after - still_open_rows before after
 
 -- how many claims were accepted: none is where the machine was cut short
 abbrev pub accepted_claims : (before after : Snapshot) → ℕ

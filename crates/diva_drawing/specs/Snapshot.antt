@@ -9,7 +9,7 @@ use Rattle.diva_core.specs.Cycle.{cycle_of}
 use Rattle.diva_core.specs.Entries.{pending_claim_of}
 use Rattle.diva_core.specs.Timed.{Timed}
 use Rattle.diva_machine.specs.Staged.{AreChecked}
-use Rattle.diva_drawing.specs.declared.snapshot.Alone.{Alone}
+use Rattle.diva_drawing.specs.declared.snapshot.SnapshotSolo.{SnapshotSolo}
 use Rattle.diva_drawing.specs.declared.snapshot.SnapshotClaim.{SnapshotClaim}
 
 -- the instructions committed, the cycles run, the flushes and the newest of them; whether the machine goes on; the instruction that
@@ -19,8 +19,8 @@ pub record Snapshot : Type 0 where
   pub cycles : ℕ
   pub flushes : ℕ
   pub newest : Option FlushRow
-  pub on : Bool
-  pub solo : Option Alone
+  pub goes_on : Bool
+  pub solo : Option SnapshotSolo
   pub claims : List SnapshotClaim
 
 -- of a pending claim its verdict is seen, and in which cycle it was accepted
@@ -28,8 +28,8 @@ abbrev pub snapshot_claim_of : Entry → SnapshotClaim
 snapshot_claim_of e = record { claim = e.claim; cycle = e.cycle; verdict = e.verdict }
 
 -- the instruction that runs solo since a cycle is the one that is due in the committed state, which goes on
-abbrev pub alone_since : State → (start : ℕ) → Alone
-alone_since arch start = record { since = start; due = record_of (record arch { end = 0 }) }
+abbrev pub solo_since : State → (start : ℕ) → SnapshotSolo
+solo_since arch start = record { since = start; due = record_of (record arch { end = 0 }) }
 
 -- this is seen of a machine
 pub record IsSnapshot (m : Timed) (s : Snapshot) : Type 0 where
@@ -37,8 +37,8 @@ pub record IsSnapshot (m : Timed) (s : Snapshot) : Type 0 where
   pub cycles : s.cycles ≡ m.cycles
   pub flushes : s.flushes ≡ m.flushes
   pub newest : s.newest ≡ m.newest
-  pub on : s.on ≡ goes_on m.arch
-  pub solo : s.solo ≡ option_map (alone_since m.arch) m.solo
+  pub goes_on : s.goes_on ≡ goes_on m.arch
+  pub solo : s.solo ≡ option_map (solo_since m.arch) m.solo
   pub entries : List Entry
   pub claims : s.claims ≡ map snapshot_claim_of entries
   pub waits : m.pending ≡ map pending_claim_of entries

@@ -5,7 +5,7 @@ ghost use Rattle.diva_outside.specs.Sink.{Puts};
 ghost use Rattle.diva_drawing.specs.Drawing.{cell, claim_row, committed_claims, drawn_cycle, drawn_end, dropped_claim_rows, dropped_claims, ended_solo, first_drop, last_letter, letter, listed_in, name_text, number_cell, padded, row_text, rows_text, scale_text, solo_rows};
 
 use crate::rows::{DrawnRow, Ending, committed_rows, dropped_rows};
-use crate::snapshot::{Alone, Snapshot, SnapshotClaim};
+use crate::snapshot::{Snapshot, SnapshotClaim, SnapshotSolo};
 use diva_asm::list_line;
 use diva_core::Cause;
 use diva_isa::Record;
@@ -35,7 +35,7 @@ pub(crate) fn put_drawn<S: Sink>(
 }
 
 /// The instruction that ran solo and committed in a cycle, if one did.
-fn ended_solo(before: &Snapshot, after: &Snapshot) -> Option<Alone>
+fn ended_solo(before: &Snapshot, after: &Snapshot) -> Option<SnapshotSolo>
     ensures { result ≡ ended_solo before.now after.now }
 {
     if committed_rows(before, after) == 0 {
@@ -93,7 +93,7 @@ fn first_drop(before: &Snapshot, after: &Snapshot) -> Ending
 
 /// Puts the row of an instruction that ran solo, if one did.
 fn put_solo<S: Sink>(
-    solo: Option<Alone>,
+    solo: Option<SnapshotSolo>,
     last: u64,
     ending: Ending,
     sink: &mut S,

@@ -26,4 +26,4 @@ mod stages;
 pub use log::begin_log;
 pub use pen::Pen;
 pub use rows::{DrawnRow, Ending};
-pub use snapshot::{Alone, Snapshot, SnapshotClaim};
+pub use snapshot::{Snapshot, SnapshotClaim, SnapshotSolo};

@@ -7,7 +7,7 @@ ghost use Rattle.diva_drawing.specs.Rows.{committed_rows};
 
 use crate::block::Block;
 use crate::rows::{Ending, accepted_claims, begun_rows, committed_rows, dropped_rows, open_rows};
-use crate::snapshot::{Alone, Snapshot, SnapshotClaim};
+use crate::snapshot::{Snapshot, SnapshotClaim, SnapshotSolo};
 use crate::stages::{Numbers, cause_line, note_lead, push_stage};
 use diva_asm::list_line;
 use diva_core::{Cause, Claim, Claims, Diff, FlushRow};

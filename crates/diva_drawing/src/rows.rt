@@ -1,6 +1,6 @@
 // Rows, and what becomes of them in a cycle.
 ghost use Rattle.std.specs.Prelude.{◌≡◌, ◌≤◌, ◌<◌, ◌+◌, ◌^◌};
-ghost use Rattle.diva_drawing.specs.Rows.{accepted_claims, begun_rows, committed_rows, dropped_rows, is_cut, kept_rows, open_rows};
+ghost use Rattle.diva_drawing.specs.Rows.{accepted_claims, begun_rows, committed_rows, dropped_rows, is_cut, open_rows, still_open_rows};
 
 use crate::snapshot::Snapshot;
 use diva_isa::Record;
@@ -52,7 +52,7 @@ pub(crate) fn committed_rows(before: &Snapshot, after: &Snapshot) -> u64
 fn is_cut(before: &Snapshot, after: &Snapshot) -> bool
     ensures { result ≡ is_cut before.now after.now }
 {
-    after.flushes != before.flushes || !after.on
+    after.flushes != before.flushes || !after.goes_on
 }
 
 /// How many rows were dropped in a cycle.

@@ -1,6 +1,6 @@
 // What is seen of a machine between two cycles.
 ghost use Rattle.std.specs.Prelude.{◌≡◌, ◌≤◌, ◌<◌, ◌^◌, length, map, option_map};
-ghost use Rattle.diva_drawing.specs.Snapshot.{IsSnapshot, alone_since, snapshot_claim_of};
+ghost use Rattle.diva_drawing.specs.Snapshot.{IsSnapshot, solo_since, snapshot_claim_of};
 
 use arrayvec::ArrayVec;
 use diva_core::{Diff, FlushRow};
@@ -10,7 +10,7 @@ use std::marker::Model;
 
 /// An instruction that runs solo.
 #[derive(Clone, Copy, Debug, PartialEq, Eq)]
-pub struct Alone {
+pub struct SnapshotSolo {
     /// The cycle in which it was started, that of the flush.
     pub since: u64,
     /// The record that is due, with which it will commit.
@@ -40,9 +40,9 @@ pub struct Snapshot {
     /// The newest of them.
     pub(crate) newest: Option<FlushRow>,
     /// Whether the machine has not ended.
-    pub(crate) on: bool,
+    pub(crate) goes_on: bool,
     /// The instruction that runs solo, if one does.
-    pub(crate) solo: Option<Alone>,
+    pub(crate) solo: Option<SnapshotSolo>,
     /// The pending claims, the oldest first.
     pub(crate) claims: ArrayVec<SnapshotClaim, 64>,
 }
@@ -58,7 +58,7 @@ impl Model for Snapshot {
       cycles = s.cycles;
       flushes = s.flushes;
       newest = s.newest;
-      on = s.on;
+      goes_on = s.goes_on;
       solo = s.solo;
       claims = s.claims.items;
     } };
@@ -77,7 +77,7 @@ impl Snapshot {
             cycles: m.cycles(),
             flushes: m.flushes(),
             newest: m.newest(),
-            on: m.goes_on(),
+            goes_on: m.goes_on(),
             solo: running_solo(m),
             claims: claims(m),
         }
@@ -98,7 +98,7 @@ impl Snapshot {
     }
 
     /// The instruction that runs solo, if one does.
-    pub(crate) fn solo(&self) -> Option<Alone>
+    pub(crate) fn solo(&self) -> Option<SnapshotSolo>
         ensures { result ≡ self.now.solo }
     {
         self.solo
@@ -114,11 +114,11 @@ impl Snapshot {
 }
 
 /// The instruction that runs solo, if one does.
-fn running_solo(m: &Machine) -> Option<Alone>
-    ensures { result ≡ option_map (alone_since m.now.timed.arch) m.now.timed.solo }
+fn running_solo(m: &Machine) -> Option<SnapshotSolo>
+    ensures { result ≡ option_map (solo_since m.now.timed.arch) m.now.timed.solo }
 {
     let start = m.solo()?;
-    Some(Alone {
+    Some(SnapshotSolo {
         since: start,
         due: record_of(&m.view()),
     })
