@@ -72,12 +72,12 @@ record Ran {C : Type 0} (gives : Meaning C) (n : ℕ) (m : Timed) (core : C) (la
   all : goes_on last.arch ≡ true → length history ≡ n
 
 ran : {C : Type 0} (gives : Meaning C) (options : RunOptions) (bytes : FileBytes) (core after : C) (ended : Result ℕ Text) (text : Text) (rows : List Row)
-    → options.setup.core ≡ Own → (h : HasRun gives options bytes (change core after) ended text) → (options.trace ≡ true → IsOk ended) → h.over.script ≡ rows
+    → options.setup.core ≡ Own → (h : HasRun gives options bytes (change core after) ended text) → (options.trace ≡ true → IsOk ended) → h.of_files.script ≡ rows
     → Ran (spoiled rows gives) options.cycles (new_timed options.setup.config (start_in options.setup bytes)) core h.last after
 ran gives options bytes core after ended text rows own h asked is =
     let shown = shown_whole gives options bytes core after ended text h asked in
-    let driven = h.over.run.driven in
-    let turns = own_turns gives options.setup.core h.over.tape h.over.script (new_timed options.setup.config (start_in options.setup bytes)) core driven.lists h.last after own driven.handed in
+    let driven = h.of_files.run.driven in
+    let turns = own_turns gives options.setup.core h.of_files.tape h.of_files.script (new_timed options.setup.config (start_in options.setup bytes)) core driven.lists h.last after own driven.handed in
     let long : length driven.lists ≡ length turns.history = ap length turns.in_order ∙ length-map turns.history (λ turn. turn.0) in
     let most = driven.most in
     let each = driven.each in
@@ -88,8 +88,8 @@ pub text_same : {C : Type 0} (gives : Meaning C) → IsDetermined gives → (opt
     → options.setup.core ≡ Own → HasRun gives options bytes (change core after) ended text → HasRun gives options bytes (change core last) other same
     → (options.trace ≡ true → IsOk ended × IsOk other) → text ≡ same
 text_same gives determined options bytes core after last ended other text same own h k asked =
-    let rows = k.over.script in
-    let i = ran gives options bytes core after ended text rows own h (λ on. (asked on).0) (rows_same options.setup.script (bytes Script) h.over.script rows h.over.rows k.over.rows) in
+    let rows = k.of_files.script in
+    let i = ran gives options bytes core after ended text rows own h (λ on. (asked on).0) (rows_same options.setup.script (bytes Script) h.of_files.script rows h.of_files.rows k.of_files.rows) in
     let j = ran gives options bytes core last other same rows own k (λ on. (asked on).1) refl in
     let ends : h.last ≡ k.last = last_same (spoiled rows gives) (spoiled_determined gives rows determined) options.cycles (new_timed options.setup.config (start_in options.setup bytes)) h.last k.last core after last i.history j.history i.good j.good i.most j.most i.all j.all in
     (shown_whole gives options bytes core after ended text h (λ on. (asked on).0)).1

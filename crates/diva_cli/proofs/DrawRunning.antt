@@ -27,11 +27,11 @@ use Rattle.diva_cli.specs.Changes.{HasFailed, SinkChange, Takes, TakesPast, chan
 use Rattle.diva_cli.specs.Cuts.{BeforeLast}
 use Rattle.diva_cli.specs.DrawTexts.{HasDrawing, IsDrawnPart, IsDrawnWhole, begin_text, cycle_text, cycles_drawn, drawn_text, end_text, front_text, pen_after, pen_at, pen_behind}
 use Rattle.diva_cli.specs.Parts.{IsReady, WritesPart, WritesWhole}
-use Rattle.diva_cli.specs.Runs.{IsRunOver, IsWhole, end_status, start_in}
+use Rattle.diva_cli.specs.Runs.{IsRunOfFiles, IsWhole, end_status, start_in}
 use Rattle.diva_cli.specs.Tasks.{IsCutDrawing, IsDrawn, IsDrawnIn, Performs, PerformsBy}
 use Rattle.diva_cli.specs.Wanted.{FileBytes}
 use Rattle.diva_cli.proofs.Cycling.{lists_more, no_turn}
-use Rattle.diva_cli.proofs.Running.{ends_with, over_lists, run_over, run_whole}
+use Rattle.diva_cli.proofs.Running.{ends_with, of_files_lists, run_of_files, run_whole}
 
 -- ---- one cycle more
 
@@ -320,31 +320,31 @@ module _ {C S : Type 0} (gives : Meaning C) (options : DrawOptions) (bytes : Fil
   abbrev begun : Timed
   begun = new_timed options.run.setup.config start
 
-  abbrev over : IsRunOver gives options.run.setup options.run.cycles bytes (change core after) last
-  over = run_over gives options.run.setup options.run.cycles bytes ready core last after fits is p.lists p.ran p.each p.handed (let m = d.most in omega arith)
+  abbrev of_files : IsRunOfFiles gives options.run.setup options.run.cycles bytes (change core after) last
+  of_files = run_of_files gives options.run.setup options.run.cycles bytes ready core last after fits is p.lists p.ran p.each p.handed (let m = d.most in omega arith)
 
-  all_lists : over.run.driven.lists ≡ p.lists
-  all_lists = over_lists gives options.run.setup options.run.cycles bytes ready core last after fits is p.lists p.ran p.each p.handed (let m = d.most in omega arith)
+  all_lists : of_files.run.driven.lists ≡ p.lists
+  all_lists = of_files_lists gives options.run.setup options.run.cycles bytes ready core last after fits is p.lists p.ran p.each p.handed (let m = d.most in omega arith)
 
   saw : IsSnapshot begun d.first
   saw = subst (λ (m : Timed). IsSnapshot m d.first) is.begun d.saw
 
-  are : AreSnapshots begun over.run.driven.lists d.seen
+  are : AreSnapshots begun of_files.run.driven.lists d.seen
   are = subst (λ (ls : List (List Record)). AreSnapshots begun ls d.seen) (sym all_lists) (subst (λ (m : Timed). AreSnapshots m p.lists d.seen) is.begun d.are)
 
   whole_if : (goes_on last.arch ≡ true → length p.lists ≡ cycles) → IsWhole options.run.setup options.run.cycles start last
   whole_if all = run_whole gives options.run.setup options.run.cycles bytes ready core last after fits is p.lists p.ran p.each p.handed (λ on. all on ∙ y)
 
   abbrev whole_text : List ℕ
-  whole_text = drawn_text options.format d.first over.run.driven.lists d.seen
+  whole_text = drawn_text options.format d.first of_files.run.driven.lists d.seen
 
   abbrev part_text : List ℕ
-  part_text = front_text options.format d.first over.run.driven.lists d.seen
+  part_text = front_text options.format d.first of_files.run.driven.lists d.seen
 
   means : (ended : Result ℕ (List ℕ)) (text : List ℕ)
-      → IsDrawnWhole options start last d.first over.run.driven.lists d.seen ended text ⊎ IsDrawnPart options d.first over.run.driven.lists d.seen ended text
+      → IsDrawnWhole options start last d.first of_files.run.driven.lists d.seen ended text ⊎ IsDrawnPart options d.first of_files.run.driven.lists d.seen ended text
       → HasDrawing gives options bytes (change core after) ended text
-  means ended text written = record { last = last; over = over; first = d.first; saw = saw; seen = d.seen; are = are; written = written }
+  means ended text written = record { last = last; of_files = of_files; first = d.first; saw = saw; seen = d.seen; are = are; written = written }
 
   pub wrote_drawing : result ≡ Ok tt → (status : ℕ) → status ≡ end_status (end_of last.arch.end) → WritesWhole gives (Draw options) bytes (change core after) sink status
   wrote_drawing ok status says =

@@ -30,11 +30,11 @@ use Rattle.diva_cli.specs.Changes.{PutsTo, SinkChange, TakesPast, change}
 use Rattle.diva_cli.specs.Wanted.{FileBytes, tape_name}
 use Rattle.diva_cli.specs.Cuts.{BeforeLast}
 use Rattle.diva_cli.specs.Driven.{IsDriven, scripted_lists}
-use Rattle.diva_cli.specs.Runs.{IsRunOver, IsWhole, HasRun, AreRows, AreLists, end_status, asked_trace, shown_dump, start_in}
+use Rattle.diva_cli.specs.Runs.{IsRunOfFiles, IsWhole, HasRun, AreRows, AreLists, end_status, asked_trace, shown_dump, start_in}
 use Rattle.diva_cli.specs.TapeTexts.{IsHandedFor, IsReplay, IsTapeOf}
 use Rattle.diva_cli.specs.Tasks.{IsWritten, PerformsBy, cycles_text, tape_line}
 use Rattle.diva_cli.specs.Parts.{IsReady, WritesWhole, WritesPart}
-use Rattle.diva_cli.proofs.Running.{ends_with, run_over, over_lists, run_whole, each_new, shown_whole}
+use Rattle.diva_cli.proofs.Running.{ends_with, run_of_files, of_files_lists, run_whole, each_new, shown_whole}
 
 -- ---- lists of a tape, and then empty ones
 
@@ -102,14 +102,14 @@ module _ (options : TapeOptions) (bytes : FileBytes) (lists : List (List Record)
         × (shown ≡ asked_trace replay.trace (start_in replay.setup its_bytes) run.last.count ++ text_of run.last (shown_dump replay.dump))
     whole_run = shown_whole gives replay its_bytes core after ended shown run asked
 
-    none : run.over.script ≡ []
-    none = subst (λ (name : Option (List ℕ)). AreRows name (its_bytes Script) run.over.script) is.script run.over.rows
+    none : run.of_files.script ≡ []
+    none = subst (λ (name : Option (List ℕ)). AreRows name (its_bytes Script) run.of_files.script) is.script run.of_files.rows
 
-    of_tape : AreLists (Some is.name) (its_bytes TapeFile) run.over.tape
-    of_tape = subst (λ (c : CoreChoice). AreLists (tape_name c) (its_bytes TapeFile) run.over.tape) is.core run.over.lists
+    of_tape : AreLists (Some is.name) (its_bytes TapeFile) run.of_files.tape
+    of_tape = subst (λ (c : CoreChoice). AreLists (tape_name c) (its_bytes TapeFile) run.of_files.tape) is.core run.of_files.lists
 
-    same_lists : run.over.tape ≡ lists
-    same_lists = only_one (tape_of text) run.over.tape lists (ap tape_of (sym is.tape) ∙ of_tape) reads
+    same_lists : run.of_files.tape ≡ lists
+    same_lists = only_one (tape_of text) run.of_files.tape lists (ap tape_of (sym is.tape) ∙ of_tape) reads
 
     same_start : start_in replay.setup its_bytes ≡ start_in options.setup bytes
     same_start =
@@ -123,9 +123,9 @@ module _ (options : TapeOptions) (bytes : FileBytes) (lists : List (List Record)
     driven =
         subst (λ (c : CoreChoice). IsDriven gives c lists [] options.cycles (change first run.last) (change core after)) is.core
         (subst (λ (t : List (List Record)). IsDriven gives replay.setup.core t [] options.cycles (change first run.last) (change core after)) same_lists
-        (subst (λ (rows : List Row). IsDriven gives replay.setup.core run.over.tape rows options.cycles (change first run.last) (change core after)) none
-        (subst (λ (n : ℕ). IsDriven gives replay.setup.core run.over.tape run.over.script n (change first run.last) (change core after)) is.cycles
-        (subst (λ (m : Timed). IsDriven gives replay.setup.core run.over.tape run.over.script replay.cycles (change m run.last) (change core after)) same_first run.over.run.driven))))
+        (subst (λ (rows : List Row). IsDriven gives replay.setup.core run.of_files.tape rows options.cycles (change first run.last) (change core after)) none
+        (subst (λ (n : ℕ). IsDriven gives replay.setup.core run.of_files.tape run.of_files.script n (change first run.last) (change core after)) is.cycles
+        (subst (λ (m : Timed). IsDriven gives replay.setup.core run.of_files.tape run.of_files.script replay.cycles (change m run.last) (change core after)) same_first run.of_files.run.driven))))
 
     handed : IsHandedFor options.cycles first driven.lists
     handed =
@@ -156,11 +156,11 @@ module _ {C S : Type 0} (gives : Meaning C) (options : TapeOptions) (bytes : Fil
   few : length p.lists ≤ options.cycles
   few = let m = p.done.most in omega arith
 
-  abbrev over : IsRunOver gives options.setup options.cycles bytes (change core after) last
-  over = run_over gives options.setup options.cycles bytes ready core last after fits is p.lists p.ran p.each p.handed few
+  abbrev of_files : IsRunOfFiles gives options.setup options.cycles bytes (change core after) last
+  of_files = run_of_files gives options.setup options.cycles bytes ready core last after fits is p.lists p.ran p.each p.handed few
 
-  all_lists : over.run.driven.lists ≡ p.lists
-  all_lists = over_lists gives options.setup options.cycles bytes ready core last after fits is p.lists p.ran p.each p.handed few
+  all_lists : of_files.run.driven.lists ≡ p.lists
+  all_lists = of_files_lists gives options.setup options.cycles bytes ready core last after fits is p.lists p.ran p.each p.handed few
 
   puts : PutsTo sink (tape_text p.lists) result
   puts = subst (λ (t : List ℕ). PutsTo sink t result) (tape_lines ready.machine.timed p.lists) p.done.put
@@ -177,7 +177,7 @@ module _ {C S : Type 0} (gives : Meaning C) (options : TapeOptions) (bytes : Fil
         text = tape_text p.lists;
         means = record {
           last = last;
-          over = over;
+          of_files = of_files;
           lines = ap tape_text (sym all_lists);
           whole = subst (λ (lists : List (List Record)). IsTapeOf gives options bytes lists last (tape_text p.lists) status) (sym all_lists) (record {
             whole = whole;
@@ -204,7 +204,7 @@ module _ {C S : Type 0} (gives : Meaning C) (options : TapeOptions) (bytes : Fil
         text = tape_text p.lists;
         means = record {
           last = last;
-          over = over;
+          of_files = of_files;
           lines = ap tape_text (sym all_lists);
           whole = tt;
           cut = record { earlier = b.earlier; last = b.last; in_order = all_lists ∙ b.in_order; holds = refl };

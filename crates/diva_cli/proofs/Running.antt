@@ -48,7 +48,7 @@ use Rattle.diva_cli.specs.Wanted.{FileBytes}
 use Rattle.diva_cli.specs.Cuts.{BeforeLast}
 use Rattle.diva_cli.specs.Driven.{IsDriven, AreHanded, ByCalls, ByOther, scripted_lists, scripted_rule}
 use Rattle.diva_cli.proofs.Handing.{calls_made}
-use Rattle.diva_cli.specs.Runs.{IsRunFrom, IsRunOver, IsUnflushed, IsWhole, EndsWith, HasRun, end_status, asked_trace, shown_dump, start_in}
+use Rattle.diva_cli.specs.Runs.{IsRunFrom, IsRunOfFiles, IsUnflushed, IsWhole, EndsWith, HasRun, end_status, asked_trace, shown_dump, start_in}
 use Rattle.diva_cli.specs.declared.tasks.Task.{Task}
 use Rattle.diva_cli.specs.Tasks.{AreHandedBy, Does, PerformsBy, cycles_text, run_task, trace_lines}
 use Rattle.diva_cli.specs.Parts.{IsReady, WritesWhole, WritesPart, core_for}
@@ -175,8 +175,8 @@ module _ {C : Type 0} (gives : Meaning C) (setup : Setup) (cycles : ℕ) (bytes 
       (subst (λ (m : Timed). AreHandedBy gives (core_for setup.core is.core.tape) ready.script (change m last) (change core after) lists) is.begun
       (subst (λ (used : CoreInUse). AreHandedBy gives used ready.script (change ready.machine.timed last) (change core after) lists) is.core.is handed))
 
-  pub run_over : length lists ≤ cycles → IsRunOver gives setup cycles bytes (change core after) last
-  run_over most =
+  pub run_of_files : length lists ≤ cycles → IsRunOfFiles gives setup cycles bytes (change core after) last
+  run_of_files most =
       record {
         script = ready.script;
         rows = is.rows;
@@ -186,9 +186,9 @@ module _ {C : Type 0} (gives : Meaning C) (setup : Setup) (cycles : ℕ) (bytes 
             (record { lists = lists; ran = ran_new; each = (let e = each_new in omega arith); most = most; handed = handed_new });
       }
 
-  pub over_lists : (most : length lists ≤ cycles) → (run_over most).run.driven.lists ≡ lists
-  unfolding run_over run_from_start
-  over_lists most = refl
+  pub of_files_lists : (most : length lists ≤ cycles) → (run_of_files most).run.driven.lists ≡ lists
+  unfolding run_of_files run_from_start
+  of_files_lists most = refl
 
   pub run_whole : (goes_on last.arch ≡ true → length lists ≡ cycles) → IsWhole setup cycles (start_in setup bytes) last
   run_whole all =
@@ -333,8 +333,8 @@ module _ {C S : Type 0} (gives : Meaning C) (options : RunOptions) (bytes : File
       (subst (λ (x : List ℕ). Puts x old mid before between result)
       (ap (λ (m : Timed). commits_if trace m p.lists) is.begun ∙ trace-run options.setup.config (start_in options.setup bytes) p.lists last trace fits refl run_from_new) w.put)
 
-  abbrev over : IsRunOver gives options.setup options.cycles bytes (change core after) last
-  over = run_over gives options.setup options.cycles bytes ready core last after fits is p.lists p.ran p.each p.handed (let m = w.most in omega arith)
+  abbrev of_files : IsRunOfFiles gives options.setup options.cycles bytes (change core after) last
+  of_files = run_of_files gives options.setup options.cycles bytes ready core last after fits is p.lists p.ran p.each p.handed (let m = w.most in omega arith)
 
   whole_if : (goes_on last.arch ≡ true → length p.lists ≡ cycles) → IsWhole options.setup options.cycles (start_in options.setup bytes) last
   whole_if all = run_whole gives options.setup options.cycles bytes ready core last after fits is p.lists p.ran p.each p.handed (λ on. all on ∙ y)
@@ -342,8 +342,8 @@ module _ {C S : Type 0} (gives : Meaning C) (options : RunOptions) (bytes : File
   whole_ok : result ≡ Ok tt → IsWhole options.setup options.cycles (start_in options.setup bytes) last
   whole_ok ok = whole_if (subst (λ (r : Result (Unit {0}) SinkFailed). OnOk r (goes_on last.arch ≡ true → length p.lists ≡ cycles)) ok w.whole)
 
-  all_lists : over.run.driven.lists ≡ p.lists
-  all_lists = over_lists gives options.setup options.cycles bytes ready core last after fits is p.lists p.ran p.each p.handed (let m = w.most in omega arith)
+  all_lists : of_files.run.driven.lists ≡ p.lists
+  all_lists = of_files_lists gives options.setup options.cycles bytes ready core last after fits is p.lists p.ran p.each p.handed (let m = w.most in omega arith)
 
   both : result ≡ Ok tt → (r : Result (Unit {0}) SinkFailed) → Puts (text_of last (shown_dump dump)) mid new between now r → Puts run_text old new before now r
   both ok r puts =
@@ -364,7 +364,7 @@ module _ {C S : Type 0} (gives : Meaning C) (options : RunOptions) (bytes : File
         text = run_text;
         means = record {
           last = last;
-          over = over;
+          of_files = of_files;
           written = inl (record { whole = whole_ok ok; says = ends_with options.setup options.cycles (start_in options.setup bytes) last status (whole_ok ok) says; lines = refl; cut = tt });
         };
         written = (both ok (Ok tt) puts).ok;
@@ -378,7 +378,7 @@ module _ {C S : Type 0} (gives : Meaning C) (options : RunOptions) (bytes : File
         rose = q.failed;
         put = asked_trace options.trace (start_in options.setup bytes) last.count;
         text = run_text;
-        means = record { last = last; over = over; written = inl (record { whole = whole_ok ok; says = tt; lines = refl; cut = refl }) };
+        means = record { last = last; of_files = of_files; written = inl (record { whole = whole_ok ok; says = tt; lines = refl; cut = refl }) };
         written = past ok e puts;
       }
 
@@ -406,7 +406,7 @@ module _ {C S : Type 0} (gives : Meaning C) (options : RunOptions) (bytes : File
         text = trace_of (start_in options.setup bytes) last.count;
         means = record {
           last = last;
-          over = over;
+          of_files = of_files;
           written = inr (record {
             traced = sym t ∙ c.0;
             lines = refl;

@@ -52,7 +52,7 @@ use Rattle.diva_cli.specs.Driven.{ByCalls, scripted_lists, scripted_rule}
 use Rattle.diva_cli.specs.Parts.{IsSession, WritesPart, WritesWhole, core_for}
 use Rattle.diva_cli.specs.Replies.{AreLed, IsMoved, IsTakenBack, LeadsBy, at_start, cycles_of, newest_after, next_standing, replies_of}
 use Rattle.diva_cli.specs.Runs.{IsUnflushed, start_in}
-use Rattle.diva_cli.specs.Sessions.{AreHandedInParts, ByOtherLegs, IsDrivenInParts, IsSessionFrom, IsSessionOver}
+use Rattle.diva_cli.specs.Sessions.{AreHandedInParts, ByOtherLegs, IsDrivenInParts, IsSessionFrom, IsSessionOfFiles}
 use Rattle.diva_cli.specs.Tasks.{AreHandedInPartsBy, IsReplied, Plays, PlaysBy}
 use Rattle.diva_cli.specs.Wanted.{FileBytes}
 use Rattle.diva_cli.proofs.Commanding.{CutAt}
@@ -343,8 +343,8 @@ module _ {C S : Type 0} (gives : Meaning C) (options : DebugOptions) (bytes : Fi
             (subst (λ (used : CoreInUse). AreHandedInPartsBy gives used session.ready.script (change session.ready.machine.timed last) (change core after) p.parts) is.ready.core.is p.handed));
       }
 
-  abbrev over : IsSessionOver gives options.setup cycles bytes (change core after) last
-  over =
+  abbrev of_files : IsSessionOfFiles gives options.setup cycles bytes (change core after) last
+  of_files =
       record {
         script = session.ready.script;
         rows = is.ready.rows;
@@ -368,7 +368,7 @@ module _ {C S : Type 0} (gives : Meaning C) (options : DebugOptions) (bytes : Fi
         read = is.read ∙ ap Ok (sym same ∙ p.done.in_order);
         whole = whole;
         last = last;
-        over = over;
+        of_files = of_files;
         led = led;
         lines = refl;
         cut = cut;

@@ -21,6 +21,6 @@ pub run_with_liar : {C : Type 0} (gives : Meaning C) (options : RunOptions) (lia
 run_with_liar gives options liar bytes core ended text h =
     record {
       last = h.last;
-      over = h.over;
-      written = written_with_liar options liar (start_in options.setup bytes) h.over.run.driven.lists h.last ended text h.written;
+      of_files = h.of_files;
+      written = written_with_liar options liar (start_in options.setup bytes) h.of_files.run.driven.lists h.last ended text h.written;
     }

@@ -10,7 +10,7 @@ use Rattle.diva_debug.specs.declared.command.Command.{Command}
 use Rattle.diva_cli.specs.Changes.{Change}
 use Rattle.diva_cli.specs.Wanted.{FileBytes}
 use Rattle.diva_cli.specs.Runs.{start_in}
-use Rattle.diva_cli.specs.Sessions.{IsSessionOver}
+use Rattle.diva_cli.specs.Sessions.{IsSessionOfFiles}
 use Rattle.diva_cli.specs.Cuts.{BeforeLast}
 use Rattle.diva_cli.specs.Replies.{AreLed, at_start, cycles_of, newest_after, replies_of}
 
@@ -23,12 +23,12 @@ pub record HasReplies {C : Type 0} (gives : Meaning C) (options : DebugOptions) 
   pub read : commands_of (bytes Commands) ≡ Ok (done ++ left)
   pub whole : IfOk ended (λ s. (s ≡ 0) × (left ≡ []))
   pub last : Timed
-  pub over : IsSessionOver gives options.setup (cycles_of (length done) options.setup.config.limit) bytes core last
+  pub of_files : IsSessionOfFiles gives options.setup (cycles_of (length done) options.setup.config.limit) bytes core last
   -- a part for each command
   pub led : AreLed (start_in options.setup bytes) done at_start (new_timed options.setup.config (start_in options.setup bytes))
-      over.session.driven.parts
+      of_files.session.driven.parts
   pub lines : text ≡ replies_of (start_in options.setup bytes) done at_start
-      (newest_after (new_timed options.setup.config (start_in options.setup bytes)) over.session.driven.parts)
+      (newest_after (new_timed options.setup.config (start_in options.setup bytes)) of_files.session.driven.parts)
   -- where the sink failed, it did so at the last of these replies; those before it had been put
   pub cut : IfErr ended (λ put. BeforeLast done (λ earlier. put ≡ replies_of (start_in options.setup bytes) earlier at_start
-      (newest_after (new_timed options.setup.config (start_in options.setup bytes)) over.session.driven.parts)))
+      (newest_after (new_timed options.setup.config (start_in options.setup bytes)) of_files.session.driven.parts)))

@@ -16,7 +16,7 @@ use Rattle.diva_drawing.specs.Snapshot.{AreSnapshots, IsSnapshot, Snapshot}
 use Rattle.diva_cli.specs.Changes.{Change}
 use Rattle.diva_cli.specs.Wanted.{FileBytes}
 use Rattle.diva_cli.specs.Cuts.{BeforeLast}
-use Rattle.diva_cli.specs.Runs.{EndsWith, IsRunOver, IsWhole, start_in}
+use Rattle.diva_cli.specs.Runs.{EndsWith, IsRunOfFiles, IsWhole, start_in}
 
 -- ---- the parts of the text, in each format
 
@@ -89,11 +89,11 @@ pub record HasDrawing {C : Type 0} (gives : Meaning C) (options : DrawOptions) (
     (ended : Result ℕ Text) (text : Text) : Type 0 where
   pub last : Timed
   -- all that is promised of a run holds of it
-  pub over : IsRunOver gives options.run.setup options.run.cycles bytes core last
+  pub of_files : IsRunOfFiles gives options.run.setup options.run.cycles bytes core last
   -- this is seen of the new machine, and behind each cycle of the run
   pub first : Snapshot
   pub saw : IsSnapshot (new_timed options.run.setup.config (start_in options.run.setup bytes)) first
   pub seen : List Snapshot
-  pub are : AreSnapshots (new_timed options.run.setup.config (start_in options.run.setup bytes)) over.run.driven.lists seen
-  pub written : IsDrawnWhole options (start_in options.run.setup bytes) last first over.run.driven.lists seen ended text
-      ⊎ IsDrawnPart options first over.run.driven.lists seen ended text
+  pub are : AreSnapshots (new_timed options.run.setup.config (start_in options.run.setup bytes)) of_files.run.driven.lists seen
+  pub written : IsDrawnWhole options (start_in options.run.setup bytes) last first of_files.run.driven.lists seen ended text
+      ⊎ IsDrawnPart options first of_files.run.driven.lists seen ended text

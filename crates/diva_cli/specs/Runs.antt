@@ -87,7 +87,7 @@ abbrev pub start_in : Setup → FileBytes → State
 start_in setup bytes = start_of (image_in setup.room (bytes Image))
 
 -- a run over files with these bytes
-pub record IsRunOver {C : Type 0} (gives : Meaning C) (setup : Setup) (cycles : ℕ) (bytes : FileBytes) (core : Change C)
+pub record IsRunOfFiles {C : Type 0} (gives : Meaning C) (setup : Setup) (cycles : ℕ) (bytes : FileBytes) (core : Change C)
     (last : Timed) : Type 0 where
   pub script : List Row
   pub rows : AreRows setup.script (bytes Script) script
@@ -127,6 +127,6 @@ pub record IsBrokenOff (options : RunOptions) (start : State) (lists : List (Lis
 pub record HasRun {C : Type 0} (gives : Meaning C) (options : RunOptions) (bytes : FileBytes) (core : Change C)
     (ended : Result ℕ Text) (text : Text) : Type 0 where
   pub last : Timed
-  pub over : IsRunOver gives options.setup options.cycles bytes core last
+  pub of_files : IsRunOfFiles gives options.setup options.cycles bytes core last
   pub written : IsShown options (start_in options.setup bytes) last ended text
-      ⊎ IsBrokenOff options (start_in options.setup bytes) over.run.driven.lists last ended text
+      ⊎ IsBrokenOff options (start_in options.setup bytes) of_files.run.driven.lists last ended text

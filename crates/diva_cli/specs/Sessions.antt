@@ -94,7 +94,7 @@ pub record IsSessionFrom {C : Type 0} (gives : Meaning C) (setup : Setup) (cycle
   pub unflushed : (setup.core ≡ Lockstep) ⊎ (setup.core ≡ Scalar) → script ≡ [] → IsUnflushed last
 
 -- a session over files with these bytes
-pub record IsSessionOver {C : Type 0} (gives : Meaning C) (setup : Setup) (cycles : ℕ) (bytes : FileBytes) (core : Change C)
+pub record IsSessionOfFiles {C : Type 0} (gives : Meaning C) (setup : Setup) (cycles : ℕ) (bytes : FileBytes) (core : Change C)
     (last : Timed) : Type 0 where
   pub script : List Row
   pub rows : AreRows setup.script (bytes Script) script
