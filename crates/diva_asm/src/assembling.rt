@@ -16,7 +16,7 @@ use diva_image::{Image, MOST_SIZE};
 use diva_outside::{FaultKind, LineReader, fold_lines};
 use std::alloc::Global;
 
-/// The image of a source, or its first fault.
+/// The image of a source. The error is its first fault, or `Memory` where memory runs out.
 ///
 /// The time that it takes is linear in the source's length but for the labels, which are looked up in a sorted map.
 #[tactic(auto, unfolding(crate::specs::Sources::source_of))]

@@ -11,7 +11,7 @@ use crate::numbers::{MemRange, RegisterNumber, StepCount};
 use diva_outside::{ItemReader, LineWords, is_word, read_items};
 use std::alloc::Global;
 
-/// The commands of a text in their order, or its first fault.
+/// The commands of a text in their order. The error is its first fault, or `Memory` where memory runs out.
 ///
 /// Lines without words are skipped. Every other line is a command: `step K`, `until PC`, `back K`, `reg N`, `mem ADDR LEN` or
 /// `why`. K is 1 to 1,000,000, N is 0 to 31, LEN is 1 to 32, all decimal; PC and ADDR are hex, and ADDR + LEN is 2^32 at most.

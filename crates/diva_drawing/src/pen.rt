@@ -49,7 +49,7 @@ impl Pen {
     }
 
     /// Puts the lines of the log for a cycle, in which the machine was handed this list; it is shown as the cycle has left it. Where
-    /// a put fails, a prefix of the lines was appended.
+    /// a put fails, a prefix of the lines was appended. Fewer than 2^62 rows may have begun before.
     pub fn log_cycle<S: Sink>(
         &mut self,
         m: &Machine,
@@ -77,7 +77,7 @@ impl Pen {
     }
 
     /// Puts the rows of the drawing that end in a cycle; the machine is shown as the cycle has left it. Where a put fails, a prefix
-    /// of them was appended.
+    /// of them was appended. Fewer than 2^62 rows may have begun before.
     pub fn draw_cycle<S: Sink>(&mut self, m: &Machine, sink: &mut S) -> Result<(), SinkFailed>
         requires rows { self.old.rows < 2 ^ 62 }
         ensures seen { IsSnapshot m.now.timed self.new.seen }

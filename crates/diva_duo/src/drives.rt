@@ -9,8 +9,8 @@ use crate::duo::Duo;
 use diva_core::{Claims, Core};
 use diva_hart::Drive;
 
-/// Takes turns until both harts have ended and drained, or the budget's cycles are run. In each turn the core of a hart that goes
-/// on is asked, hart 0's first; that of an ended hart is not.
+/// Takes turns until both harts have ended and both buffers are empty, or the budget's cycles are run. In each turn the core of a
+/// hart that goes on is asked; that of an ended hart is not. The cycles that have run and the budget may come to 2^60 at most.
 pub fn drive2<A: Core, B: Core>(duo: &mut Duo, a: &mut A, b: &mut B, budget: u64) -> Drive
     requires { duo.old.duo.cycles + budget ≤ 2 ^ 60 }
     // Harts and cores are reached by turns, one for each cycle. The actions of all cycles, replayed, lead from the old harts to the

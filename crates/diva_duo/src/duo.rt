@@ -253,7 +253,7 @@ impl Duo {
         self.parts.hart(h).flushes()
     }
 
-    /// How many of them came since nothing had committed for too long.
+    /// How many flushes of a hart, 0 or 1, came since nothing had committed for too long.
     pub fn silent(&self, h: u8) -> u64
         requires { h < 2 }
         ensures { result ≡ (hart_at (which h) self.now.duo).silent }
@@ -287,7 +287,8 @@ impl Duo {
         self.parts.hart(h).end()
     }
 
-    /// Runs one cycle, each hart on its list. Where both have ended and drained, nothing changes but `last`, which is then empty.
+    /// Runs one cycle, each hart on its list. Where they are over, nothing changes but `last`, which is then empty. Fewer than
+    /// 2^60 cycles may have run before.
     #[tactic(auto, using(crate::proofs::Cycles::replays_actions, crate::proofs::Cycles::stays, crate::proofs::Cycles::counts_few, crate::proofs::Progress::will_go, crate::proofs::Progress::has_gone, crate::proofs::Cycles::cycle_over))]
     pub fn cycle(&mut self, a: &Claims, b: &Claims)
         requires { self.old.duo.cycles < 2 ^ 60 }

@@ -44,7 +44,7 @@ impl Model for Script {
 }
 
 impl Script {
-    /// The script of a text, or its first fault.
+    /// The script of a text. The error is its first fault, or `Memory` where memory runs out.
     ///
     /// Lines without words are skipped. Every other line is a row: `at C lane L flip FIELD B`, `at C lane L set FIELD H`,
     /// `at C lane L lose`, `at C lane L double` or `at C hush K`. C and K are 1 to 1,000,000,000, L is 0 to 7, B is 0 to

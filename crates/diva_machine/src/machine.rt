@@ -35,7 +35,7 @@ use std::marker::Model;
 /// DSN 2001; sizes and timing are this model's own).
 ///
 /// It takes all its memory when it is made. Between two cycles its numbers are within
-/// their bounds, and nothing is stalled for longer than the watchdog allows.
+/// their bounds, and the watchdog has counted no more cycles than its limit and those of a solo instruction.
 #[derive(Drop)]
 pub struct Machine {
     parts: Parts,
@@ -209,7 +209,7 @@ impl Machine {
     }
 
     /// Runs one cycle on what a core handed over. On an ended machine nothing changes but `last`,
-    /// which is then empty.
+    /// which is then empty. Fewer than 2^60 cycles may have run before.
     #[inline(always)]
     #[tactic(auto, using(diva_core::proofs::Keeping::stays, diva_core::proofs::Outcomes::rises, diva_core::proofs::Outcomes::logs, diva_core::proofs::Outcomes::records_by, diva_core::proofs::Pacing::will_count, diva_core::proofs::Progressing::has_pace, diva_core::proofs::Calming::stays_calm, crate::proofs::Laws::sixth_commits))]
     pub fn cycle(&mut self, list: &Claims)
@@ -320,8 +320,8 @@ impl Machine {
         self.cycle_by(list, &mut panel);
     }
 
-    /// Takes the last instruction back, which overwrote `u`. All stores that are not in memory yet are put there before. What the core
-    /// has in flight is dropped; cycles and log stay, and so do the records of the last cycle.
+    /// Takes the last instruction back, which overwrote `u`. All stores that are not in memory yet are put there before. What is
+    /// pending is dropped; cycles and log stay, and so do the records of the last cycle.
     #[tactic(auto, using(diva_core::proofs::Undoing::undone_stays, diva_core::proofs::Undoing::undone_calm, diva_core::proofs::Pacing::will_count))]
     pub fn undo(&mut self, u: &Undo)
         requires { CanUndo self.old.timed u.now }

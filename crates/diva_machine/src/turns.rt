@@ -18,7 +18,7 @@ use diva_core::{Claims, Core};
 use diva_hart::Drive;
 
 /// Asks the core once and runs one cycle; the list is then what was handed over. On an ended
-/// machine the core is not asked, and the list is empty.
+/// machine the core is not asked, and the list is empty. Fewer than 2^60 cycles may have run before.
 #[tactic(auto, using(diva_core::proofs::Outcomes::rises, diva_core::proofs::Outcomes::logs, diva_core::proofs::Outcomes::records_by, diva_core::proofs::Keeping::stays, diva_core::proofs::Pacing::will_count, diva_core::proofs::Progressing::has_pace, diva_core::proofs::Calming::stays_calm))]
 pub fn turn<C: Core>(m: &mut Machine, core: &mut C, list: &mut Claims)
     requires { m.old.timed.cycles < 2 ^ 60 }
@@ -91,7 +91,7 @@ fn ask<C: Core>(m: &Machine, core: &mut C, list: &mut Claims) -> bool
 }
 
 /// Takes turns until the machine ends or the budget's cycles are run. On an ended machine nothing
-/// changes, and the core is not asked.
+/// changes, and the core is not asked. The cycles that have run and the budget may come to 2^60 at most.
 pub fn drive<C: Core>(m: &mut Machine, core: &mut C, budget: u64) -> Drive
     requires { m.old.timed.cycles + budget ≤ 2 ^ 60 }
     // Machine and core are reached by turns, one for each cycle. In each cycle equal claims committed,

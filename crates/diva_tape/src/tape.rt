@@ -34,7 +34,7 @@ impl Model for Tape {
 }
 
 impl Tape {
-    /// The tape of a text, or its first fault.
+    /// The tape of a text. The error is its first fault, or `Memory` where memory runs out.
     ///
     /// A line without words is an empty list. Every other line is at most eight claims with `;` between them, each of
     /// eight hex numbers in the order of [`Claim`]'s fields.

@@ -57,7 +57,8 @@ pub fn flush_line(row: &FlushRow) -> Line
     line
 }
 
-/// The field in which a claim differed, with what was claimed and what was due; or the watchdog's limit.
+/// Appends the field in which a claim differed, with what was claimed and what was due; or the watchdog's limit. There has to be
+/// room for 60 bytes.
 pub fn push_cause(line: &mut Line, cause: &Cause)
     requires { length line.old + 60 ≤ 128 }
     ensures bytes { line.new ≡ line.old ++ cause_text cause.now }

@@ -88,8 +88,8 @@ impl<R: Readable> LineList for DumpLines<'_, R> {
     }
 }
 
-/// Puts what was committed, in order; the first record is that of the instruction of this number. Where a put fails, a
-/// prefix of their text was appended.
+/// Puts what was committed, in order; the first record is that of the instruction of this number, and all numbers are below
+/// 2^64. Where a put fails, a prefix of their text was appended.
 #[tactic(auto, unfolding(crate::specs::Text::commits_text))]
 pub fn write_commits<S: Sink>(
     first: u64,
