@@ -35,7 +35,8 @@ struct Bounds {
 }
 
 /// The image of an executable: an ELF file of 32 bits for RISC-V, whose loads are what memory begins with. Behind the last of them memory
-/// has `room` bytes more, for the stack. The error is the file's first fault or, where it has none, `Memory` if memory runs out.
+/// has `room` bytes more, for the stack: a multiple of 4 below 2^24. The file has fewer than 2^32 bytes. The error is its first fault
+/// or, where it has none, `Memory` if memory runs out.
 ///
 /// The time that it takes is linear in the bytes and in the payload.
 #[tactic(auto, unfolding(crate::specs::Elf::elf_fault))]

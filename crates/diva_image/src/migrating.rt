@@ -23,7 +23,7 @@ const BLOCK_SIZE: usize = 64;
 ///
 /// The payload is cut from base into blocks of 64 bytes, the last of which is perhaps shorter. Each stretch of blocks that
 /// hold a byte other than 0 is a segment; where there are more than 16 stretches, the sixteenth segment goes on to the end
-/// of the last one.
+/// of the last one. The one error is that memory runs out.
 #[tactic(auto, using(crate::proofs::Beginning::begins_again))]
 pub fn write2(alloc: Global, image: &Image) -> Result<Vec<u8>, AllocError>
     ensures bytes { IfOk result (λ bytes. bytes.items ≡ segmented_bytes (layout image.now)) }

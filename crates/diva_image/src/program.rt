@@ -8,8 +8,9 @@ use std::alloc::Global;
 /// The first bytes of an executable.
 const ELF_MAGIC: &[u8; 4] = b"\x7fELF";
 
-/// The image of a file, which is an image or an executable; behind what an executable loads, memory has `room` bytes
-/// more, which has no effect on an image. The error is its first fault or, where it has none, `Memory` if memory runs out.
+/// The image of a file of fewer than 2^32 bytes, which is an image or an executable; behind what an executable loads, memory has
+/// `room` bytes more, a multiple of 4 below 2^24, which has no effect on an image. The error is its first fault or, where it has
+/// none, `Memory` if memory runs out.
 #[tactic(auto, unfolding(crate::specs::Programs::fault_in, crate::specs::Programs::image_in))]
 pub fn read_program(alloc: Global, bytes: &[u8], room: u32) -> Result<Image, ImageFault>
     requires short { length bytes.now < 2 ^ 32 }

@@ -9,7 +9,7 @@ use crate::version::Version;
 use std::alloc::{AllocError, Global};
 
 /// The bytes of an image in version 1, which [`read`](crate::read) makes the same image of. There is one spelling of each
-/// image.
+/// image. The one error is that memory runs out.
 #[tactic(auto, using(crate::proofs::Again::read_again))]
 pub fn write(alloc: Global, image: &Image) -> Result<Vec<u8>, AllocError>
     ensures bytes { IfOk result (λ bytes. bytes.items ≡ image_bytes (layout image.now)) }
