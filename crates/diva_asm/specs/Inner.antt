@@ -27,7 +27,7 @@ width operand = 23
 abbrev pub lead : ℕ → Text
 lead n = if n == 0 then [] else digit_glyph false (n % 16) ∷ []
 
--- what operands say that are due, where the texts have their forms; where they do not, any fault
+-- what operands say that are due, where the texts have their shapes; where they do not, any fault
 abbrev pub GivesOperands : Bool → Result Operands Kind → Result Operands Kind → Type 0
 GivesOperands shaped due (Ok v) = (shaped ≡ true) × (due ≡ Ok v)
 GivesOperands shaped due (Err kind) = shaped ≡ true → due ≡ Err kind

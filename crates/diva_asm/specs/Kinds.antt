@@ -18,9 +18,9 @@ source_kind_number UndefinedName = 5
 source_kind_number RepeatedLabel = 6
 -- an offset that is odd or out of range
 source_kind_number BadOffset = 7
--- an instruction or .word at a location that is no multiple of 4
+-- an instruction or .word at an address that is no multiple of 4
 source_kind_number Misaligned = 8
--- a directive repeated, or .base after a label or byte
+-- a directive repeated, or .base behind a label or a byte
 source_kind_number BadDirective = 9
 -- more than 16,777,216 bytes
 source_kind_number TooManyBytes = 10

@@ -63,7 +63,7 @@ fn statement_with(mnemonic: Mnemonic, text: &[u8]) -> Result<Statement<'_>, Kind
     match with_operands(operands, texts) {
         Ok(operands) => Ok(Statement { mnemonic, operands }),
         Err(kind) if have_shapes(operands, texts) => Err(kind),
-        // a wrong form comes before what else is wrong with an operand
+        // a wrong shape comes before what else is wrong with an operand
         Err(_) => Err(Kind::WrongShape),
     }
 }
@@ -79,7 +79,7 @@ fn first_text(texts: &[u8]) -> (&[u8], Option<&[u8]>)
     }
 }
 
-/// Whether there are as many texts as operands, each of its operand's form.
+/// Whether there are as many texts as operands, each of its operand's shape.
 #[tactic(auto, unfolding(crate::specs::Statements::have_shapes))]
 fn have_shapes(operands: &[Operand], mut texts: Option<&[u8]>) -> bool
     ensures { result ≡ have_shapes operands.now (operand_texts (option_map (λ t. t.now) texts.entry)) }
@@ -119,7 +119,7 @@ fn is_memory(text: &[u8]) -> bool
     text.ends_with(b")") && count_of(text, b'(') == 1 && count_of(text, b')') == 1
 }
 
-/// What the texts say, or a fault, where there are not as many as operands, each of its operand's form, or one says nothing.
+/// What the texts say, or a fault, where there are not as many as operands, each of its operand's shape, or one says nothing.
 #[tactic(auto, unfolding(crate::specs::Statements::with_operands, crate::specs::Statements::have_shapes))]
 fn with_operands<'a>(
     operands: &[Operand],

@@ -36,7 +36,7 @@ IsSoakRun gives options choice core last =
 
 -- ---- the command
 
--- the text of `soak`, and the status that goes with it where it was written whole. Both runs are over by then
+-- the text of `soak`, and the status that goes with it where it was written whole. Both runs have ended by then
 pub record HasSoaked {C : Type 0} (gives : Meaning C) (options : SoakOptions) (core : Change C) (ended : Result ℕ Text) (text : Text) : Type 0 where
   pub first : Timed
   pub under_scalar : IsSoakRun gives options Scalar (change core.before core.before) first

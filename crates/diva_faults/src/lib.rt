@@ -1,4 +1,4 @@
-//! Fault scripts: what is to go wrong in a core, cycle by cycle.
+//! Scripts: what is to go wrong in a core, cycle by cycle.
 //!
 //! - `rows`: what a row of a script does, `Row` and `Change`.
 //! - `script`: the rows of a text, with the first cycle that they touch and the one behind the last, `Script`. `reading`: how

@@ -55,7 +55,7 @@ limited (suc n) (s ∷ rest) = s ∷ limited n rest
 abbrev pub canonical : Layout → List Segment
 canonical i = limited (most_segments - 1) (stretches i.base (blocks_of i.payload))
 
--- an entry of the table
+-- what the table has for a segment
 abbrev pub pair_bytes : Segment → List ℕ
 pair_bytes s = to_le_bytes w32 s.addr ++ to_le_bytes w32 s.len
 

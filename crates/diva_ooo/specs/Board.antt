@@ -22,6 +22,7 @@ reads n e = (((profile_of e).rs1 == n) || ((profile_of e).rs2 == n)) && not (n =
 abbrev pub has_result : ℕ → WindowEntry → Bool
 has_result n e = writes n e && is_done e.progress
 
+-- a store that is not done
 abbrev pub is_open_store : WindowEntry → Bool
 is_open_store e = not (is_done e.progress) && is_storing (profile_of e).class
 

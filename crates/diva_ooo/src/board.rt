@@ -140,7 +140,7 @@ impl Board {
         self.base += 1;
     }
 
-    /// Gives the oldest entry the mark 0 again: each mark is lower by a step.
+    /// Gives the oldest entry the mark 0 again: each mark is lower by `STEP`.
     pub(crate) fn renumber(&mut self)
         requires { self.old.base ≡ 32 }
         ensures board { (w : List WindowEntry) → IsBoard w self.old → IsBoard w self.new }
@@ -320,7 +320,7 @@ fn keep_below(sets: &mut [MarkSet; REGISTERS], end: usize)
     }
 }
 
-/// Each mark of each set is lower by a step.
+/// Each mark of each set is lower by `Board::STEP`.
 fn lower(sets: &mut [MarkSet; REGISTERS])
     ensures lowered { (n : ℕ) → n < 32 → (i : ℕ) → has (get_or sets.new n no_mark) i
         ≡ has (get_or sets.old n no_mark) (32 + i) }
