@@ -14,7 +14,7 @@ use Rattle.diva_hart.specs.HartArch.{HartState, seen}
 use Rattle.diva_duo.specs.declared.action.Action.{Action}
 use Rattle.diva_duo.specs.declared.action.Action.TheVariants.{Go, Drain}
 use Rattle.diva_duo.specs.Harts.{Harts, may_drain, memory_drained, replay, state_drained, where_possible}
-use Rattle.diva_duo.specs.Duo.{Duo, Hart, timed, drained_hart, hart_cycle, duo_drained, duo_cycle_of, phased, is_over, has_ended, harts_of, drains, actions}
+use Rattle.diva_duo.specs.Duo.{Duo, Hart, timed, drained_hart, hart_cycle, duo_drained, duo_cycle_of, phased, is_over, is_hart_over, harts_of, drains, actions}
 use Rattle.diva_duo.specs.Which.{Which, First, Second, hart_at, machine_at}
 use Rattle.diva_duo.specs.Between.{CountsFew, IsDuo, IsHart}
 use Rattle.diva_duo.proofs.Moving.{Moves, moves_on, keeps_on, other_memory, stalls_hart}
@@ -176,7 +176,7 @@ module _ (d : Duo) (inv : IsDuo d) (a b : List Record) where
 
   pub not_over : (w : Which) → (hart_at w d).state.end ≡ 0 → is_over d ≡ false
   not_over First on = and_left _ _ (and_left _ _ (ap not (eq-eqb d.first.state.end 0 on)))
-  not_over Second on = and_right (has_ended d.first) _ (and_left _ _ (ap not (eq-eqb d.second.state.end 0 on)))
+  not_over Second on = and_right (is_hart_over d.first) _ (and_left _ _ (ap not (eq-eqb d.second.state.end 0 on)))
 
   -- its count does not fall, and its numbers stay
   pub record Continues (w : Which) (e : Duo) : Type 0 where

@@ -89,12 +89,13 @@ hart_cycle cycles memory list h =
     if h.state.end == 0
     then (let m : Timed = timed cycles memory h in moved m (phases_under fences_wait m m list) h.state.buffer) else h
 
-abbrev pub has_ended : Hart → Bool
-has_ended h = not (h.state.end == 0) && is_empty h.state.buffer
+-- a hart has ended, and its buffer is empty
+abbrev pub is_hart_over : Hart → Bool
+is_hart_over h = not (h.state.end == 0) && is_empty h.state.buffer
 
 -- both harts have ended, and both buffers are empty
 abbrev pub is_over : Duo → Bool
-is_over d = has_ended d.first && has_ended d.second
+is_over d = is_hart_over d.first && is_hart_over d.second
 
 -- phase 1 of hart 0 and then of hart 1, of an ended one too
 abbrev pub drained_first : Duo → Duo

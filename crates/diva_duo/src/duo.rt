@@ -64,7 +64,7 @@ impl Parts {
     fn is_over(&self) -> bool
         ensures { result ≡ is_over self.now.duo }
     {
-        self.first.has_ended() && self.second.has_ended()
+        self.first.is_over() && self.second.is_over()
     }
 
     /// One cycle of harts that are not over.

@@ -16,7 +16,7 @@ ghost use Rattle.diva_hart.specs.HartArch.{seen};
 ghost use Rattle.diva_hart.specs.Start.{start_of};
 ghost use Rattle.diva_duo.specs.Rules.{fences_wait};
 ghost use Rattle.diva_duo.specs.Harts.{memory_drained};
-ghost use Rattle.diva_duo.specs.Duo.{drained_hart, hart_cycle, has_ended, new_hart, timed};
+ghost use Rattle.diva_duo.specs.Duo.{drained_hart, hart_cycle, is_hart_over, new_hart, timed};
 ghost use Rattle.diva_duo.specs.Inner.{judge_next, Grown, NonePastEnd, CanCycle, KeepsBounds};
 
 use diva_core::{Cause, Claim, Config, FlushRow, Told, View, first_difference};
@@ -131,9 +131,9 @@ impl Hart {
         self.under.log.rows()
     }
 
-    /// Whether the hart has ended and drained.
-    pub fn has_ended(&self) -> bool
-        ensures { result ≡ has_ended self.now }
+    /// Whether the hart has ended, and its buffer is empty.
+    pub fn is_over(&self) -> bool
+        ensures { result ≡ is_hart_over self.now }
     {
         !self.arch.goes_on() && self.arch.owed() == 0
     }
