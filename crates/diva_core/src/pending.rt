@@ -95,7 +95,7 @@ impl Entry {
 
 /// The pending claims, the oldest first: 64 at most. It takes no memory after its making.
 ///
-/// Most reads of memory meet no store in flight. So it knows the span of the claims that may be stores: a read that is apart from
+/// Most reads of memory meet no pending store. So it knows the span of the claims that may be stores: a read that is apart from
 /// that looks through no claim.
 #[derive(Drop)]
 pub struct Pending {

@@ -14,9 +14,9 @@ pub struct Told {
     pub epoch: u64,
     /// The claims that are pending.
     pub pending: u32,
-    /// How many claims the coming cycle accepts: at most four, and with those pending at most 64.
+    /// How many claims the coming cycle accepts at most: 4 at most, and with those pending 64 at most.
     pub room: u32,
-    /// The cycles run since the last commit.
+    /// The cycles run since the last commit, or since an instruction was taken back.
     pub idle: u32,
     /// Whether a claim has to be handed over in this call, or the watchdog may bark before it can commit.
     pub due: bool,

@@ -166,8 +166,8 @@ impl Pending {
         None
     }
 
-    /// The word whose bytes the claims from `from` on, up to the oldest `count`, lay over these bytes: few reads meet a store in
-    /// flight.
+    /// The word whose bytes the claims from `from` on, up to the oldest `count`, lay over these bytes: few reads meet a
+    /// pending store.
     #[cold]
     #[inline(never)]
     pub(crate) fn word_after(&self, from: usize, count: usize, addr: u32, bytes: [u8; 4]) -> u32

@@ -1,7 +1,7 @@
 //! The checker's last two stages: what a pending claim says that its instruction computed, and had of memory.
 //!
 //! The fields are those of `execute_fields` and `memory_fields` of `diva_core`'s `specs/Stages.antt`, compared with the record
-//! that is due after the older claims: their stores in flight lie over memory, and the bytes that they put count, as they do
+//! that is due after the older claims: the stores of these lie over memory, and the bytes that they put count, as they do
 //! themselves.
 #![tactic(auto)]
 

@@ -52,7 +52,7 @@ impl Span {
         self.count = self.count.saturating_sub(n);
     }
 
-    /// Whether no item can store one of the `n` bytes from an address on. Some that none stores are not told.
+    /// Whether no item can store one of the `n` bytes from an address on. It may say no where none can.
     #[inline(always)]
     pub fn is_apart(&self, addr: u32, n: u32) -> bool
         ensures value { IsTrue result ↔ ((self.now.count ≡ 0) ⊎ IsApart self.now.interval addr n) }

@@ -38,7 +38,7 @@ pub trait ItemReader {
         ensures { result ≡ surplus count };
 }
 
-/// The items of a text in their order, one for each line that has words; or its first fault.
+/// The items of a text in their order, one for each line that has words. The error is its first fault, or that memory ran out.
 pub fn read_items<R: ItemReader>(
     alloc: Global,
     reader: &R,

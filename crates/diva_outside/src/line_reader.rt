@@ -23,7 +23,8 @@ pub trait LineReader<'a> {
         ensures { GivesLine (step self.now kept line.now) result };
 }
 
-/// Reads all lines of a text, in order, to the first fault: what they make of what is kept at first.
+/// Reads all lines of a text, in order, to the first fault: what they make of what is kept at first. The error is that fault, or
+/// that memory ran out where a line took some.
 pub fn fold_lines<'a, R: LineReader<'a>>(
     reader: &R,
     kept: R::Kept,

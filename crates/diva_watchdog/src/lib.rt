@@ -1,4 +1,4 @@
-//! The watchdog of the machine: it makes a core that hands over nothing of use lose its turn.
+//! The watchdog of the machine: where nothing commits for long, it says when to flush.
 //!
 //! It is the watchdog timer of Austin, 'DIVA: A Reliable Substrate for Deep Submicron
 //! Microarchitecture Design', MICRO-32, 1999.
