@@ -4,3 +4,4 @@ pub mod Advancing
 pub mod Backing
 pub mod Answering
 pub mod Leading
+pub mod Lending

@@ -1,5 +1,5 @@
 // A machine that can go back.
-ghost use Rattle.std.specs.Prelude.{◌≡◌, ◌+◌, ◌≤◌, ◌^◌, [], true};
+ghost use Rattle.std.specs.Prelude.{◌≡◌, ◌+◌, ◌≤◌, ◌^◌, [], IfOk, true};
 ghost use Rattle.diva_isa.specs.State.{goes_on};
 ghost use Rattle.diva_core.specs.Machine.{IsMachine};
 ghost use Rattle.diva_core.specs.Timed.{depth};
@@ -13,6 +13,7 @@ use crate::undos::Undos;
 use diva_core::Core;
 use diva_isa::undo_of;
 use diva_machine::{DEPTH, Machine, drive_to};
+use std::alloc::{AllocError, Global};
 use std::marker::Model;
 
 /// A machine of width 1 with the undos of its newest instructions, by which these can be taken back.
@@ -40,6 +41,16 @@ impl Rewindable {
         ensures { result ≡ record { machine = machine; undos = []; keep = undos.keep } }
     {
         Rewindable { machine, undos }
+    }
+
+    /// A machine of width 1, none of whose instructions can be taken back yet, with room for the undos of `keep`. The one error
+    /// is that memory runs out.
+    pub(crate) fn with_room(alloc: Global, machine: Machine, keep: u32) -> Result<Self, AllocError>
+        requires { machine.timed.config.width ≡ 1 }
+        ensures { IfOk result (λ r. r ≡ record { machine = machine; undos = []; keep = keep }) }
+    {
+        let undos = Undos::new(alloc, keep as usize)?;
+        Ok(Rewindable::new(machine, undos))
     }
 
     /// The machine.

@@ -1,4 +1,5 @@
 // A machine and a core that reply to commands.
+ghost use Rattle.std.specs.Borrow.{RestsIfErr, sem};
 ghost use Rattle.std.specs.Prelude.{◌≡◌, ◌↔◌, ◌+◌, ◌-◌, ◌*◌, ◌≤◌, ◌<◌, ◌^◌, ℕ, [], IfOk, false};
 ghost use Rattle.diva_isa.specs.Step.{steps};
 ghost use Rattle.diva_core.specs.Timed.{depth};
@@ -98,7 +99,7 @@ impl<'a, C: Core> Session<'a, C> {
     }
 
     /// A session of a machine of width 1 that has done nothing, which keeps the undos of the newest instructions, `keep` at
-    /// most: 1 to 4,096. The one error is that memory runs out; the machine is then dropped.
+    /// most: 1 to 4,096. The one error is that memory runs out; the machine is then dropped, and the core is as it was.
     pub fn with_back(
         alloc: Global,
         machine: Machine,
@@ -109,13 +110,15 @@ impl<'a, C: Core> Session<'a, C> {
         requires unused { machine.timed.count ≡ 0 }
         requires some { 1 ≤ keep }
         requires few { keep ≤ 4096 }
+        ensures* rests { sem 𝓛 (RestsIfErr C.row core.entry (λ s. lent_name s) result (λ left. left ≡ core.old)) }
         ensures machine { IfOk result (λ s. rewindable_of s ≡ record { machine = machine; undos = []; keep = keep }) }
         ensures core { IfOk result (λ s. core_of s ≡ core.old) }
         ensures same_core { IfOk result (λ s. lent_name s ≡ core.entry.ghost_name) }
     {
-        let undos = Undos::new(alloc, keep as usize)?;
-        let rewindable = Rewindable::new(machine, undos);
-        Ok(Session { rewindable, core })
+        match Rewindable::with_room(alloc, machine, keep) {
+            Ok(rewindable) => Ok(Session { rewindable, core }),
+            Err(e) => Err(e),
+        }
     }
 
     /// Does a command, and replies to it, as `reply_to` does.
