@@ -1,6 +1,7 @@
 // Claims behind older ones, and what a stage of the checker answers of the youngest.
 use diva_core::{Diff, Field};
 use diva_isa::Record;
+use diva_test_programs::NOTHING;
 
 /// A stage of the checker that compares.
 #[derive(Clone, Copy)]
@@ -23,16 +24,7 @@ pub struct Row {
 }
 
 /// A record at 0 that leads to 4, of a word that says nothing.
-const FIRST: Record = Record {
-    pc: 0,
-    word: 0,
-    src1: 0,
-    src2: 0,
-    addr: 0,
-    value: 0,
-    next: 4,
-    end: 0,
-};
+const FIRST: Record = Record { next: 4, ..NOTHING };
 
 /// `addi x1, x0, 5`, claimed to give 6.
 const ADDI_6: Record = Record {
