@@ -49,12 +49,7 @@ fn handed_over(core: &mut Ooo, told: &Told, view: &View<'_>) -> Claims {
 fn claimed_in(alloc: Global, list: &Claims) -> Result<Vec<Claimed>, AllocError> {
     let mut claimed = Vec::new(alloc);
     for claim in list.as_slice() {
-        claimed.push(Claimed {
-            pc: claim.pc,
-            value: claim.value,
-            next: claim.next,
-            end: claim.end,
-        })?;
+        claimed.push((claim.pc, claim.value, claim.next, claim.end))?;
     }
     Ok(claimed)
 }

@@ -14,14 +14,8 @@ pub(super) struct Call {
     pub list: &'static [Claimed],
 }
 
-/// What is compared of a claim.
-#[derive(Clone, Copy, Debug, PartialEq, Eq)]
-pub(super) struct Claimed {
-    pub pc: u32,
-    pub value: u32,
-    pub next: u32,
-    pub end: u32,
-}
+/// What is compared of a claim: its pc, value, next and end.
+pub(super) type Claimed = (u32, u32, u32, u32);
 
 /// A program and the calls of a core that is shown it.
 pub(super) struct Row {
@@ -46,6 +40,12 @@ const FAR: Call = Call {
     ..NONE
 };
 
+/// The same where both instructions of a loop are handed over: `addi x1, x0, 1`, and `beq x0, x0, -4`, which leads back to it.
+const BOTH: Call = Call {
+    list: &[(0, 1, 4, 0), (4, 0, 0, 0)],
+    ..NONE
+};
+
 /// `addi x0, x0, 0`.
 const NOP: u32 = 0x0000_0013;
 
@@ -59,20 +59,7 @@ pub(super) static ROWS: [Row; 11] = [
             NONE,
             NONE,
             Call {
-                list: &[
-                    Claimed {
-                        pc: 0,
-                        value: 1,
-                        next: 4,
-                        end: 0,
-                    },
-                    Claimed {
-                        pc: 4,
-                        value: 2,
-                        next: 8,
-                        end: 0,
-                    },
-                ],
+                list: &[(0, 1, 4, 0), (4, 2, 8, 0)],
                 ..NONE
             },
             Call {
@@ -89,20 +76,7 @@ pub(super) static ROWS: [Row; 11] = [
             Call { epoch: 1, ..NONE },
             Call {
                 epoch: 1,
-                list: &[
-                    Claimed {
-                        pc: 0,
-                        value: 1,
-                        next: 4,
-                        end: 0,
-                    },
-                    Claimed {
-                        pc: 4,
-                        value: 2,
-                        next: 8,
-                        end: 0,
-                    },
-                ],
+                list: &[(0, 1, 4, 0), (4, 2, 8, 0)],
                 ..NONE
             },
         ],
@@ -125,94 +99,21 @@ pub(super) static ROWS: [Row; 11] = [
             NONE,
             NONE,
             Call {
-                list: &[Claimed {
-                    pc: 0,
-                    value: 0,
-                    next: 12,
-                    end: 0,
-                }],
+                list: &[(0, 0, 12, 0)],
                 ..NONE
             },
             NONE,
             Call {
-                list: &[
-                    Claimed {
-                        pc: 12,
-                        value: 3,
-                        next: 16,
-                        end: 0,
-                    },
-                    Claimed {
-                        pc: 16,
-                        value: 4,
-                        next: 20,
-                        end: 0,
-                    },
-                ],
+                list: &[(12, 3, 16, 0), (16, 4, 20, 0)],
                 ..NONE
             },
         ],
     },
-    // addi x1, x0, 1; beq x0, x0, -4, which leads backwards, and so is predicted to be taken. It is, so each call from the third
-    // on hands over both.
+    // The branch leads backwards, and so is predicted to be taken. It is, so each call from the third on hands over both.
     Row {
         name: "a branch backwards",
         words: &[0x0010_0093, 0xfe00_0ee3],
-        calls: &[
-            NONE,
-            NONE,
-            Call {
-                list: &[
-                    Claimed {
-                        pc: 0,
-                        value: 1,
-                        next: 4,
-                        end: 0,
-                    },
-                    Claimed {
-                        pc: 4,
-                        value: 0,
-                        next: 0,
-                        end: 0,
-                    },
-                ],
-                ..NONE
-            },
-            Call {
-                list: &[
-                    Claimed {
-                        pc: 0,
-                        value: 1,
-                        next: 4,
-                        end: 0,
-                    },
-                    Claimed {
-                        pc: 4,
-                        value: 0,
-                        next: 0,
-                        end: 0,
-                    },
-                ],
-                ..NONE
-            },
-            Call {
-                list: &[
-                    Claimed {
-                        pc: 0,
-                        value: 1,
-                        next: 4,
-                        end: 0,
-                    },
-                    Claimed {
-                        pc: 4,
-                        value: 0,
-                        next: 0,
-                        end: 0,
-                    },
-                ],
-                ..NONE
-            },
-        ],
+        calls: &[NONE, NONE, BOTH, BOTH, BOTH],
     },
     // bne x0, x0, -6 leads backwards to no multiple of 4, so the next word is predicted. It goes on there: nothing is removed, and
     // call 4 hands over what was fetched in call 2.
@@ -223,37 +124,11 @@ pub(super) static ROWS: [Row; 11] = [
             NONE,
             NONE,
             Call {
-                list: &[
-                    Claimed {
-                        pc: 0,
-                        value: 0,
-                        next: 4,
-                        end: 0,
-                    },
-                    Claimed {
-                        pc: 4,
-                        value: 0,
-                        next: 8,
-                        end: 0,
-                    },
-                ],
+                list: &[(0, 0, 4, 0), (4, 0, 8, 0)],
                 ..NONE
             },
             Call {
-                list: &[
-                    Claimed {
-                        pc: 8,
-                        value: 0,
-                        next: 12,
-                        end: 0,
-                    },
-                    Claimed {
-                        pc: 12,
-                        value: 0,
-                        next: 16,
-                        end: 0,
-                    },
-                ],
+                list: &[(8, 0, 12, 0), (12, 0, 16, 0)],
                 ..NONE
             },
         ],
@@ -287,39 +162,16 @@ pub(super) static ROWS: [Row; 11] = [
             NONE,
             NONE,
             Call {
-                list: &[Claimed {
-                    pc: 0,
-                    value: 0,
-                    next: 4,
-                    end: 0,
-                }],
+                list: &[(0, 0, 4, 0)],
                 ..NONE
             },
             Call {
-                list: &[Claimed {
-                    pc: 4,
-                    value: 0,
-                    next: 8,
-                    end: 0,
-                }],
+                list: &[(4, 0, 8, 0)],
                 ..NONE
             },
             NONE,
             Call {
-                list: &[
-                    Claimed {
-                        pc: 8,
-                        value: 0x55,
-                        next: 12,
-                        end: 0,
-                    },
-                    Claimed {
-                        pc: 12,
-                        value: 3,
-                        next: 16,
-                        end: 0,
-                    },
-                ],
+                list: &[(8, 0x55, 12, 0), (12, 3, 16, 0)],
                 ..NONE
             },
         ],
@@ -350,59 +202,23 @@ pub(super) static ROWS: [Row; 11] = [
             NONE,
             NONE,
             Call {
-                list: &[
-                    Claimed {
-                        pc: 0,
-                        value: 0x55,
-                        next: 4,
-                        end: 0,
-                    },
-                    Claimed {
-                        pc: 4,
-                        value: 0x66,
-                        next: 8,
-                        end: 0,
-                    },
-                ],
+                list: &[(0, 0x55, 4, 0), (4, 0x66, 8, 0)],
                 ..NONE
             },
             Call {
                 pending: 2,
                 room: 1,
-                list: &[Claimed {
-                    pc: 8,
-                    value: 0x55,
-                    next: 12,
-                    end: 0,
-                }],
+                list: &[(8, 0x55, 12, 0)],
                 ..NONE
             },
             Call {
                 pending: 3,
-                list: &[Claimed {
-                    pc: 12,
-                    value: 0x66,
-                    next: 16,
-                    end: 0,
-                }],
+                list: &[(12, 0x66, 16, 0)],
                 ..NONE
             },
             Call {
                 pending: 4,
-                list: &[
-                    Claimed {
-                        pc: 16,
-                        value: 0x44665511,
-                        next: 20,
-                        end: 0,
-                    },
-                    Claimed {
-                        pc: 20,
-                        value: 0,
-                        next: 24,
-                        end: 0,
-                    },
-                ],
+                list: &[(16, 0x44665511, 20, 0), (20, 0, 24, 0)],
                 ..NONE
             },
         ],
@@ -441,37 +257,11 @@ pub(super) static ROWS: [Row; 11] = [
             NONE,
             NONE,
             Call {
-                list: &[
-                    Claimed {
-                        pc: 0,
-                        value: 0xffffffff,
-                        next: 4,
-                        end: 0,
-                    },
-                    Claimed {
-                        pc: 4,
-                        value: 1,
-                        next: 8,
-                        end: 0,
-                    },
-                ],
+                list: &[(0, 0xffffffff, 4, 0), (4, 1, 8, 0)],
                 ..NONE
             },
             Call {
-                list: &[
-                    Claimed {
-                        pc: 8,
-                        value: 0,
-                        next: 12,
-                        end: 0,
-                    },
-                    Claimed {
-                        pc: 12,
-                        value: 0,
-                        next: 16,
-                        end: 0,
-                    },
-                ],
+                list: &[(8, 0, 12, 0), (12, 0, 16, 0)],
                 ..NONE
             },
         ],
@@ -511,46 +301,15 @@ pub(super) static ROWS: [Row; 11] = [
             FAR,
             FAR,
             Call {
-                list: &[
-                    Claimed {
-                        pc: 0,
-                        value: 0xffffffff,
-                        next: 4,
-                        end: 0,
-                    },
-                    Claimed {
-                        pc: 4,
-                        value: 0,
-                        next: 8,
-                        end: 0,
-                    },
-                ],
+                list: &[(0, 0xffffffff, 4, 0), (4, 0, 8, 0)],
                 ..FAR
             },
             Call {
-                list: &[Claimed {
-                    pc: 8,
-                    value: 7,
-                    next: 12,
-                    end: 0,
-                }],
+                list: &[(8, 7, 12, 0)],
                 ..FAR
             },
             Call {
-                list: &[
-                    Claimed {
-                        pc: 12,
-                        value: 1,
-                        next: 16,
-                        end: 0,
-                    },
-                    Claimed {
-                        pc: 16,
-                        value: 0,
-                        next: 20,
-                        end: 0,
-                    },
-                ],
+                list: &[(12, 1, 16, 0), (16, 0, 20, 0)],
                 ..FAR
             },
         ],
@@ -564,12 +323,7 @@ pub(super) static ROWS: [Row; 11] = [
             NONE,
             NONE,
             Call {
-                list: &[Claimed {
-                    pc: 0,
-                    value: 0,
-                    next: 0,
-                    end: 9,
-                }],
+                list: &[(0, 0, 0, 9)],
                 ..NONE
             },
             NONE,
@@ -602,39 +356,16 @@ pub(super) static ROWS: [Row; 11] = [
             NONE,
             NONE,
             Call {
-                list: &[Claimed {
-                    pc: 0,
-                    value: 0,
-                    next: 4,
-                    end: 0,
-                }],
+                list: &[(0, 0, 4, 0)],
                 ..NONE
             },
             Call {
-                list: &[Claimed {
-                    pc: 4,
-                    value: 0,
-                    next: 16,
-                    end: 0,
-                }],
+                list: &[(4, 0, 16, 0)],
                 ..NONE
             },
             NONE,
             Call {
-                list: &[
-                    Claimed {
-                        pc: 16,
-                        value: 0,
-                        next: 20,
-                        end: 0,
-                    },
-                    Claimed {
-                        pc: 20,
-                        value: 0,
-                        next: 24,
-                        end: 0,
-                    },
-                ],
+                list: &[(16, 0, 20, 0), (20, 0, 24, 0)],
                 ..NONE
             },
         ],
@@ -648,20 +379,7 @@ pub(super) static ROWS: [Row; 11] = [
             NONE,
             NONE,
             Call {
-                list: &[
-                    Claimed {
-                        pc: 0,
-                        value: 4,
-                        next: 64,
-                        end: 0,
-                    },
-                    Claimed {
-                        pc: 64,
-                        value: 0,
-                        next: 64,
-                        end: 2,
-                    },
-                ],
+                list: &[(0, 4, 64, 0), (64, 0, 64, 2)],
                 ..NONE
             },
             NONE,
