@@ -102,6 +102,25 @@ const A_WORD: Row = Row {
     end_output: "",
 };
 
+/// The put of `PUTS` under `Lockstep`, taken back in the cycle of its commit.
+const A_PUT: Row = Row {
+    name: "a put",
+    program: PUTS,
+    turns: 21,
+    cycles: 21,
+    count: 2,
+    pc: 8,
+    reg: (10, 65),
+    word: 0,
+    last: &[8],
+    end: End::Halt(65),
+    end_count: 5,
+    end_cycles: 42,
+    end_word: 0,
+    end_output: "A",
+    ..A_WORD
+};
+
 /// `Lockstep` hands a claim over in the cycle behind a commit or an undo, and it commits six cycles later: an instruction
 /// takes 7 cycles. Under `Scalar` each cycle from the seventh on commits one, and behind an undo in cycle c each from c + 7 on.
 pub(super) static ROWS: [Row; 14] = [
@@ -202,58 +221,28 @@ pub(super) static ROWS: [Row; 14] = [
         end_word: 0,
         ..A_WORD
     },
-    Row {
-        name: "a put",
-        program: PUTS,
-        turns: 21,
-        cycles: 21,
-        count: 2,
-        pc: 8,
-        reg: (10, 65),
-        word: 0,
-        last: &[8],
-        end: End::Halt(65),
-        end_count: 5,
-        end_cycles: 42,
-        end_word: 0,
-        end_output: "A",
-        ..A_WORD
-    },
+    A_PUT,
     Row {
         name: "what comes behind a put",
-        program: PUTS,
         turns: 28,
         cycles: 28,
         count: 3,
         pc: 12,
         reg: (17, 1),
-        word: 0,
         output: "A",
         last: &[12],
-        end: End::Halt(65),
-        end_count: 5,
-        end_cycles: 42,
-        end_word: 0,
-        end_output: "A",
-        ..A_WORD
+        ..A_PUT
     },
     Row {
         name: "a halt",
-        program: PUTS,
         turns: 35,
         cycles: 35,
         count: 4,
         pc: 16,
         reg: (17, 93),
-        word: 0,
         output: "A",
         last: &[16],
-        end: End::Halt(65),
-        end_count: 5,
-        end_cycles: 42,
-        end_word: 0,
-        end_output: "A",
-        ..A_WORD
+        ..A_PUT
     },
     Row {
         name: "a trap",
