@@ -1,6 +1,6 @@
 // Campaigns: an image is run once as it is, and once with each flip.
 use super::compare_row;
-use super::tables::Row;
+use super::tables::{PUTS, Row};
 use crate::cores::Counting;
 use diva_test_programs::{FIVE, LOOP, Program};
 use std::test::Fail;
@@ -9,18 +9,6 @@ use std::test::Fail;
 const BREAK: Program = Program {
     size: 64,
     words: &[0x0010_0073],
-};
-
-/// `addi x17, x0, 1`, `addi x10, x0, 65`, `ecall`, which puts a byte, and the halt, whose status is 65.
-const PUTS: Program = Program {
-    size: 64,
-    words: &[
-        0x0010_0893,
-        0x0410_0513,
-        0x0000_0073,
-        0x05d0_0893,
-        0x0000_0073,
-    ],
 };
 
 /// What a campaign of `FIVE` writes of the first cycle, to the letter.

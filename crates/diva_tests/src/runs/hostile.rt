@@ -1,5 +1,5 @@
 // Runs of the cores that are wrong by their rule, and what is the same of a run under every core.
-use super::tables::{ONE_BY_ONE, Row};
+use super::tables::{BY_MINUS_ONE, BY_ZERO, BYTE_INTO_WORD, ONE_BY_ONE, Row};
 use super::texts::registers_text;
 use super::{Outside, compare_rows, run_program};
 use diva_ooo::Ooo;
@@ -92,32 +92,14 @@ pub(super) static OUTCOMES: [Outcome; 5] = [
         registers: &[(1, 5), (17, 0x5d)],
         pc: 8,
     },
-    // addi x1, x0, 85; sb x1, 33(x0); lw x2, 32(x0), where 44332211 stands at 32; the halt
     Outcome {
-        program: Program {
-            size: 64,
-            words: &[
-                0x0550_0093,
-                0x0210_00a3,
-                0x0200_2103,
-                0x05d0_0893,
-                0x0000_0073,
-                0,
-                0,
-                0,
-                0x4433_2211,
-            ],
-        },
+        program: BYTE_INTO_WORD,
         count: 5,
         registers: &[(1, 0x55), (2, 0x4433_5511), (17, 0x5d)],
         pc: 0x10,
     },
-    // addi x1, x0, 7; div x3, x1, x2, where x2 is 0; the halt
     Outcome {
-        program: Program {
-            size: 64,
-            words: &[0x0070_0093, 0x0220_c1b3, 0x05d0_0893, 0x0000_0073],
-        },
+        program: BY_ZERO,
         count: 4,
         registers: &[(1, 7), (3, 0xffff_ffff), (17, 0x5d)],
         pc: 0xc,
@@ -129,19 +111,8 @@ pub(super) static OUTCOMES: [Outcome; 5] = [
         registers: &[(2, 3), (17, 0x5d)],
         pc: 0x14,
     },
-    // lui x1, 0x80000; addi x2, x0, -1; div x3, x1, x2; rem x4, x1, x2; the halt
     Outcome {
-        program: Program {
-            size: 64,
-            words: &[
-                0x8000_00b7,
-                0xfff0_0113,
-                0x0220_c1b3,
-                0x0220_e233,
-                0x05d0_0893,
-                0x0000_0073,
-            ],
-        },
+        program: BY_MINUS_ONE,
         count: 6,
         registers: &[
             (1, 0x8000_0000),

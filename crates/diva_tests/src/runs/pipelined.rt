@@ -1,6 +1,6 @@
 // Runs of the cores that keep a pipeline full: `Scalar` hands over one claim in each cycle in which there is room, and the
 // out-of-order core, which the program is handed, as many as are done.
-use super::tables::{ONE_BY_ONE, Row};
+use super::tables::{BYTE_INTO_WORD, ONE_BY_ONE, OVER_THE_NEXT, Row, TO_X0};
 use super::{compare_row, compare_rows};
 use diva_ooo::Ooo;
 use diva_test_programs::{LOOP, Program, TWO_READS};
@@ -13,13 +13,9 @@ const IN_LINE: Row = Row {
     ..ONE_BY_ONE
 };
 
-/// addi x1, x0, 115; addi x17, x0, 93; sw x1, 12(x0), which writes the halt's ECALL over the next word; addi x0, x0, 0. That word
-/// is fetched while the store is pending.
+/// The next word is fetched while the store over it is pending.
 const OVERWRITES: Row = Row {
-    program: Program {
-        size: 64,
-        words: &[0x0730_0093, 0x05d0_0893, 0x0010_2623, 0x0000_0013],
-    },
+    program: OVER_THE_NEXT,
     counts: "end halt 0\ncount 4\ncycles 10\nflushes 0 silent 0\noutput 0\n",
     registers: &[(1, 0x73), (17, 0x5d)],
     rest: "pc 0000000c\n",
@@ -98,34 +94,17 @@ output 0
 ",
         ..IN_LINE
     },
-    // addi x0, x0, 7; add x1, x0, x0, which reads 0 while the first is pending; the halt
+    // The second instruction reads 0 of x0 while the first is pending.
     Row {
-        program: Program {
-            size: 64,
-            words: &[0x0070_0013, 0x0000_00b3, 0x05d0_0893, 0x0000_0073],
-        },
+        program: TO_X0,
         counts: "end halt 0\ncount 4\ncycles 10\nflushes 0 silent 0\noutput 0\n",
         registers: &[(17, 0x5d)],
         rest: "pc 0000000c\n",
         ..IN_LINE
     },
-    // addi x1, x0, 85; sb x1, 33(x0); lw x2, 32(x0), which reads the word while the byte's store is
-    // pending; the halt
+    // The word is loaded while the byte's store is pending.
     Row {
-        program: Program {
-            size: 64,
-            words: &[
-                0x0550_0093,
-                0x0210_00a3,
-                0x0200_2103,
-                0x05d0_0893,
-                0x0000_0073,
-                0,
-                0,
-                0,
-                0x4433_2211,
-            ],
-        },
+        program: BYTE_INTO_WORD,
         counts: "end halt 0\ncount 5\ncycles 11\nflushes 0 silent 0\noutput 0\n",
         registers: &[(1, 0x55), (2, 0x4433_5511), (17, 0x5d)],
         rest: "pc 00000010\n",

@@ -1,22 +1,17 @@
 // Tapes whose claims are checked while older ones are pending.
-use super::tables::{ONE_BY_ONE, Row};
+use super::tables::{ONE_BY_ONE, OVER_THE_NEXT, Row};
 use super::texts::text_due;
 use super::{Outside, compare, compare_rows};
 use diva_test_programs::{Program, image_file};
 use std::fmt::Write;
 use std::test::Fail;
 
-/// addi x1, x0, 0x73; addi x17, x0, 93; sw x1, 12(x0), which writes ECALL over the word behind it, once
-/// `addi x0, x0, 0`. The four claims of cycle 1 commit in cycle 7, the last of them of the word that the
-/// store before it writes.
+/// The four claims of cycle 1 commit in cycle 7, the last of them of the word that the store before it writes.
 const OVERWRITTEN: Row = Row {
     line: "run a.diva --core tape --tape a.tape --width 4",
     tape: b"\
 0 7300093 0 0 0 73 4 0 ; 4 5d00893 0 0 0 5d 8 0 ; 8 102623 0 73 c 73 c 0 ; c 73 5d 0 0 0 c 100",
-    program: Program {
-        size: 64,
-        words: &[0x0730_0093, 0x05d0_0893, 0x0010_2623, 0x0000_0013],
-    },
+    program: OVER_THE_NEXT,
     counts: "end halt 0\ncount 4\ncycles 7\nflushes 0 silent 0\noutput 0\n",
     registers: &[(1, 0x73), (17, 0x5d)],
     rest: "pc 0000000c\n",

@@ -50,6 +50,65 @@ const ONE_FLUSH: Row = Row {
     ..ONE_BY_ONE
 };
 
+/// `addi x1, x0, 7`, `div x3, x1, x2`, where x2 is 0, and the halt.
+pub(super) const BY_ZERO: Program = Program {
+    size: 64,
+    words: &[0x0070_0093, 0x0220_c1b3, 0x05d0_0893, 0x0000_0073],
+};
+
+/// `lui x1, 0x80000`, `addi x2, x0, -1`, `div x3, x1, x2`, `rem x4, x1, x2`, and the halt.
+pub(super) const BY_MINUS_ONE: Program = Program {
+    size: 64,
+    words: &[
+        0x8000_00b7,
+        0xfff0_0113,
+        0x0220_c1b3,
+        0x0220_e233,
+        0x05d0_0893,
+        0x0000_0073,
+    ],
+};
+
+/// `addi x0, x0, 7`, `add x1, x0, x0`, and the halt.
+pub(super) const TO_X0: Program = Program {
+    size: 64,
+    words: &[0x0070_0013, 0x0000_00b3, 0x05d0_0893, 0x0000_0073],
+};
+
+/// `addi x1, x0, 85`, `sb x1, 33(x0)` into a word that `lw x2, 32(x0)` then loads, and the halt; the word at 32 is 44332211.
+pub(super) const BYTE_INTO_WORD: Program = Program {
+    size: 64,
+    words: &[
+        0x0550_0093,
+        0x0210_00a3,
+        0x0200_2103,
+        0x05d0_0893,
+        0x0000_0073,
+        0,
+        0,
+        0,
+        0x4433_2211,
+    ],
+};
+
+/// `addi x1, x0, 115`, `addi x17, x0, 93`, and `sw x1, 12(x0)`, which writes the halt's `ecall` over the next word, `addi x0, x0, 0`.
+pub(super) const OVER_THE_NEXT: Program = Program {
+    size: 64,
+    words: &[0x0730_0093, 0x05d0_0893, 0x0010_2623, 0x0000_0013],
+};
+
+/// `addi x17, x0, 1`, `addi x10, x0, 65`, `ecall`, which puts a byte, and the halt, whose status is 65.
+pub(super) const PUTS: Program = Program {
+    size: 64,
+    words: &[
+        0x0010_0893,
+        0x0410_0513,
+        0x0000_0073,
+        0x05d0_0893,
+        0x0000_0073,
+    ],
+};
+
 /// Runs of programs that don't trap, but for one that runs past its memory.
 pub(super) static ROWS: [Row; 25] = [
     ONE_BY_ONE,
@@ -193,30 +252,15 @@ output 0
         rest: "pc 00000000\n",
         ..ONE_BY_ONE
     },
-    // addi x1, x0, 7; div x3, x1, x2; the halt
     Row {
-        program: Program {
-            size: 64,
-            words: &[0x0070_0093, 0x0220_c1b3, 0x05d0_0893, 0x0000_0073],
-        },
+        program: BY_ZERO,
         counts: "end halt 0\ncount 4\ncycles 28\nflushes 0 silent 0\noutput 0\n",
         registers: &[(1, 7), (3, 0xffff_ffff), (17, 0x5d)],
         rest: "pc 0000000c\n",
         ..ONE_BY_ONE
     },
-    // lui x1, 0x80000; addi x2, x0, -1; div x3, x1, x2; rem x4, x1, x2; the halt
     Row {
-        program: Program {
-            size: 64,
-            words: &[
-                0x8000_00b7,
-                0xfff0_0113,
-                0x0220_c1b3,
-                0x0220_e233,
-                0x05d0_0893,
-                0x0000_0073,
-            ],
-        },
+        program: BY_MINUS_ONE,
         counts: "end halt 0\ncount 6\ncycles 42\nflushes 0 silent 0\noutput 0\n",
         registers: &[
             (1, 0x8000_0000),
@@ -227,62 +271,31 @@ output 0
         rest: "pc 00000014\n",
         ..ONE_BY_ONE
     },
-    // addi x0, x0, 7; add x1, x0, x0; the halt
     Row {
-        program: Program {
-            size: 64,
-            words: &[0x0070_0013, 0x0000_00b3, 0x05d0_0893, 0x0000_0073],
-        },
+        program: TO_X0,
         counts: "end halt 0\ncount 4\ncycles 28\nflushes 0 silent 0\noutput 0\n",
         registers: &[(17, 0x5d)],
         rest: "pc 0000000c\n",
         ..ONE_BY_ONE
     },
-    // addi x1, x0, 85; sb x1, 33(x0) into a word that lw x2, 32(x0) then loads; the halt
     Row {
         line: "run a.diva --core lockstep --dump 20:4",
-        program: Program {
-            size: 64,
-            words: &[
-                0x0550_0093,
-                0x0210_00a3,
-                0x0200_2103,
-                0x05d0_0893,
-                0x0000_0073,
-                0,
-                0,
-                0,
-                0x4433_2211,
-            ],
-        },
+        program: BYTE_INTO_WORD,
         counts: "end halt 0\ncount 5\ncycles 35\nflushes 0 silent 0\noutput 0\n",
         registers: &[(1, 0x55), (2, 0x4433_5511), (17, 0x5d)],
         rest: "pc 00000010\nmem 00000020 11553344\n",
         ..ONE_BY_ONE
     },
-    // sw x1, 12(x0) writes the halt's ECALL over the next word, which is then fetched
+    // The word that is stored is fetched.
     Row {
-        program: Program {
-            size: 64,
-            words: &[0x0730_0093, 0x05d0_0893, 0x0010_2623, 0x0000_0013],
-        },
+        program: OVER_THE_NEXT,
         counts: "end halt 0\ncount 4\ncycles 28\nflushes 0 silent 0\noutput 0\n",
         registers: &[(1, 0x73), (17, 0x5d)],
         rest: "pc 0000000c\n",
         ..ONE_BY_ONE
     },
-    // puts "A", and halts with its code as the status
     Row {
-        program: Program {
-            size: 64,
-            words: &[
-                0x0010_0893,
-                0x0410_0513,
-                0x0000_0073,
-                0x05d0_0893,
-                0x0000_0073,
-            ],
-        },
+        program: PUTS,
         counts: "end halt 65\ncount 5\ncycles 35\nflushes 0 silent 0\noutput 1\nout 41\n",
         registers: &[(10, 0x41), (17, 0x5d)],
         rest: "pc 00000010\n",
