@@ -71,6 +71,12 @@ pub const HALTS: Record = Record {
     ..NOTHING
 };
 
+/// Two stores of x0, to 32 and 36, and the halt.
+pub const TWO_STORES: Program = Program {
+    size: 64,
+    words: &[0x0200_2023, 0x0200_2223, 0x05d0_0893, 0x0000_0073],
+};
+
 /// Four stores of x0, to 32, 36, 40 and 44, and the halt.
 pub const FOUR_STORES: Program = Program {
     size: 64,

@@ -2,7 +2,7 @@
 use diva_core::{Cause, Claim, Diff, Field, FlushRow};
 use diva_isa::Record;
 use diva_machine::End;
-use diva_test_programs::{ADDS, ASKS, FIVE, HALTS, LOOP, NOTHING, Program};
+use diva_test_programs::{ADDS, ASKS, FIVE, HALTS, LOOP, NOTHING, Program, TWO_STORES};
 
 /// A run of one program, each cycle by what is handed over in it.
 pub(super) struct Row {
@@ -33,12 +33,7 @@ const JUMPS: Record = Record {
     ..NOTHING
 };
 
-/// `sw x0, 32(x0)`, `sw x0, 36(x0)`, `addi x17, x0, 93` and `ecall`.
-const TWO_STORES: Program = Program {
-    size: 64,
-    words: &[0x0200_2023, 0x0200_2223, 0x05d0_0893, 0x0000_0073],
-};
-
+/// The record of the first store of `TWO_STORES`.
 const STORES: Record = Record {
     word: 0x0200_2023,
     addr: 32,

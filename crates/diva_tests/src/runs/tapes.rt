@@ -2,20 +2,17 @@
 use super::tables::{ONE_BY_ONE, Row};
 use super::{Outside, compare, compare_rows, run_program};
 use crate::cores::Flipped;
-use diva_test_programs::{FIVE_FILE, LOOP, Program, THREE_READS, image_file};
+use diva_test_programs::{FIVE_FILE, LOOP, Program, THREE_READS, TWO_STORES, image_file};
 use std::test::Fail;
 
-/// Two stores, to 32 and to 36, and the halt: two claims in each of the first two cycles.
+/// `TWO_STORES`, of which two instructions are claimed in each of the first two cycles.
 pub(super) const STORES: Row = Row {
     line: "run a.diva --core tape --tape a.tape --stores 4",
     tape: b"\
 0 2002023 0 0 20 0 4 0 ; 4 2002223 0 0 24 0 8 0
 8 5d00893 0 0 0 5d c 0 ; c 73 5d 0 0 0 c 100
 ",
-    program: Program {
-        size: 64,
-        words: &[0x0200_2023, 0x0200_2223, 0x05d0_0893, 0x0000_0073],
-    },
+    program: TWO_STORES,
     counts: "end halt 0\ncount 4\ncycles 8\nflushes 0 silent 0\noutput 0\n",
     registers: &[(17, 0x5d)],
     rest: "pc 0000000c\n",
