@@ -3,6 +3,7 @@ pub(super) mod files;
 
 use super::harts::PAIR_TEXT;
 use super::refusals::USAGE;
+use super::tables::CORES;
 use crate::cores::{Counting, Flipped};
 use diva_cli::top;
 use diva_core::Core;
@@ -350,11 +351,6 @@ fn rooms_that_are_refused(rt: HostRuntime) -> Result<(), Fail> {
     }
     Ok(())
 }
-
-/// The cores that need no tape.
-const CORES: [&str; 7] = [
-    "own", "lockstep", "scalar", "silent", "flood", "echo", "noise",
-];
 
 /// Executables with the room that each is given, the status, and the lines of end, count and output. Those that halt and have no room
 /// ended so after as many instructions in `qemu-riscv32`, an emulator that is independent of this repository.

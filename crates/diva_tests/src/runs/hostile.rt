@@ -1,5 +1,5 @@
 // Runs of the cores that are wrong by their rule, and what is the same of a run under every core.
-use super::tables::{BY_MINUS_ONE, BY_ZERO, BYTE_INTO_WORD, ONE_BY_ONE, Row};
+use super::tables::{BY_MINUS_ONE, BY_ZERO, BYTE_INTO_WORD, CORES, ONE_BY_ONE, Row};
 use super::texts::registers_text;
 use super::{Outside, compare_rows, run_program};
 use diva_ooo::Ooo;
@@ -64,17 +64,8 @@ fn programs_under_hostile_cores(rt: HostRuntime) -> Result<(), Fail> {
     compare_rows(&rt, rt.alloc(), &ROWS)
 }
 
-/// The cores that need no tape, the last of which has each of its first 4,096 claims spoiled.
-const CORES: [&str; 8] = [
-    "own",
-    "lockstep",
-    "scalar",
-    "silent",
-    "flood",
-    "echo",
-    "noise",
-    "lockstep --script a.script",
-];
+/// A core each of whose first 4,096 claims is spoiled.
+const SPOILED: &str = "lockstep --script a.script";
 
 /// What a program comes to that halts with status 0, and puts nothing.
 pub(super) struct Outcome {
@@ -170,7 +161,7 @@ fn compare_cores(
     let registers = registers_text(alloc, registers)?;
     let due = format!(in alloc; "end halt 0\ncount {count}\noutput 0\n{registers}pc {pc:08x}\n")?;
     let script = spoiling_script(alloc)?;
-    for core in CORES {
+    for &core in CORES.iter().chain(&[SPOILED]) {
         let outside = Outside::sound(alloc, Vec::from_slice(alloc, file)?).with(
             What::Script,
             script.as_bytes(),

@@ -1,6 +1,6 @@
 // Runs in which three lanes vote, one of which lies: nothing of the text is another one for that.
 use super::hostile::{OUTCOMES, spoiling_script};
-use super::tables::ROWS;
+use super::tables::{CORES, ROWS};
 use super::texts::text_due;
 use super::{Answer, FIVE_TEXT, Outside, compare, five_files, run_program};
 use diva_ooo::Ooo;
@@ -12,11 +12,6 @@ use std::test::Fail;
 
 /// The places of the liar.
 const PLACES: [&str; 3] = ["0", "1", "2"];
-
-/// The cores that need no tape.
-const CORES: [&str; 7] = [
-    "own", "lockstep", "scalar", "silent", "flood", "echo", "noise",
-];
 
 /// `FIVE` claimed one by one, and the same where the first claim's value is wrong: with a liar in each place it is what is due
 /// without.

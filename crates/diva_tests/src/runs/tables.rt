@@ -21,6 +21,11 @@ pub(super) struct Row {
     pub rest: &'static str,
 }
 
+/// The cores that need no tape.
+pub(super) const CORES: [&str; 7] = [
+    "own", "lockstep", "scalar", "silent", "flood", "echo", "noise",
+];
+
 /// `FIVE` claimed one by one: its claims are of the cycles 1, 8 and 15, and commit in 7, 14 and 21.
 pub(super) const ONE_BY_ONE: Row = Row {
     line: "run a.diva --core lockstep",
