@@ -11,28 +11,8 @@ const BREAK: Program = Program {
     words: &[0x0010_0073],
 };
 
-/// What a campaign of `FIVE` writes of the first cycle, to the letter.
-pub(super) const FIVE_CAMPAIGN: &str = "\
-runs 256
-same 256
-flushed 256
-silent 0
-end halt 0
-count 3
-output 0
-x0 00000000 x1 00000005 x2 00000000 x3 00000000
-x4 00000000 x5 00000000 x6 00000000 x7 00000000
-x8 00000000 x9 00000000 x10 00000000 x11 00000000
-x12 00000000 x13 00000000 x14 00000000 x15 00000000
-x16 00000000 x17 0000005d x18 00000000 x19 00000000
-x20 00000000 x21 00000000 x22 00000000 x23 00000000
-x24 00000000 x25 00000000 x26 00000000 x27 00000000
-x28 00000000 x29 00000000 x30 00000000 x31 00000000
-pc 00000008
-";
-
 /// A campaign of `FIVE` over the first cycle: each flip is of its first claim, which is refused in cycle 7.
-const FIRST_CYCLE: Row = Row {
+pub(super) const FIRST_CYCLE: Row = Row {
     line: "campaign a.diva 1",
     script: b"",
     tape: b"",

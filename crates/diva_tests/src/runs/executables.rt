@@ -1,54 +1,24 @@
 // Command lines over small executables.
 pub(super) mod files;
 
+use super::campaigns::FIRST_CYCLE;
 use super::harts::PAIR_TEXT;
 use super::refusals::USAGE;
-use super::tables::CORES;
-use crate::cores::{Counting, Flipped};
-use diva_cli::top;
-use diva_core::Core;
+use super::tables::{CORES, Row};
+use super::texts::text_due;
+use super::{FIVE_TEXT, Outside, compare, compare_unasked, image_files, run_program};
+use crate::cores::Flipped;
 use diva_ooo::Ooo;
-use diva_outside::{MemFile, MemFiles, MemSink};
+use diva_outside::What;
 use diva_test_programs::FIVE_FILE;
 use files::{GAP, HIGH, ODD, OUTSIDE, ROOM, THREE, WRITES};
-use std::alloc::Global;
+use std::alloc::{AllocError, Global};
 use std::fmt::Write;
-use std::process::Abort;
 use std::test::Fail;
 
-/// The bytes that the sink takes, more than any of these runs writes.
-const SINK: usize = 1 << 16;
-
-/// What the program answers.
-#[derive(Drop)]
-struct Answer {
-    status: u8,
-    text: Vec<u8>,
-}
-
-/// Runs the program on a command line, over a file `a.elf` with these bytes and the commands `a.commands`.
-fn run_program<C: Core>(
-    alloc: Global,
-    core: &mut C,
-    line: &str,
-    file: &[u8],
-) -> Result<Answer, Fail> {
-    let mut words = Vec::new(alloc);
-    for word in line.split(' ').filter(|word| !word.is_empty()) {
-        words.push(word)?;
-    }
-    let mut there = Vec::new(alloc);
-    for (name, bytes) in [("a.elf", file), ("a.commands", COMMANDS)] {
-        let bytes = Vec::from_slice(alloc, bytes)?;
-        there.push(MemFile::new(String::from_str(alloc, name)?, bytes))?;
-    }
-    let mut files = MemFiles::new(there, Vec::new(alloc));
-    let mut sink = MemSink::new(alloc, SINK, Vec::new(alloc))?;
-    let status = top(alloc, &words, &mut files, &mut sink, core);
-    Ok(Answer {
-        status,
-        text: Vec::from_slice(alloc, sink.bytes())?,
-    })
+/// These bytes as the image's file, and the commands.
+fn with_commands(alloc: Global, file: &[u8]) -> Result<Outside, AllocError> {
+    image_files(alloc, file)?.with(What::Commands, COMMANDS)
 }
 
 /// The commands that are answered: two steps, a register, and the rest.
@@ -57,24 +27,7 @@ const COMMANDS: &[u8] = b"step 2\nreg 17\nstep 5\n";
 /// What these commands write of the three instructions.
 const REPLIES: &str = "at 2 pc 0001005c\nx17 0000005d\nended 3 halt 0\n";
 
-/// What the three instructions write where they are claimed one by one, up to the pc.
-const THREE_COUNTS: &str = "\
-end halt 0
-count 3
-cycles 21
-flushes 0 silent 0
-output 0
-x0 00000000 x1 00000005 x2 00000000 x3 00000000
-x4 00000000 x5 00000000 x6 00000000 x7 00000000
-x8 00000000 x9 00000000 x10 00000000 x11 00000000
-x12 00000000 x13 00000000 x14 00000000 x15 00000000
-x16 00000000 x17 0000005d x18 00000000 x19 00000000
-x20 00000000 x21 00000000 x22 00000000 x23 00000000
-x24 00000000 x25 00000000 x26 00000000 x27 00000000
-x28 00000000 x29 00000000 x30 00000000 x31 00000000
-";
-
-/// What stands behind that, by the options and by the file.
+/// What is written of them behind the registers, by the options and by the file. Up to there it is what is written of `FIVE`.
 static THREE_RUNS: [(&str, &[u8], &str); 7] = [
     ("", &THREE, "pc 0001005c\n"),
     ("--room 64", &THREE, "pc 0001005c\n"),
@@ -107,21 +60,25 @@ static THREE_RUNS: [(&str, &[u8], &str); 7] = [
 fn three_instructions(rt: HostRuntime) -> Result<(), Fail> {
     let alloc = rt.alloc();
     for &(options, file, rest) in &THREE_RUNS {
-        let line = format!(in alloc; "run a.elf --core lockstep {options}")?;
-        let answer = run_program(alloc, &mut Flipped, line.as_str(), file)?;
-        let text = format!(in alloc; "{THREE_COUNTS}{rest}")?;
-        assert_eq!(rt; answer.status, 0, "{line}");
-        assert_eq!(rt; str::from_utf8(&answer.text)?, text.as_str(), "{line}");
+        let line = format!(in alloc; "run a.diva --core lockstep {options}")?;
+        let text = FIVE_TEXT.replace(alloc, "pc 00000008\n", rest)?;
+        compare(
+            &rt,
+            line.as_str(),
+            image_files(alloc, file)?,
+            0,
+            text.as_str(),
+        )?;
     }
     Ok(())
 }
 
-/// What is written of them where nothing is dumped.
+/// What is written of them where nothing is dumped: what is written of `FIVE`, the same instructions at 0, but for the pc.
 pub(super) fn three_text(alloc: Global) -> Result<String, Fail> {
-    Ok(format!(in alloc; "{THREE_COUNTS}pc 0001005c\n")?)
+    Ok(FIVE_TEXT.replace(alloc, "pc 00000008", "pc 0001005c")?)
 }
 
-/// What two harts write of them: what they write of `FIVE`, the same instructions at 0, but for the pc.
+/// What two harts write of them: what they write of `FIVE` but for the pc.
 pub(super) fn pair_of_three(alloc: Global) -> Result<String, Fail> {
     Ok(PAIR_TEXT.replace(alloc, "pc 00000008", "pc 0001005c")?)
 }
@@ -134,11 +91,15 @@ fn three_instructions_on_two_harts(rt: HostRuntime) -> Result<(), Fail> {
         ("--dump 1005c:8", "73000000........"),
         ("--room 4 --dump 1005c:12", "7300000000000000........"),
     ] {
-        let line = format!(in alloc; "duo a.elf --core lockstep {options}")?;
-        let answer = run_program(alloc, &mut Flipped, line.as_str(), &THREE)?;
+        let line = format!(in alloc; "duo a.diva --core lockstep {options}")?;
         let text = format!(in alloc; "{pair}mem 0001005c {memory}\n")?;
-        assert_eq!(rt; answer.status, 0, "{line}");
-        assert_eq!(rt; str::from_utf8(&answer.text)?, text.as_str(), "{line}");
+        compare(
+            &rt,
+            line.as_str(),
+            image_files(alloc, &THREE)?,
+            0,
+            text.as_str(),
+        )?;
     }
     Ok(())
 }
@@ -168,69 +129,60 @@ const THREE_TAPE: &str = "\
 
 ";
 
-/// What is written of the three instructions where each bit of the first claim is flipped in turn.
-const THREE_CAMPAIGN: &str = "\
-runs 256
-same 256
-flushed 256
-silent 0
-end halt 0
-count 3
-output 0
-x0 00000000 x1 00000005 x2 00000000 x3 00000000
-x4 00000000 x5 00000000 x6 00000000 x7 00000000
-x8 00000000 x9 00000000 x10 00000000 x11 00000000
-x12 00000000 x13 00000000 x14 00000000 x15 00000000
-x16 00000000 x17 0000005d x18 00000000 x19 00000000
-x20 00000000 x21 00000000 x22 00000000 x23 00000000
-x24 00000000 x25 00000000 x26 00000000 x27 00000000
-x28 00000000 x29 00000000 x30 00000000 x31 00000000
-pc 0001005c
-";
+/// A campaign of the three instructions over the first cycle: what is written of `FIVE`, but for the pc.
+const THREE_CAMPAIGN: Row = Row {
+    rest: "pc 0001005c\n",
+    ..FIRST_CYCLE
+};
 
 /// Command lines over the three instructions, and what they write.
-static THREE_TEXTS: [(&str, &str); 6] = [
+static THREE_TEXTS: [(&str, &str); 5] = [
     (
-        "dis a.elf",
+        "dis a.diva",
         "\
 00010054 00500093 addi x1, x0, 5
 00010058 05d00893 addi x17, x0, 93
 0001005c 00000073 ecall
 ",
     ),
-    ("campaign a.elf 1", THREE_CAMPAIGN),
-    ("tape a.elf --core lockstep", THREE_TAPE),
-    ("tape a.elf --core lockstep --room 64", THREE_TAPE),
-    ("debug a.elf a.commands --core scalar", REPLIES),
-    ("debug a.elf a.commands --core scalar --room 64", REPLIES),
+    ("tape a.diva --core lockstep", THREE_TAPE),
+    ("tape a.diva --core lockstep --room 64", THREE_TAPE),
+    ("debug a.diva a.commands --core scalar", REPLIES),
+    ("debug a.diva a.commands --core scalar --room 64", REPLIES),
 ];
 
 #[test]
 fn listings_campaigns_tapes_and_replies(rt: HostRuntime) -> Result<(), Fail> {
+    let alloc = rt.alloc();
     for &(line, text) in &THREE_TEXTS {
-        let answer = run_program(rt.alloc(), &mut Flipped, line, &THREE)?;
-        assert_eq!(rt; answer.status, 0, "{line}");
-        assert_eq!(rt; str::from_utf8(&answer.text)?, text, "{line}");
+        compare(&rt, line, with_commands(alloc, &THREE)?, 0, text)?;
     }
-    Ok(())
+    let text = text_due(alloc, &THREE_CAMPAIGN)?;
+    compare(
+        &rt,
+        THREE_CAMPAIGN.line,
+        image_files(alloc, &THREE)?,
+        0,
+        text.as_str(),
+    )
 }
 
 /// Command lines, and the numbers behind `DIVA` in the image that they write: the version, base, size, entry, one segment, its
 /// address, and how many bytes it has, which are the three instructions.
 static MIGRATED: [(&str, &[u8], [u32; 7]); 4] = [
     (
-        "migrate a.elf",
+        "migrate a.diva",
         &THREE,
         [2, 0x1_0054, 12, 0x1_0054, 1, 0x1_0054, 12],
     ),
     (
-        "migrate a.elf --room 64",
+        "migrate a.diva --room 64",
         &THREE,
         [2, 0x1_0054, 76, 0x1_0054, 1, 0x1_0054, 12],
     ),
-    ("migrate a.elf", &FIVE_FILE, [2, 0, 64, 0, 1, 0, 12]),
+    ("migrate a.diva", &FIVE_FILE, [2, 0, 64, 0, 1, 0, 12]),
     (
-        "migrate a.elf --room 64",
+        "migrate a.diva --room 64",
         &FIVE_FILE,
         [2, 0, 64, 0, 1, 0, 12],
     ),
@@ -245,7 +197,7 @@ fn images_of_executables(rt: HostRuntime) -> Result<(), Fail> {
             due.extend_from_slice(&number.to_le_bytes())?;
         }
         due.extend_from_slice(&FIVE_FILE[24..])?;
-        let answer = run_program(alloc, &mut Flipped, line, file)?;
+        let answer = run_program(&mut Flipped, line, image_files(alloc, file)?)?;
         assert_eq!(rt; answer.status, 0, "{line}");
         assert_eq!(rt; answer.text.as_slice(), due.as_slice(), "{line}");
     }
@@ -254,56 +206,39 @@ fn images_of_executables(rt: HostRuntime) -> Result<(), Fail> {
 
 /// Words that are not a valid command line.
 static MISUSED: [&str; 14] = [
-    "run a.elf --room 2",
-    "run a.elf --room 16777216",
-    "duo a.elf --room 2",
-    "duo a.elf --room 16777216",
-    "tape a.elf --room 2",
-    "tape a.elf --room 16777216",
-    "debug a.elf a.commands --room 2",
-    "debug a.elf a.commands --room 16777216",
-    "migrate a.elf --room 2",
-    "migrate a.elf --room 16777216",
-    "dis a.elf --room 4",
+    "run a.diva --room 2",
+    "run a.diva --room 16777216",
+    "duo a.diva --room 2",
+    "duo a.diva --room 16777216",
+    "tape a.diva --room 2",
+    "tape a.diva --room 16777216",
+    "debug a.diva a.commands --room 2",
+    "debug a.diva a.commands --room 16777216",
+    "migrate a.diva --room 2",
+    "migrate a.diva --room 16777216",
+    "dis a.diva --room 4",
     "asm a.commands --room 4",
     "soak 1 1 --room 4",
-    "campaign a.elf 1 --room 4",
+    "campaign a.diva 1 --room 4",
 ];
 
 #[test]
 fn rooms_that_are_misused(rt: HostRuntime) -> Result<(), Fail> {
     for &line in &MISUSED {
-        compare_unasked(&rt, rt.alloc(), line, &THREE, 2, USAGE)?;
+        compare_unasked(&rt, line, with_commands(rt.alloc(), &THREE)?, 2, USAGE)?;
     }
-    Ok(())
-}
-
-/// Compares status and text where nothing is run: the program's own core is not asked.
-fn compare_unasked(
-    rt: &impl Abort,
-    alloc: Global,
-    line: &str,
-    file: &[u8],
-    status: u8,
-    text: &str,
-) -> Result<(), Fail> {
-    let mut core = Counting { calls: 0 };
-    let answer = run_program(alloc, &mut core, line, file)?;
-    assert_eq!(rt; answer.status, status, "{line}");
-    assert_eq!(rt; str::from_utf8(&answer.text)?, text, "{line}");
-    assert_eq!(rt; core.calls, 0, "{line}");
     Ok(())
 }
 
 /// The commands that read an executable.
 const COMMAND_LINES: [&str; 7] = [
-    "run a.elf",
-    "duo a.elf",
-    "tape a.elf",
-    "debug a.elf a.commands",
-    "migrate a.elf",
-    "dis a.elf",
-    "campaign a.elf 1",
+    "run a.diva",
+    "duo a.diva",
+    "tape a.diva",
+    "debug a.diva a.commands",
+    "migrate a.diva",
+    "dis a.diva",
+    "campaign a.diva 1",
 ];
 
 /// The three instructions with the type of a shared object, and without their words.
@@ -313,15 +248,10 @@ fn three_instructions_that_are_refused(rt: HostRuntime) -> Result<(), Fail> {
     let mut shared = THREE;
     shared[16] = 3;
     for &line in &COMMAND_LINES {
-        compare_unasked(&rt, alloc, line, &shared, 5, "refused image 22 at 16\n")?;
-        compare_unasked(
-            &rt,
-            alloc,
-            line,
-            &THREE[..84],
-            5,
-            "refused image 27 at 52\n",
-        )?;
+        let outside = with_commands(alloc, &shared)?;
+        compare_unasked(&rt, line, outside, 5, "refused image 22 at 16\n")?;
+        let outside = with_commands(alloc, &THREE[..84])?;
+        compare_unasked(&rt, line, outside, 5, "refused image 27 at 52\n")?;
     }
     Ok(())
 }
@@ -339,14 +269,14 @@ fn rooms_that_are_refused(rt: HostRuntime) -> Result<(), Fail> {
     let alloc = rt.alloc();
     for &(file, room, text) in &REFUSED {
         for command in [
-            "run a.elf",
-            "duo a.elf",
-            "tape a.elf",
-            "debug a.elf a.commands",
-            "migrate a.elf",
+            "run a.diva",
+            "duo a.diva",
+            "tape a.diva",
+            "debug a.diva a.commands",
+            "migrate a.diva",
         ] {
             let line = format!(in alloc; "{command} --room {room}")?;
-            compare_unasked(&rt, alloc, line.as_str(), file, 5, text)?;
+            compare_unasked(&rt, line.as_str(), with_commands(alloc, file)?, 5, text)?;
         }
     }
     Ok(())
@@ -396,8 +326,9 @@ fn executables_under_every_core(rt: HostRuntime) -> Result<(), Fail> {
     let alloc = rt.alloc();
     for &(name, file, room, status, due) in &RUNS {
         for core in CORES {
-            let line = format!(in alloc; "run a.elf --core {core} --room {room} --cycles 100000")?;
-            let answer = run_program(alloc, &mut Ooo::new(alloc)?, line.as_str(), file)?;
+            let line = format!(in alloc; "run a.diva --core {core} --room {room} --cycles 100000")?;
+            let outside = image_files(alloc, file)?;
+            let answer = run_program(&mut Ooo::new(alloc)?, line.as_str(), outside)?;
             assert_eq!(rt; answer.status, status, "{name}: {line}");
             let lines = lasting_lines(alloc, str::from_utf8(&answer.text)?)?;
             assert_eq!(rt; lines.as_str(), due, "{name}: {line}");

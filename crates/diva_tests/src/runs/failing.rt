@@ -1,5 +1,5 @@
 // The order of loads and of puts, and what follows where each of them in turn fails.
-use super::campaigns::{FIVE_CAMPAIGN, ONE_CYCLE, TRAPPED};
+use super::campaigns::{FIRST_CYCLE, ONE_CYCLE, TRAPPED};
 use super::drawings::{self, LOGGED};
 use super::executables::files::THREE;
 use super::executables::{pair_of_three, three_text};
@@ -159,11 +159,10 @@ fn stops_at(
 }
 
 /// Command lines, with the status and the text that are due where no put fails.
-static TEXTS: [(&str, u8, &str); 9] = [
+static TEXTS: [(&str, u8, &str); 8] = [
     ("run a.diva --core lockstep", 0, FIVE_TEXT),
     ("run a.diva --core lockstep --liar 1", 0, FIVE_TEXT),
     ("duo a.diva --core lockstep", 0, PAIR_TEXT),
-    ("campaign a.diva 1", 0, FIVE_CAMPAIGN),
     ("debug a.diva a.commands --core scalar", 0, STEPS_TEXT),
     ("dis a.diva", 0, FIVE_LISTING),
     ("run", 2, USAGE),
@@ -184,6 +183,15 @@ fn puts_that_fail(rt: HostRuntime) -> Result<(), Fail> {
     ] {
         compare_lines(&rt, alloc, &FIVE_FILE, line, 0, trace.as_str())?;
     }
+    let campaign = text_due(alloc, &FIRST_CYCLE)?;
+    compare_lines(
+        &rt,
+        alloc,
+        &FIVE_FILE,
+        FIRST_CYCLE.line,
+        0,
+        campaign.as_str(),
+    )?;
     let soaked = format!(in alloc; "{FLIPPED_LINES}{LEFT}")?;
     compare_lines(&rt, alloc, &FIVE_FILE, "soak 1 1", 0, soaked.as_str())?;
     for (line, status, tape) in [
