@@ -2,6 +2,8 @@
 use super::{Outside, compare_unasked, five_files};
 use diva_outside::What;
 use diva_test_programs::{FIVE_FILE, altered};
+use std::alloc::Global;
+use std::process::Abort;
 use std::test::Fail;
 
 /// What is written where the words are not a valid command line.
@@ -121,14 +123,7 @@ fn images_that_are_refused(rt: HostRuntime) -> Result<(), Fail> {
         (37, 0, b'D', 9, 36),
     ] {
         let file = altered(alloc, &FIVE_FILE, len, at, byte)?;
-        let text = format!(in alloc; "refused image {kind} at {place}\n")?;
-        compare_unasked(
-            &rt,
-            "run a.diva",
-            Outside::sound(alloc, file),
-            5,
-            text.as_str(),
-        )?;
+        compare_refused(&rt, alloc, "run a.diva", file, kind, place)?;
     }
     Ok(())
 }
@@ -139,16 +134,26 @@ fn images_that_are_cut(rt: HostRuntime) -> Result<(), Fail> {
     let alloc = rt.alloc();
     for len in 0..36 {
         let kind = if len < 24 { 1 } else { 8 };
-        let file = Vec::from_slice(alloc, FIVE_FILE.get(..len).ok_or("no such length")?)?;
-        let text = format!(in alloc; "refused image {kind} at {len}\n")?;
-        compare_unasked(
-            &rt,
-            "run a.diva",
-            Outside::sound(alloc, file),
-            5,
-            text.as_str(),
+        let file = Vec::from_slice(
+            alloc,
+            FIVE_FILE.get(..len as usize).ok_or("no such length")?,
         )?;
+        compare_refused(&rt, alloc, "run a.diva", file, kind, len)?;
     }
+    Ok(())
+}
+
+/// Compares status and text where an image with these bytes is refused for a fault of this kind, at this place.
+pub(super) fn compare_refused(
+    rt: &impl Abort,
+    alloc: Global,
+    line: &str,
+    file: Vec<u8>,
+    kind: u8,
+    place: u32,
+) -> Result<(), Fail> {
+    let text = format!(in alloc; "refused image {kind} at {place}\n")?;
+    compare_unasked(rt, line, Outside::sound(alloc, file), 5, text.as_str())?;
     Ok(())
 }
 

@@ -1,6 +1,7 @@
 // Images in version 2: they are run and listed as in version 1, refused by their own faults, and written by `migrate`.
+use super::refusals::compare_refused;
 use super::sources::FIVE_LISTING;
-use super::{FIVE_TEXT, Outside, compare, compare_unasked, run_unasked};
+use super::{FIVE_TEXT, Outside, compare, run_unasked};
 use diva_test_programs::{FIVE_FILE, FIVE_SEGMENTED, altered, file_of};
 use std::alloc::Global;
 use std::process::Abort;
@@ -37,8 +38,7 @@ fn segments_that_are_refused(rt: HostRuntime) -> Result<(), Fail> {
     for &(len, at, byte, kind, place) in &REFUSED {
         for line in ["run a.diva", "migrate a.diva"] {
             let file = altered(alloc, &FIVE_SEGMENTED, len, at, byte)?;
-            let text = format!(in alloc; "refused image {kind} at {place}\n")?;
-            compare_unasked(&rt, line, Outside::sound(alloc, file), 5, text.as_str())?;
+            compare_refused(&rt, alloc, line, file, kind, place)?;
         }
     }
     Ok(())
