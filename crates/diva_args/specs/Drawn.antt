@@ -1,10 +1,9 @@
 -- What a command line asks for of the program that draws runs: it takes the words of `diva`, and has two commands more.
-use Rattle.std.specs.Prelude.{ℕ, List, [], ◌∷◌, Bool, ◌||◌, Option, Some, None, is_some, codes, if◌then◌else◌}
+use Rattle.std.specs.Prelude.{List, [], ◌∷◌, ◌||◌, Option, Some, None, is_some, codes, if◌then◌else◌}
 use Rattle.std.specs.Str.{bytes_eq}
 use Rattle.clap.specs.Walk.{Text}
 use Rattle.diva_args.specs.Line.{command_of}
 use Rattle.diva_args.specs.Options.{RunOptions}
-use Rattle.diva_args.specs.declared.job.DrawOptions.{DrawOptions}
 use Rattle.diva_args.specs.declared.job.Format.{Format}
 use Rattle.diva_args.specs.declared.job.Format.TheVariants.{Log, Drawing}
 use Rattle.diva_args.specs.declared.job.Job.{Job}

@@ -1,12 +1,9 @@
 -- Legs of a core under a script, seen as legs of the core that was lent.
 use Rattle.std.proofs.Common.{◌≡◌, List, [], ◌∷◌, map, refl, sym, ◌∙◌, ap, subst}
-use Rattle.diva_isa.specs.State.{State}
-use Rattle.diva_isa.specs.declared.record.Record.{Record}
 use Rattle.diva_core.specs.Cycle.{run_of}
 use Rattle.diva_core.specs.History.{Meaning, lists_of}
 use Rattle.diva_core.specs.Legs.{AreLegs, Handed, IsLeg, Leg, Part, Turned, WentBack, core_after, core_behind, part_of, run_part}
 use Rattle.diva_core.specs.Timed.{Timed}
-use Rattle.diva_core.specs.Told.{Told}
 use Rattle.diva_core.proofs.Legging.{IsHistory-core, IsLeg-history}
 use Rattle.diva_faults.specs.declared.rows.Row.{Row}
 use Rattle.diva_faults.specs.declared.faulty.Faulty.{Faulty}

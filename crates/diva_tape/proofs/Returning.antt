@@ -1,19 +1,18 @@
 -- Legs of the core `Scalar`: turns, between which instructions are taken back.
-use Rattle.std.proofs.Common.{◌≡◌, ◌≤◌, ℕ, ◌+◌, Option, Some, None, List, [], ◌∷◌, map, refl, sym, subst, arith}
-use Rattle.diva_isa.specs.State.{State}
+use Rattle.std.proofs.Common.{List, [], ◌∷◌, map, refl, sym, subst, arith}
 use Rattle.diva_isa.specs.declared.record.Record.{Record}
 use Rattle.diva_isa.specs.declared.undo.Undo.{Undo}
-use Rattle.diva_core.specs.Timed.{Config, Timed, epoch_of, new_timed}
+use Rattle.diva_core.specs.Timed.{Timed, epoch_of}
 use Rattle.diva_core.specs.Cycle.{cycle_of, run_of}
 use Rattle.diva_core.specs.History.{FollowRule, IsHistory, lists_of}
 use Rattle.diva_core.specs.Legs.{AreLegs, EachPart, IsLeg, Leg, OfLists, Turned, WentBack, core_after, core_behind, part_of, run_part}
-use Rattle.diva_core.specs.Machine.{IsConfig, IsMachine}
+use Rattle.diva_core.specs.Machine.{IsMachine}
 use Rattle.diva_core.specs.Right.{AreRight}
 use Rattle.diva_core.specs.Undone.{CanUndoAll, undone, undone_all}
 use Rattle.diva_core.proofs.Keeping.{stays}
 use Rattle.diva_core.proofs.Legging.{each_then}
 use Rattle.diva_ahead.specs.Ahead.{Ahead}
-use Rattle.diva_tape.specs.Scalar.{IsPast, IsScalarCall, MayLead, new_scalar, scalar_list}
+use Rattle.diva_tape.specs.Scalar.{IsPast, IsScalarCall, MayLead, scalar_list}
 use Rattle.diva_tape.proofs.Following.{Stands, Turn, leads_after_undo, past_more, stands_by, stays_past, turn}
 use Rattle.diva_tape.proofs.Righting.{rule_right_by, scalar_right}
 

@@ -1,5 +1,5 @@
 -- One claim more is written.
-use Rattle.std.proofs.Common.{◌≡◌, ℕ, ◌+◌, ◌++◌, List, slice_get, ap, sym, ◌∙◌, append_assoc, arith}
+use Rattle.std.proofs.Common.{ℕ, ◌+◌, ◌++◌, List, slice_get, ap, sym, ◌∙◌, append_assoc, arith}
 use Rattle.diva_drawing.proofs.Fronts.{texts_more}
 use Rattle.diva_drawing.specs.Log.{claim_text, was_noted}
 use Rattle.diva_drawing.proofs.log.push_each.Goals as goal
