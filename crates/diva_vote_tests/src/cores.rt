@@ -1,8 +1,9 @@
 // The cores of the tests.
 ghost use Rattle.std.specs.Prelude.{◌≡◌, []};
 
-use diva_core::{Claim, Claims, Core, Told, View};
+use diva_core::{Claims, Core, Told, View};
 use diva_tape::{Echo, Flood, Lockstep, Noise, Scalar};
+use diva_test_programs::{ADDS, ASKS, HALTS};
 use std::alloc::{AllocError, Global};
 
 /// Which core hands over the claims.
@@ -72,42 +73,3 @@ fn hand_over_pair(cycle: u64, out: &mut Claims)
         _ => {}
     }
 }
-
-/// A claim whose fields are all 0.
-const NOTHING: Claim = Claim {
-    pc: 0,
-    word: 0,
-    src1: 0,
-    src2: 0,
-    addr: 0,
-    value: 0,
-    next: 0,
-    end: 0,
-};
-
-/// The record of the first instruction of `FIVE`, `addi x1, x0, 5`.
-const ADDS: Claim = Claim {
-    word: 0x0050_0093,
-    value: 5,
-    next: 4,
-    ..NOTHING
-};
-
-/// The record of the second, `addi x17, x0, 93`.
-const ASKS: Claim = Claim {
-    pc: 4,
-    word: 0x05d0_0893,
-    value: 93,
-    next: 8,
-    ..NOTHING
-};
-
-/// The record of the third, `ecall`: it reads x17 and x10, and ends.
-const HALTS: Claim = Claim {
-    pc: 8,
-    word: 0x0000_0073,
-    src1: 93,
-    next: 8,
-    end: 256,
-    ..NOTHING
-};

@@ -5,32 +5,7 @@ use diva_vote::{Lane, Liar, Stage, check};
 /// What a lane is asked: the stage, and the pc of the claim.
 pub(crate) type Asked = (Stage, u32);
 
-/// Counts its calls, and answers as the checks do.
-#[derive(Clone, Copy, Debug, Drop)]
-pub(crate) struct Counting {
-    pub calls: u64,
-}
-
-impl Lane for Counting {
-    ghost use Rattle.std.specs.Prelude.{⊤};
-
-    ghost honest = { λ lane. ⊤ };
-
-    ghost hears = { λ before question after. ⊤ };
-
-    fn judge(
-        &mut self,
-        stage: Stage,
-        pending: &Pending,
-        at: usize,
-        view: &View<'_>,
-    ) -> Option<Diff> {
-        self.calls = self.calls.saturating_add(1);
-        check(stage, pending, at, view)
-    }
-}
-
-/// Notes what it is asked, the first questions of them, and answers as the checks do.
+/// Notes what it is asked, the first questions of it, counts all of them, and answers as the checks do.
 #[derive(Clone, Copy, Debug, Drop)]
 pub(crate) struct Noting {
     notes: [Asked; 32],
@@ -44,6 +19,11 @@ impl Noting {
             notes: [(Stage::Fetch, 0); 32],
             calls: 0,
         }
+    }
+
+    /// How often it was asked.
+    pub fn calls(&self) -> usize {
+        self.calls
     }
 
     /// What it was asked, in order: its first questions, where there were more than it can note.

@@ -1,9 +1,9 @@
 //! Tests of three lanes that vote, by themselves and in the place of a machine's checks.
 //!
 //! - `votes`: of which three answers which one is taken;
-//! - `lanes`: lanes that answer as the checks do, and count or note what they are asked; and lanes that are not to be believed;
+//! - `lanes`: a lane that answers as the checks do, and notes what it is asked; and lanes that are not to be believed;
 //! - `cores`: the cores of these tests, one type for all of them;
-//! - `programs`: two small programs, and machines that begin with them;
+//! - `programs`: a small program, and machines that begin with words;
 //! - `runs`: short runs: how often each lane is asked, and of what, cycle by cycle, also where a claim is wrong or is dropped;
 //! - `alike`: longer runs of two machines, of which one is voted on and one lane in three answers anything: both show the same,
 //!   cycle by cycle.

@@ -1,4 +1,4 @@
-// Two small programs, and machines that begin with them.
+// A small program, and machines that begin with words.
 ghost use Rattle.std.specs.Prelude.{◌≡◌, IfOk};
 
 use diva_image::Image;
@@ -8,9 +8,6 @@ use std::test::Fail;
 
 /// The bytes of memory.
 pub(crate) const SIZE: u32 = 128;
-
-/// `addi x1, x0, 5`, `addi x17, x0, 93` and `ecall`, which halts with status 0.
-pub(crate) const FIVE: [u32; 3] = [0x0050_0093, 0x05d0_0893, 0x0000_0073];
 
 /// A loop that goes six times: it multiplies, stores the product, loads its lowest byte, adds that to a sum, stores the sum's low
 /// half and loads it, and puts the sum's lowest byte. Then it halts with that byte.

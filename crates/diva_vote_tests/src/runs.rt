@@ -2,12 +2,13 @@
 ghost use Rattle.diva_vote.specs.Votes.{AtLeastTwo};
 
 use crate::cores::{AnyCore, Kind};
-use crate::lanes::{Counting, Noting};
-use crate::programs::{FIVE, machine_of};
+use crate::lanes::Noting;
+use crate::programs::machine_of;
 use diva_core::{Cause, Claims, Diff, Field, FlushRow};
 use diva_faults::{Faulty, Script};
 use diva_isa::End;
 use diva_machine::{Config, Drive, drive_voted, turn_voted};
+use diva_test_programs::FIVE;
 use diva_vote::Stage::{Execute, Fetch, Memory, Operands};
 use diva_vote::{Honest, Lane, Stage};
 use std::alloc::Global;
@@ -26,6 +27,17 @@ struct Run {
     /// What each lane is asked, in order: the cycle, the stage, and the pc of the claim.
     asked: &'static [(u64, Stage, u32)],
 }
+
+/// The flush where the value of the first claim is wrong.
+const WRONG_VALUE: FlushRow = FlushRow {
+    cycle: 7,
+    at: 0,
+    cause: Cause::Differs(Diff {
+        field: Field::Value,
+        claimed: 4,
+        due: 5,
+    }),
+};
 
 /// What is claimed in cycle c is asked about in cycle c + 1 at the fetch, in c + 3, c + 4 and c + 5 at the three other stages, and
 /// is judged in cycle c + 6 at the earliest. Within a cycle the oldest claim comes first.
@@ -59,15 +71,7 @@ static RUNS: [Run; 6] = [
         kind: Kind::Lockstep,
         script: "at 1 lane 0 flip value 0",
         cycles: 27,
-        flush: Some(FlushRow {
-            cycle: 7,
-            at: 0,
-            cause: Cause::Differs(Diff {
-                field: Field::Value,
-                claimed: 4,
-                due: 5,
-            }),
-        }),
+        flush: Some(WRONG_VALUE),
         asked: &[
             (2, Fetch, 0),
             (4, Operands, 0),
@@ -142,15 +146,7 @@ static RUNS: [Run; 6] = [
         kind: Kind::Scalar,
         script: "at 1 lane 0 flip value 0",
         cycles: 21,
-        flush: Some(FlushRow {
-            cycle: 7,
-            at: 0,
-            cause: Cause::Differs(Diff {
-                field: Field::Value,
-                claimed: 4,
-                due: 5,
-            }),
-        }),
+        flush: Some(WRONG_VALUE),
         asked: &[
             (2, Fetch, 0),
             (3, Fetch, 4),
@@ -209,7 +205,7 @@ fn compare_run<A: Lane, B: Lane, L: Lane>(
     let script = Script::read(alloc, run.script.as_bytes())?;
     let mut inner = AnyCore::new(alloc, run.kind)?;
     let mut core = Faulty::new(&mut inner, &script);
-    let mut m = machine_of(alloc, &FIVE, Config::default())?;
+    let mut m = machine_of(alloc, FIVE.words, Config::default())?;
     let driven = drive_voted(&mut m, &mut core, a, b, l, 1000);
     assert_eq!(rt;
         (driven, m.ended(), m.cycles(), m.count()),
@@ -227,7 +223,7 @@ fn compare_cycles(rt: &impl Abort, alloc: Global, run: &Run) -> Result<(), Fail>
     let script = Script::read(alloc, run.script.as_bytes())?;
     let mut inner = AnyCore::new(alloc, run.kind)?;
     let mut core = Faulty::new(&mut inner, &script);
-    let mut m = machine_of(alloc, &FIVE, Config::default())?;
+    let mut m = machine_of(alloc, FIVE.words, Config::default())?;
     let mut list = Claims::new();
     let [mut a, mut b, mut l] = [Noting::new(); 3];
     for cycle in 1..=run.cycles {
@@ -247,13 +243,13 @@ fn compare_cycles(rt: &impl Abort, alloc: Global, run: &Run) -> Result<(), Fail>
 fn how_often_a_lane_is_asked(rt: HostRuntime) -> Result<(), Fail> {
     let alloc = rt.alloc();
     for run in &RUNS {
-        let [mut first, mut second, mut third] = [Counting { calls: 0 }; 3];
+        let [mut first, mut second, mut third] = [Noting::new(); 3];
         compare_run(&rt, alloc, run, &mut first, &mut Honest, &mut Honest)?;
         compare_run(&rt, alloc, run, &mut Honest, &mut second, &mut Honest)?;
         compare_run(&rt, alloc, run, &mut Honest, &mut Honest, &mut third)?;
-        let due = run.asked.len() as u64;
+        let due = run.asked.len();
         assert_eq!(rt;
-            [first.calls, second.calls, third.calls],
+            [first.calls(), second.calls(), third.calls()],
             [due; 3],
             "{}",
             run.name

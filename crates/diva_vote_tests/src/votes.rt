@@ -17,31 +17,31 @@ const PC: Answer = Some(Diff {
 });
 
 /// A wrong value.
-const VALUE: Answer = Some(Diff {
+const VALUE: Answer = Some(WRONG_VALUE);
+
+/// What is found there.
+const WRONG_VALUE: Diff = Diff {
     field: Field::Value,
     claimed: 2,
     due: 3,
-});
+};
 
 /// The same but for the field.
 const NEXT: Answer = Some(Diff {
     field: Field::Next,
-    claimed: 2,
-    due: 3,
+    ..WRONG_VALUE
 });
 
 /// The same but for what was claimed.
 const CLAIMED: Answer = Some(Diff {
-    field: Field::Value,
     claimed: 4,
-    due: 3,
+    ..WRONG_VALUE
 });
 
 /// The same but for what is due.
 const DUE: Answer = Some(Diff {
-    field: Field::Value,
-    claimed: 2,
     due: 4,
+    ..WRONG_VALUE
 });
 
 /// The answers of three lanes, and the one that is taken. By the rule it is the one that two give at least; where all differ, it
