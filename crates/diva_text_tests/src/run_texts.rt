@@ -1,9 +1,10 @@
 // The text of a run, that of two harts, and some lines.
 use diva_core::{Cause, Diff, Field, FlushRow, Output, View};
-use diva_isa::{End, Record, Regs};
+use diva_isa::{End, Regs};
 use diva_memory::Memory;
 use diva_outside::{MemSink, SinkFailed, put_line, put_lines};
 use diva_storeq::StoreQueue;
+use diva_test_programs::ADDS;
 use diva_trace::{
     Dump, HartReport, Report, SoakCore, Tally, commit_line, cycles_line, end_line, flushes_line,
     soak_line, write_dump, write_hart, write_run, write_tally,
@@ -97,18 +98,6 @@ flushes 1 silent 0
 scalar count 4 cycles 10 flushes 0
 own count 4 cycles 11 flushes 2
 ";
-
-/// The record of `addi x1, x0, 5`, the first instruction.
-const FIRST: Record = Record {
-    pc: 0,
-    word: 0x0050_0093,
-    src1: 0,
-    src2: 0,
-    addr: 0,
-    value: 5,
-    next: 4,
-    end: 0,
-};
 
 #[test]
 fn text_of_a_run(rt: HostRuntime) -> Result<(), Fail> {
@@ -212,7 +201,7 @@ fn put_trapped(
 fn other_lines(rt: HostRuntime) -> Result<(), Fail> {
     let mut lines = MemSink::new(rt.alloc(), 2048, Vec::new(rt.alloc()))?;
     let made = [
-        commit_line(0, &FIRST),
+        commit_line(0, &ADDS),
         end_line(5),
         end_line(0),
         flushes_line(1, 0),

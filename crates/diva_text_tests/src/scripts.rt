@@ -2,6 +2,7 @@
 use crate::cores::list_of;
 use diva_core::{Claim, Claims, Core, Field, Told, View};
 use diva_faults::{Change, Faulty, Row, Script, ScriptFault, flip_at};
+use diva_test_programs::NOTHING;
 use std::alloc::{AllocError, Global};
 use std::process::Abort;
 use std::test::Fail;
@@ -273,120 +274,120 @@ fn values_of(alloc: Global, list: &[Claim]) -> Result<Vec<u32>, AllocError> {
     Ok(values)
 }
 
-/// A claim of zeros.
-const ZEROS: Claim = Claim {
-    pc: 0,
-    word: 0,
-    src1: 0,
-    src2: 0,
-    addr: 0,
-    value: 0,
-    next: 0,
-    end: 0,
-};
-
 /// Changes of a claim of zeros, and what they make of it.
 static CHANGED: [(&str, Claim); 16] = [
     (
         "flip pc 31",
         Claim {
             pc: 0x8000_0000,
-            ..ZEROS
+            ..NOTHING
         },
     ),
-    ("set pc aB", Claim { pc: 0xab, ..ZEROS }),
+    (
+        "set pc aB",
+        Claim {
+            pc: 0xab,
+            ..NOTHING
+        },
+    ),
     (
         "flip word 31",
         Claim {
             word: 0x8000_0000,
-            ..ZEROS
+            ..NOTHING
         },
     ),
     (
         "set word aB",
         Claim {
             word: 0xab,
-            ..ZEROS
+            ..NOTHING
         },
     ),
     (
         "flip src1 31",
         Claim {
             src1: 0x8000_0000,
-            ..ZEROS
+            ..NOTHING
         },
     ),
     (
         "set src1 aB",
         Claim {
             src1: 0xab,
-            ..ZEROS
+            ..NOTHING
         },
     ),
     (
         "flip src2 31",
         Claim {
             src2: 0x8000_0000,
-            ..ZEROS
+            ..NOTHING
         },
     ),
     (
         "set src2 aB",
         Claim {
             src2: 0xab,
-            ..ZEROS
+            ..NOTHING
         },
     ),
     (
         "flip addr 31",
         Claim {
             addr: 0x8000_0000,
-            ..ZEROS
+            ..NOTHING
         },
     ),
     (
         "set addr aB",
         Claim {
             addr: 0xab,
-            ..ZEROS
+            ..NOTHING
         },
     ),
     (
         "flip value 31",
         Claim {
             value: 0x8000_0000,
-            ..ZEROS
+            ..NOTHING
         },
     ),
     (
         "set value aB",
         Claim {
             value: 0xab,
-            ..ZEROS
+            ..NOTHING
         },
     ),
     (
         "flip next 31",
         Claim {
             next: 0x8000_0000,
-            ..ZEROS
+            ..NOTHING
         },
     ),
     (
         "set next aB",
         Claim {
             next: 0xab,
-            ..ZEROS
+            ..NOTHING
         },
     ),
     (
         "flip end 31",
         Claim {
             end: 0x8000_0000,
-            ..ZEROS
+            ..NOTHING
         },
     ),
-    ("set end aB", Claim { end: 0xab, ..ZEROS }),
+    (
+        "set end aB",
+        Claim {
+            end: 0xab,
+            ..NOTHING
+        },
+    ),
 ];
 
 #[test]

@@ -2,6 +2,7 @@
 use crate::cores::list_of;
 use diva_core::Claim;
 use diva_tape::{Tape, TapeCore, TapeFault, tape_piece};
+use diva_test_programs::ADDS;
 use std::alloc::{AllocError, Global};
 use std::test::Fail;
 
@@ -110,16 +111,6 @@ fn eight_claims_in_a_call(rt: HostRuntime) -> Result<(), Fail> {
 
 #[test]
 fn pieces(rt: HostRuntime) -> Result<(), Fail> {
-    let claim = Claim {
-        pc: 0,
-        word: 0x0050_0093,
-        src1: 0,
-        src2: 0,
-        addr: 0,
-        value: 5,
-        next: 4,
-        end: 0,
-    };
     for (first, due) in [
         (
             true,
@@ -130,7 +121,7 @@ fn pieces(rt: HostRuntime) -> Result<(), Fail> {
             " ; 00000000 00500093 00000000 00000000 00000000 00000005 00000004 00000000",
         ),
     ] {
-        assert_eq!(rt; tape_piece(&claim, first).bytes(), due.as_bytes());
+        assert_eq!(rt; tape_piece(&ADDS, first).bytes(), due.as_bytes());
     }
     Ok(())
 }
