@@ -26,7 +26,7 @@
 //! - `TapeTexts`: the text of `tape`; `DebugTexts`, with `Replies`: that of `debug`, and `Sessions`: what holds of its machine, and
 //!   what drove it; `ImageTexts`: those of `asm`, `dis` and `migrate`; `SoakTexts`: that of `soak`; `DuoTexts`: that of `duo`;
 //!   `CampaignTexts`: that of `campaign`; `DrawTexts`: those of `log` and `draw`; `Cuts`: in which part of a text a sink failed;
-//! - `Determined`: what is determined of a run.
+//! - `Determined`: what is determined of a run; `Sure`: what files that never fail hold.
 //!
 //! `Tasks` and `Parts` are what the parts of the program promise one another. What each command promises, and so the whole
 //! program, stands once: `KeepsPromises` of `Parts`.
