@@ -2,7 +2,7 @@
 ghost use Rattle.std.specs.Prelude.{◌≡◌, ◌≤◌, ◌<◌, ◌≢◌, ◌⊎◌, IfOk, IfErr, IfSome, IsErrOf, length};
 ghost use Rattle.std.specs.Io.KnownBytes.{ReadConsumes};
 ghost use Rattle.diva_outside.specs.Causes.{Rose};
-ghost use Rattle.diva_outside.specs.Files.{unknown, Has, IsMissing, IsLonger};
+ghost use Rattle.diva_outside.specs.Files.{unknown, Has, HasNotFailed, IsMissing, IsLonger};
 
 use crate::faults::Faults;
 use crate::{Files, LoadFault, What};
@@ -64,6 +64,7 @@ impl<R: rt::Files> Files for DiskFiles<'_, R> {
             → IsLonger unknown name.now limit }
         ensures failed { IsErrOf result LoadFault.Failed
             → Rose (faults_of self.old what) (faults_of self.new what) ⊎ IsMissing unknown name.now }
+        ensures counted { HasNotFailed result → (w : What) → faults_of self.new w ≡ faults_of self.old w }
         ensures missing { IsMissing unknown name.now
             → IsErrOf result LoadFault.Failed ⊎ IsErrOf result LoadFault.Memory }
         ensures uncounted { IsMissing unknown name.now
