@@ -1,5 +1,5 @@
 -- Polls, one after the other, and what always holds of them.
-use Rattle.std.proofs.Common.{◌≡◌, ◌≢◌, ◌⊎◌, List, [], ◌∷◌, ◌++◌, map, Option, refl, sym, ap, ◌∙◌, subst, inl, inr}
+use Rattle.std.proofs.Common.{◌≡◌, List, [], ◌∷◌, ◌++◌, map, Option, refl, sym, ap, ◌∙◌, subst}
 use Rattle.std.specs.List.{All}
 use Rattle.std.proofs.lemmas.List.{map-append}
 use Rattle.std.proofs.lemmas.List.Elements.{All-nil, All-cons, All-head, All-tail}
@@ -7,8 +7,8 @@ use Rattle.diva_core.specs.declared.differences.Diff.{Diff}
 use Rattle.diva_vote.specs.declared.votes.Ballot.{Ballot}
 use Rattle.diva_vote.specs.declared.votes.Outvoted.{Outvoted}
 use Rattle.diva_vote.specs.Questions.{IsAnswer, Question, Saying}
-use Rattle.diva_vote.specs.Votes.{AtLeastTwo, IsMajority, vote_of}
-use Rattle.diva_vote.specs.Polls.{AlwaysTwoAreRight, ArePolled, ArePolledAndCounted, Poll, SaidAll, TwoAreRight, outvoted_after}
+use Rattle.diva_vote.specs.Votes.{IsMajority, vote_of}
+use Rattle.diva_vote.specs.Polls.{AlwaysTwoAreRight, ArePolledAndCounted, Poll, SaidAll, TwoAreRight, outvoted_after}
 use Rattle.diva_vote.proofs.Voting.{two_lead}
 
 -- ---- one lane
@@ -87,7 +87,7 @@ module _ {A B L : Type 0} (first_says : Saying A) (second_says : Saying B) (thir
       → TwoAreRight (record { question = q; ballot = ballot })
   two_now q ballot a b l a' b' l' always x y z =
       All-head TwoAreRight _ [] (always (q ∷ []) a' b' l'
-        (record { polls = record { question = q; ballot = ballot } ∷ []; asked = refl; first = (a', (x, refl)); second = (b', (y, refl)); third = (l', (z, refl)) }))
+      (record { polls = record { question = q; ballot = ballot } ∷ []; asked = refl; first = (a', (x, refl)); second = (b', (y, refl)); third = (l', (z, refl)) }))
 
   -- and from now on
   pub two_then : (q : Question) (ballot : Ballot) (a : A) (b : B) (l : L) (a' : A) (b' : B) (l' : L)
@@ -96,19 +96,19 @@ module _ {A B L : Type 0} (first_says : Saying A) (second_says : Saying B) (thir
       → AlwaysTwoAreRight first_says second_says third_says a' b' l'
   two_then q ballot a b l a' b' l' always x y z = λ asked a2 b2 l2 held.
       All-tail TwoAreRight _ held.polls (always (q ∷ asked) a2 b2 l2
-        (record {
-          polls = record { question = q; ballot = ballot } ∷ held.polls;
-          asked = ap (λ qs. q ∷ qs) held.asked;
-          first = (a', (x, held.first));
-          second = (b', (y, held.second));
-          third = (l', (z, held.third));
-        }))
+      (record {
+        polls = record { question = q; ballot = ballot } ∷ held.polls;
+        asked = ap (λ qs. q ∷ qs) held.asked;
+        first = (a', (x, held.first));
+        second = (b', (y, held.second));
+        third = (l', (z, held.third));
+      }))
 
   -- what three lanes keep over one question, and what makes two answers right, does so for ever
   two_of_all : (Holds : A → B → L → Type 0)
       → ((poll : Poll) (a : A) (b : B) (l : L) (a' : A) (b' : B) (l' : L) → Holds a b l
-          → first_says a poll.question poll.ballot.first a' → second_says b poll.question poll.ballot.second b' → third_says l poll.question poll.ballot.third l'
-          → TwoAreRight poll × Holds a' b' l')
+      → first_says a poll.question poll.ballot.first a' → second_says b poll.question poll.ballot.second b' → third_says l poll.question poll.ballot.third l'
+      → TwoAreRight poll × Holds a' b' l')
       → (polls : List Poll) (a : A) (b : B) (l : L) (a' : A) (b' : B) (l' : L) → Holds a b l
       → SaidAll first_says (λ ballot. ballot.first) a polls a' → SaidAll second_says (λ ballot. ballot.second) b polls b'
       → SaidAll third_says (λ ballot. ballot.third) l polls l' → All TwoAreRight polls
@@ -119,7 +119,7 @@ module _ {A B L : Type 0} (first_says : Saying A) (second_says : Saying B) (thir
 
   pub always_by : (Holds : A → B → L → Type 0)
       → ((poll : Poll) (a : A) (b : B) (l : L) (a' : A) (b' : B) (l' : L) → Holds a b l
-          → first_says a poll.question poll.ballot.first a' → second_says b poll.question poll.ballot.second b' → third_says l poll.question poll.ballot.third l'
-          → TwoAreRight poll × Holds a' b' l')
+      → first_says a poll.question poll.ballot.first a' → second_says b poll.question poll.ballot.second b' → third_says l poll.question poll.ballot.third l'
+      → TwoAreRight poll × Holds a' b' l')
       → (a : A) (b : B) (l : L) → Holds a b l → AlwaysTwoAreRight first_says second_says third_says a b l
   always_by Holds step a b l h = λ asked a' b' l' held. two_of_all Holds step held.polls a b l a' b' l' h held.first held.second held.third

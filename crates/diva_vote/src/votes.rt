@@ -67,5 +67,9 @@ impl Outvoted {
 fn counted_with(count: u64, answer: Option<Diff>, vote: Option<Diff>) -> u64
     ensures { result ≡ counted_with count answer vote }
 {
-    if is_same(answer, vote) { count } else { count.saturating_add(1) }
+    if is_same(answer, vote) {
+        count
+    } else {
+        count.saturating_add(1)
+    }
 }
