@@ -323,12 +323,6 @@ module _ (d : Duo) (inv : IsDuo d) (a b : List Record) where
     pub led_few : (w : Which) → CountsFew w d e
     led_few w = subst (CountsFew w d) (sym led_here) (counts_few w)
 
-    pub led_commits : (w : Which) → CommitsAt w d e
-    led_commits w = subst (CommitsAt w d) (sym led_here) (commits_at w)
-
-    pub led_logs : (w : Which) → LogsAt w d e
-    led_logs w = subst (LogsAt w d) (sym led_here) (logs_at w)
-
     pub led_cycles : e.cycles ≤ d.cycles + 1
     led_cycles = let n = ap (λ (z : Duo). z.cycles) led_here in let most = cycles_next in omega arith
 

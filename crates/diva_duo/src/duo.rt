@@ -69,7 +69,7 @@ impl Parts {
     }
 
     /// One cycle of harts that are not over.
-    #[tactic(auto, unfolding(crate::specs::Duo::duo_cycle_of, crate::specs::Duo::duo_drained, crate::specs::Duo::actions))]
+    #[tactic(auto, unfolding(crate::specs::Duo::duo_cycle_of, crate::specs::Duo::duo_drained, crate::specs::Duo::actions), using(crate::proofs::Readying::inside_drained))]
     fn cycle(&mut self, a: &[Claim], b: &[Claim])
         requires goes_on { is_over self.old.duo ≡ false }
         requires duo { IsDuo self.old.duo }
