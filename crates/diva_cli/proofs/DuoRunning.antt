@@ -102,6 +102,8 @@ module _ {D : Type 0} (gives : Meaning D) (kind : HartCore) (like : D → Ahead 
         pairs = pairs_of turns.history;
         ran = history_run gives gives d.duo a b turns.history last.duo final_a final_b turns.good;
         replayed = drives.replayed;
+        committed = drives.committed;
+        rows = drives.rows;
         paced = (one, two);
         all = all;
       }
