@@ -251,23 +251,26 @@ module _ {D S : Type 0} (gives : Meaning D) (format : Format) (budget : ℕ) (m 
         let b = d.cut in
         record {
           turns = p.turns;
-          done = (record {
-            most = d.most;
-            first = first;
-            saw = saw;
-            seen = d.seen;
-            are = d.are;
-            whole = tt;
-            cut = (
-              put.failed,
-              inr (inl (record {
-                earlier = b.earlier;
-                last = b.last;
-                in_order = b.in_order;
-                holds = subst (λ (q : Pen). AppendsPast (contents s0) (contents s2) (begin_text format ++ cycles_drawn format q b.earlier d.seen) (begin_text format ++ cycles_drawn format q (lists_of p.turns.history) d.seen)) new (past_more (begin_text format) _ _ _ _ _ begun.ok b.holds);
-              })),
-            );
-          }, p.done.1);
+          done = (
+            record {
+              most = d.most;
+              first = first;
+              saw = saw;
+              seen = d.seen;
+              are = d.are;
+              whole = tt;
+              cut = (
+                put.failed,
+                inr (inl (record {
+                  earlier = b.earlier;
+                  last = b.last;
+                  in_order = b.in_order;
+                  holds = subst (λ (q : Pen). AppendsPast (contents s0) (contents s2) (begin_text format ++ cycles_drawn format q b.earlier d.seen) (begin_text format ++ cycles_drawn format q (lists_of p.turns.history) d.seen)) new (past_more (begin_text format) _ _ _ _ _ begun.ok b.holds);
+                })),
+              );
+            },
+            p.done.1,
+          );
         }
 
     -- all cycles were drawn, and what follows them was put, or a part of it
@@ -278,15 +281,18 @@ module _ {D S : Type 0} (gives : Meaning D) (format : Format) (budget : ℕ) (m 
     finished s3 result p end =
         record {
           turns = p.turns;
-          done = (record {
-            most = d.most;
-            first = first;
-            saw = saw;
-            seen = d.seen;
-            are = d.are;
-            whole = well result end;
-            cut = ill result end;
-          }, p.done.1);
+          done = (
+            record {
+              most = d.most;
+              first = first;
+              saw = saw;
+              seen = d.seen;
+              are = d.are;
+              whole = well result end;
+              cut = ill result end;
+            },
+            p.done.1,
+          );
         }
       where
         d : IsDrawnIn format budget (change m last) (change pen behind) (lists_of p.turns.history) (sink_change contents faults s1 s2) (Ok tt)

@@ -86,13 +86,16 @@ performs_quiet gives budget m core last after contents faults s this d =
     let l = length-lists_of d.turns.history in
     record {
       turns = d.turns;
-      done = (record {
-        most = (let e = d.turns.each in let w = d.most in omega arith);
-        whole = λ on. (let e = d.turns.each in let w = d.whole on in omega arith);
-        never_fails = refl;
-        contents = refl;
-        faults = refl;
-      }, d.asked);
+      done = (
+        record {
+          most = (let e = d.turns.each in let w = d.most in omega arith);
+          whole = λ on. (let e = d.turns.each in let w = d.whole on in omega arith);
+          never_fails = refl;
+          contents = refl;
+          faults = refl;
+        },
+        d.asked,
+      );
     }
 
 -- ---- a line for each core

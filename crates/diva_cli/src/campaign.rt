@@ -43,7 +43,7 @@ pub(crate) fn campaign<F: Files, S: Sink, C: Core, L: Lane>(
 ) -> Result<u8, Failure>
     requires { AreHonest L.honest lanes.old }
     ensures { KeepsPromises C.gives (asked_for (Command options) (F.contents files.old)) (file_faults F.faults files.old files.new)
-        (asking _core.now _core.now (are_asked L.hears lanes.old lanes.new)) (sink_change S.contents S.faults sink.old sink.new) result }
+        (asking _core.now _core.now (are_asked L.says lanes.old lanes.new)) (sink_change S.contents S.faults sink.old sink.new) result }
 {
     match load_and_run(alloc, files, &options, lanes) {
         Ok(runs) => show(&runs, sink, _core),

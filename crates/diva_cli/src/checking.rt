@@ -13,7 +13,7 @@ use crate::lanes::Lanes;
 use diva_args::LanePlace;
 use diva_core::{Claims, Core};
 use diva_machine::{Drive, Machine, drive, drive_voted, turn, turn_voted};
-use diva_vote::Lane;
+use diva_vote::{Lane, recall_two_honest};
 
 /// Drives a machine for so many cycles at most. Where a place is given, three lanes vote, and the one in that place is the liar.
 #[inline(always)]
@@ -27,7 +27,7 @@ pub(crate) fn drive_checked<C: Core, L: Lane>(
     requires cycles { m.old.timed.cycles + budget ≤ 2 ^ 60 }
     requires honest { AreHonest L.honest lanes.old }
     ensures honest { AreHonest L.honest lanes.new }
-    ensures drives { DrivesAsking C.gives m.old core.old m.new core.new (are_asked L.hears lanes.old lanes.new liar) }
+    ensures drives { DrivesAsking C.gives m.old core.old m.new core.new (are_asked L.says lanes.old lanes.new liar) }
     ensures ended { (result ≡ Drive.Ended) ↔ (goes_on m.new.timed.arch ≡ false) }
     ensures budget { (result ≡ Drive.Budget)
         ↔ ((m.new.timed.cycles ≡ m.old.timed.cycles + budget) × (goes_on m.new.timed.arch ≡ true)) }
@@ -53,7 +53,7 @@ fn drive_with_liar<C: Core, L: Lane>(
     requires cycles { m.old.timed.cycles + budget ≤ 2 ^ 60 }
     requires honest { AreHonest L.honest lanes.old }
     ensures honest { AreHonest L.honest lanes.new }
-    ensures drives { DrivesAsking C.gives m.old core.old m.new core.new (are_asked L.hears lanes.old lanes.new (Some place)) }
+    ensures drives { DrivesAsking C.gives m.old core.old m.new core.new (are_asked L.says lanes.old lanes.new (Some place)) }
     ensures ended { (result ≡ Drive.Ended) ↔ (goes_on m.new.timed.arch ≡ false) }
     ensures budget { (result ≡ Drive.Budget)
         ↔ ((m.new.timed.cycles ≡ m.old.timed.cycles + budget) × (goes_on m.new.timed.arch ≡ true)) }
@@ -65,30 +65,39 @@ fn drive_with_liar<C: Core, L: Lane>(
         third,
     } = lanes;
     match place {
-        LanePlace::First => drive_voted(
-            m,
-            core,
-            &mut first.liar,
-            &mut second.honest,
-            &mut third.honest,
-            budget,
-        ),
-        LanePlace::Second => drive_voted(
-            m,
-            core,
-            &mut first.honest,
-            &mut second.liar,
-            &mut third.honest,
-            budget,
-        ),
-        LanePlace::Third => drive_voted(
-            m,
-            core,
-            &mut first.honest,
-            &mut second.honest,
-            &mut third.liar,
-            budget,
-        ),
+        LanePlace::First => {
+            recall_two_honest(&first.liar, &second.honest, &third.honest);
+            drive_voted(
+                m,
+                core,
+                &mut first.liar,
+                &mut second.honest,
+                &mut third.honest,
+                budget,
+            )
+        }
+        LanePlace::Second => {
+            recall_two_honest(&first.honest, &second.liar, &third.honest);
+            drive_voted(
+                m,
+                core,
+                &mut first.honest,
+                &mut second.liar,
+                &mut third.honest,
+                budget,
+            )
+        }
+        LanePlace::Third => {
+            recall_two_honest(&first.honest, &second.honest, &third.liar);
+            drive_voted(
+                m,
+                core,
+                &mut first.honest,
+                &mut second.honest,
+                &mut third.liar,
+                budget,
+            )
+        }
     }
 }
 
@@ -104,7 +113,7 @@ pub(crate) fn turn_checked<C: Core, L: Lane>(
     requires cycles { m.old.timed.cycles < 2 ^ 60 }
     requires honest { AreHonest L.honest lanes.old }
     ensures honest { AreHonest L.honest lanes.new }
-    ensures lanes { are_asked L.hears lanes.old lanes.new liar (asked_of m.old.timed) }
+    ensures lanes { are_asked L.says lanes.old lanes.new liar (asked_of m.old.timed) }
     ensures cycled { m.new.timed ≡ cycle_of m.old.timed list.new }
     ensures asked { goes_on m.old.timed.arch ≡ true
         → C.gives core.old (told_of m.old.timed) m.old.timed.arch list.new core.new }
@@ -130,7 +139,7 @@ fn turn_with_liar<C: Core, L: Lane>(
     requires cycles { m.old.timed.cycles < 2 ^ 60 }
     requires honest { AreHonest L.honest lanes.old }
     ensures honest { AreHonest L.honest lanes.new }
-    ensures lanes { are_asked L.hears lanes.old lanes.new (Some place) (asked_of m.old.timed) }
+    ensures lanes { are_asked L.says lanes.old lanes.new (Some place) (asked_of m.old.timed) }
     ensures cycled { m.new.timed ≡ cycle_of m.old.timed list.new }
     ensures asked { goes_on m.old.timed.arch ≡ true
         → C.gives core.old (told_of m.old.timed) m.old.timed.arch list.new core.new }
@@ -143,29 +152,38 @@ fn turn_with_liar<C: Core, L: Lane>(
         third,
     } = lanes;
     match place {
-        LanePlace::First => turn_voted(
-            m,
-            core,
-            list,
-            &mut first.liar,
-            &mut second.honest,
-            &mut third.honest,
-        ),
-        LanePlace::Second => turn_voted(
-            m,
-            core,
-            list,
-            &mut first.honest,
-            &mut second.liar,
-            &mut third.honest,
-        ),
-        LanePlace::Third => turn_voted(
-            m,
-            core,
-            list,
-            &mut first.honest,
-            &mut second.honest,
-            &mut third.liar,
-        ),
+        LanePlace::First => {
+            recall_two_honest(&first.liar, &second.honest, &third.honest);
+            turn_voted(
+                m,
+                core,
+                list,
+                &mut first.liar,
+                &mut second.honest,
+                &mut third.honest,
+            );
+        }
+        LanePlace::Second => {
+            recall_two_honest(&first.honest, &second.liar, &third.honest);
+            turn_voted(
+                m,
+                core,
+                list,
+                &mut first.honest,
+                &mut second.liar,
+                &mut third.honest,
+            );
+        }
+        LanePlace::Third => {
+            recall_two_honest(&first.honest, &second.honest, &third.liar);
+            turn_voted(
+                m,
+                core,
+                list,
+                &mut first.honest,
+                &mut second.honest,
+                &mut third.liar,
+            );
+        }
     }
 }

@@ -40,7 +40,7 @@ pub(crate) fn draw<F: Files, S: Sink, C: Core, L: Lane>(
 ) -> Result<u8, Failure>
     requires { AreHonest L.honest lanes.old }
     ensures { KeepsPromises C.gives (asked_for (Draw options) (F.contents files.old)) (file_faults F.faults files.old files.new)
-        (asking core.old core.new (are_asked L.hears lanes.old lanes.new)) (sink_change S.contents S.faults sink.old sink.new) result }
+        (asking core.old core.new (are_asked L.says lanes.old lanes.new)) (sink_change S.contents S.faults sink.old sink.new) result }
 {
     match make_ready(alloc, files, &options.run.setup) {
         Ok(mut ready) => draw_ready(&mut ready, options, sink, core, lanes),
@@ -61,7 +61,7 @@ fn draw_ready<S: Sink, C: Core, L: Lane>(
     requires fits { IsConfig options.run.setup.config }
     ensures { (bytes : FileBytes) → IsReady options.run.setup bytes ready.old
         → WritesText C.gives (Draw options) bytes
-        (asking core.old core.new (are_asked L.hears lanes.old lanes.new)) (sink_change S.contents S.faults sink.old sink.new) result }
+        (asking core.old core.new (are_asked L.says lanes.old lanes.new)) (sink_change S.contents S.faults sink.old sink.new) result }
 {
     let task = draw_task(&options);
     perform_by(
@@ -100,7 +100,7 @@ pub(crate) fn drive_drawing<D: Core, S: Sink, L: Lane>(
     ensures { Performs D.gives (change m.old.timed m.new.timed) (change core.old core.new)
         (λ lists. IsDrawn format budget (change m.old.timed m.new.timed) lists
         (sink_change S.contents S.faults sink.old sink.new) result
-        × are_asked L.hears lanes.old lanes.new liar (asked_over m.old.timed lists)) }
+        × are_asked L.says lanes.old lanes.new liar (asked_over m.old.timed lists)) }
 {
     let mut pen = Pen::new(m);
     begin(format, sink)?;
@@ -126,7 +126,7 @@ fn draw_turns<D: Core, S: Sink, L: Lane>(
     ensures { Performs D.gives (change m.old.timed m.new.timed) (change core.old core.new)
         (λ lists. IsDrawnIn format budget (change m.old.timed m.new.timed) (change pen.old pen.new) lists
         (sink_change S.contents S.faults sink.old sink.new) result
-        × are_asked L.hears lanes.old lanes.new liar (asked_over m.old.timed lists)) }
+        × are_asked L.says lanes.old lanes.new liar (asked_over m.old.timed lists)) }
 {
     if !m.goes_on() {
         return Ok(());

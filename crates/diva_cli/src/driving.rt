@@ -43,7 +43,7 @@ pub(crate) fn perform_by<C: Core, S: Sink, L: Lane>(
     requires honest { AreHonest L.honest lanes.old }
     ensures { PerformsBy C.gives core.old script.now (change m.old.timed m.new.timed) (change own.old own.new)
         (λ lists. Does task (change m.old.timed m.new.timed) lists (sink_change S.contents S.faults sink.old sink.new) result
-        × are_asked L.hears lanes.old lanes.new (liar_of task) (asked_over m.old.timed lists)) }
+        × are_asked L.says lanes.old lanes.new (liar_of task) (asked_over m.old.timed lists)) }
 {
     match core {
         CoreInUse::Own => perform_under(script, m, own, task, lanes, sink),

@@ -181,7 +181,7 @@ pub fn work<F: Files, S: Sink, C: Core, L: Lane>(
 ) -> Result<u8, Failure>
     requires { AreHonest L.honest lanes.old }
     ensures answers { KeepsPromises C.gives (asked_for job (F.contents files.old)) (file_faults F.faults files.old files.new)
-        (asking core.old core.new (are_asked L.hears lanes.old lanes.new)) (sink_change S.contents S.faults sink.old sink.new) result }
+        (asking core.old core.new (are_asked L.says lanes.old lanes.new)) (sink_change S.contents S.faults sink.old sink.new) result }
     ensures unloaded { wanted job ≡ [] → files.new ≡ files.old }
 {
     match job {

@@ -34,7 +34,7 @@ pub(crate) fn run<F: Files, S: Sink, C: Core, L: Lane>(
 ) -> Result<u8, Failure>
     requires { AreHonest L.honest lanes.old }
     ensures { KeepsPromises C.gives (asked_for (Run options) (F.contents files.old)) (file_faults F.faults files.old files.new)
-        (asking core.old core.new (are_asked L.hears lanes.old lanes.new)) (sink_change S.contents S.faults sink.old sink.new) result }
+        (asking core.old core.new (are_asked L.says lanes.old lanes.new)) (sink_change S.contents S.faults sink.old sink.new) result }
 {
     match make_ready(alloc, files, &options.setup) {
         Ok(mut ready) => run_ready(&mut ready, options, sink, core, lanes),
@@ -55,7 +55,7 @@ fn run_ready<S: Sink, C: Core, L: Lane>(
     requires fits { IsConfig options.setup.config }
     ensures { (bytes : FileBytes) → IsReady options.setup bytes ready.old
         → WritesText C.gives (Run options) bytes
-        (asking core.old core.new (are_asked L.hears lanes.old lanes.new)) (sink_change S.contents S.faults sink.old sink.new) result }
+        (asking core.old core.new (are_asked L.says lanes.old lanes.new)) (sink_change S.contents S.faults sink.old sink.new) result }
 {
     let task = run_task(options.trace, options.cycles, options.liar);
     perform_by(
@@ -94,7 +94,7 @@ pub(crate) fn tape<F: Files, S: Sink, C: Core, L: Lane>(
 ) -> Result<u8, Failure>
     requires { AreHonest L.honest lanes.old }
     ensures { KeepsPromises C.gives (asked_for (Tape options) (F.contents files.old)) (file_faults F.faults files.old files.new)
-        (asking core.old core.new (are_asked L.hears lanes.old lanes.new)) (sink_change S.contents S.faults sink.old sink.new) result }
+        (asking core.old core.new (are_asked L.says lanes.old lanes.new)) (sink_change S.contents S.faults sink.old sink.new) result }
 {
     match make_ready(alloc, files, &options.setup) {
         Ok(mut ready) => tape_ready(&mut ready, options, sink, core, lanes),
@@ -115,7 +115,7 @@ fn tape_ready<S: Sink, C: Core, L: Lane>(
     requires fits { IsConfig options.setup.config }
     ensures { (bytes : FileBytes) → IsReady options.setup bytes ready.old
         → WritesText C.gives (Tape options) bytes
-        (asking core.old core.new (are_asked L.hears lanes.old lanes.new)) (sink_change S.contents S.faults sink.old sink.new) result }
+        (asking core.old core.new (are_asked L.says lanes.old lanes.new)) (sink_change S.contents S.faults sink.old sink.new) result }
 {
     let task = Task::Tape(options.cycles);
     perform_by(

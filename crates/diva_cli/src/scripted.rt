@@ -31,7 +31,7 @@ pub(crate) fn drive_scripted<C: Core, L: Lane>(
     requires honest { AreHonest L.honest lanes.old }
     ensures honest { AreHonest L.honest lanes.new }
     ensures drives { DrivesFor (spoiled script.now C.gives) budget (change m.old.timed m.new.timed) (change core.old core.new)
-        (are_asked L.hears lanes.old lanes.new liar) }
+        (are_asked L.says lanes.old lanes.new liar) }
 {
     if !m.goes_on() {
         return;
@@ -63,7 +63,7 @@ fn drive_touched<C: Core, L: Lane>(
     requires honest { AreHonest L.honest lanes.old }
     ensures honest { AreHonest L.honest lanes.new }
     ensures drives { DrivesFor (spoiled script.now C.gives) budget (change m.old.timed m.new.timed) (change core.old core.new)
-        (are_asked L.hears lanes.old lanes.new liar) }
+        (are_asked L.says lanes.old lanes.new liar) }
 {
     let mut faulty = Faulty::new(core, script);
     drive_checked(m, &mut faulty, budget, liar, lanes);

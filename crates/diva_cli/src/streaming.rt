@@ -113,7 +113,7 @@ pub(crate) fn drive_writing<D: Core, W: CycleWriter, S: Sink, L: Lane>(
     ensures { Performs D.gives (change m.old.timed m.new.timed) (change core.old core.new)
         (λ lists. IsWritten W.text W.says budget (change m.old.timed m.new.timed) lists
         (sink_change S.contents S.faults sink.old sink.new) result
-        × are_asked L.hears lanes.old lanes.new liar (asked_over m.old.timed lists)) }
+        × are_asked L.says lanes.old lanes.new liar (asked_over m.old.timed lists)) }
 {
     if !m.goes_on() {
         return Ok(());

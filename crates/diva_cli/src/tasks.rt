@@ -47,7 +47,7 @@ pub(crate) fn perform_under<D: Core, S: Sink, L: Lane>(
     requires honest { AreHonest L.honest lanes.old }
     ensures { Performs (spoiled script.now D.gives) (change m.old.timed m.new.timed) (change core.old core.new)
         (λ lists. Does task (change m.old.timed m.new.timed) lists (sink_change S.contents S.faults sink.old sink.new) result
-        × are_asked L.hears lanes.old lanes.new (liar_of task) (asked_over m.old.timed lists)) }
+        × are_asked L.says lanes.old lanes.new (liar_of task) (asked_over m.old.timed lists)) }
 {
     if script.rows().is_empty() {
         perform(m, core, task, lanes, sink)
@@ -69,7 +69,7 @@ fn perform_faulty<D: Core, S: Sink, L: Lane>(
     requires honest { AreHonest L.honest lanes.old }
     ensures { Performs (spoiled script.now D.gives) (change m.old.timed m.new.timed) (change core.old core.new)
         (λ lists. Does task (change m.old.timed m.new.timed) lists (sink_change S.contents S.faults sink.old sink.new) result
-        × are_asked L.hears lanes.old lanes.new (liar_of task) (asked_over m.old.timed lists)) }
+        × are_asked L.says lanes.old lanes.new (liar_of task) (asked_over m.old.timed lists)) }
 {
     if let Task::Quiet(cycles, liar) = task {
         drive_scripted(m, core, script, cycles, liar, lanes);
@@ -92,15 +92,25 @@ fn perform<D: Core, S: Sink, L: Lane>(
     requires honest { AreHonest L.honest lanes.old }
     ensures { Performs D.gives (change m.old.timed m.new.timed) (change core.old core.new)
         (λ lists. Does task (change m.old.timed m.new.timed) lists (sink_change S.contents S.faults sink.old sink.new) result
-        × are_asked L.hears lanes.old lanes.new (liar_of task) (asked_over m.old.timed lists)) }
+        × are_asked L.says lanes.old lanes.new (liar_of task) (asked_over m.old.timed lists)) }
 {
     match task {
         Task::Quiet(cycles, liar) => {
             drive_checked(m, core, cycles, liar, lanes);
             Ok(())
         }
-        Task::Trace(cycles, liar) => drive_writing(m, core, cycles, liar, lanes, &TraceWriter, sink),
+        Task::Trace(cycles, liar) => drive_writing(
+            m,
+            core,
+            cycles,
+            liar,
+            lanes,
+            &TraceWriter,
+            sink,
+        ),
         Task::Tape(cycles) => drive_writing(m, core, cycles, None, lanes, &TapeWriter, sink),
-        Task::Draw(format, cycles, liar) => drive_drawing(m, core, cycles, liar, lanes, format, sink),
+        Task::Draw(format, cycles, liar) => drive_drawing(
+            m, core, cycles, liar, lanes, format, sink,
+        ),
     }
 }

@@ -18,7 +18,7 @@ returns-then-not-goes_on-3-clause-drives g c =
     (drives_for g.C.Core.gives _ _ _ _ _ c.drive_checked.result _
     c.drive_checked.ensures.drives.drives.turns c.drive_checked.ensures.drives.asked c.drive_checked.ensures.within c.drive_checked.ensures.ended c.drive_checked.ensures.budget)
     _ _ _ _ _ (omega (arith, c.cycles_before-touched.ensures)) c.drive_touched.ensures.drives
-    (asked_then g.L.Lane.hears _ _ _ c.args.liar) (cc)
+    (asked_then g.L.Lane.says _ _ _ c.args.liar) (cc)
 
 pub returns-clause-drives : goal.returns-clause-drives
 returns-clause-drives g c =
@@ -26,9 +26,9 @@ returns-clause-drives g c =
     (drives_for g.C.Core.gives _ _ _ _ _ c.drive_checked.result _
     c.drive_checked.ensures.drives.drives.turns c.drive_checked.ensures.drives.asked c.drive_checked.ensures.within c.drive_checked.ensures.ended c.drive_checked.ensures.budget)
     _ _ _ _ _ (omega (arith, c.cycles_before-touched.ensures)) c.drive_touched.ensures.drives
-    (asked_then g.L.Lane.hears _ _ _ c.args.liar)
+    (asked_then g.L.Lane.says _ _ _ c.args.liar)
     _ _ _ _ _ (cc) (omega arith)
     (drives_for g.C.Core.gives _ _ _ _ _ c.drive_checked-2.result _
     c.drive_checked-2.ensures.drives.drives.turns c.drive_checked-2.ensures.drives.asked c.drive_checked-2.ensures.within
     c.drive_checked-2.ensures.ended c.drive_checked-2.ensures.budget)
-    (asked_then g.L.Lane.hears _ _ _ c.args.liar)
+    (asked_then g.L.Lane.says _ _ _ c.args.liar)

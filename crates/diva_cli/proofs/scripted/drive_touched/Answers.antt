@@ -13,5 +13,5 @@ returns-clause-drives g c =
     let t = Turns-spoiled g.C.Core.gives _ _ _ _ _ _ _ c.new-faulty.ensures.inner c.new-faulty.ensures.script (search rules) c.drive_checked.ensures.drives.drives.turns in
     drives_for (spoiled c.args.script.now g.C.Core.gives) _ _ _ _ _ c.drive_checked.result _
     t.turns
-    (subst (λ (lists : List (List Record)). are_asked g.L.Lane.hears c.args.lanes.now c.drive_checked.new.lanes c.args.liar (asked_over c.args.m.now.timed lists)) (sym t.same) c.drive_checked.ensures.drives.asked)
+    (subst (λ (lists : List (List Record)). are_asked g.L.Lane.says c.args.lanes.now c.drive_checked.new.lanes c.args.liar (asked_over c.args.m.now.timed lists)) (sym t.same) c.drive_checked.ensures.drives.asked)
     c.drive_checked.ensures.within c.drive_checked.ensures.ended c.drive_checked.ensures.budget
