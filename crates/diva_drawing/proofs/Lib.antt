@@ -1,3 +1,5 @@
 -- The lemmas of this crate.
+pub mod Excerpts
 pub mod Fronts
+pub mod Passing
 pub mod Rowing

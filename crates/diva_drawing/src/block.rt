@@ -1,10 +1,14 @@
 // A text of some lines.
 ghost use Rattle.std.specs.Prelude.{◌≡◌, ◌≤◌, ◌<◌, ◌+◌, ◌++◌, length, []};
 ghost use Rattle.diva_outside.specs.Sink.{Puts};
+ghost use Rattle.diva_drawing.specs.Pieces.{Passes};
 
 use arrayvec::ArrayVec;
 use diva_outside::{Line, Sink, SinkFailed};
 use std::marker::Model;
+
+/// How many bytes are put at once, where a text is longer.
+const PIECE: usize = 4096;
 
 /// The lines of a cycle, of at most 65,536 bytes, written one behind the other, and then put at once. What is appended has to fit.
 #[derive(Drop)]
@@ -39,6 +43,19 @@ impl Block {
         ensures len { length self.new ≤ length self.old + 128 }
     {
         self.text.try_extend_from_slice(line.bytes()).unwrap();
+    }
+
+    /// Appends a line; if a piece has no room for it, the others are put first. Where that fails, a prefix of them was appended.
+    pub(crate) fn push<S: Sink>(&mut self, line: &Line, sink: &mut S) -> Result<(), SinkFailed>
+        ensures { Passes line.now self.old self.new
+            (S.contents sink.old) (S.contents sink.new) (S.faults sink.old) (S.faults sink.new) result }
+    {
+        if self.text.len() + line.bytes().len() > PIECE {
+            self.put(sink)?;
+            self.clear();
+        }
+        self.line(line);
+        Ok(())
     }
 
     /// Drops all lines.

@@ -17,12 +17,14 @@
 
 mod block;
 mod drawing;
+mod excerpt;
 mod log;
 mod pen;
 mod rows;
 mod snapshot;
 mod stages;
 
+pub use excerpt::Excerpt;
 pub use log::begin_log;
 pub use pen::Pen;
 pub use rows::{DrawnRow, Ending};

@@ -8,6 +8,7 @@ ghost use Rattle.diva_drawing.specs.Snapshot.{IsSnapshot};
 
 use crate::block::Block;
 use crate::drawing::{put_drawn, put_stopped};
+use crate::excerpt::Excerpt;
 use crate::log::{push_open, put_ended};
 use crate::rows::{begun_rows, open_rows};
 use crate::snapshot::Snapshot;
@@ -76,29 +77,35 @@ impl Pen {
         put
     }
 
-    /// Puts the rows of the drawing that end in a cycle; the machine is shown as the cycle has left it. Where a put fails, a prefix
-    /// of them was appended. Fewer than 2^62 rows may have begun before.
-    pub fn draw_cycle<S: Sink>(&mut self, m: &Machine, sink: &mut S) -> Result<(), SinkFailed>
+    /// Puts the rows of the drawing that end in a cycle and have a cell in the excerpt; the machine is shown as the cycle has left
+    /// it. Where a put fails, a prefix of them was appended. Fewer than 2^62 rows may have begun before.
+    pub fn draw_cycle<S: Sink>(
+        &mut self,
+        m: &Machine,
+        excerpt: Excerpt,
+        sink: &mut S,
+    ) -> Result<(), SinkFailed>
         requires rows { self.old.rows < 2 ^ 62 }
         ensures seen { IsSnapshot m.now.timed self.new.seen }
         ensures rows { self.new.rows ≡ self.old.rows + begun_rows self.old.seen self.new.seen }
         ensures few { self.new.rows ≤ self.old.rows + 65 }
-        ensures put { Puts (drawn_cycle self.old.seen self.new.seen)
+        ensures put { Puts (drawn_cycle excerpt self.old.seen self.new.seen)
             (S.contents sink.old) (S.contents sink.new) (S.faults sink.old) (S.faults sink.new) result }
     {
         let after = Snapshot::of(m);
-        let put = put_drawn(&self.seen, &after, sink);
+        let put = put_drawn(&self.seen, &after, excerpt, &mut self.block, sink);
         self.rows += begun_rows(&self.seen, &after);
         self.seen = after;
         put
     }
 
-    /// Puts the rows of the drawing that are open at last, and the scale below them. Where a put fails, a prefix of them was appended.
-    pub fn end_drawing<S: Sink>(&self, sink: &mut S) -> Result<(), SinkFailed>
-        ensures { Puts (drawn_end self.now.seen)
+    /// Puts the rows of the drawing that are open at last and have a cell in the excerpt, and the scale below them. Where a put
+    /// fails, a prefix of them was appended.
+    pub fn end_drawing<S: Sink>(&mut self, excerpt: Excerpt, sink: &mut S) -> Result<(), SinkFailed>
+        ensures { Puts (drawn_end excerpt self.old.seen)
             (S.contents sink.old) (S.contents sink.new) (S.faults sink.old) (S.faults sink.new) result }
     {
-        put_stopped(&self.seen, sink)
+        put_stopped(&self.seen, excerpt, &mut self.block, sink)
     }
 }
 
