@@ -85,6 +85,9 @@ fn draw_task(options: &DrawOptions) -> Task
 
 /// Drives a machine for so many cycles at most, and draws it in a format. Where a place is given, three lanes vote, and the one
 /// in that place is the liar.
+///
+/// The pen is the largest value of the program: no other command has it on its stack.
+#[inline(never)]
 pub(crate) fn drive_drawing<D: Core, S: Sink, L: Lane>(
     m: &mut Machine,
     core: &mut D,

@@ -8,17 +8,17 @@ use Rattle.diva_drawing.specs.Pieces.{Passes}
 -- it is a put of what was taken, or of all
 pub taken_put : {E : Type 0} (text held left : List ℕ) (c0 c1 : Option (List ℕ)) (f0 f1 : ℕ)
     (p : Passes {E = E} text held left c0 c1 f0 f1 (Ok tt)) → Puts {E = E} p.taken c0 c1 f0 f1 (Ok tt)
-taken_put text held left c0 c1 f0 f1 p = record { later = p.later; ok = p.ok; part = tt; failed = tt }
+taken_put text held left c0 c1 f0 f1 p = record { later = p.later; ok = p.ok; uncounted = p.uncounted; part = tt; failed = tt }
 
 pub cut_put : {E : Type 0} (text held left : List ℕ) (c0 c1 : Option (List ℕ)) (f0 f1 : ℕ) (e : E)
     → Passes text held left c0 c1 f0 f1 (Err e) → Puts (held ++ text) c0 c1 f0 f1 (Err e)
-cut_put text held left c0 c1 f0 f1 e p = record { later = p.later; ok = tt; part = p.part; failed = p.failed }
+cut_put text held left c0 c1 f0 f1 e p = record { later = p.later; ok = tt; uncounted = tt; part = p.part; failed = p.failed }
 
 -- nothing was written
 pub passes_nothing : {E : Type 0} (held : List ℕ) (c : Option (List ℕ)) (f : ℕ) → Passes {E = E} [] held held c c f f (Ok tt)
 passes_nothing {E = E} held c f =
     let none = puts_nothing {E = E} c f in
-    record { later = none.later; taken = []; whole = append-nil held; ok = none.ok; part = tt; failed = tt }
+    record { later = none.later; taken = []; whole = append-nil held; ok = none.ok; uncounted = none.uncounted; part = tt; failed = tt }
 
 -- what is held, and what the sink took before, are what was held and written
 behind : (a b held mid taken : List ℕ) → held ++ a ≡ taken ++ mid → held ++ (a ++ b) ≡ taken ++ (mid ++ b)
@@ -35,6 +35,7 @@ passes_then a b held mid left c0 c1 c2 f0 f1 f2 (Ok u) first second =
       taken = first.taken ++ second.taken;
       whole = behind a b held mid first.taken first.whole ∙ ap (λ (l : List ℕ). first.taken ++ l) second.whole ∙ sym (append_assoc first.taken second.taken left);
       ok = put.ok;
+      uncounted = put.uncounted;
       part = tt;
       failed = tt;
     }
@@ -45,6 +46,7 @@ passes_then a b held mid left c0 c1 c2 f0 f1 f2 (Err e) first second =
       taken = [];
       whole = tt;
       ok = tt;
+      uncounted = tt;
       part = rw (behind a b held mid first.taken first.whole) put.part;
       failed = put.failed;
     }
@@ -54,7 +56,7 @@ pub passes_cut : {E : Type 0} (a b held mid left : List ℕ) (c0 c1 : Option (Li
     → Passes a held mid c0 c1 f0 f1 (Err e) → Passes (a ++ b) held left c0 c1 f0 f1 (Err e)
 passes_cut a b held mid left c0 c1 f0 f1 e first =
     let put = puts_cut (held ++ a) b c0 c1 f0 f1 e (cut_put a held mid c0 c1 f0 f1 e first) in
-    record { later = put.later; taken = []; whole = tt; ok = tt; part = rw (append_assoc held a b) at put.part; failed = put.failed }
+    record { later = put.later; taken = []; whole = tt; ok = tt; uncounted = tt; part = rw (append_assoc held a b) at put.part; failed = put.failed }
 
 -- what is held at last is put
 pub passes_put : {E : Type 0} (text held left : List ℕ) (c0 c1 c2 : Option (List ℕ)) (f0 f1 f2 : ℕ) (result : Result (Unit {0}) E)

@@ -12,7 +12,14 @@ const MOST: usize = 16_777_368;
 /// A name, how many bytes the file has, which of its reads fail, and what a load of at most `MOST` bytes answers: nothing,
 /// where it is the whole file. Then how often the file is opened, how much else is asked of the disk, and, where a read failed
 /// for good, how many reads there are.
-static LOADS: [(&str, usize, Fails, Option<LoadFault>, (u32, u32), Option<u32>); 9] = [
+static LOADS: [(
+    &str,
+    usize,
+    Fails,
+    Option<LoadFault>,
+    (u32, u32),
+    Option<u32>,
+); 9] = [
     (NAME, 0, &[], None, (1, 0), None),
     (NAME, MOST, &[], None, (1, 0), None),
     (NAME, MOST + 1, &[], Some(LoadFault::TooLong), (1, 0), None),

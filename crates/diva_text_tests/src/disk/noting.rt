@@ -1,6 +1,4 @@
 // A disk and a writer that note what is asked of them, and fail as they are told.
-ghost use Rattle.std.specs.Io.{WritesAtMost};
-
 use std::alloc::Allocator;
 use std::cell::Cell;
 use std::fs::{Metadata, OpenFile, OpenOptions};
@@ -60,10 +58,10 @@ pub struct Opener<'a> {
 
 impl Opener<'_> {
     /// Something else was asked of the disk.
-    fn other<T>(&self) -> io::Result<T> {
+    fn other(&self) -> Error {
         let others = &self.disk.others;
         others.set(others.get().saturating_add(1));
-        Err(Error::from(ErrorKind::Unsupported))
+        Error::from(ErrorKind::NotFound)
     }
 }
 
@@ -81,9 +79,7 @@ impl<'a> Files for Opener<'a> {
 
     fn open_file(&self, how: &OpenOptions, path: &str) -> io::Result<Opened<'a>> {
         if path != NAME || !how.asks_read() {
-            let others = &self.disk.others;
-            others.set(others.get().saturating_add(1));
-            return Err(Error::from(ErrorKind::NotFound));
+            return Err(self.other());
         }
         let opens = &self.disk.opens;
         opens.set(opens.get().saturating_add(1));
@@ -94,39 +90,39 @@ impl<'a> Files for Opener<'a> {
     }
 
     fn open_dir(&self, _path: &str) -> io::Result<Opened<'a>> {
-        self.other()
+        Err(self.other())
     }
 
     fn metadata(&self, _path: &str) -> io::Result<Metadata> {
-        self.other()
+        Err(self.other())
     }
 
     fn symlink_metadata(&self, _path: &str) -> io::Result<Metadata> {
-        self.other()
+        Err(self.other())
     }
 
     fn copy(&self, _from: &str, _to: &str) -> io::Result<u64> {
-        self.other()
+        Err(self.other())
     }
 
     fn rename(&self, _from: &str, _to: &str) -> io::Result<()> {
-        self.other()
+        Err(self.other())
     }
 
     fn remove_file(&self, _path: &str) -> io::Result<()> {
-        self.other()
+        Err(self.other())
     }
 
     fn create_dir(&self, _path: &str) -> io::Result<()> {
-        self.other()
+        Err(self.other())
     }
 
     fn remove_dir(&self, _path: &str) -> io::Result<()> {
-        self.other()
+        Err(self.other())
     }
 
     fn remove_dir_all<B: Allocator>(&self, _alloc: B, _path: &str) -> io::Result<()> {
-        self.other()
+        Err(self.other())
     }
 }
 
@@ -206,11 +202,9 @@ impl Write for Writer {
         if let Some(error) = failure(self.fails, self.calls) {
             return Err(error);
         }
-        let mut count = 0;
-        for (byte, place) in buf.iter().take(3).zip(&mut self.bytes[self.taken.min(6)..]) {
-            *place = *byte;
-            count += 1;
-        }
+        let room = &mut self.bytes[self.taken.min(6)..];
+        let count = buf.len().min(3).min(room.len());
+        room[..count].copy_from_slice(&buf[..count]);
         self.taken = self.taken.saturating_add(count);
         Ok(count)
     }
