@@ -1,4 +1,5 @@
 // The lanes that are asked where an option says that one of three lies.
+ghost use Rattle.std.specs.Prelude.{◌≡◌};
 ghost use Rattle.diva_cli.specs.Lanes.{own_lanes};
 
 use diva_vote::EitherLane;

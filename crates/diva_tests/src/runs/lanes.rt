@@ -2,10 +2,14 @@
 use super::hostile::{OUTCOMES, spoiling_script};
 use super::tables::{CORES, ROWS};
 use super::texts::text_due;
-use super::{Answer, FIVE_TEXT, Outside, compare, five_files, run_program};
+use super::{Answer, FIVE_TEXT, Outside, ROOM, compare, file_name, five_files, run_program};
+use diva_args::{Job, read_pipeline_words, read_words};
+use diva_cli::{LanePair, Lanes, work};
+use diva_core::{Diff, Pending, View};
 use diva_ooo::Ooo;
-use diva_outside::What;
-use diva_test_programs::{Program, image_file};
+use diva_outside::{MemFile, MemFiles, MemSink, What};
+use diva_test_programs::{FIVE_FILE, Program, image_file};
+use diva_vote::{Lane, Stage, check};
 use std::alloc::Global;
 use std::process::Abort;
 use std::test::Fail;
@@ -87,6 +91,119 @@ fn no_text_tells_of_a_liar(rt: HostRuntime) -> Result<(), Fail> {
                 compare_places(&rt, alloc, outcome.program, script.as_str(), core, options)?;
             }
         }
+    }
+    Ok(())
+}
+
+/// Counts what it is asked, and answers as the checks do.
+#[derive(Clone, Copy, Debug, Drop)]
+struct Counter {
+    asked: u64,
+}
+
+impl Lane for Counter {
+    ghost use Rattle.std.specs.Prelude.{⊤};
+    ghost use Rattle.diva_vote.specs.Questions.{IsAnswer};
+
+    ghost says = { λ before q answer after. IsAnswer q answer };
+
+    ghost honest = { λ lane. ⊤ };
+
+    ghost keeps = { λ lane q answer after honest said. (said, tt) };
+
+    fn judge(
+        &mut self,
+        stage: Stage,
+        pending: &Pending,
+        at: usize,
+        view: &View<'_>,
+    ) -> Option<Diff> {
+        self.asked = self.asked.saturating_add(1);
+        check(stage, pending, at, view)
+    }
+}
+
+/// The two lanes of a place, of which none was asked yet.
+fn new_pair() -> LanePair<Counter> {
+    LanePair {
+        honest: Counter { asked: 0 },
+        liar: Counter { asked: 0 },
+    }
+}
+
+/// The job that a command line over the files of `FIVE` asks for.
+fn job_of(alloc: Global, line: &str) -> Result<Job, Fail> {
+    let mut words = Vec::new(alloc);
+    for word in line.split(' ') {
+        words.push(word)?;
+    }
+    if line.starts_with("log") || line.starts_with("draw") {
+        Ok(read_pipeline_words(alloc, &words)?)
+    } else {
+        Ok(read_words(alloc, &words)?)
+    }
+}
+
+/// How often the honest lane and the liar of each place were asked where the program did a job.
+fn asked_by(alloc: Global, line: &str) -> Result<[(u64, u64); 3], Fail> {
+    let job = job_of(alloc, line)?;
+    let name = String::from_str(alloc, file_name(What::Image))?;
+    let mut there = Vec::new(alloc);
+    there.push(MemFile::new(name, Vec::from_slice(alloc, &FIVE_FILE)?))?;
+    let mut files = MemFiles::new(there, Vec::new(alloc));
+    let mut sink = MemSink::new(alloc, ROOM, Vec::new(alloc))?;
+    let mut lanes = Lanes {
+        first: new_pair(),
+        second: new_pair(),
+        third: new_pair(),
+    };
+    work(
+        alloc,
+        job,
+        &mut files,
+        &mut sink,
+        &mut Ooo::new(alloc)?,
+        &mut lanes,
+    )?;
+    let counts = |pair: LanePair<Counter>| (pair.honest.asked, pair.liar.asked);
+    Ok([
+        counts(lanes.first),
+        counts(lanes.second),
+        counts(lanes.third),
+    ])
+}
+
+/// Three claims at four stages are twelve questions to each of the three lanes that are asked: the liar at its place, and the honest
+/// one at each other. Without the option, and by every other command, no lane is asked.
+#[test]
+fn lanes_that_are_asked(rt: HostRuntime) -> Result<(), Fail> {
+    let alloc = rt.alloc();
+    for command in ["run", "run --trace", "log", "draw"] {
+        let options = "a.diva --core lockstep";
+        let without = format!(in alloc; "{command} {options}")?;
+        assert_eq!(rt;
+            asked_by(alloc, without.as_str())?,
+            [(0, 0); 3],
+            "{command}"
+        );
+        for (place, asked) in [
+            (0, [(0, 12), (12, 0), (12, 0)]),
+            (1, [(12, 0), (0, 12), (12, 0)]),
+            (2, [(12, 0), (12, 0), (0, 12)]),
+        ] {
+            let line = format!(in alloc; "{command} {options} --liar {place}")?;
+            assert_eq!(rt; asked_by(alloc, line.as_str())?, asked, "{line}");
+        }
+    }
+    for line in [
+        "tape a.diva --core lockstep",
+        "campaign a.diva 1",
+        "duo a.diva",
+        "dis a.diva",
+        "migrate a.diva",
+        "soak 1 1",
+    ] {
+        assert_eq!(rt; asked_by(alloc, line)?, [(0, 0); 3], "{line}");
     }
     Ok(())
 }
