@@ -86,8 +86,20 @@ usage() {
     exit 2
 }
 
+# Refuses words that are no cycle: a number of ten digits at most, the first of which is no 0.
+each_is_a_cycle() {
+    for cycle; do
+        case $cycle in
+        '' | 0* | *[!0-9]* | ???????????*) usage ;;
+        esac
+    done
+}
+
 case ${1-} in
-runs) [ $# -ge 4 ] || usage ;;
+runs)
+    [ $# -ge 4 ] || usage
+    each_is_a_cycle "$3" "$4"
+    ;;
 table | one) ;;
 *) usage ;;
 esac
