@@ -7,21 +7,24 @@ use Rattle.diva_core.specs.History.{Meaning}
 use Rattle.diva_args.specs.declared.job.Job.{Job}
 use Rattle.diva_cli.specs.declared.stop.Failure.TheVariants.{Cut}
 use Rattle.diva_cli.specs.Asked.{asked_for}
-use Rattle.diva_cli.specs.Changes.{FileFaults, PutsTo, SinkChange, change}
+use Rattle.diva_cli.specs.Changes.{FileFaults, IsUncounted, LanesAsked, PutsTo, SinkChange, asking, change}
 use Rattle.diva_cli.specs.Wanted.{AreSound, FileBytes, wanted}
-use Rattle.diva_cli.specs.Texts.{HasText}
-use Rattle.diva_cli.specs.Parts.{KeepsPromises}
+use Rattle.diva_cli.specs.Texts.{AsksLanes, HasText}
+use Rattle.diva_cli.specs.Promises.{KeepsPromises}
 use Rattle.diva_cli.proofs.Working.{done_answers}
 
-module _ {C S : Type 0} (gives : Meaning C) (job : Job) (contents : Contents) (files : FileFaults) (bytes : FileBytes) (core : C)
-    (sink : SinkChange S) (text : List ℕ) (sound : AreSound contents (wanted job) bytes) where
-  pub wrote_all : HasText gives job bytes (change core core) (Ok 0) text → PutsTo {E = SinkFailed} sink text (Ok tt)
-      → KeepsPromises gives (asked_for job contents) files (change core core) sink (Ok 0)
-  wrote_all means put =
-      done_answers gives contents files core sink job bytes core (Ok 0) sound (record { text = text; means = means; written = put.ok })
+module _ {C S : Type 0} (gives : Meaning C) (job : Job) (contents : Contents) (files : FileFaults) (bytes : FileBytes) (core : C) (lanes : LanesAsked)
+    (sink : SinkChange S) (text : List ℕ) (sound : AreSound contents (wanted job) bytes) (none : IsUncounted files) where
+  pub wrote_all : (means : HasText gives job bytes (change core core) (Ok 0) text) → AsksLanes gives job bytes (change core core) (Ok 0) text means lanes
+      → PutsTo {E = SinkFailed} sink text (Ok tt)
+      → KeepsPromises gives (asked_for job contents) files (asking core core lanes) sink (Ok 0)
+  wrote_all means asks put =
+      done_answers gives contents files core lanes sink job bytes core (Ok 0) sound none
+      (record { text = text; means = means; lanes = asks; written = record { appended = put.ok; uncounted = put.uncounted } })
 
-  pub wrote_part : (fault : SinkFailed) → HasText gives job bytes (change core core) (Err []) text → PutsTo sink text (Err fault)
-      → KeepsPromises gives (asked_for job contents) files (change core core) sink (Err Cut)
-  wrote_part fault means put =
-      done_answers gives contents files core sink job bytes core (Err Cut) sound
-      (record { rose = put.failed; put = []; text = text; means = means; written = past_nothing (sink.contents sink.before) (sink.contents sink.after) text put.part })
+  pub wrote_part : (fault : SinkFailed) (means : HasText gives job bytes (change core core) (Err []) text)
+      → AsksLanes gives job bytes (change core core) (Err []) text means lanes → PutsTo sink text (Err fault)
+      → KeepsPromises gives (asked_for job contents) files (asking core core lanes) sink (Err Cut)
+  wrote_part fault means asks put =
+      done_answers gives contents files core lanes sink job bytes core (Err Cut) sound none
+      (record { rose = put.failed; put = []; text = text; means = means; lanes = asks; written = past_nothing (sink.contents sink.before) (sink.contents sink.after) text put.part })

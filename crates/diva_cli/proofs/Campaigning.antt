@@ -27,9 +27,10 @@ use Rattle.diva_args.specs.declared.job.Job.TheVariants.{Campaign}
 use Rattle.diva_cli.specs.declared.stop.Failure.TheVariants.{Cut}
 use Rattle.diva_cli.specs.declared.campaign.CampaignRuns.{CampaignRuns}
 use Rattle.diva_cli.specs.CampaignTexts.{AreAllSame, HasCampaign, IsCampaignRun, campaign_setup, campaign_start, campaign_tally, first_run, ruled, run_under}
-use Rattle.diva_cli.specs.Changes.{PutsTo, SinkChange, change}
+use Rattle.diva_vote.specs.Questions.{Question}
+use Rattle.diva_cli.specs.Changes.{PutsTo, SinkChange, asking, change}
 use Rattle.diva_cli.specs.Driven.{scripted_rule}
-use Rattle.diva_cli.specs.Parts.{AreCampaignRuns, WritesText}
+use Rattle.diva_cli.specs.Parts.{AreCampaignRuns, WritesText, no_lanes}
 use Rattle.diva_cli.specs.Runs.{EndsWith, IsWhole, end_status}
 use Rattle.diva_cli.specs.Tasks.{DrivesFor}
 use Rattle.diva_cli.specs.Wanted.{FileBytes}
@@ -95,10 +96,10 @@ ruled_lists rule (suc n) m inv =
 -- ---- a drive of a core that is lockstep under a script
 
 pub drove_ruled :
-    {D : Type 0} (rows : List Row) (m : Timed) (core : D) (last : Timed) (final : D) (budget : ℕ)
-    → DrivesFor (spoiled rows IsLockstepCall) budget (change m last) (change core final)
+    {D : Type 0} (rows : List Row) (m : Timed) (core : D) (last : Timed) (final : D) (budget : ℕ) (this : List Question → Type 0)
+    → DrivesFor (spoiled rows IsLockstepCall) budget (change m last) (change core final) this
     → last ≡ ruled (scripted_rule rows lockstep_list) budget m
-drove_ruled {D} rows m core last final budget d =
+drove_ruled {D} rows m core last final budget this d =
     let t = d.turns in
     let lists : List (List Record) = lists_of t.history in
     let led : last ≡ run_of m lists = IsHistory-run (spoiled rows IsLockstepCall) m core t.history last final t.good in
@@ -167,8 +168,8 @@ module _ {C S : Type 0} (gives : Meaning C) (options : CampaignOptions) (bytes :
       says (Err put) is = tt
 
   pub wrote_campaign : (status : ℕ) → status ≡ end_status (end_of runs.first.timed.arch.end) → PutsTo {E = SinkFailed} sink text (Ok tt)
-      → WritesText gives (Campaign options) bytes (change core core) sink (Ok status)
-  wrote_campaign status is put = record { text = text; means = means (Ok status) is; written = put.ok }
+      → WritesText gives (Campaign options) bytes (asking core core no_lanes) sink (Ok status)
+  wrote_campaign status is put = record { text = text; means = means (Ok status) is; lanes = refl; written = record { appended = put.ok; uncounted = put.uncounted } }
 
-  pub cut_campaign : (e : SinkFailed) → PutsTo sink text (Err e) → WritesText gives (Campaign options) bytes (change core core) sink (Err Cut)
-  cut_campaign e put = record { rose = put.failed; put = []; text = text; means = means (Err []) tt; written = past_nothing (sink.contents sink.before) (sink.contents sink.after) text put.part }
+  pub cut_campaign : (e : SinkFailed) → PutsTo sink text (Err e) → WritesText gives (Campaign options) bytes (asking core core no_lanes) sink (Err Cut)
+  cut_campaign e put = record { rose = put.failed; put = []; text = text; means = means (Err []) tt; lanes = refl; written = past_nothing (sink.contents sink.before) (sink.contents sink.after) text put.part }

@@ -16,7 +16,7 @@ use Rattle.diva_args.specs.declared.job.Job.TheVariants.{Run, Tape, Duo as Harts
 use Rattle.diva_cli.specs.declared.stop.Failure.{Failure}
 use Rattle.diva_cli.specs.declared.stop.Failure.TheVariants.{Cut, Memory}
 use Rattle.diva_cli.specs.Asked.{Asked}
-use Rattle.diva_cli.specs.Changes.{Change, FileFaults, HasFailed, SinkChange, Takes}
+use Rattle.diva_cli.specs.Changes.{Change, FileFaults, HasFailed, SinkChange, Takes, Asking, core_of}
 use Rattle.diva_cli.specs.Wanted.{Wanted, FileBytes, wanted, IsFaultless, HasFault}
 use Rattle.diva_cli.specs.Stops.{StopsAt, StopsLoading, IsUnread, IsRefused, IsTooLong, HasFirstFault}
 use Rattle.diva_duo.specs.Duo.{Duo, is_over}
@@ -26,7 +26,7 @@ use Rattle.diva_cli.specs.Runs.{EndsWith, end_status}
 use Rattle.diva_cli.specs.Texts.{HasText, CanEnd, IsDone}
 use Rattle.diva_cli.specs.Answers.{IsAnswer, misused, unread, refused, done}
 use Rattle.diva_cli.specs.Statuses.{IsKnownSound, AreKnownSound, CanWork, HasEnded}
-use Rattle.diva_cli.specs.Parts.{KeepsPromises, status_of}
+use Rattle.diva_cli.specs.Promises.{KeepsPromises, status_of}
 
 -- ---- the statuses of a job whose text was written whole: a line for each command
 
@@ -121,15 +121,15 @@ known-stops contents this never (w ∷ ws) h (inr later) = known-stops contents 
 
 -- ---- so it is done
 
-module _ {C S : Type 0} (gives : Meaning C) (asked : Asked) (files : FileFaults) (core : Change C) (sink : SinkChange S)
+module _ {C S : Type 0} (gives : Meaning C) (asked : Asked) (files : FileFaults) (asks : Asking C) (sink : SinkChange S)
     (can : CanWork asked) (files_well : (what : What) → Rose (files.before what) (files.after what) → ⊥) (sink_well : HasFailed sink → ⊥) where
   known_of : (job : Job) → asked.job ≡ Some job → AreKnownSound asked.contents (wanted job)
   known_of job named = subst (λ (j : Job). AreKnownSound asked.contents (wanted j)) (some_same asked.job can.job job can.named named) can.known
 
   abbrev pub Ended : ℕ → Type 0
-  Ended status = HasEnded gives asked core sink status
+  Ended status = HasEnded gives asked files asks sink status
 
-  answered : (status : ℕ) (text : List ℕ) → IsAnswer gives asked files core (Ok status) text → Takes sink text → Ended status
+  answered : (status : ℕ) (text : List ℕ) → IsAnswer gives asked files asks (Ok status) text → Takes sink text → Ended status
   answered status text (misused m same s) w = absurd (let e = sym can.named ∙ m.none in cc)
   answered status text (unread u same s) w =
       absurd (known-stops asked.contents (IsUnread asked.contents files.before files.after text) (λ w behind. known-unread asked.contents files.before files.after text w behind files_well) (wanted u.job) (known_of u.job u.named) u.first)
@@ -138,11 +138,11 @@ module _ {C S : Type 0} (gives : Meaning C) (asked : Asked) (files : FileFaults)
   answered status text (done d) w = record {
     job = d.job;
     named = d.named;
-    ends = can_end gives d.job d.bytes core status text d.means;
+    ends = can_end gives d.job d.bytes (core_of asks) status text d.means;
     worked = record { text = text; done = d; written = w };
   }
 
-  pub complete : (result : Result ℕ Failure) → KeepsPromises gives asked files core sink result
+  pub complete : (result : Result ℕ Failure) → KeepsPromises gives asked files asks sink result
       → Ended (status_of result) ⊎ (status_of result ≡ 10)
   complete (Ok status) w = inl (answered status w.text w.answer w.written)
   complete (Err Cut) w = absurd (sink_well w.rose)

@@ -1,4 +1,7 @@
 -- Texts that are written cycle by cycle.
+use Rattle.diva_cli.proofs.Polling.{asked_over-more}
+use Rattle.diva_machine.specs.Asked.{asked_of, asked_over}
+use Rattle.diva_vote.specs.Questions.{Question}
 use Rattle.std.proofs.Common.{◌≡◌, ◌≤◌, ◌<◌, ℕ, ◌+◌, ◌-◌, ◌*◌, ◌^◌, List, [], ◌∷◌, ◌++◌, length, Option, Result, Ok, Err, OnOk, OnErr, true, false, refl, ap, sym, ◌∙◌, append_assoc, append-nil, arith, subst}
 use Rattle.std.proofs.Math.Nat.{mul-le-mul_right}
 use Rattle.std.proofs.lemmas.Bool.{true≢false}
@@ -50,24 +53,27 @@ module _ {D : Type 0} (gives : Meaning D) (text : CycleText) (says : List Record
   CutIn lists new = BeforeLast lists (λ earlier. AppendsPast old new (cycles_text text m earlier) (cycles_text text m lists))
 
   -- so far, n of them
-  pub record WritesSoFar (n : ℕ) (last : Timed) (after : D) (new : Option (List ℕ)) (now : ℕ) (result : Result (Unit {0}) SinkFailed) : Type 0 where
+  pub record WritesSoFar (this : List Question → Type 0) (n : ℕ) (last : Timed) (after : D) (new : Option (List ℕ)) (now : ℕ) (result : Result (Unit {0}) SinkFailed) : Type 0 where
     pub turns : Turns gives m core last after
+    pub asked : this (asked_over m (lists_of turns.history))
     pub many : last.cycles ≡ m.cycles + n
     pub said : OnOk result (All says (lists_of turns.history))
     pub put : Puts (cycles_text text m (lists_of turns.history)) old new before now result
     pub cut : OnErr result (CutIn (lists_of turns.history) new)
 
-  pub writes_none : WritesSoFar 0 m core old before (Ok tt)
-  writes_none =
+  pub writes_none : (this : List Question → Type 0) → this [] → WritesSoFar this 0 m core old before (Ok tt)
+  writes_none this none =
       record {
         turns = no_turn gives m core;
+        asked = none;
         many = omega arith;
         said = All-nil says;
         put = puts_nothing old before;
         cut = tt;
       }
 
-  module _ (n : ℕ) (mid : Timed) (between : D) (now : Option (List ℕ)) (g : ℕ) (so_far : WritesSoFar n mid between now g (Ok tt)) where
+  module _ (this then : List Question → Type 0) (n : ℕ) (mid : Timed) (between : D) (now : Option (List ℕ)) (g : ℕ)
+      (so_far : WritesSoFar this n mid between now g (Ok tt)) (asks : (earlier : List Question) → this earlier → then (earlier ++ asked_of mid)) where
     -- a turn, and its text or a part of it
     writes_more : (list : List Record) (after : D) (new : Option (List ℕ)) (h : ℕ) (result : Result (Unit {0}) SinkFailed)
         → IsMachine m
@@ -75,11 +81,12 @@ module _ {D : Type 0} (gives : Meaning D) (text : CycleText) (says : List Record
         → gives between (told_of mid) mid.arch list after
         → Puts (text mid.count (committed_in mid list) list) now new g h result
         → OnOk result (says list)
-        → WritesSoFar (n + 1) (cycle_of mid list) after new h result
+        → WritesSoFar then (n + 1) (cycle_of mid list) after new h result
     unfolding turns_more
     writes_more list after new h result inv on asked puts says_it =
         record {
           turns = turns_more gives m core mid between so_far.turns inv list after on asked;
+          asked = subst then (sym asked_next) (asks (asked_over m (lists_of so_far.turns.history)) so_far.asked);
           many = (let e = so_far.many in let c = next in omega arith);
           said = told result says_it;
           put = subst (λ (x : List ℕ). Puts x old new before h result) (sym more) (puts_then _ _ old now new before g h result so_far.put puts);
@@ -88,6 +95,12 @@ module _ {D : Type 0} (gives : Meaning D) (text : CycleText) (says : List Record
       where
         next : (cycle_of mid list).cycles ≡ mid.cycles + 1
         next = cycle-cycles mid list (turns-stay gives m core mid between inv so_far.turns) on
+
+        asked_next : asked_over m (lists_of (so_far.turns.history ++ (list, after) ∷ [])) ≡ asked_over m (lists_of so_far.turns.history) ++ asked_of mid
+        asked_next =
+            ap (asked_over m) (lists_more so_far.turns.history list after)
+            ∙ asked_over-more m (lists_of so_far.turns.history) list
+            ∙ ap (λ (k : Timed). asked_over m (lists_of so_far.turns.history) ++ asked_of k) (sym (IsHistory-run gives m core so_far.turns.history mid between so_far.turns.good))
 
         told : (r : Result (Unit {0}) SinkFailed) → OnOk r (says list) → OnOk r (All says (lists_of (so_far.turns.history ++ (list, after) ∷ [])))
         told (Ok u) s = subst (All says) (sym (lists_more so_far.turns.history list after)) (All-push says (lists_of so_far.turns.history) list so_far.said s)
@@ -120,9 +133,9 @@ module _ {D : Type 0} (gives : Meaning D) (text : CycleText) (says : List Record
         → gives between (told_of mid) mid.arch list after
         → Puts (text first committed list) now new g h result
         → OnOk result (says list)
-        → WritesSoFar (n + 1) next after new h result
+        → WritesSoFar then (n + 1) next after new h result
     writes_turn list after new h result first committed next fe ce ne inv on asked puts says_it =
-        subst (λ (k : Timed). WritesSoFar (n + 1) k after new h result) (sym ne)
+        subst (λ (k : Timed). WritesSoFar then (n + 1) k after new h result) (sym ne)
         (writes_more list after new h result inv on asked
         (subst (λ (x : List Record). Puts (text mid.count x list) now new g h result) (ce ∙ ap (λ (k : Timed). dues (k.count - mid.count) mid.arch) ne)
         (subst (λ x. Puts (text x committed list) now new g h result) fe puts))
@@ -130,15 +143,15 @@ module _ {D : Type 0} (gives : Meaning D) (text : CycleText) (says : List Record
 
 pub writes_performs :
     {D S : Type 0} (gives : Meaning D) (text : CycleText) (says : List Record → Type 0) (m : Timed) (core : D) (contents : S → Option (List ℕ)) (faults : S → ℕ) (s s' : S)
-    (n budget : ℕ) (last : Timed) (after : D) (result : Result (Unit {0}) SinkFailed)
-    → WritesSoFar gives text says m core (contents s) (faults s) n last after (contents s') (faults s') result
+    (n budget : ℕ) (last : Timed) (after : D) (result : Result (Unit {0}) SinkFailed) (this : List Question → Type 0)
+    → WritesSoFar gives text says m core (contents s) (faults s) this n last after (contents s') (faults s') result
     → n ≤ budget
     → OnOk result (goes_on last.arch ≡ true → n ≡ budget)
-    → Performs gives (change m last) (change core after) (λ lists. IsWritten text says budget (change m last) lists (sink_change contents faults s s') result)
-writes_performs gives text says m core contents faults s s' n budget last after result w most whole =
+    → Performs gives (change m last) (change core after) (λ lists. IsWritten text says budget (change m last) lists (sink_change contents faults s s') result × this (asked_over m lists))
+writes_performs gives text says m core contents faults s s' n budget last after result this w most whole =
     record {
       turns = w.turns;
-      done = record { most = (let l = long in omega arith); whole = go result whole; said = w.said; put = w.put; cut = w.cut };
+      done = (record { most = (let l = long in omega arith); whole = go result whole; said = w.said; put = w.put; cut = w.cut }, w.asked);
     }
   where
     long : length (lists_of w.turns.history) ≡ n

@@ -1,4 +1,9 @@
 -- Turns that are drawn, one by one; and what is written of a run that is drawn.
+use Rattle.diva_cli.proofs.Polling.{asked_over-more}
+use Rattle.diva_args.specs.declared.job.LanePlace.{LanePlace}
+use Rattle.diva_cli.specs.Texts.{AsksInRun}
+use Rattle.diva_machine.specs.Asked.{asked_of, asked_over}
+use Rattle.diva_vote.specs.Questions.{Question}
 use Rattle.std.proofs.Common.{◌≡◌, ◌⊎◌, ◌≤◌, ℕ, ◌+◌, ◌*◌, ◌^◌, List, [], ◌∷◌, ◌++◌, length, Option, Some, None, Result, Ok, Err, OnOk, OnErr, true, refl, inl, inr, ap, sym, ◌∙◌, append_assoc, append-nil, arith, subst}
 use Rattle.diva_isa.specs.End.{end_of}
 use Rattle.diva_isa.specs.State.{State, goes_on}
@@ -23,7 +28,7 @@ use Rattle.diva_drawing.specs.Rows.{Pen}
 use Rattle.diva_drawing.specs.Snapshot.{AreSnapshots, IsSnapshot, Snapshot}
 use Rattle.diva_machine.proofs.Driving.{turns_more}
 use Rattle.diva_cli.specs.declared.loading.Ready.{Ready}
-use Rattle.diva_cli.specs.Changes.{HasFailed, SinkChange, Takes, TakesPast, change, sink_change}
+use Rattle.diva_cli.specs.Changes.{HasFailed, SinkChange, Takes, TakesPast, change, sink_change, LanesAsked, asking}
 use Rattle.diva_cli.specs.Cuts.{BeforeLast}
 use Rattle.diva_cli.specs.DrawTexts.{HasDrawing, IsDrawnPart, IsDrawnWhole, begin_text, cycle_text, cycles_drawn, drawn_text, end_text, front_text, pen_after, pen_at, pen_behind}
 use Rattle.diva_cli.specs.Parts.{IsReady, WritesPart, WritesWhole}
@@ -77,8 +82,9 @@ module _ {D : Type 0} (gives : Meaning D) (format : Format) (m : Timed) (core : 
   CutIn lists seen new = BeforeLast lists (λ earlier. AppendsPast old new (cycles_drawn format pen earlier seen) (cycles_drawn format pen lists seen))
 
   -- so far, n of them
-  pub record DrawsSoFar (n : ℕ) (last : Timed) (after : D) (behind : Pen) (new : Option (List ℕ)) (now : ℕ) (result : Result (Unit {0}) SinkFailed) : Type 0 where
+  pub record DrawsSoFar (this : List Question → Type 0) (n : ℕ) (last : Timed) (after : D) (behind : Pen) (new : Option (List ℕ)) (now : ℕ) (result : Result (Unit {0}) SinkFailed) : Type 0 where
     pub turns : Turns gives m core last after
+    pub asked : this (asked_over m (lists_of turns.history))
     pub many : last.cycles ≡ m.cycles + n
     pub seen : List Snapshot
     pub are : AreSnapshots m (lists_of turns.history) seen
@@ -86,10 +92,11 @@ module _ {D : Type 0} (gives : Meaning D) (format : Format) (m : Timed) (core : 
     pub put : Puts (cycles_drawn format pen (lists_of turns.history) seen) old new before now result
     pub cut : OnErr result (CutIn (lists_of turns.history) seen new)
 
-  pub draws_none : DrawsSoFar 0 m core pen old before (Ok tt)
-  draws_none =
+  pub draws_none : (this : List Question → Type 0) → this [] → DrawsSoFar this 0 m core pen old before (Ok tt)
+  draws_none this none =
       record {
         turns = no_turn gives m core;
+        asked = none;
         many = omega arith;
         seen = [];
         are = tt;
@@ -98,7 +105,8 @@ module _ {D : Type 0} (gives : Meaning D) (format : Format) (m : Timed) (core : 
         cut = tt;
       }
 
-  module _ (n : ℕ) (mid : Timed) (between : D) (by_then : Pen) (now : Option (List ℕ)) (g : ℕ) (so_far : DrawsSoFar n mid between by_then now g (Ok tt)) where
+  module _ (this then : List Question → Type 0) (n : ℕ) (mid : Timed) (between : D) (by_then : Pen) (now : Option (List ℕ)) (g : ℕ) (so_far : DrawsSoFar this n mid between by_then now g (Ok tt))
+      (asks : (earlier : List Question) → this earlier → then (earlier ++ asked_of mid)) where
     -- a turn, and its text or a part of it
     draws_more : (list : List Record) (after : D) (s : Snapshot) (new : Option (List ℕ)) (h : ℕ) (result : Result (Unit {0}) SinkFailed)
         → IsMachine m
@@ -106,11 +114,12 @@ module _ {D : Type 0} (gives : Meaning D) (format : Format) (m : Timed) (core : 
         → gives between (told_of mid) mid.arch list after
         → IsSnapshot (cycle_of mid list) s
         → Puts (cycle_text format by_then s list) now new g h result
-        → DrawsSoFar (n + 1) (cycle_of mid list) after (pen_after by_then s) new h result
+        → DrawsSoFar then (n + 1) (cycle_of mid list) after (pen_after by_then s) new h result
     unfolding turns_more
     draws_more list after s new h result inv on asked is puts =
         record {
           turns = turns_more gives m core mid between so_far.turns inv list after on asked;
+          asked = subst then (sym asked_next) (asks (asked_over m lists) so_far.asked);
           many = (let e = so_far.many in let c = next in omega arith);
           seen = so_far.seen ++ s ∷ [];
           are = subst (λ (ls : List (List Record)). AreSnapshots m ls (so_far.seen ++ s ∷ [])) (sym (lists_more so_far.turns.history list after))
@@ -125,6 +134,12 @@ module _ {D : Type 0} (gives : Meaning D) (format : Format) (m : Timed) (core : 
 
         ran : mid ≡ run_of m lists
         ran = IsHistory-run gives m core so_far.turns.history mid between so_far.turns.good
+
+        asked_next : asked_over m (lists_of (so_far.turns.history ++ (list, after) ∷ [])) ≡ asked_over m lists ++ asked_of mid
+        asked_next =
+            ap (asked_over m) (lists_more so_far.turns.history list after)
+            ∙ asked_over-more m lists list
+            ∙ ap (λ (k : Timed). asked_over m lists ++ asked_of k) (sym ran)
 
         same : length lists ≡ length so_far.seen
         same = same_length m lists so_far.seen so_far.are
@@ -159,23 +174,23 @@ module _ {D : Type 0} (gives : Meaning D) (format : Format) (m : Timed) (core : 
         → IsSnapshot next behind.seen
         → behind ≡ pen_after by_then behind.seen
         → Puts (cycle_text format by_then behind.seen list) now new g h result
-        → DrawsSoFar (n + 1) next after behind new h result
+        → DrawsSoFar then (n + 1) next after behind new h result
     draws_turn list after behind new h result next ne inv on asked is pe puts =
-        subst (λ (k : Timed). DrawsSoFar (n + 1) k after behind new h result) (sym ne)
-        (subst (λ (p : Pen). DrawsSoFar (n + 1) (cycle_of mid list) after p new h result) (sym pe)
+        subst (λ (k : Timed). DrawsSoFar then (n + 1) k after behind new h result) (sym ne)
+        (subst (λ (p : Pen). DrawsSoFar then (n + 1) (cycle_of mid list) after p new h result) (sym pe)
         (draws_more list after behind.seen new h result inv on asked (subst (λ (k : Timed). IsSnapshot k behind.seen) ne is) puts))
 
 pub draws_performs :
     {D S : Type 0} (gives : Meaning D) (format : Format) (m : Timed) (core : D) (pen : Pen) (contents : S → Option (List ℕ)) (faults : S → ℕ) (s s' : S)
-    (n budget : ℕ) (last : Timed) (after : D) (behind : Pen) (result : Result (Unit {0}) SinkFailed)
-    → DrawsSoFar gives format m core pen (contents s) (faults s) n last after behind (contents s') (faults s') result
+    (n budget : ℕ) (last : Timed) (after : D) (behind : Pen) (result : Result (Unit {0}) SinkFailed) (this : List Question → Type 0)
+    → DrawsSoFar gives format m core pen (contents s) (faults s) this n last after behind (contents s') (faults s') result
     → n ≤ budget
     → OnOk result (goes_on last.arch ≡ true → n ≡ budget)
-    → Performs gives (change m last) (change core after) (λ lists. IsDrawnIn format budget (change m last) (change pen behind) lists (sink_change contents faults s s') result)
-draws_performs gives format m core pen contents faults s s' n budget last after behind result w most whole =
+    → Performs gives (change m last) (change core after) (λ lists. IsDrawnIn format budget (change m last) (change pen behind) lists (sink_change contents faults s s') result × this (asked_over m lists))
+draws_performs gives format m core pen contents faults s s' n budget last after behind result this w most whole =
     record {
       turns = w.turns;
-      done = record { most = (let l = long in omega arith); whole = go result whole; seen = w.seen; are = w.are; behind = w.pens; put = w.put; cut = w.cut };
+      done = (record { most = (let l = long in omega arith); whole = go result whole; seen = w.seen; are = w.are; behind = w.pens; put = w.put; cut = w.cut }, w.asked);
     }
   where
     long : length (lists_of w.turns.history) ≡ n
@@ -214,68 +229,74 @@ pub new_pen : (pen : Pen) → pen.rows ≡ 0 → pen ≡ pen_at pen.seen
 new_pen pen none = ap (λ n. record { rows = n; seen = pen.seen }) none
 
 module _ {D S : Type 0} (gives : Meaning D) (format : Format) (budget : ℕ) (m : Timed) (core : D) (contents : S → Option (List ℕ)) (faults : S → ℕ) (s0 s1 : S)
-    (first : Snapshot) (saw : IsSnapshot m first) where
+    (first : Snapshot) (saw : IsSnapshot m first) (this : List Question → Type 0) where
   -- the first lines were not put
-  pub unbegun : (e : SinkFailed) → Puts (begin_text format) (contents s0) (contents s1) (faults s0) (faults s1) (Err e)
-      → Performs gives (change m m) (change core core) (λ lists. IsDrawn format budget (change m m) lists (sink_change contents faults s0 s1) (Err e))
-  unbegun e p =
+  pub unbegun : (e : SinkFailed) → this [] → Puts (begin_text format) (contents s0) (contents s1) (faults s0) (faults s1) (Err e)
+      → Performs gives (change m m) (change core core) (λ lists. IsDrawn format budget (change m m) lists (sink_change contents faults s0 s1) (Err e) × this (asked_over m lists))
+  unbegun e none p =
       record {
         turns = no_turn gives m core;
-        done = record { most = omega arith; first = first; saw = saw; seen = []; are = tt; whole = tt; cut = (p.failed, inl (refl, p.part)) };
+        done = (record { most = omega arith; first = first; saw = saw; seen = []; are = tt; whole = tt; cut = (p.failed, inl (refl, p.part)) }, none);
       }
 
   module _ (last : Timed) (after : D) (pen behind : Pen) (s2 : S) (begun : Puts {E = SinkFailed} (begin_text format) (contents s0) (contents s1) (faults s0) (faults s1) (Ok tt))
       (new : pen ≡ pen_at first) where
     -- a cycle was not put whole
     pub undrawn : (e : SinkFailed)
-        → Performs gives (change m last) (change core after) (λ lists. IsDrawnIn format budget (change m last) (change pen behind) lists (sink_change contents faults s1 s2) (Err e))
-        → Performs gives (change m last) (change core after) (λ lists. IsDrawn format budget (change m last) lists (sink_change contents faults s0 s2) (Err e))
+        → Performs gives (change m last) (change core after) (λ lists. IsDrawnIn format budget (change m last) (change pen behind) lists (sink_change contents faults s1 s2) (Err e) × this (asked_over m lists))
+        → Performs gives (change m last) (change core after) (λ lists. IsDrawn format budget (change m last) lists (sink_change contents faults s0 s2) (Err e) × this (asked_over m lists))
     undrawn e p =
-        let d = p.done in
+        let d = p.done.0 in
         let put : Puts (begin_text format ++ cycles_drawn format pen (lists_of p.turns.history) d.seen) (contents s0) (contents s2) (faults s0) (faults s2) (Err e) = puts_then _ _ _ _ _ _ _ _ _ begun d.put in
         let b = d.cut in
         record {
           turns = p.turns;
-          done = record {
-            most = d.most;
-            first = first;
-            saw = saw;
-            seen = d.seen;
-            are = d.are;
-            whole = tt;
-            cut = (
-              put.failed,
-              inr (inl (record {
-                earlier = b.earlier;
-                last = b.last;
-                in_order = b.in_order;
-                holds = subst (λ (q : Pen). AppendsPast (contents s0) (contents s2) (begin_text format ++ cycles_drawn format q b.earlier d.seen) (begin_text format ++ cycles_drawn format q (lists_of p.turns.history) d.seen)) new (past_more (begin_text format) _ _ _ _ _ begun.ok b.holds);
-              })),
-            );
-          };
+          done = (
+            record {
+              most = d.most;
+              first = first;
+              saw = saw;
+              seen = d.seen;
+              are = d.are;
+              whole = tt;
+              cut = (
+                put.failed,
+                inr (inl (record {
+                  earlier = b.earlier;
+                  last = b.last;
+                  in_order = b.in_order;
+                  holds = subst (λ (q : Pen). AppendsPast (contents s0) (contents s2) (begin_text format ++ cycles_drawn format q b.earlier d.seen) (begin_text format ++ cycles_drawn format q (lists_of p.turns.history) d.seen)) new (past_more (begin_text format) _ _ _ _ _ begun.ok b.holds);
+                })),
+              );
+            },
+            p.done.1,
+          );
         }
 
     -- all cycles were drawn, and what follows them was put, or a part of it
     pub finished : (s3 : S) (result : Result (Unit {0}) SinkFailed)
-        → Performs gives (change m last) (change core after) (λ lists. IsDrawnIn format budget (change m last) (change pen behind) lists (sink_change contents faults s1 s2) (Ok tt))
+        → Performs gives (change m last) (change core after) (λ lists. IsDrawnIn format budget (change m last) (change pen behind) lists (sink_change contents faults s1 s2) (Ok tt) × this (asked_over m lists))
         → Puts (end_text format behind.seen) (contents s2) (contents s3) (faults s2) (faults s3) result
-        → Performs gives (change m last) (change core after) (λ lists. IsDrawn format budget (change m last) lists (sink_change contents faults s0 s3) result)
+        → Performs gives (change m last) (change core after) (λ lists. IsDrawn format budget (change m last) lists (sink_change contents faults s0 s3) result × this (asked_over m lists))
     finished s3 result p end =
         record {
           turns = p.turns;
-          done = record {
-            most = d.most;
-            first = first;
-            saw = saw;
-            seen = d.seen;
-            are = d.are;
-            whole = well result end;
-            cut = ill result end;
-          };
+          done = (
+            record {
+              most = d.most;
+              first = first;
+              saw = saw;
+              seen = d.seen;
+              are = d.are;
+              whole = well result end;
+              cut = ill result end;
+            },
+            p.done.1,
+          );
         }
       where
         d : IsDrawnIn format budget (change m last) (change pen behind) (lists_of p.turns.history) (sink_change contents faults s1 s2) (Ok tt)
-        d = p.done
+        d = p.done.0
 
         lists : List (List Record)
         lists = lists_of p.turns.history
@@ -292,7 +313,7 @@ module _ {D S : Type 0} (gives : Meaning D) (format : Format) (budget : ℕ) (m 
 
         well : (r : Result (Unit {0}) SinkFailed) → Puts (end_text format behind.seen) (contents s2) (contents s3) (faults s2) (faults s3) r
             → OnOk r ((goes_on last.arch ≡ true → length lists ≡ budget) × Takes (sink_change contents faults s0 s3) (drawn_text format first lists d.seen))
-        well (Ok u) e = (d.whole, (puts_then _ _ _ _ _ _ _ _ _ fronted (ends (Ok u) e)).ok)
+        well (Ok u) e = (let q = puts_then _ _ _ _ _ _ _ _ _ fronted (ends (Ok u) e) in (d.whole, record { appended = q.ok; uncounted = q.uncounted }))
         well (Err x) e = tt
 
         ill : (r : Result (Unit {0}) SinkFailed) → Puts (end_text format behind.seen) (contents s2) (contents s3) (faults s2) (faults s3) r
@@ -308,11 +329,12 @@ module _ {D S : Type 0} (gives : Meaning D) (format : Format) (budget : ℕ) (m 
 module _ {C S : Type 0} (gives : Meaning C) (options : DrawOptions) (bytes : FileBytes) (ready : Ready) (core : C) (last : Timed) (after : C)
     (format : Format) (cycles : ℕ) (sink : SinkChange S) (result : Result (Unit {0}) SinkFailed)
     (f : format ≡ options.format) (y : cycles ≡ options.run.cycles) (fits : IsConfig options.run.setup.config)
-    (is : IsReady options.run.setup bytes ready)
+    (is : IsReady options.run.setup bytes ready) (lanes : LanesAsked)
     (p : PerformsBy gives ready.core ready.script (change ready.machine.timed last) (change core after)
-    (λ lists. IsDrawn format cycles (change ready.machine.timed last) lists sink result)) where
+    (λ lists. IsDrawn format cycles (change ready.machine.timed last) lists sink result
+    × lanes options.run.liar (asked_over ready.machine.timed lists))) where
   abbrev d : IsDrawn options.format cycles (change ready.machine.timed last) p.lists sink result
-  d = subst (λ (x : Format). IsDrawn x cycles (change ready.machine.timed last) p.lists sink result) f p.done
+  d = subst (λ (x : Format). IsDrawn x cycles (change ready.machine.timed last) p.lists sink result) f p.done.0
 
   abbrev start : State
   start = start_in options.run.setup bytes
@@ -325,6 +347,11 @@ module _ {C S : Type 0} (gives : Meaning C) (options : DrawOptions) (bytes : Fil
 
   all_lists : of_files.run.driven.lists ≡ p.lists
   all_lists = of_files_lists gives options.run.setup options.run.cycles bytes ready core last after fits is p.lists p.ran p.each p.handed (let m = d.most in omega arith)
+
+  asks : AsksInRun options.run.setup options.run.liar bytes of_files.run.driven.lists lanes
+  asks =
+      subst (λ (m : Timed). lanes options.run.liar (asked_over m of_files.run.driven.lists)) is.begun
+      (subst (λ (ls : List (List Record)). lanes options.run.liar (asked_over ready.machine.timed ls)) (sym all_lists) p.done.1)
 
   saw : IsSnapshot begun d.first
   saw = subst (λ (m : Timed). IsSnapshot m d.first) is.begun d.saw
@@ -346,16 +373,17 @@ module _ {C S : Type 0} (gives : Meaning C) (options : DrawOptions) (bytes : Fil
       → HasDrawing gives options bytes (change core after) ended text
   means ended text written = record { last = last; of_files = of_files; first = d.first; saw = saw; seen = d.seen; are = are; written = written }
 
-  pub wrote_drawing : result ≡ Ok tt → (status : ℕ) → status ≡ end_status (end_of last.arch.end) → WritesWhole gives (Draw options) bytes (change core after) sink status
+  pub wrote_drawing : result ≡ Ok tt → (status : ℕ) → status ≡ end_status (end_of last.arch.end) → WritesWhole gives (Draw options) bytes (asking core after lanes) sink status
   wrote_drawing ok status says =
       let w = subst (λ (r : Result (Unit {0}) SinkFailed). OnOk r ((goes_on last.arch ≡ true → length p.lists ≡ cycles) × Takes sink (drawn_text options.format d.first p.lists d.seen))) ok d.whole in
       record {
         text = whole_text;
         means = means (Ok status) whole_text (inl (record { whole = whole_if w.0; says = ends_with options.run.setup options.run.cycles start last status (whole_if w.0) says; lines = refl; cut = tt }));
+        lanes = asks;
         written = subst (λ (ls : List (List Record)). Takes sink (drawn_text options.format d.first ls d.seen)) (sym all_lists) w.1;
       }
 
-  pub cut_drawing : (e : SinkFailed) → result ≡ Err e → WritesPart gives (Draw options) bytes (change core after) sink
+  pub cut_drawing : (e : SinkFailed) → result ≡ Err e → WritesPart gives (Draw options) bytes (asking core after lanes) sink
   cut_drawing e err =
       let c = subst (λ (r : Result (Unit {0}) SinkFailed). OnErr r (HasFailed sink × IsCutDrawing options.format cycles last d.first p.lists d.seen sink)) err d.cut in
       elim c.1 [
@@ -364,6 +392,7 @@ module _ {C S : Type 0} (gives : Meaning C) (options : DrawOptions) (bytes : Fil
           put = [];
           text = part_text;
           means = means (Err []) part_text (inr (record { lines = refl; cut = inl (all_lists ∙ b.0, refl) }));
+          lanes = asks;
           written = subst (λ (ls : List (List Record)). TakesPast sink [] (front_text options.format d.first ls d.seen)) (sym (all_lists ∙ b.0)) (rw append-nil (past_nothing _ _ _ b.1));
         }
         | inr b ↦ elim b [
@@ -373,6 +402,7 @@ module _ {C S : Type 0} (gives : Meaning C) (options : DrawOptions) (bytes : Fil
             text = part_text;
             means = means (Err (front_text options.format d.first q.earlier d.seen)) part_text
                 (inr (record { lines = refl; cut = inr (record { earlier = q.earlier; last = q.last; in_order = all_lists ∙ q.in_order; holds = refl }) }));
+            lanes = asks;
             written = subst (λ (ls : List (List Record)). TakesPast sink (front_text options.format d.first q.earlier d.seen) (front_text options.format d.first ls d.seen)) (sym all_lists) q.holds;
           }
           | inr q ↦ record {
@@ -380,6 +410,7 @@ module _ {C S : Type 0} (gives : Meaning C) (options : DrawOptions) (bytes : Fil
             put = part_text;
             text = whole_text;
             means = means (Err part_text) whole_text (inl (record { whole = whole_if q.0; says = tt; lines = refl; cut = refl }));
+            lanes = asks;
             written = subst (λ (ls : List (List Record)). TakesPast sink (front_text options.format d.first ls d.seen) (drawn_text options.format d.first ls d.seen)) (sym all_lists) q.1;
           }
         ]

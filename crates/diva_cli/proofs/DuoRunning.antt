@@ -27,11 +27,11 @@ use Rattle.diva_args.specs.Options.{DuoOptions}
 use Rattle.diva_args.specs.declared.job.Job.TheVariants.{Duo as Command}
 use Rattle.diva_cli.specs.declared.duo.HartCores.TheVariants as cores
 use Rattle.diva_cli.specs.declared.stop.Failure.TheVariants.{Cut}
-use Rattle.diva_cli.specs.Changes.{PutsTo, SinkChange, change}
+use Rattle.diva_cli.specs.Changes.{PutsTo, SinkChange, change, asking}
 use Rattle.diva_cli.specs.Wanted.{FileBytes}
 use Rattle.diva_cli.specs.Runs.{shown_dump}
 use Rattle.diva_cli.specs.DuoTexts.{HasDuo, IsDuoRun, call_at, call_by, duo_start, duo_status, duo_text, duo_under, hart_call}
-use Rattle.diva_cli.specs.Parts.{WritesText, new_cores}
+use Rattle.diva_cli.specs.Parts.{WritesText, new_cores, no_lanes}
 
 over_cycle : (d : Duo) (a b : List Record) → is_over d ≡ true → duo_cycle_of d a b ≡ d
 unfolding duo_cycle_of
@@ -102,6 +102,8 @@ module _ {D : Type 0} (gives : Meaning D) (kind : HartCore) (like : D → Ahead 
         pairs = pairs_of turns.history;
         ran = history_run gives gives d.duo a b turns.history last.duo final_a final_b turns.good;
         replayed = drives.replayed;
+        committed = drives.committed;
+        rows = drives.rows;
         paced = (one, two);
         all = all;
       }
@@ -145,8 +147,8 @@ module _ {C S : Type 0} (gives : Meaning C) (options : DuoOptions) (bytes : File
   means : (ended : Result ℕ Text) → IfOk ended (λ s. s ≡ duo_status last) → HasDuo options bytes (change core core) ended text
   means ended status = record { last = last; run = run; lines = refl; status = status; unasked = refl }
 
-  pub wrote_duo : (status : ℕ) → status ≡ duo_status last → PutsTo {E = SinkFailed} sink text (Ok tt) → WritesText gives (Command options) bytes (change core core) sink (Ok status)
-  wrote_duo status is put = record { text = text; means = means (Ok status) is; written = put.ok }
+  pub wrote_duo : (status : ℕ) → status ≡ duo_status last → PutsTo {E = SinkFailed} sink text (Ok tt) → WritesText gives (Command options) bytes (asking core core no_lanes) sink (Ok status)
+  wrote_duo status is put = record { text = text; means = means (Ok status) is; lanes = refl; written = record { appended = put.ok; uncounted = put.uncounted } }
 
-  pub cut_duo : (e : SinkFailed) → PutsTo sink text (Err e) → WritesText gives (Command options) bytes (change core core) sink (Err Cut)
-  cut_duo e put = record { rose = put.failed; put = []; text = text; means = means (Err []) tt; written = past_nothing (sink.contents sink.before) (sink.contents sink.after) text put.part }
+  pub cut_duo : (e : SinkFailed) → PutsTo sink text (Err e) → WritesText gives (Command options) bytes (asking core core no_lanes) sink (Err Cut)
+  cut_duo e put = record { rose = put.failed; put = []; text = text; means = means (Err []) tt; lanes = refl; written = past_nothing (sink.contents sink.before) (sink.contents sink.after) text put.part }

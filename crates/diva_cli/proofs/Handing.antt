@@ -1,4 +1,6 @@
 -- Turns of a core under a script, and turns as lists that are handed to a machine.
+use Rattle.diva_machine.specs.Asked.{asked_over}
+use Rattle.diva_vote.specs.Questions.{Question}
 use Rattle.std.proofs.Common.{◌≡◌, ◌↔◌, ℕ, ◌+◌, ◌≤◌, ◌==◌, true, false, List, [], ◌∷◌, Option, Ok, refl, sym, ◌∙◌, ap, subst, arith, length, replicate, suc}
 use Rattle.std.proofs.lemmas.Bool.{true≢false}
 use Rattle.std.proofs.lemmas.Bool.Decides.{nat_tests}
@@ -26,7 +28,7 @@ use Rattle.diva_tape.specs.Scalar.{IsScalarCall}
 use Rattle.diva_tape.specs.TapeCalls.{tape_call}
 use Rattle.diva_cli.specs.declared.driving.CoreInUse.{CoreInUse}
 use Rattle.diva_cli.specs.declared.driving.CoreInUse.TheVariants.{Own, Lockstep, Scalar, Silent, Flood, Echo, Noise, Tape}
-use Rattle.diva_cli.specs.Changes.{change, sink_change}
+use Rattle.diva_cli.specs.Changes.{Change, change, sink_change}
 use Rattle.diva_cli.specs.Driven.{scripted_lists, scripted_rule}
 use Rattle.diva_cli.specs.Tasks.{AreHandedBy, DrivesFor, IsQuiet, Performs, PerformsBy}
 
@@ -66,30 +68,34 @@ performs_faulty gives script m core f last final after this lent rows ends p =
 
 -- what a drive answers of how it ended
 pub drives_for :
-    {D : Type 0} (gives : Meaning D) (m : Timed) (core : D) (last : Timed) (after : D) (budget : ℕ) (r : Drive)
-    → Turns gives m core last after
+    {D : Type 0} (gives : Meaning D) (m : Timed) (core : D) (last : Timed) (after : D) (budget : ℕ) (r : Drive) (this : List Question → Type 0)
+    (t : Turns gives m core last after)
+    → this (asked_over m (lists_of t.history))
     → last.cycles ≤ m.cycles + budget
     → (r ≡ Ended) ↔ (goes_on last.arch ≡ false)
     → (r ≡ Budget) ↔ ((last.cycles ≡ m.cycles + budget) × (goes_on last.arch ≡ true))
-    → DrivesFor gives budget (change m last) (change core after)
-drives_for gives m core last after budget Ended t most ends runs = record { turns = t; most = most; whole = λ on. absurd (true≢false (sym on ∙ ends.0 refl)) }
-drives_for gives m core last after budget Budget t most ends runs = record { turns = t; most = most; whole = λ on. (runs.0 refl).0 }
+    → DrivesFor gives budget (change m last) (change core after) this
+drives_for gives m core last after budget Ended this t asked most ends runs = record { turns = t; asked = asked; most = most; whole = λ on. absurd (true≢false (sym on ∙ ends.0 refl)) }
+drives_for gives m core last after budget Budget this t asked most ends runs = record { turns = t; asked = asked; most = most; whole = λ on. (runs.0 refl).0 }
 
 pub performs_quiet :
-    {D S : Type 0} (gives : Meaning D) (budget : ℕ) (m : Timed) (core : D) (last : Timed) (after : D) (contents : S → Option (List ℕ)) (faults : S → ℕ) (s : S)
-    → DrivesFor gives budget (change m last) (change core after)
-    → Performs gives (change m last) (change core after) (λ lists. IsQuiet budget (change m last) lists (sink_change contents faults s s) (Ok tt))
-performs_quiet gives budget m core last after contents faults s d =
+    {D S : Type 0} (gives : Meaning D) (budget : ℕ) (m : Timed) (core : D) (last : Timed) (after : D) (contents : S → Option (List ℕ)) (faults : S → ℕ) (s : S) (this : List Question → Type 0)
+    → DrivesFor gives budget (change m last) (change core after) this
+    → Performs gives (change m last) (change core after) (λ lists. IsQuiet budget (change m last) lists (sink_change contents faults s s) (Ok tt) × this (asked_over m lists))
+performs_quiet gives budget m core last after contents faults s this d =
     let l = length-lists_of d.turns.history in
     record {
       turns = d.turns;
-      done = record {
-        most = (let e = d.turns.each in let w = d.most in omega arith);
-        whole = λ on. (let e = d.turns.each in let w = d.whole on in omega arith);
-        never_fails = refl;
-        contents = refl;
-        faults = refl;
-      };
+      done = (
+        record {
+          most = (let e = d.turns.each in let w = d.most in omega arith);
+          whole = λ on. (let e = d.turns.each in let w = d.whole on in omega arith);
+          never_fails = refl;
+          contents = refl;
+          faults = refl;
+        },
+        d.asked,
+      );
     }
 
 -- ---- a line for each core
@@ -179,3 +185,11 @@ calls_made its calls none more script m before (turn ∷ history) last after inv
     ∙ ap (λ (lists : List (List Record)). scripted script (m.cycles + 1) one.inner ∷ lists)
     (rest ∙ ap (λ n. scripted_lists script (n + 1) (calls (length (lists_of history)) turn.1)) next)
     ∙ ap (scripted_lists script (m.cycles + 1)) (more before turn.1 (told_of m) m.arch one.inner (length (lists_of history)) one.given)
+
+-- what holds of the lists can be said with less
+pub performs_so :
+    {C : Type 0} (gives : Meaning C) (used : CoreInUse) (script : List Row) (machine : Change Timed) (core : Change C) (this that : List (List Record) → Type 0)
+    → ((lists : List (List Record)) → this lists → that lists)
+    → PerformsBy gives used script machine core this → PerformsBy gives used script machine core that
+performs_so gives used script machine core this that so p =
+    record { lists = p.lists; ran = p.ran; each = p.each; handed = p.handed; done = so p.lists p.done }

@@ -4,6 +4,7 @@ pub mod Scripting
 pub mod Cycling
 pub mod DrawRunning
 pub mod Pieces
+pub mod Polling
 pub mod Running
 pub mod Replaying
 pub mod Stopping

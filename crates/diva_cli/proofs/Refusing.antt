@@ -15,12 +15,12 @@ use Rattle.diva_args.specs.declared.job.Job.{Job}
 use Rattle.diva_cli.specs.declared.stop.Failure.{Failure}
 use Rattle.diva_cli.specs.declared.stop.Failure.TheVariants.{Cut, Memory}
 use Rattle.diva_cli.specs.Asked.{Asked}
-use Rattle.diva_cli.specs.Changes.{Change, FileFaults, SinkChange, Takes}
+use Rattle.diva_cli.specs.Changes.{FileFaults, SinkChange, Takes, Asking}
 use Rattle.diva_cli.specs.Wanted.{Wanted, FileBytes, AreSound, HasFault, wanted}
 use Rattle.diva_cli.specs.Stops.{CanBeUsed, StopsAt, StopsLoading, IsRefused, IsTooLong, HasFirstFault}
 use Rattle.diva_cli.specs.Answers.{IsAnswer, misused, unread, refused, done}
 use Rattle.diva_cli.specs.Statuses.{HasMissing, IsHindered, MustRefuse}
-use Rattle.diva_cli.specs.Parts.{KeepsPromises, status_of}
+use Rattle.diva_cli.specs.Promises.{KeepsPromises, status_of}
 use Rattle.diva_cli.proofs.Completing.{known-refused, some_same}
 
 -- ---- a first fault is one
@@ -101,7 +101,7 @@ module _ (bytes_of : List ℕ → Option (List ℕ)) where
 
 -- ---- what is answered
 
-module _ {C S : Type 0} (gives : Meaning C) (command : Option Job) (usage : List ℕ) (bytes_of : List ℕ → Option (List ℕ)) (files : FileFaults) (core : Change C) (sink : SinkChange S)
+module _ {C S : Type 0} (gives : Meaning C) (command : Option Job) (usage : List ℕ) (bytes_of : List ℕ → Option (List ℕ)) (files : FileFaults) (asks : Asking C) (sink : SinkChange S)
     (job : Job) (named : command ≡ Some job) where
   abbrev pub asked : Asked
   asked = record { job = command; usage = usage; contents = Some bytes_of }
@@ -119,7 +119,7 @@ module _ {C S : Type 0} (gives : Meaning C) (command : Option Job) (usage : List
   Stopped line = StopsLoading (Some bytes_of) files.before files.after line
 
   answered_refused : (text : List ℕ) → StopsAt (Some bytes_of) (Refused text) (wanted job)
-      → (status : ℕ) (line : List ℕ) → IsAnswer gives asked files core (Ok status) line → Takes sink line → Refuses text status
+      → (status : ℕ) (line : List ℕ) → IsAnswer gives asked files asks (Ok status) line → Takes sink line → Refuses text status
   answered_refused text first status line (misused m same s) w = absurd (let e = sym named ∙ m.none in cc)
   answered_refused text first status line (unread u same s) w = inr (inl s)
   answered_refused text first status line (refused r same s) w =
@@ -131,7 +131,7 @@ module _ {C S : Type 0} (gives : Meaning C) (command : Option Job) (usage : List
       absurd (sound-stops bytes_of (Refused text) (λ w behind. usable-refused bytes_of text w) (wanted d.job) d.bytes d.sound (first_of (Refused text) d.job d.named first))
 
   refuses_known : (text : List ℕ) → StopsAt (Some bytes_of) (Refused text) (wanted job)
-      → (result : Result ℕ Failure) → KeepsPromises gives asked files core sink result → Refuses text (status_of result)
+      → (result : Result ℕ Failure) → KeepsPromises gives asked files asks sink result → Refuses text (status_of result)
   refuses_known text first (Ok status) w = answered_refused text first status w.text w.answer w.written
   refuses_known text first (Err Cut) w = inr (inr (inl refl))
   refuses_known text first (Err Memory) w = inr (inr (inr refl))
@@ -140,7 +140,7 @@ module _ {C S : Type 0} (gives : Meaning C) (command : Option Job) (usage : List
   Missing w behind = IsMissing (Some bytes_of) w.name
 
   answered_missing : StopsAt (Some bytes_of) Missing (wanted job)
-      → (status : ℕ) (line : List ℕ) → IsAnswer gives asked files core (Ok status) line → IsHindered status
+      → (status : ℕ) (line : List ℕ) → IsAnswer gives asked files asks (Ok status) line → IsHindered status
   answered_missing first status line (misused m same s) = absurd (let e = sym named ∙ m.none in cc)
   answered_missing first status line (unread u same s) = inl s
   answered_missing first status line (refused r same s) =
@@ -151,7 +151,7 @@ module _ {C S : Type 0} (gives : Meaning C) (command : Option Job) (usage : List
       absurd (sound-stops bytes_of Missing (λ w behind. usable-missing bytes_of w) (wanted d.job) d.bytes d.sound (first_of Missing d.job d.named first))
 
   misses_known : StopsAt (Some bytes_of) Missing (wanted job)
-      → (result : Result ℕ Failure) → KeepsPromises gives asked files core sink result → IsHindered (status_of result)
+      → (result : Result ℕ Failure) → KeepsPromises gives asked files asks sink result → IsHindered (status_of result)
   misses_known first (Ok status) w = answered_missing first status w.text w.answer
   misses_known first (Err Cut) w = inr (inl refl)
   misses_known first (Err Memory) w = inr (inr refl)
@@ -161,22 +161,22 @@ nothing-stops [] s = s
 nothing-stops (w ∷ ws) (inl here) = here
 nothing-stops (w ∷ ws) (inr later) = nothing-stops ws later.1
 
-module _ {C S : Type 0} (gives : Meaning C) (command : Option Job) (usage : List ℕ) (contents : Contents) (files : FileFaults) (core : Change C) (sink : SinkChange S)
-    (result : Result ℕ Failure) (answers : KeepsPromises gives (record { job = command; usage = usage; contents = contents }) files core sink result) where
+module _ {C S : Type 0} (gives : Meaning C) (command : Option Job) (usage : List ℕ) (contents : Contents) (files : FileFaults) (asks : Asking C) (sink : SinkChange S)
+    (result : Result ℕ Failure) (answers : KeepsPromises gives (record { job = command; usage = usage; contents = contents }) files asks sink result) where
   pub refuses : (text : List ℕ) → MustRefuse (record { job = command; usage = usage; contents = contents }) text → ((status_of result ≡ 5) × Takes sink text) ⊎ IsHindered (status_of result)
   refuses text must = go contents must.known must.refused.first answers
     where
       go : (told : Contents) → IsSome told → StopsAt told (λ w behind. IsRefused told text w) (wanted must.refused.job)
-          → KeepsPromises gives (record { job = command; usage = usage; contents = told }) files core sink result → ((status_of result ≡ 5) × Takes sink text) ⊎ IsHindered (status_of result)
+          → KeepsPromises gives (record { job = command; usage = usage; contents = told }) files asks sink result → ((status_of result ≡ 5) × Takes sink text) ⊎ IsHindered (status_of result)
       go None known first a = absurd (true≢false (sym known))
       go (Some bytes_of) known first a =
-          refuses_known gives command usage bytes_of files core sink must.refused.job must.refused.named text first result a
+          refuses_known gives command usage bytes_of files asks sink must.refused.job must.refused.named text first result a
 
   pub misses : HasMissing (record { job = command; usage = usage; contents = contents }) → IsHindered (status_of result)
   misses missing = go contents missing.first answers
     where
       go : (told : Contents) → StopsAt told (λ w behind. IsMissing told w.name) (wanted missing.job)
-          → KeepsPromises gives (record { job = command; usage = usage; contents = told }) files core sink result → IsHindered (status_of result)
+          → KeepsPromises gives (record { job = command; usage = usage; contents = told }) files asks sink result → IsHindered (status_of result)
       go None first a = absurd (nothing-stops (wanted missing.job) first)
       go (Some bytes_of) first a =
-          misses_known gives command usage bytes_of files core sink missing.job missing.named first result a
+          misses_known gives command usage bytes_of files asks sink missing.job missing.named first result a

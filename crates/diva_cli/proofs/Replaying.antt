@@ -26,7 +26,7 @@ use Rattle.diva_args.specs.declared.job.CoreChoice.TheVariants.{Tape as OfTape}
 use Rattle.diva_args.specs.declared.job.Job.TheVariants.{Tape}
 use Rattle.diva_trace.specs.Text.{text_of}
 use Rattle.diva_cli.specs.declared.loading.Ready.{Ready}
-use Rattle.diva_cli.specs.Changes.{PutsTo, SinkChange, TakesPast, change}
+use Rattle.diva_cli.specs.Changes.{LanesAsked, asking, PutsTo, SinkChange, TakesPast, change}
 use Rattle.diva_cli.specs.Wanted.{FileBytes, tape_name}
 use Rattle.diva_cli.specs.Cuts.{BeforeLast}
 use Rattle.diva_cli.specs.Driven.{IsDriven, scripted_lists}
@@ -150,7 +150,7 @@ tape_lines m (list ∷ lists) = ap (λ (t : List ℕ). list_text list ++ t) (tap
 module _ {C S : Type 0} (gives : Meaning C) (options : TapeOptions) (bytes : FileBytes) (ready : Ready) (core : C) (last : Timed) (after : C)
     (cycles : ℕ) (sink : SinkChange S) (result : Result (Unit {0}) SinkFailed)
     (y : cycles ≡ options.cycles) (fits : IsConfig options.setup.config)
-    (is : IsReady options.setup bytes ready)
+    (is : IsReady options.setup bytes ready) (lanes : LanesAsked) (unasked : lanes None [])
     (p : PerformsBy gives ready.core ready.script (change ready.machine.timed last) (change core after)
     (λ lists. IsWritten tape_line IsList cycles (change ready.machine.timed last) lists sink result)) where
   few : length p.lists ≤ options.cycles
@@ -165,7 +165,7 @@ module _ {C S : Type 0} (gives : Meaning C) (options : TapeOptions) (bytes : Fil
   puts : PutsTo sink (tape_text p.lists) result
   puts = subst (λ (t : List ℕ). PutsTo sink t result) (tape_lines ready.machine.timed p.lists) p.done.put
 
-  pub wrote_tape : (status : ℕ) → status ≡ end_status (end_of last.arch.end) → result ≡ Ok tt → WritesWhole gives (Tape options) bytes (change core after) sink status
+  pub wrote_tape : (status : ℕ) → status ≡ end_status (end_of last.arch.end) → result ≡ Ok tt → WritesWhole gives (Tape options) bytes (asking core after lanes) sink status
   wrote_tape status says ok =
       let all : goes_on last.arch ≡ true → length p.lists ≡ cycles = subst (λ (r : Result (Unit {0}) SinkFailed). OnOk r (goes_on last.arch ≡ true → length p.lists ≡ cycles)) ok p.done.whole in
       let are : All IsList p.lists = subst (λ (r : Result (Unit {0}) SinkFailed). OnOk r (All IsList p.lists)) ok p.done.said in
@@ -189,10 +189,11 @@ module _ {C S : Type 0} (gives : Meaning C) (options : TapeOptions) (bytes : Fil
           });
           cut = tt;
         };
-        written = (subst (λ (r : Result (Unit {0}) SinkFailed). PutsTo sink (tape_text p.lists) r) ok puts).ok;
+        lanes = unasked;
+        written = (let q = subst (λ (r : Result (Unit {0}) SinkFailed). PutsTo sink (tape_text p.lists) r) ok puts in record { appended = q.ok; uncounted = q.uncounted });
       }
 
-  pub cut_tape : (e : SinkFailed) → result ≡ Err e → WritesPart gives (Tape options) bytes (change core after) sink
+  pub cut_tape : (e : SinkFailed) → result ≡ Err e → WritesPart gives (Tape options) bytes (asking core after lanes) sink
   cut_tape e err =
       let q = subst (λ (r : Result (Unit {0}) SinkFailed). PutsTo sink (tape_text p.lists) r) err puts in
       let b : BeforeLast p.lists (λ earlier. TakesPast sink (cycles_text tape_line ready.machine.timed earlier) (cycles_text tape_line ready.machine.timed p.lists)) =
@@ -209,6 +210,7 @@ module _ {C S : Type 0} (gives : Meaning C) (options : TapeOptions) (bytes : Fil
           whole = tt;
           cut = record { earlier = b.earlier; last = b.last; in_order = all_lists ∙ b.in_order; holds = refl };
         };
+        lanes = unasked;
         written = subst (λ (x : List ℕ). TakesPast sink x (tape_text p.lists)) (tape_lines ready.machine.timed b.earlier)
             (subst (λ (x : List ℕ). TakesPast sink (cycles_text tape_line ready.machine.timed b.earlier) x) (tape_lines ready.machine.timed p.lists) b.holds);
       }

@@ -43,14 +43,17 @@ use Rattle.diva_trace.specs.Text.{commits_text, text_of, trace_of}
 use Rattle.diva_trace.proofs.Numbered.{commits_text-append, commits_text-none}
 use Rattle.diva_cli.specs.declared.driving.CoreInUse.{CoreInUse}
 use Rattle.diva_cli.specs.declared.loading.Ready.{Ready}
-use Rattle.diva_cli.specs.Changes.{SinkChange, change, sink_change}
+use Rattle.diva_vote.specs.Questions.{Question}
+use Rattle.diva_machine.specs.Asked.{asked_over}
+use Rattle.diva_cli.specs.Changes.{LanesAsked, SinkChange, asking, change, sink_change}
+use Rattle.diva_cli.specs.Texts.{AsksInRun}
 use Rattle.diva_cli.specs.Wanted.{FileBytes}
 use Rattle.diva_cli.specs.Cuts.{BeforeLast}
 use Rattle.diva_cli.specs.Driven.{IsDriven, AreHanded, ByCalls, ByOther, scripted_lists, scripted_rule}
 use Rattle.diva_cli.proofs.Handing.{calls_made}
 use Rattle.diva_cli.specs.Runs.{IsRunFrom, IsRunOfFiles, IsUnflushed, IsWhole, EndsWith, HasRun, end_status, asked_trace, shown_dump, start_in}
 use Rattle.diva_cli.specs.declared.tasks.Task.{Task}
-use Rattle.diva_cli.specs.Tasks.{AreHandedBy, Does, PerformsBy, cycles_text, run_task, trace_lines}
+use Rattle.diva_cli.specs.Tasks.{AreHandedBy, Does, PerformsBy, cycles_text, liar_of, run_task, trace_lines}
 use Rattle.diva_cli.specs.Parts.{IsReady, WritesWhole, WritesPart, core_for}
 
 -- ---- right lists
@@ -279,6 +282,11 @@ went false cycles liar m lists last sink result q =
 went true cycles liar m lists last sink result w =
     record { most = w.most; whole = w.whole; put = w.put; cut = on_err result (λ b. (refl, b)) w.cut }
 
+-- the liar's place, with commit lines or without
+its_liar : (trace : Bool) (cycles : ℕ) (liar : Option LanePlace) → liar_of (run_task trace cycles liar) ≡ liar
+its_liar true cycles liar = refl
+its_liar false cycles liar = refl
+
 -- ---- the text of a run, where its commit lines were all put if they are asked for
 
 pub shown_whole : {C : Type 0} (gives : Meaning C) (options : RunOptions) (bytes : FileBytes) (core after : C) (ended : Result ℕ (List ℕ)) (text : List ℕ)
@@ -293,10 +301,11 @@ shown_whole gives options bytes core after ended text h asked =
 
 module _ {C S : Type 0} (gives : Meaning C) (options : RunOptions) (bytes : FileBytes) (ready : Ready) (core : C) (last : Timed) (after : C)
     (trace : Bool) (cycles : ℕ) (liar : Option LanePlace) (dump : Option DumpRange) (contents : S → Option (List ℕ)) (faults : S → ℕ) (s0 s1 s2 : S) (result : Result (Unit {0}) SinkFailed)
-    (t : trace ≡ options.trace) (y : cycles ≡ options.cycles) (d : dump ≡ options.dump) (fits : IsConfig options.setup.config)
-    (is : IsReady options.setup bytes ready) (task : Task) (task_is : task ≡ run_task trace cycles liar)
+    (t : trace ≡ options.trace) (y : cycles ≡ options.cycles) (v : liar ≡ options.liar) (d : dump ≡ options.dump) (fits : IsConfig options.setup.config)
+    (is : IsReady options.setup bytes ready) (task : Task) (task_is : task ≡ run_task trace cycles liar) (lanes : LanesAsked)
     (p : PerformsBy gives ready.core ready.script (change ready.machine.timed last) (change core after)
-    (λ lists. Does task (change ready.machine.timed last) lists (sink_change contents faults s0 s1) result)) where
+    (λ lists. Does task (change ready.machine.timed last) lists (sink_change contents faults s0 s1) result
+    × lanes (liar_of task) (asked_over ready.machine.timed lists))) where
   -- the sink before the run, behind the commit lines, and at the end
   abbrev old : Option (List ℕ)
   old = contents s0
@@ -322,7 +331,7 @@ module _ {C S : Type 0} (gives : Meaning C) (options : RunOptions) (bytes : File
   w : Went trace cycles ready.machine.timed p.lists last old mid before between result
   w =
       went trace cycles liar ready.machine.timed p.lists last (sink_change contents faults s0 s1) result
-      (subst (λ (k : Task). Does k (change ready.machine.timed last) p.lists (sink_change contents faults s0 s1) result) task_is p.done)
+      (subst (λ (k : Task). Does k (change ready.machine.timed last) p.lists (sink_change contents faults s0 s1) result) task_is p.done.0)
 
   run_from_new : last ≡ run_of (new_timed options.setup.config (start_in options.setup bytes)) p.lists
   run_from_new = p.ran ∙ ap (λ (m : Timed). run_of m p.lists) is.begun
@@ -345,6 +354,12 @@ module _ {C S : Type 0} (gives : Meaning C) (options : RunOptions) (bytes : File
   all_lists : of_files.run.driven.lists ≡ p.lists
   all_lists = of_files_lists gives options.setup options.cycles bytes ready core last after fits is p.lists p.ran p.each p.handed (let m = w.most in omega arith)
 
+  asks : AsksInRun options.setup options.liar bytes of_files.run.driven.lists lanes
+  asks =
+      subst (λ (m : Timed). lanes options.liar (asked_over m of_files.run.driven.lists)) is.begun
+      (subst (λ (ls : List (List Record)). lanes options.liar (asked_over ready.machine.timed ls)) (sym all_lists)
+      (subst (λ (l : Option LanePlace). lanes l (asked_over ready.machine.timed p.lists)) (ap (λ (k : Task). liar_of k) task_is ∙ its_liar trace cycles liar ∙ v) p.done.1))
+
   both : result ≡ Ok tt → (r : Result (Unit {0}) SinkFailed) → Puts (text_of last (shown_dump dump)) mid new between now r → Puts run_text old new before now r
   both ok r puts =
       puts_then _ _ old mid new before between now r (subst (λ (x : Result (Unit {0}) SinkFailed). Puts (asked_trace options.trace (start_in options.setup bytes) last.count) old mid before between x) ok puts_trace)
@@ -358,7 +373,7 @@ module _ {C S : Type 0} (gives : Meaning C) (options : RunOptions) (bytes : File
       (subst (λ (x : Option DumpRange). Puts (text_of last (shown_dump x)) mid new between now (Err e)) d puts)
 
   pub wrote_run : result ≡ Ok tt → (status : ℕ) → status ≡ end_status (end_of last.arch.end) → Puts {E = SinkFailed} (text_of last (shown_dump dump)) mid new between now (Ok tt)
-      → WritesWhole gives (Run options) bytes (change core after) (sink_change contents faults s0 s2) status
+      → WritesWhole gives (Run options) bytes (asking core after lanes) (sink_change contents faults s0 s2) status
   wrote_run ok status says puts =
       record {
         text = run_text;
@@ -367,11 +382,12 @@ module _ {C S : Type 0} (gives : Meaning C) (options : RunOptions) (bytes : File
           of_files = of_files;
           written = inl (record { whole = whole_ok ok; says = ends_with options.setup options.cycles (start_in options.setup bytes) last status (whole_ok ok) says; lines = refl; cut = tt });
         };
-        written = (both ok (Ok tt) puts).ok;
+        lanes = asks;
+        written = (let q = both ok (Ok tt) puts in record { appended = q.ok; uncounted = q.uncounted });
       }
 
   pub cut_run : result ≡ Ok tt → (e : SinkFailed) → Puts (text_of last (shown_dump dump)) mid new between now (Err e)
-      → WritesPart gives (Run options) bytes (change core after) (sink_change contents faults s0 s2)
+      → WritesPart gives (Run options) bytes (asking core after lanes) (sink_change contents faults s0 s2)
   cut_run ok e puts =
       let q = both ok (Err e) puts in
       record {
@@ -379,6 +395,7 @@ module _ {C S : Type 0} (gives : Meaning C) (options : RunOptions) (bytes : File
         put = asked_trace options.trace (start_in options.setup bytes) last.count;
         text = run_text;
         means = record { last = last; of_files = of_files; written = inl (record { whole = whole_ok ok; says = tt; lines = refl; cut = refl }) };
+        lanes = asks;
         written = past ok e puts;
       }
 
@@ -394,7 +411,7 @@ module _ {C S : Type 0} (gives : Meaning C) (options : RunOptions) (bytes : File
   lines_to : (lists : List (List Record)) (m : Timed) → m ≡ run_of start lists → cycles_text trace_lines start lists ≡ trace_of (start_in options.setup bytes) m.count
   lines_to lists m ran = trace-run options.setup.config (start_in options.setup bytes) lists m true fits refl ran
 
-  pub cut_trace : (e : SinkFailed) → result ≡ Err e → WritesPart gives (Run options) bytes (change core after) (sink_change contents faults s0 s1)
+  pub cut_trace : (e : SinkFailed) → result ≡ Err e → WritesPart gives (Run options) bytes (asking core after lanes) (sink_change contents faults s0 s1)
   cut_trace e err =
       let q = subst (λ (x : Result (Unit {0}) SinkFailed). Puts (asked_trace options.trace (start_in options.setup bytes) last.count) old mid before between x) err puts_trace in
       let c = cut_lines e err in
@@ -413,6 +430,7 @@ module _ {C S : Type 0} (gives : Meaning C) (options : RunOptions) (bytes : File
             cut = record { earlier = b.earlier; last = b.last; in_order = all_lists ∙ b.in_order; holds = refl };
           });
         };
+        lanes = asks;
         written = subst (λ (x : List ℕ). AppendsPast old mid x (trace_of (start_in options.setup bytes) last.count)) (lines_to b.earlier (run_of start b.earlier) refl)
             (subst (λ (x : List ℕ). AppendsPast old mid (cycles_text trace_lines start b.earlier) x) (lines_to p.lists last run_from_new) b.holds);
       }

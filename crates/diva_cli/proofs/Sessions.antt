@@ -45,11 +45,11 @@ use Rattle.diva_outside.specs.declared.sink.SinkFailed.{SinkFailed}
 use Rattle.diva_cli.specs.declared.driving.CoreInUse.{CoreInUse}
 use Rattle.diva_cli.specs.declared.driving.CoreInUse.TheVariants.{Own, Lockstep, Scalar, Silent, Flood, Echo, Noise, Tape}
 use Rattle.diva_cli.specs.declared.loading.SessionReady.{SessionReady}
-use Rattle.diva_cli.specs.Changes.{PutsTo, SinkChange, change}
+use Rattle.diva_cli.specs.Changes.{PutsTo, SinkChange, change, asking}
 use Rattle.diva_cli.specs.Cuts.{BeforeLast}
 use Rattle.diva_cli.specs.DebugTexts.{HasReplies}
 use Rattle.diva_cli.specs.Driven.{ByCalls, scripted_lists, scripted_rule}
-use Rattle.diva_cli.specs.Parts.{IsSession, WritesPart, WritesWhole, core_for}
+use Rattle.diva_cli.specs.Parts.{IsSession, WritesPart, WritesWhole, core_for, no_lanes}
 use Rattle.diva_cli.specs.Replies.{AreLed, IsMoved, IsTakenBack, LeadsBy, at_start, cycles_of, newest_after, next_standing, replies_of}
 use Rattle.diva_cli.specs.Runs.{IsUnflushed, start_in}
 use Rattle.diva_cli.specs.Sessions.{AreHandedInParts, ByOtherLegs, IsDrivenInParts, IsSessionFrom, IsSessionOfFiles}
@@ -377,15 +377,16 @@ module _ {C S : Type 0} (gives : Meaning C) (options : DebugOptions) (bytes : Fi
   puts : PutsTo sink text result
   puts = subst (λ (m : Timed). PutsTo sink (replies_of m.arch p.done.done at_start (newest_after m p.parts)) result) is.ready.begun p.done.put
 
-  pub wrote_replies : result ≡ Ok tt → WritesWhole gives (Debug options) bytes (change core after) sink 0
+  pub wrote_replies : result ≡ Ok tt → WritesWhole gives (Debug options) bytes (asking core after no_lanes) sink 0
   wrote_replies ok =
       record {
         text = text;
         means = has_replies (Ok 0) (refl, subst (λ (r : Result (Unit {0}) SinkFailed). OnOk r (p.done.left ≡ [])) ok p.done.whole) tt;
-        written = (subst (λ (r : Result (Unit {0}) SinkFailed). PutsTo sink text r) ok puts).ok;
+        lanes = refl;
+        written = (let q = subst (λ (r : Result (Unit {0}) SinkFailed). PutsTo sink text r) ok puts in record { appended = q.ok; uncounted = q.uncounted });
       }
 
-  pub cut_replies : (e : SinkFailed) → result ≡ Err e → WritesPart gives (Debug options) bytes (change core after) sink
+  pub cut_replies : (e : SinkFailed) → result ≡ Err e → WritesPart gives (Debug options) bytes (asking core after no_lanes) sink
   cut_replies e err =
       let q = subst (λ (r : Result (Unit {0}) SinkFailed). PutsTo sink text r) err puts in
       let b : CutAt p.done.done first p.parts (sink.contents sink.before) (sink.contents sink.after) =
@@ -397,5 +398,6 @@ module _ {C S : Type 0} (gives : Meaning C) (options : DebugOptions) (bytes : Fi
         put = put;
         text = text;
         means = has_replies (Err put) tt (record { earlier = b.earlier; last = b.last; in_order = b.in_order; holds = refl });
+        lanes = refl;
         written = b.holds;
       }

@@ -29,11 +29,11 @@ use Rattle.diva_args.specs.Options.{SoakOptions, longest_soak}
 use Rattle.diva_args.specs.declared.job.CoreChoice.{CoreChoice}
 use Rattle.diva_args.specs.declared.job.CoreChoice.TheVariants.{Own, Scalar}
 use Rattle.diva_args.specs.declared.job.Job.TheVariants.{Soak}
-use Rattle.diva_cli.specs.Changes.{PutsTo, SinkChange, change}
+use Rattle.diva_cli.specs.Changes.{PutsTo, SinkChange, change, asking}
 use Rattle.diva_cli.specs.Wanted.{FileBytes}
 use Rattle.diva_cli.specs.SoakTexts.{HasSoaked, IsSoakRun, soak_cycles, soak_setup, soak_start}
 use Rattle.diva_cli.specs.Driven.{AreHanded, ByTurns}
-use Rattle.diva_cli.specs.Parts.{Soaks, WritesPart, WritesWhole}
+use Rattle.diva_cli.specs.Parts.{Soaks, WritesPart, WritesWhole, no_lanes}
 use Rattle.diva_cli.proofs.Handing.{drives_for}
 use Rattle.diva_cli.proofs.Running.{handed_for, run_from_start}
 
@@ -184,8 +184,8 @@ module _ {C S : Type 0} (gives : Meaning C) (options : SoakOptions) (bytes : Fil
     whole = whole;
   }
 
-  pub wrote_soaked : PutsTo {E = SinkFailed} sink (soak_text first second) (Ok tt) → WritesWhole gives (Soak options) bytes (change core after) sink 0
-  wrote_soaked put = record { text = soak_text first second; means = means (Ok 0) refl; written = put.ok }
+  pub wrote_soaked : PutsTo {E = SinkFailed} sink (soak_text first second) (Ok tt) → WritesWhole gives (Soak options) bytes (asking core after no_lanes) sink 0
+  wrote_soaked put = record { text = soak_text first second; means = means (Ok 0) refl; lanes = refl; written = record { appended = put.ok; uncounted = put.uncounted } }
 
-  pub cut_soaked : (e : SinkFailed) → PutsTo sink (soak_text first second) (Err e) → WritesPart gives (Soak options) bytes (change core after) sink
-  cut_soaked e put = record { rose = put.failed; put = []; text = soak_text first second; means = means (Err []) tt; written = past_nothing (sink.contents sink.before) (sink.contents sink.after) (soak_text first second) put.part }
+  pub cut_soaked : (e : SinkFailed) → PutsTo sink (soak_text first second) (Err e) → WritesPart gives (Soak options) bytes (asking core after no_lanes) sink
+  cut_soaked e put = record { rose = put.failed; put = []; text = soak_text first second; means = means (Err []) tt; lanes = refl; written = past_nothing (sink.contents sink.before) (sink.contents sink.after) (soak_text first second) put.part }

@@ -74,19 +74,23 @@ stops_later contents before now ws vs Memory bytes sound s = s
 stops_later contents before now ws vs (Unread what) bytes sound s = at_later contents (IsUnread contents before now (unreadable_line what)) ws vs bytes sound s
 stops_later contents before now ws vs (Refused what kind place) bytes sound s = at_later contents (StopsLoading contents before now (refused_line what kind place)) ws vs bytes sound s
 
--- the counts of faults are told from earlier on; for these files nothing had been counted
-stops_since : (contents : Contents) (b0 b1 now : What → ℕ) (ws : List Wanted) (stop : Stop) → ((w : What) → b0 w ≤ b1 w) → AreUncounted b0 b1 ws → Stops contents b1 now ws stop → Stops contents b0 now ws stop
-stops_since contents b0 b1 now ws Memory f u s = s
-stops_since contents b0 b1 now ws (Unread what) f u s =
+-- the counts of faults are told from earlier on; nothing had been counted by then
+uncounted_all : (before now : What → ℕ) (ws : List Wanted) → ((w : What) → now w ≡ before w) → AreUncounted before now ws
+uncounted_all before now [] same = tt
+uncounted_all before now (w ∷ ws) same = (same w.what, uncounted_all before now ws same)
+
+stops_since : (contents : Contents) (b0 b1 now : What → ℕ) (ws : List Wanted) (stop : Stop) → ((w : What) → b1 w ≡ b0 w) → Stops contents b1 now ws stop → Stops contents b0 now ws stop
+stops_since contents b0 b1 now ws Memory same s = λ w. s w ∙ same w
+stops_since contents b0 b1 now ws (Unread what) same s =
     at_weaker contents (IsUnread contents b1 now (unreadable_line what)) (IsUnread contents b0 now (unreadable_line what)) b0 b1 ws
-    (λ w behind u h. record { cause = go w h.cause; line = h.line; uncounted = uncounted_since b0 b1 now behind u h.uncounted }) u s
+    (λ w behind u h. record { cause = go w h.cause; line = h.line; uncounted = uncounted_since b0 b1 now behind u h.uncounted }) (uncounted_all b0 b1 ws same) s
   where
     go : (w : Wanted) → Rose (b1 w.what) (now w.what) ⊎ IsMissing contents w.name → Rose (b0 w.what) (now w.what) ⊎ IsMissing contents w.name
-    go w (inl rose) = inl (let a = f w.what in omega arith)
+    go w (inl rose) = inl (subst (λ n. Rose n (now w.what)) (same w.what) rose)
     go w (inr missing) = inr missing
-stops_since contents b0 b1 now ws (Refused what kind place) f u s =
+stops_since contents b0 b1 now ws (Refused what kind place) same s =
     at_weaker contents (StopsLoading contents b1 now (refused_line what kind place)) (StopsLoading contents b0 now (refused_line what kind place)) b0 b1 ws
-    (λ w behind u h. record { refused = h.refused; uncounted = uncounted_since b0 b1 now behind u h.uncounted }) u s
+    (λ w behind u h. record { refused = h.refused; uncounted = uncounted_since b0 b1 now behind u h.uncounted }) (uncounted_all b0 b1 ws same) s
 
 -- ---- the files of a machine
 
@@ -101,28 +105,28 @@ at_image contents setup f0 f1 stop others s =
 
 module _ (contents : Contents) (setup : Setup) (image : Layout) (h : Holds contents (file_with setup.room Image setup.image) (λ bytes. image_in setup.room bytes ≡ image)) where
   -- it stops at the script
-  pub at_script : (contents1 : Contents) (f0 f1 f2 : What → ℕ) (stop : Stop) → contents1 ≡ contents → ((w : What) → f0 w ≤ f1 w)
-      → ((w : What) → w ≢ Image → f1 w ≡ f0 w) → ((w : What) → w ≢ Script → f2 w ≡ f1 w)
+  pub at_script : (contents1 : Contents) (f0 f1 f2 : What → ℕ) (stop : Stop) → contents1 ≡ contents
+      → ((w : What) → f1 w ≡ f0 w) → ((w : What) → w ≢ Script → f2 w ≡ f1 w)
       → Stops contents1 f1 f2 (file_if Script setup.script) stop
       → Stops contents f0 f2 (machine_files setup) stop
-  at_script contents1 f0 f1 f2 stop same le first second s =
+  at_script contents1 f0 f1 f2 stop same first second s =
       stops_later contents f0 f2 (file_with setup.room Image setup.image ∷ []) (file_if Script setup.script ++ file_if TapeFile (tape_name setup.core)) stop (λ _. h.bytes) (h.sound, tt)
       (stops_front contents f0 f2 (file_if Script setup.script) (file_if TapeFile (tape_name setup.core)) stop
-      (uncounted_if f0 f2 TapeFile (tape_name setup.core) (second TapeFile (λ e. cc) ∙ first TapeFile (λ e. cc)))
-      (stops_since contents f0 f1 f2 (file_if Script setup.script) stop le (uncounted_if f0 f1 Script setup.script (first Script (λ e. cc)))
+      (uncounted_if f0 f2 TapeFile (tape_name setup.core) (second TapeFile (λ e. cc) ∙ first TapeFile))
+      (stops_since contents f0 f1 f2 (file_if Script setup.script) stop first
       (subst (λ (t : Contents). Stops t f1 f2 (file_if Script setup.script) stop) same s)))
 
   -- it stops at the tape
-  pub at_tape : (contents1 contents2 : Contents) (f0 f1 f2 : What → ℕ) (stop : Stop) (rows : List Row) → contents1 ≡ contents → contents2 ≡ contents → ((w : What) → f0 w ≤ f1 w)
-      → f1 TapeFile ≡ f0 TapeFile
+  pub at_tape : (contents1 contents2 : Contents) (f0 f1 f2 : What → ℕ) (stop : Stop) (rows : List Row) → contents1 ≡ contents → contents2 ≡ contents
+      → ((w : What) → f1 w ≡ f0 w)
       → HoldsRows contents1 setup.script rows
       → Stops contents2 f1 f2 (file_if TapeFile (tape_name setup.core)) stop
       → Stops contents f0 f2 (machine_files setup) stop
-  at_tape contents1 contents2 f0 f1 f2 stop rows same1 same2 le none r s =
+  at_tape contents1 contents2 f0 f1 f2 stop rows same1 same2 none r s =
       let k : HoldsRows contents setup.script rows = subst (λ (t : Contents). HoldsRows t setup.script rows) same1 r in
       stops_later contents f0 f2 (file_with setup.room Image setup.image ∷ []) (file_if Script setup.script ++ file_if TapeFile (tape_name setup.core)) stop (λ _. h.bytes) (h.sound, tt)
       (stops_later contents f0 f2 (file_if Script setup.script) (file_if TapeFile (tape_name setup.core)) stop (λ _. k.bytes) k.sound
-      (stops_since contents f0 f1 f2 (file_if TapeFile (tape_name setup.core)) stop le (uncounted_if f0 f1 TapeFile (tape_name setup.core) none)
+      (stops_since contents f0 f1 f2 (file_if TapeFile (tape_name setup.core)) stop none
       (subst (λ (t : Contents). Stops t f1 f2 (file_if TapeFile (tape_name setup.core)) stop) same2 s)))
 
 -- ---- the files of a session
@@ -135,10 +139,10 @@ at_machine contents options f0 f1 stop none s = stops_front contents f0 f1 (mach
 
 -- the files of a machine can be used, and it stops at the commands
 pub at_commands : (contents contents1 : Contents) (options : DebugOptions) (bytes : FileBytes) (f0 f1 f2 : What → ℕ) (stop : Stop) → AreSound contents (machine_files options.setup) bytes
-    → contents1 ≡ contents → ((w : What) → f0 w ≤ f1 w) → f1 Commands ≡ f0 Commands
+    → contents1 ≡ contents → ((w : What) → f1 w ≡ f0 w)
     → Stops contents1 f1 f2 (file Commands options.commands ∷ []) stop
     → Stops contents f0 f2 (session_files options) stop
-at_commands contents contents1 options bytes f0 f1 f2 stop sound same le none s =
+at_commands contents contents1 options bytes f0 f1 f2 stop sound same none s =
     stops_later contents f0 f2 (machine_files options.setup) (file Commands options.commands ∷ []) stop bytes sound
-    (stops_since contents f0 f1 f2 (file Commands options.commands ∷ []) stop le (none, tt)
+    (stops_since contents f0 f1 f2 (file Commands options.commands ∷ []) stop none
     (subst (λ (t : Contents). Stops t f1 f2 (file Commands options.commands ∷ []) stop) same s))

@@ -1,6 +1,7 @@
 -- What the contracts of this crate cite.
 pub mod Asked
 pub mod Changes
+pub mod Lanes
 pub mod Lines
 pub mod Wanted
 pub mod Stops
@@ -19,6 +20,7 @@ pub mod DrawTexts
 pub mod Texts
 pub mod Answers
 pub mod Statuses
+pub mod Promises
 pub mod Sure
 pub mod Determined
 -- what only private contracts cite

@@ -41,7 +41,7 @@ use Rattle.diva_cli.specs.declared.stop.Stop.TheVariants.{Memory, Unread, Refuse
 use Rattle.diva_cli.specs.declared.stop.Failure.{Failure}
 use Rattle.diva_cli.specs.declared.stop.Failure.TheVariants.{Cut, Memory as NoMemory}
 use Rattle.diva_cli.specs.Asked.{Asked}
-use Rattle.diva_cli.specs.Changes.{Change, FileFaults, HasFailed, SinkChange, Takes, TakesPart, TakesPast}
+use Rattle.diva_cli.specs.Changes.{Asking, Change, HasFailed, IsUncounted, LanesAsked, SinkChange, Takes, TakesPart, TakesPast, change, core_of}
 use Rattle.diva_cli.specs.Lines.{unreadable_line, refused_line}
 use Rattle.diva_cli.specs.Wanted.{Wanted, FileBytes, HasFault, IsSound, AreSound, file_if, machine_files, session_files, tape_name, wanted}
 use Rattle.diva_cli.specs.Runs.{AreRows, AreLists, start_in}
@@ -49,15 +49,13 @@ use Rattle.diva_cli.specs.DuoTexts.{duo_start}
 use Rattle.diva_cli.specs.CampaignTexts.{campaign_start, campaign_tally, first_run}
 use Rattle.diva_cli.specs.SoakTexts.{soak_cycles, soak_start}
 use Rattle.diva_cli.specs.Stops.{StopsAt, IsUnread, StopsLoading}
-use Rattle.diva_cli.specs.Texts.{HasText}
-use Rattle.diva_cli.specs.Answers.{IsAnswer}
-use Rattle.diva_cli.specs.Statuses.{HasNoMemory, IsCut}
+use Rattle.diva_cli.specs.Texts.{AsksLanes, HasText}
 
 -- ---- loading
 
 -- why the loading of these files stopped
 abbrev pub Stops : Contents → (before now : What → ℕ) → List Wanted → Stop → Type 0
-Stops contents before now ws Memory = Unit {0}
+Stops contents before now ws Memory = IsUncounted (change before now)
 Stops contents before now ws (Unread what) = StopsAt contents (IsUnread contents before now (unreadable_line what)) ws
 Stops contents before now ws (Refused what kind place) = StopsAt contents (StopsLoading contents before now (refused_line what kind place)) ws
 
@@ -198,39 +196,32 @@ abbrev pub WritesMisused : {S : Type 0} → ArgsFault → (usage : Text) → Sin
 WritesMisused Usage usage sink result = WritesLine usage 2 sink result
 WritesMisused NoWords usage sink result = (result ≡ Err NoMemory) × (sink.after ≡ sink.before)
 
-pub record WritesWhole {C S : Type 0} (gives : Meaning C) (job : Job) (bytes : FileBytes) (core : Change C) (sink : SinkChange S)
+pub record WritesWhole {C S : Type 0} (gives : Meaning C) (job : Job) (bytes : FileBytes) (asks : Asking C) (sink : SinkChange S)
     (status : ℕ) : Type 0 where
   pub text : Text
-  pub means : HasText gives job bytes core (Ok status) text
+  pub means : HasText gives job bytes (core_of asks) (Ok status) text
+  pub lanes : AsksLanes gives job bytes (core_of asks) (Ok status) text means asks.lanes
   pub written : Takes sink text
 
-pub record WritesPart {C S : Type 0} (gives : Meaning C) (job : Job) (bytes : FileBytes) (core : Change C) (sink : SinkChange S) : Type 0 where
+pub record WritesPart {C S : Type 0} (gives : Meaning C) (job : Job) (bytes : FileBytes) (asks : Asking C) (sink : SinkChange S) : Type 0 where
   pub rose : HasFailed sink
   pub put : Text
   pub text : Text
-  pub means : HasText gives job bytes core (Err put) text
+  pub means : HasText gives job bytes (core_of asks) (Err put) text
+  pub lanes : AsksLanes gives job bytes (core_of asks) (Err put) text means asks.lanes
   pub written : TakesPast sink put text
 
 -- the text of a job was written, with its status; or a prefix of it
-abbrev pub WritesText : {C S : Type 0} → Meaning C → Job → FileBytes → Change C → SinkChange S → Result ℕ Failure → Type 0
-WritesText gives job bytes core sink (Ok status) = WritesWhole gives job bytes core sink status
-WritesText gives job bytes core sink (Err Cut) = WritesPart gives job bytes core sink
-WritesText gives job bytes core sink (Err NoMemory) = ⊥
+abbrev pub WritesText : {C S : Type 0} → Meaning C → Job → FileBytes → Asking C → SinkChange S → Result ℕ Failure → Type 0
+WritesText gives job bytes asks sink (Ok status) = WritesWhole gives job bytes asks sink status
+WritesText gives job bytes asks sink (Err Cut) = WritesPart gives job bytes asks sink
+WritesText gives job bytes asks sink (Err NoMemory) = ⊥
 
 -- ---- the answer
 
-pub record WritesAnswer {C S : Type 0} (gives : Meaning C) (asked : Asked) (files : FileFaults) (core : Change C) (sink : SinkChange S)
-    (status : ℕ) : Type 0 where
-  pub text : Text
-  pub answer : IsAnswer gives asked files core (Ok status) text
-  pub written : Takes sink text
-
--- what each command promises, and so the whole program: the answer was written, with its status; or a prefix of it; or memory ran
--- out, no core was asked, and nothing was put to the sink
-abbrev pub KeepsPromises : {C S : Type 0} → Meaning C → Asked → FileFaults → Change C → SinkChange S → Result ℕ Failure → Type 0
-KeepsPromises gives asked files core sink (Ok status) = WritesAnswer gives asked files core sink status
-KeepsPromises gives asked files core sink (Err Cut) = IsCut gives asked files core sink
-KeepsPromises gives asked files core sink (Err NoMemory) = HasNoMemory core sink
+-- no lane was asked anything
+abbrev pub no_lanes : LanesAsked
+no_lanes liar asked = liar ≡ None
 
 -- what was asked is what was read of the words: a job; or none, which is answered by this line; or memory ran out, which says nothing
 -- of the words
@@ -239,9 +230,3 @@ pub record IsRead (asked : Asked) (contents : Contents) (usage : Text) (read : R
   pub line : asked.usage ≡ usage
   pub job : IfOk read (λ job. asked.job ≡ Some job)
   pub none : IfErr read (λ fault. fault ≡ Usage → asked.job ≡ None)
-
--- the status that the program ends with
-abbrev pub status_of : Result ℕ Failure → ℕ
-status_of (Ok status) = status
-status_of (Err Cut) = 9
-status_of (Err NoMemory) = 10

@@ -5,7 +5,7 @@ use Rattle.diva_outside.specs.Text.{Text}
 use Rattle.diva_core.specs.History.{Meaning}
 use Rattle.diva_args.specs.declared.job.Job.{Job}
 use Rattle.diva_cli.specs.Asked.{Asked}
-use Rattle.diva_cli.specs.Changes.{Change, FileFaults, HasFailed, SinkChange, Takes, TakesPast}
+use Rattle.diva_cli.specs.Changes.{Asking, FileFaults, HasFailed, IsUnasked, IsUncounted, SinkChange, Takes, TakesPast}
 use Rattle.diva_cli.specs.Wanted.{Wanted, wanted, IsFaultless, file_limit}
 use Rattle.diva_cli.specs.Texts.{CanEnd}
 use Rattle.diva_cli.specs.Stops.{IsRefused}
@@ -16,30 +16,34 @@ abbrev pub IsStatus : ℕ → Type 0
 IsStatus status =
     (status ≡ 0) ⊎ (status ≡ 2) ⊎ (status ≡ 3) ⊎ (status ≡ 4) ⊎ (status ≡ 5) ⊎ (status ≡ 8) ⊎ (status ≡ 9) ⊎ (status ≡ 10)
 
--- statuses 0, 3 and 4: all files are sound, and the job's whole text was written, with the status that goes with it
-pub record HasWorked {C S : Type 0} (gives : Meaning C) (asked : Asked) (core : Change C) (sink : SinkChange S) (status : ℕ) : Type 0 where
+-- statuses 0, 3 and 4: all files are sound, and the job's whole text was written, with the status that goes with it; no load and
+-- no put failed
+pub record HasWorked {C S : Type 0} (gives : Meaning C) (asked : Asked) (files : FileFaults) (asks : Asking C) (sink : SinkChange S)
+    (status : ℕ) : Type 0 where
   pub text : Text
-  pub done : HasDone gives asked core (Ok status) text
+  pub done : HasDone gives asked files asks (Ok status) text
   pub written : Takes sink text
 
--- statuses 2, 5 and 8: nothing was run, no core was asked, and just the one line was written
-pub record HasLine {C S : Type 0} (cause : Text → Type 0) (core : Change C) (sink : SinkChange S) : Type 0 where
+-- statuses 2, 5 and 8: nothing was run, neither the core nor a lane was asked, and just the one line was written
+pub record HasLine {C S : Type 0} (cause : Text → Type 0) (asks : Asking C) (sink : SinkChange S) : Type 0 where
   pub text : Text
   pub caused : cause text
-  pub unasked : core.after ≡ core.before
+  pub unasked : IsUnasked asks
   pub written : Takes sink text
 
 -- status 9: the sink's count of faults rose, and a prefix of the answer's text was written, with all that had been put already
-pub record IsCut {C S : Type 0} (gives : Meaning C) (asked : Asked) (files : FileFaults) (core : Change C) (sink : SinkChange S) : Type 0 where
+pub record IsCut {C S : Type 0} (gives : Meaning C) (asked : Asked) (files : FileFaults) (asks : Asking C) (sink : SinkChange S) : Type 0 where
   pub rose : HasFailed sink
   pub put : Text
   pub text : Text
-  pub answer : IsAnswer gives asked files core (Err put) text
+  pub answer : IsAnswer gives asked files asks (Err put) text
   pub written : TakesPast sink put text
 
--- status 10: memory ran out, no core was asked, and the sink is as it was, so nothing was put to it
-pub record HasNoMemory {C S : Type 0} (core : Change C) (sink : SinkChange S) : Type 0 where
-  pub unasked : core.after ≡ core.before
+-- status 10: memory ran out, and no load failed; neither the core nor a lane was asked, and the sink is as it was, so nothing was
+-- put to it
+pub record HasNoMemory {C S : Type 0} (files : FileFaults) (asks : Asking C) (sink : SinkChange S) : Type 0 where
+  pub uncounted : IsUncounted files
+  pub unasked : IsUnasked asks
   pub unput : sink.after ≡ sink.before
 
 -- the words ask for no job, or for one that wants no file
@@ -82,8 +86,9 @@ pub record CanWork (asked : Asked) : Type 0 where
   pub known : AreKnownSound asked.contents (wanted job)
 
 -- the whole text of the job was written, and the status is the one that goes with it
-pub record HasEnded {C S : Type 0} (gives : Meaning C) (asked : Asked) (core : Change C) (sink : SinkChange S) (status : ℕ) : Type 0 where
+pub record HasEnded {C S : Type 0} (gives : Meaning C) (asked : Asked) (files : FileFaults) (asks : Asking C) (sink : SinkChange S)
+    (status : ℕ) : Type 0 where
   pub job : Job
   pub named : asked.job ≡ Some job
   pub ends : CanEnd job status
-  pub worked : HasWorked gives asked core sink status
+  pub worked : HasWorked gives asked files asks sink status

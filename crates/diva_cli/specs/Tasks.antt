@@ -1,6 +1,6 @@
 -- What is done with a machine and a core, and what is written of it as it goes.
 -- Only private contracts of this crate cite this: a reader of its promises can pass over it.
-use Rattle.std.specs.Prelude.{ℕ, ◌≡◌, ◌≤◌, ◌+◌, ◌^◌, List, [], ◌∷◌, ◌++◌, ◌⊎◌, length, map, Bool, true, false, Option, Result, Ok, OnOk, OnErr, ⊤}
+use Rattle.std.specs.Prelude.{ℕ, ◌≡◌, ◌≤◌, ◌+◌, ◌^◌, List, [], ◌∷◌, ◌++◌, ◌⊎◌, length, map, Bool, true, false, Option, None, Result, Ok, OnOk, OnErr, ⊤}
 use Rattle.std.specs.List.{All}
 use Rattle.diva_outside.specs.Text.{Text}
 use Rattle.diva_outside.specs.declared.sink.SinkFailed.{SinkFailed}
@@ -33,6 +33,8 @@ use Rattle.diva_args.specs.declared.job.Format.{Format}
 use Rattle.diva_args.specs.declared.job.LanePlace.{LanePlace}
 use Rattle.diva_drawing.specs.Rows.{Pen}
 use Rattle.diva_drawing.specs.Snapshot.{AreSnapshots, IsSnapshot, Snapshot}
+use Rattle.diva_vote.specs.Questions.{Question}
+use Rattle.diva_machine.specs.Asked.{asked_over}
 use Rattle.diva_debug.specs.Moves.{IsShort}
 use Rattle.diva_debug.specs.Rewindable.{Rewindable}
 use Rattle.diva_debug.specs.declared.command.Command.{Command}
@@ -152,6 +154,13 @@ Does (Trace cycles liar) machine lists sink result = IsWritten trace_lines (λ l
 Does (Tape cycles) machine lists sink result = IsWritten tape_line IsList cycles machine lists sink result
 Does (Draw format cycles liar) machine lists sink result = IsDrawn format cycles machine lists sink result
 
+-- the place of the liar, if lanes vote
+abbrev pub liar_of : Task → Option LanePlace
+liar_of (Quiet cycles liar) = liar
+liar_of (Trace cycles liar) = liar
+liar_of (Tape cycles) = None
+liar_of (Draw format cycles liar) = liar
+
 -- what is done for a run, with commit lines or without, and whether lanes vote, of which one lies
 abbrev pub run_task : (trace : Bool) → (cycles : ℕ) → (liar : Option LanePlace) → Task
 run_task false cycles liar = Quiet cycles liar
@@ -160,9 +169,11 @@ run_task true cycles liar = Trace cycles liar
 -- ---- by a core
 
 -- a core drove a machine, in turns that the core's meaning allows: for so many cycles at most, and for just so many where the machine
--- goes on
-pub record DrivesFor {D : Type 0} (gives : Meaning D) (cycles : ℕ) (machine : Change Timed) (core : Change D) : Type 0 where
+-- goes on; and this holds of what was asked in them
+pub record DrivesFor {D : Type 0} (gives : Meaning D) (cycles : ℕ) (machine : Change Timed) (core : Change D)
+    (this : List Question → Type 0) : Type 0 where
   pub turns : Turns gives machine.before core.before machine.after core.after
+  pub asked : this (asked_over machine.before (lists_of turns.history))
   pub most : machine.after.cycles ≤ machine.before.cycles + cycles
   pub whole : goes_on machine.after.arch ≡ true → machine.after.cycles ≡ machine.before.cycles + cycles
 

@@ -1,13 +1,18 @@
 -- The text of each command, and how the writing of it ended: with a status where it was written whole (`Ok`). Where the sink
 -- failed, the text is what was to be written by that time, and the end has what of it had been put already (`Err`).
-use Rattle.std.specs.Prelude.{◌≡◌, ◌⊎◌, ℕ, Result}
+use Rattle.std.specs.Prelude.{◌≡◌, ◌⊎◌, ℕ, List, [], Option, None, Result}
 use Rattle.diva_outside.specs.Text.{Text}
 use Rattle.diva_core.specs.History.{Meaning}
+use Rattle.diva_isa.specs.declared.record.Record.{Record}
 use Rattle.diva_args.specs.declared.job.Job.{Job}
 use Rattle.diva_args.specs.declared.job.Job.TheVariants.{Run, Tape, Duo, Debug, Asm, Dis, Migrate, Soak, Campaign, Draw}
-use Rattle.diva_cli.specs.Changes.{Change}
+use Rattle.diva_cli.specs.Changes.{Change, LanesAsked}
+use Rattle.diva_args.specs.Options.{Setup}
+use Rattle.diva_args.specs.declared.job.LanePlace.{LanePlace}
+use Rattle.diva_core.specs.Timed.{new_timed}
+use Rattle.diva_machine.specs.Asked.{asked_over}
 use Rattle.diva_cli.specs.Wanted.{FileBytes}
-use Rattle.diva_cli.specs.Runs.{HasRun}
+use Rattle.diva_cli.specs.Runs.{HasRun, start_in}
 use Rattle.diva_cli.specs.TapeTexts.{HasTape}
 use Rattle.diva_cli.specs.DebugTexts.{HasReplies}
 use Rattle.diva_cli.specs.ImageTexts.{HasAssembled, HasListing, HasMigrated}
@@ -29,6 +34,30 @@ HasText gives (Migrate options) bytes core ended text = HasMigrated options.room
 HasText gives (Soak options) bytes core ended text = HasSoaked gives options core ended text
 HasText gives (Campaign options) bytes core ended text = HasCampaign gives options bytes core ended text
 HasText gives (Draw options) bytes core ended text = HasDrawing gives options bytes core ended text
+
+-- ---- what lanes were asked for it
+
+-- all that is asked in the cycles of a run over files, of the lists that were handed over: of three lanes, if one has a place
+abbrev pub AsksInRun : Setup → (liar : Option LanePlace) → FileBytes → List (List Record) → LanesAsked → Type 0
+AsksInRun setup liar bytes lists lanes = lanes liar (asked_over (new_timed setup.config (start_in setup bytes)) lists)
+
+-- only a run asks lanes, where a place is given for a liar
+abbrev pub AsksLanes : {C : Type 0} → (gives : Meaning C) (job : Job) (bytes : FileBytes) (core : Change C) (ended : Result ℕ Text) (text : Text)
+    → HasText gives job bytes core ended text → LanesAsked → Type 0
+AsksLanes gives (Run options) bytes core ended text means lanes =
+    AsksInRun options.setup options.liar bytes means.of_files.run.driven.lists lanes
+AsksLanes gives (Tape options) bytes core ended text means lanes = lanes None []
+AsksLanes gives (Duo options) bytes core ended text means lanes = lanes None []
+AsksLanes gives (Debug options) bytes core ended text means lanes = lanes None []
+AsksLanes gives (Asm name) bytes core ended text means lanes = lanes None []
+AsksLanes gives (Dis name) bytes core ended text means lanes = lanes None []
+AsksLanes gives (Migrate options) bytes core ended text means lanes = lanes None []
+AsksLanes gives (Soak options) bytes core ended text means lanes = lanes None []
+AsksLanes gives (Campaign options) bytes core ended text means lanes = lanes None []
+AsksLanes gives (Draw options) bytes core ended text means lanes =
+    AsksInRun options.run.setup options.run.liar bytes means.of_files.run.driven.lists lanes
+
+-- ---- how a command ends
 
 -- the statuses of commands whose text was written whole
 abbrev pub IsDone : ℕ → Type 0

@@ -1,8 +1,9 @@
 // The command `asm`: it assembles a source, and writes the bytes of the image.
 ghost use Rattle.diva_args.specs.declared.job.Job.TheVariants.{Asm};
 ghost use Rattle.diva_cli.specs.Asked.{asked_for};
-ghost use Rattle.diva_cli.specs.Changes.{change, file_faults, sink_change};
-ghost use Rattle.diva_cli.specs.Parts.{KeepsPromises};
+ghost use Rattle.diva_cli.specs.Changes.{asking, file_faults, sink_change};
+ghost use Rattle.diva_cli.specs.Promises.{KeepsPromises};
+ghost use Rattle.diva_cli.specs.Parts.{no_lanes};
 
 use crate::files::{SourceFile, load};
 use crate::stop::Failure;
@@ -23,7 +24,7 @@ pub(crate) fn asm<F: Files, S: Sink, C: Core>(
     _core: &C,
 ) -> Result<u8, Failure>
     ensures { KeepsPromises C.gives (asked_for (Asm source) (F.contents files.old)) (file_faults F.faults files.old files.new)
-        (change _core.now _core.now) (sink_change S.contents S.faults sink.old sink.new) result }
+        (asking _core.now _core.now no_lanes) (sink_change S.contents S.faults sink.old sink.new) result }
 {
     let image = match load(alloc, files, &SourceFile, &source) {
         Ok(image) => image,

@@ -1,6 +1,6 @@
 // The command `campaign`: it runs an image under `lockstep` as it is, and then once for each bit of each field of the first claim of
 // each cycle up to one, with that bit flipped; and counts what became of these runs.
-ghost use Rattle.std.specs.Prelude.{◌≡◌, ◌≤◌, ◌<◌, ◌^◌, ◌++◌, ◌∷◌, [], List, IfErr, IfOk};
+ghost use Rattle.std.specs.Prelude.{◌≡◌, ◌≤◌, ◌<◌, ◌^◌, ◌++◌, ◌∷◌, [], List, IfErr, IfOk, OnOk};
 ghost use Rattle.diva_core.specs.Timed.{Timed};
 ghost use Rattle.diva_hart.specs.Start.{start_of};
 ghost use Rattle.diva_image.specs.ImageLayout.{layout};
@@ -9,11 +9,14 @@ ghost use Rattle.diva_args.specs.declared.campaign.CampaignOptions.{CampaignOpti
 ghost use Rattle.diva_args.specs.declared.job.Job.TheVariants.{Campaign as Command};
 ghost use Rattle.diva_cli.specs.Asked.{asked_for};
 ghost use Rattle.diva_cli.specs.CampaignTexts.{campaign_tally, first_run, flipped_runs, is_same, run_under, tally_of};
-ghost use Rattle.diva_cli.specs.Changes.{PutsTo, change, file_faults, sink_change};
+ghost use Rattle.diva_cli.specs.Changes.{IsUncounted, PutsTo, asking, file_faults, sink_change};
+ghost use Rattle.diva_cli.specs.Lanes.{AreHonest, are_asked};
 ghost use Rattle.diva_cli.specs.Wanted.{FileBytes, wanted};
-ghost use Rattle.diva_cli.specs.Parts.{KeepsPromises, AreCampaignRuns, HoldsCampaign, Stops, WritesText};
+ghost use Rattle.diva_cli.specs.Promises.{KeepsPromises};
+ghost use Rattle.diva_cli.specs.Parts.{AreCampaignRuns, HoldsCampaign, Stops, WritesText, no_lanes};
 
 use crate::files::{ImageFile, load};
+use crate::lanes::Lanes;
 use crate::scripted::drive_scripted;
 use crate::stop::{Failure, Stop};
 use crate::writing::{end_status, write_stop};
@@ -25,21 +28,24 @@ use diva_machine::{Config, Machine};
 use diva_outside::{Files, Sink, SinkFailed, put_lines};
 use diva_tape::Lockstep;
 use diva_trace::{Tally, count_line, end_line_of, write_output, write_registers, write_tally};
+use diva_vote::Lane;
 use std::alloc::{AllocError, Global};
 
 /// Runs an image with each flip, and then writes what the runs came to. Nothing is written before the last one; the core that is
-/// handed in can't be asked.
-pub(crate) fn campaign<F: Files, S: Sink, C: Core>(
+/// handed in can't be asked, and no lane is.
+pub(crate) fn campaign<F: Files, S: Sink, C: Core, L: Lane>(
     alloc: Global,
     options: CampaignOptions,
     files: &mut F,
     sink: &mut S,
     _core: &C,
+    lanes: &mut Lanes<L>,
 ) -> Result<u8, Failure>
+    requires { AreHonest L.honest lanes.old }
     ensures { KeepsPromises C.gives (asked_for (Command options) (F.contents files.old)) (file_faults F.faults files.old files.new)
-        (change _core.now _core.now) (sink_change S.contents S.faults sink.old sink.new) result }
+        (asking _core.now _core.now (are_asked L.says lanes.old lanes.new)) (sink_change S.contents S.faults sink.old sink.new) result }
 {
-    match load_and_run(alloc, files, &options) {
+    match load_and_run(alloc, files, &options, lanes) {
         Ok(runs) => show(&runs, sink, _core),
         Err(stop) => write_stop(stop, sink),
     }
@@ -55,63 +61,76 @@ struct CampaignRuns {
 }
 
 /// The runs of the image that the options name. All memory that is ever taken is taken here.
-fn load_and_run<F: Files>(
+fn load_and_run<F: Files, L: Lane>(
     alloc: Global,
     files: &mut F,
     options: &CampaignOptions,
+    lanes: &mut Lanes<L>,
 ) -> Result<CampaignRuns, Stop>
+    requires { AreHonest L.honest lanes.old }
+    ensures lanes { lanes.new ≡ lanes.old }
+    ensures uncounted { OnOk result (IsUncounted (file_faults F.faults files.old files.new)) }
     ensures runs { IfOk result (HoldsCampaign (F.contents files.old) options.now) }
     ensures stopped { IfErr result (λ stop. Stops (F.contents files.old) (F.faults files.old)
         (F.faults files.new) (wanted (Command options.now)) stop) }
 {
     let image = load(alloc, files, &ImageFile { room: 0 }, &options.image)?;
-    let runs = run_all(alloc, &image, options.last, options.cycles)?;
+    let runs = run_all(alloc, &image, options.last, options.cycles, lanes)?;
     Ok(runs)
 }
 
 /// The run without a script, and those with a flip each.
-fn run_all(
+fn run_all<L: Lane>(
     alloc: Global,
     image: &Image,
     last: LastCycle,
     cycles: CampaignCycles,
+    lanes: &mut Lanes<L>,
 ) -> Result<CampaignRuns, AllocError>
+    requires { AreHonest L.honest lanes.old }
+    ensures lanes { lanes.new ≡ lanes.old }
     ensures first { IfOk result (λ runs. runs.first.timed ≡ first_run cycles (start_of (layout image.now))) }
     ensures tally { IfOk result (λ runs. runs.tally ≡ campaign_tally last cycles (start_of (layout image.now))) }
 {
-    let first = run_under(alloc, image, &Script::none(alloc), cycles)?;
-    let tally = run_flipped(alloc, image, &first, last, cycles)?;
+    let first = run_under(alloc, image, &Script::none(alloc), cycles, lanes)?;
+    let tally = run_flipped(alloc, image, &first, last, cycles, lanes)?;
     Ok(CampaignRuns { first, tally })
 }
 
 /// What is counted of the runs with a flip each. The machine of each is made anew, and dropped once it is counted.
-fn run_flipped(
+fn run_flipped<L: Lane>(
     alloc: Global,
     image: &Image,
     first: &Machine,
     last: LastCycle,
     cycles: CampaignCycles,
+    lanes: &mut Lanes<L>,
 ) -> Result<Tally, AllocError>
-    ensures { IfOk result (λ tally. tally
+    requires { AreHonest L.honest lanes.old }
+    ensures lanes { lanes.new ≡ lanes.old }
+    ensures tally { IfOk result (λ tally. tally
         ≡ tally_of first.now.timed (flipped_runs last cycles (start_of (layout image.now)))) }
 {
     let mut tally = Tally::default();
     for place in 0..FLIPS_IN_CYCLE * last.get() {
         let script = Script::of_row(alloc, flip_at(place))?;
-        let machine = run_under(alloc, image, &script, cycles)?;
+        let machine = run_under(alloc, image, &script, cycles, lanes)?;
         count_run(&mut tally, first, &machine);
     }
     Ok(tally)
 }
 
 /// A new machine that begins with an image, and has run under `lockstep` with a script: for so many cycles, or to its end.
-fn run_under(
+fn run_under<L: Lane>(
     alloc: Global,
     image: &Image,
     script: &Script,
     cycles: CampaignCycles,
+    lanes: &mut Lanes<L>,
 ) -> Result<Machine, AllocError>
-    ensures { IfOk result (λ m. m.timed ≡ run_under script.now cycles (start_of (layout image.now))) }
+    requires { AreHonest L.honest lanes.old }
+    ensures lanes { lanes.new ≡ lanes.old }
+    ensures ran { IfOk result (λ m. m.timed ≡ run_under script.now cycles (start_of (layout image.now))) }
 {
     let mut machine = Machine::new(alloc, image, Config::default())?;
     drive_scripted(
@@ -120,6 +139,7 @@ fn run_under(
         script,
         u64::from(cycles.get()),
         None,
+        lanes,
     );
     Ok(machine)
 }
@@ -163,7 +183,7 @@ fn is_same(first: &Machine, last: &Machine) -> bool
 fn show<S: Sink, C: Core>(runs: &CampaignRuns, sink: &mut S, _core: &C) -> Result<u8, Failure>
     ensures { (options : Options) (bytes : FileBytes) → AreCampaignRuns options bytes runs.now
         → WritesText C.gives (Command options) bytes
-        (change _core.now _core.now) (sink_change S.contents S.faults sink.old sink.new) result }
+        (asking _core.now _core.now no_lanes) (sink_change S.contents S.faults sink.old sink.new) result }
 {
     write_runs(runs, sink)?;
     Ok(end_status(&runs.first))

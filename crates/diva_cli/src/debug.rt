@@ -6,9 +6,10 @@ ghost use Rattle.diva_core.specs.Machine.{IsConfig};
 ghost use Rattle.diva_debug.specs.Moves.{IsShort};
 ghost use Rattle.diva_cli.specs.Asked.{asked_for};
 ghost use Rattle.diva_cli.specs.Replies.{keep};
-ghost use Rattle.diva_cli.specs.Changes.{change, file_faults, sink_change};
+ghost use Rattle.diva_cli.specs.Changes.{asking, file_faults, sink_change};
 ghost use Rattle.diva_cli.specs.Wanted.{FileBytes, file_limit};
-ghost use Rattle.diva_cli.specs.Parts.{KeepsPromises, IsSession, WritesText};
+ghost use Rattle.diva_cli.specs.Promises.{KeepsPromises};
+ghost use Rattle.diva_cli.specs.Parts.{IsSession, WritesText, no_lanes};
 
 use crate::driving::reply_by;
 use crate::loading::{Ready, SessionReady, make_session};
@@ -30,7 +31,7 @@ pub(crate) fn debug<F: Files, S: Sink, C: Core>(
     core: &mut C,
 ) -> Result<u8, Failure>
     ensures { KeepsPromises C.gives (asked_for (Debug options) (F.contents files.old)) (file_faults F.faults files.old files.new)
-        (change core.old core.new) (sink_change S.contents S.faults sink.old sink.new) result }
+        (asking core.old core.new no_lanes) (sink_change S.contents S.faults sink.old sink.new) result }
 {
     match make_session(alloc, files, &options) {
         Ok(session) => debug_ready(session, options, sink, core),
@@ -54,7 +55,7 @@ fn debug_ready<S: Sink, C: Core>(
     requires short { All IsShort session.commands.items }
     ensures { (bytes : FileBytes) → IsSession options bytes session
         → WritesText C.gives (Debug options) bytes
-        (change core.old core.new) (sink_change S.contents S.faults sink.old sink.new) result }
+        (asking core.old core.new no_lanes) (sink_change S.contents S.faults sink.old sink.new) result }
 {
     let SessionReady {
         ready,

@@ -3,8 +3,9 @@ ghost use Rattle.std.specs.Prelude.{◌≡◌, ◌+◌, ◌≤◌, ◌<◌, leng
 ghost use Rattle.diva_args.specs.declared.job.Job.TheVariants.{Dis};
 ghost use Rattle.diva_asm.specs.Listing.{list_line, word_at};
 ghost use Rattle.diva_cli.specs.Asked.{asked_for};
-ghost use Rattle.diva_cli.specs.Changes.{change, file_faults, sink_change};
-ghost use Rattle.diva_cli.specs.Parts.{KeepsPromises};
+ghost use Rattle.diva_cli.specs.Changes.{asking, file_faults, sink_change};
+ghost use Rattle.diva_cli.specs.Promises.{KeepsPromises};
+ghost use Rattle.diva_cli.specs.Parts.{no_lanes};
 
 use crate::files::{ImageFile, load};
 use crate::stop::Failure;
@@ -25,7 +26,7 @@ pub(crate) fn dis<F: Files, S: Sink, C: Core>(
     _core: &C,
 ) -> Result<u8, Failure>
     ensures { KeepsPromises C.gives (asked_for (Dis image) (F.contents files.old)) (file_faults F.faults files.old files.new)
-        (change _core.now _core.now) (sink_change S.contents S.faults sink.old sink.new) result }
+        (asking _core.now _core.now no_lanes) (sink_change S.contents S.faults sink.old sink.new) result }
 {
     let listed = match load(alloc, files, &ImageFile { room: 0 }, &image) {
         Ok(listed) => listed,

@@ -1,15 +1,16 @@
 // The command `duo`: two harts over one memory, each under a new core of the kind that is asked for.
-ghost use Rattle.std.specs.Prelude.{◌≡◌, ◌≤◌, ◌<◌, ◌+◌, ◌^◌, IfErr, IfOk};
+ghost use Rattle.std.specs.Prelude.{◌≡◌, ◌≤◌, ◌<◌, ◌+◌, ◌^◌, IfErr, IfOk, OnOk};
 ghost use Rattle.diva_image.specs.ImageLayout.{layout};
 ghost use Rattle.diva_duo.specs.Which.{machine_at, which};
 ghost use Rattle.diva_trace.specs.Text.{hart_text};
 ghost use Rattle.diva_args.specs.declared.job.Job.TheVariants.{Duo as Command};
 ghost use Rattle.diva_cli.specs.Asked.{asked_for};
-ghost use Rattle.diva_cli.specs.Changes.{PutsTo, change, file_faults, sink_change};
+ghost use Rattle.diva_cli.specs.Changes.{IsUncounted, PutsTo, asking, file_faults, sink_change};
 ghost use Rattle.diva_cli.specs.DuoTexts.{IsDuoRun, duo_start, duo_status, duo_text};
 ghost use Rattle.diva_cli.specs.Runs.{shown_dump};
 ghost use Rattle.diva_cli.specs.Wanted.{FileBytes, wanted};
-ghost use Rattle.diva_cli.specs.Parts.{KeepsPromises, HoldsDuo, IsDuoReady, Stops, WritesText, new_cores};
+ghost use Rattle.diva_cli.specs.Promises.{KeepsPromises};
+ghost use Rattle.diva_cli.specs.Parts.{HoldsDuo, IsDuoReady, Stops, WritesText, new_cores, no_lanes};
 
 use crate::files::{ImageFile, load};
 use crate::stop::{Failure, Stop};
@@ -32,7 +33,7 @@ pub(crate) fn duo<F: Files, S: Sink, C: Core>(
     _core: &C,
 ) -> Result<u8, Failure>
     ensures { KeepsPromises C.gives (asked_for (Command options) (F.contents files.old)) (file_faults F.faults files.old files.new)
-        (change _core.now _core.now) (sink_change S.contents S.faults sink.old sink.new) result }
+        (asking _core.now _core.now no_lanes) (sink_change S.contents S.faults sink.old sink.new) result }
 {
     match make_duo(alloc, files, &options) {
         Ok(mut ready) => duo_ready(&mut ready, &options, sink, _core),
@@ -58,6 +59,7 @@ struct DuoReady {
 
 /// Two harts that begin with the image, and their cores.
 fn make_duo<F: Files>(alloc: Global, files: &mut F, options: &DuoOptions) -> Result<DuoReady, Stop>
+    ensures uncounted { OnOk result (IsUncounted (file_faults F.faults files.old files.new)) }
     ensures ready { IfOk result (HoldsDuo (F.contents files.old) options.now) }
     ensures new { IfOk result (λ ready. ready.duo.duo.cycles ≡ 0) }
     ensures stopped { IfErr result (λ stop. Stops (F.contents files.old) (F.faults files.old)
@@ -92,7 +94,7 @@ fn duo_ready<S: Sink, C: Core>(
     requires { ready.old.duo.duo.cycles ≡ 0 }
     ensures { (bytes : FileBytes) → IsDuoReady options.now bytes ready.old
         → WritesText C.gives (Command options.now) bytes
-        (change _core.now _core.now) (sink_change S.contents S.faults sink.old sink.new) result }
+        (asking _core.now _core.now no_lanes) (sink_change S.contents S.faults sink.old sink.new) result }
 {
     drive_both(&mut ready.duo, &mut ready.cores, options.cycles);
     write_duo(&ready.duo, options.dump, sink)?;

@@ -2,6 +2,7 @@
 ghost use Rattle.std.specs.Prelude.{◌≡◌, ◌≢◌, ◌≤◌, ◌∷◌, ℕ, [], length, IfOk, IfErr, OnOk};
 ghost use Rattle.diva_outside.specs.Files.{Has};
 ghost use Rattle.diva_args.specs.Options.{IsRoomBehind};
+ghost use Rattle.diva_cli.specs.Changes.{IsUncounted, file_faults};
 ghost use Rattle.diva_cli.specs.Wanted.{file_limit, file_with, IsFaultless};
 ghost use Rattle.diva_cli.specs.Parts.{Holds, SaysFault, Stops, stop_of};
 
@@ -57,6 +58,7 @@ pub(crate) fn load<F: Files, K: FileKind>(
     ensures stays { F.contents files.new ≡ F.contents files.old }
     ensures later { (w : What) → F.faults files.old w ≤ F.faults files.new w }
     ensures others { (w : What) → w ≢ K.WHAT → F.faults files.new w ≡ F.faults files.old w }
+    ensures uncounted { OnOk result (IsUncounted (file_faults F.faults files.old files.new)) }
     ensures holds { IfOk result (λ read. Holds (F.contents files.old)
         (file_with (K.room kind.now) K.WHAT name.now) (λ bytes. K.reads kind.now bytes read)) }
     ensures stopped { IfErr result (λ stop. Stops (F.contents files.old) (F.faults files.old)
@@ -76,6 +78,7 @@ fn load_bytes<F: Files>(
     ensures stays { F.contents files.new ≡ F.contents files.old }
     ensures later { (w : What) → F.faults files.old w ≤ F.faults files.new w }
     ensures others { (w : What) → w ≢ what → F.faults files.new w ≡ F.faults files.old w }
+    ensures uncounted { OnOk result (IsUncounted (file_faults F.faults files.old files.new)) }
     ensures has { IfOk result (λ bytes. Has (F.contents files.old) name.now bytes.items) }
     ensures short { IfOk result (λ bytes. length bytes.items ≤ file_limit) }
     ensures stopped { (room : ℕ) → IfErr result (λ stop. Stops (F.contents files.old) (F.faults files.old)

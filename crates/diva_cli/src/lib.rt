@@ -1,13 +1,14 @@
 //! The whole program, over the files, the sink and the core that it is handed.
 //!
-//! - `program`: `top`, from the words to the status; `work` has an arm for each command;
+//! - `program`: `top`, from the words to the status; `work`, which does a job, has an arm for each command;
 //! - `pipeline`: `pipeline_top`, the same for the program that draws runs;
 //! - `run` (with `tape`), `duo`, `debug`, `asm`, `dis`, `migrate`, `soak`, `campaign`: these commands; `drawing`: `log` and `draw`;
 //! - `files`: the kinds of files, and how a file of any kind is loaded and read; `loading`: the files of a job, one after another;
 //! - `driving`: the core that the command line chose, and what is done with it and a machine;
 //! - `tasks`: the things that are done with a core and a machine, under a script;
 //! - `scripted`: how a script is kept out of the cycles that none of its rows touches;
-//! - `checking`: how claims are checked, by the checks alone or by three lanes that vote, of which one lies;
+//! - `lanes`: the lanes that may be asked, `Lanes`; `checking`: how claims are checked, by the checks alone or by three of these lanes
+//!   that vote, of which one lies;
 //! - `streaming`: texts that are written cycle by cycle, as a machine is driven;
 //! - `replying`: commands that move a machine, and the replies to them;
 //! - `writing`: what is written otherwise, and the status that goes with it;
@@ -19,7 +20,8 @@
 //!
 //! What is promised, each part in a file of `specs/`, in the order in which it is best read:
 //!
-//! - `Asked`: what the program is asked; `Changes`: what became of what it was handed; `Lines`: the lines where no job is done;
+//! - `Asked`: what the program is asked; `Changes`: what became of what it was handed; `Lanes`: what lanes were asked; `Lines`: the
+//!   lines where no job is done;
 //! - `Statuses`: what each status says; `Answers`: what is answered, and why;
 //! - `Wanted`: which files a job wants, and what is wrong with their bytes; `Stops`: at which of them loading stops;
 //! - `Texts`: the text of each command; `Runs`: that of `run`, with what holds of the machine; `Driven`: what drove it;
@@ -41,6 +43,7 @@ mod drawing;
 mod driving;
 mod duo;
 mod files;
+mod lanes;
 pub mod laws;
 mod lines;
 mod loading;
@@ -58,6 +61,8 @@ mod tasks;
 mod writing;
 
 pub use diva_soak::soak_image;
+pub use lanes::{LanePair, Lanes};
 pub use pipeline::pipeline_top;
-pub use program::top;
+pub use program::{top, work};
+pub use stop::Failure;
 pub use sure::top_sure;

@@ -1,10 +1,11 @@
 // What the files of a job come to: they are loaded and read one after another.
-ghost use Rattle.std.specs.Prelude.{◌≡◌, ◌≢◌, ◌≤◌, [], length, IfOk, IfErr, Ok};
+ghost use Rattle.std.specs.Prelude.{◌≡◌, ◌≢◌, ◌≤◌, [], length, IfOk, IfErr, OnOk, Ok};
 ghost use Rattle.std.specs.List.{All};
 ghost use Rattle.diva_image.specs.ImageLayout.{layout};
 ghost use Rattle.diva_image.specs.Programs.{image_in};
 ghost use Rattle.diva_core.specs.Machine.{IsConfig};
 ghost use Rattle.diva_debug.specs.Moves.{IsShort};
+ghost use Rattle.diva_cli.specs.Changes.{IsUncounted, file_faults};
 ghost use Rattle.diva_cli.specs.Replies.{keep};
 ghost use Rattle.diva_cli.specs.Wanted.{file_if, file_limit, file_with, machine_files, session_files, tape_name};
 ghost use Rattle.diva_cli.specs.Parts.{Stops, Holds, HoldsCore, HoldsReady, HoldsRows, HoldsSession};
@@ -43,6 +44,7 @@ pub(crate) fn make_ready<F: Files>(
     ensures later { (w : What) → F.faults files.old w ≤ F.faults files.new w }
     ensures others { (w : What) → w ≢ What.Image → w ≢ What.Script → w ≢ What.Tape
         → F.faults files.new w ≡ F.faults files.old w }
+    ensures uncounted { OnOk result (IsUncounted (file_faults F.faults files.old files.new)) }
     ensures ready { IfOk result (HoldsReady (F.contents files.old) setup.now) }
     ensures config { IsConfig setup.now.config }
     ensures stopped { IfErr result (λ stop. Stops (F.contents files.old) (F.faults files.old)
@@ -84,6 +86,7 @@ pub(crate) fn make_session<F: Files>(
 ) -> Result<SessionReady, Stop>
     ensures stays { F.contents files.new ≡ F.contents files.old }
     ensures later { (w : What) → F.faults files.old w ≤ F.faults files.new w }
+    ensures uncounted { OnOk result (IsUncounted (file_faults F.faults files.old files.new)) }
     ensures session { IfOk result (HoldsSession (F.contents files.old) options.now) }
     ensures config { IsConfig options.now.setup.config }
     ensures narrow { IfOk result (λ session. session.ready.machine.timed.config.width ≡ 1) }
@@ -117,6 +120,7 @@ fn load_machine_files<F: Files>(alloc: Global, files: &mut F, setup: &Setup) -> 
     ensures later { (w : What) → F.faults files.old w ≤ F.faults files.new w }
     ensures others { (w : What) → w ≢ What.Image → w ≢ What.Script → w ≢ What.Tape
         → F.faults files.new w ≡ F.faults files.old w }
+    ensures uncounted { OnOk result (IsUncounted (file_faults F.faults files.old files.new)) }
     ensures image { IfOk result (λ loaded. Holds (F.contents files.old)
         (file_with setup.now.room What.Image setup.now.image)
         (λ bytes. image_in setup.now.room bytes ≡ layout loaded.image)) }
@@ -144,6 +148,7 @@ fn load_script_if<F: Files>(
     ensures stays { F.contents files.new ≡ F.contents files.old }
     ensures later { (w : What) → F.faults files.old w ≤ F.faults files.new w }
     ensures others { (w : What) → w ≢ What.Script → F.faults files.new w ≡ F.faults files.old w }
+    ensures uncounted { OnOk result (IsUncounted (file_faults F.faults files.old files.new)) }
     ensures holds { IfOk result (HoldsRows (F.contents files.old) name.now) }
     ensures stopped { IfErr result (λ stop. Stops (F.contents files.old) (F.faults files.old)
         (F.faults files.new) (file_if What.Script name.now) stop) }
@@ -159,6 +164,7 @@ fn load_core<F: Files>(alloc: Global, files: &mut F, choice: &CoreChoice) -> Res
     ensures stays { F.contents files.new ≡ F.contents files.old }
     ensures later { (w : What) → F.faults files.old w ≤ F.faults files.new w }
     ensures others { (w : What) → w ≢ What.Tape → F.faults files.new w ≡ F.faults files.old w }
+    ensures uncounted { OnOk result (IsUncounted (file_faults F.faults files.old files.new)) }
     ensures holds { IfOk result (HoldsCore (F.contents files.old) choice.now) }
     ensures stopped { IfErr result (λ stop. Stops (F.contents files.old) (F.faults files.old)
         (F.faults files.new) (file_if What.Tape (tape_name choice.now)) stop) }

@@ -1,8 +1,9 @@
 // The command `migrate`: it writes an image in version 2.
 ghost use Rattle.diva_args.specs.declared.job.Job.TheVariants.{Migrate};
 ghost use Rattle.diva_cli.specs.Asked.{asked_for};
-ghost use Rattle.diva_cli.specs.Changes.{change, file_faults, sink_change};
-ghost use Rattle.diva_cli.specs.Parts.{KeepsPromises};
+ghost use Rattle.diva_cli.specs.Changes.{asking, file_faults, sink_change};
+ghost use Rattle.diva_cli.specs.Promises.{KeepsPromises};
+ghost use Rattle.diva_cli.specs.Parts.{no_lanes};
 
 use crate::files::{ImageFile, load};
 use crate::stop::Failure;
@@ -22,7 +23,7 @@ pub(crate) fn migrate<F: Files, S: Sink, C: Core>(
     _core: &C,
 ) -> Result<u8, Failure>
     ensures { KeepsPromises C.gives (asked_for (Migrate options) (F.contents files.old)) (file_faults F.faults files.old files.new)
-        (change _core.now _core.now) (sink_change S.contents S.faults sink.old sink.new) result }
+        (asking _core.now _core.now no_lanes) (sink_change S.contents S.faults sink.old sink.new) result }
 {
     let kind = ImageFile { room: options.room };
     let image = match load(alloc, files, &kind, &options.image) {

@@ -4,12 +4,13 @@ ghost use Rattle.diva_outside.specs.Causes.{Rose};
 ghost use Rattle.diva_outside.specs.Text.{Text};
 ghost use Rattle.diva_outside.specs.declared.files.What.{What};
 ghost use Rattle.diva_cli.specs.Asked.{pipeline_asked_by, pipeline_job_in};
-ghost use Rattle.diva_cli.specs.Changes.{HasFailed, Takes, change, file_faults, sink_change};
+ghost use Rattle.diva_cli.specs.Changes.{HasFailed, Takes, asking, file_faults, sink_change};
+ghost use Rattle.diva_cli.specs.Lanes.{own_asked};
 ghost use Rattle.diva_cli.specs.Texts.{IsDone};
 ghost use Rattle.diva_cli.specs.Answers.{IsMisused, HasUnread, HasRefused};
 ghost use Rattle.diva_cli.specs.Statuses.{HasWorked, HasLine, IsCut, HasNoMemory, MustRefuse, HasMissing, IsHindered};
 ghost use Rattle.diva_cli.specs.Statuses.{CanWork, HasEnded, IsStatus, LoadsNothing};
-ghost use Rattle.diva_cli.specs.Parts.{KeepsPromises};
+ghost use Rattle.diva_cli.specs.Promises.{KeepsPromises};
 
 use crate::lines::pipeline_usage_line;
 use crate::program::{answer_read, status_of};
@@ -42,33 +43,34 @@ pub fn pipeline_top<F: Files, S: Sink, C: Core>(
 ) -> u8
     ensures status { IsStatus result }
 
-    // The job is done: all its files are sound, and its whole text was written. That of a run that is drawn is told from what is seen of
+    // The job is done: all its files are sound, its whole text was written, and no load and no put failed. That of a run that is drawn is told from what is seen of
     // the machine behind each cycle, and all that is promised of a run holds of it; that of any other job is what `top` writes.
     ensures worked { IsDone result
-        → HasWorked C.gives (pipeline_asked_by words.now (F.contents files.old))
-        (change core.old core.new) (sink_change S.contents S.faults sink.old sink.new) result }
+        → HasWorked C.gives (pipeline_asked_by words.now (F.contents files.old)) (file_faults F.faults files.old files.new)
+        (asking core.old core.new own_asked) (sink_change S.contents S.faults sink.old sink.new) result }
 
     // Nothing is run: the words, the first file's fault, or the files' count of faults says why. No fault was counted
     // for a file behind the one at which the loading stopped.
     ensures misused { result ≡ 2
         → HasLine (IsMisused (pipeline_asked_by words.now (F.contents files.old)) (file_faults F.faults files.old files.new))
-        (change core.old core.new) (sink_change S.contents S.faults sink.old sink.new) }
+        (asking core.old core.new own_asked) (sink_change S.contents S.faults sink.old sink.new) }
     ensures refused { result ≡ 5
         → HasLine (HasRefused (pipeline_asked_by words.now (F.contents files.old)) (file_faults F.faults files.old files.new))
-        (change core.old core.new) (sink_change S.contents S.faults sink.old sink.new) }
+        (asking core.old core.new own_asked) (sink_change S.contents S.faults sink.old sink.new) }
     ensures unread { result ≡ 8
         → HasLine (HasUnread (pipeline_asked_by words.now (F.contents files.old)) (file_faults F.faults files.old files.new))
-        (change core.old core.new) (sink_change S.contents S.faults sink.old sink.new) }
+        (asking core.old core.new own_asked) (sink_change S.contents S.faults sink.old sink.new) }
 
     // Where the words ask for no file, the files are as they were: none was loaded.
     ensures unloaded { LoadsNothing (pipeline_job_in words.now) → files.new ≡ files.old }
 
-    // The sink's count of faults rose, and the core was not asked again; memory ran out.
+    // The sink's count of faults rose, and the core was not asked again; memory ran out, and no load failed.
     ensures cut { result ≡ 9
         → IsCut C.gives (pipeline_asked_by words.now (F.contents files.old)) (file_faults F.faults files.old files.new)
-        (change core.old core.new) (sink_change S.contents S.faults sink.old sink.new) }
+        (asking core.old core.new own_asked) (sink_change S.contents S.faults sink.old sink.new) }
     ensures memory { result ≡ 10
-        → HasNoMemory (change core.old core.new) (sink_change S.contents S.faults sink.old sink.new) }
+        → HasNoMemory (file_faults F.faults files.old files.new) (asking core.old core.new own_asked)
+        (sink_change S.contents S.faults sink.old sink.new) }
 
     // Words that are not a valid command line are answered by the usage line.
     ensures usage { pipeline_job_in words.now ≡ None → (result ≡ 2) ⊎ ((result ≡ 9) ⊎ (result ≡ 10)) }
@@ -83,8 +85,8 @@ pub fn pipeline_top<F: Files, S: Sink, C: Core>(
     ensures complete { CanWork (pipeline_asked_by words.now (F.contents files.old))
         → ((what : What) → Rose (F.faults files.old what) (F.faults files.new what) → ⊥)
         → (HasFailed (sink_change S.contents S.faults sink.old sink.new) → ⊥)
-        → HasEnded C.gives (pipeline_asked_by words.now (F.contents files.old))
-        (change core.old core.new) (sink_change S.contents S.faults sink.old sink.new) result ⊎ (result ≡ 10) }
+        → HasEnded C.gives (pipeline_asked_by words.now (F.contents files.old)) (file_faults F.faults files.old files.new)
+        (asking core.old core.new own_asked) (sink_change S.contents S.faults sink.old sink.new) result ⊎ (result ≡ 10) }
 {
     status_of(answer(alloc, words, files, sink, core))
 }
@@ -98,7 +100,7 @@ fn answer<F: Files, S: Sink, C: Core>(
     core: &mut C,
 ) -> Result<u8, Failure>
     ensures answers { KeepsPromises C.gives (pipeline_asked_by words.now (F.contents files.old)) (file_faults F.faults files.old files.new)
-        (change core.old core.new) (sink_change S.contents S.faults sink.old sink.new) result }
+        (asking core.old core.new own_asked) (sink_change S.contents S.faults sink.old sink.new) result }
     ensures unloaded { LoadsNothing (pipeline_job_in words.now) → files.new ≡ files.old }
 {
     let read = read_pipeline_words(alloc, words);

@@ -5,10 +5,11 @@ ghost use Rattle.diva_core.specs.Timed.{default_config, new_timed};
 ghost use Rattle.diva_tape.specs.Scalar.{IsScalarCall};
 ghost use Rattle.diva_args.specs.declared.job.Job.TheVariants.{Soak};
 ghost use Rattle.diva_cli.specs.Asked.{asked_for};
-ghost use Rattle.diva_cli.specs.Changes.{change, file_faults, sink_change};
+ghost use Rattle.diva_cli.specs.Changes.{asking, change, file_faults, sink_change};
 ghost use Rattle.diva_cli.specs.SoakTexts.{soak_cycles, soak_start};
 ghost use Rattle.diva_cli.specs.Wanted.{FileBytes};
-ghost use Rattle.diva_cli.specs.Parts.{KeepsPromises, IsSoakReady, Soaks, WritesText};
+ghost use Rattle.diva_cli.specs.Promises.{KeepsPromises};
+ghost use Rattle.diva_cli.specs.Parts.{IsSoakReady, Soaks, WritesText, no_lanes};
 
 use crate::stop::Failure;
 use crate::writing::write_soaked;
@@ -30,7 +31,7 @@ pub(crate) fn soak<F: Files, S: Sink, C: Core>(
     core: &mut C,
 ) -> Result<u8, Failure>
     ensures { KeepsPromises C.gives (asked_for (Soak options) (F.contents _files.now)) (file_faults F.faults _files.now _files.now)
-        (change core.old core.new) (sink_change S.contents S.faults sink.old sink.new) result }
+        (asking core.old core.new no_lanes) (sink_change S.contents S.faults sink.old sink.new) result }
 {
     let mut ready = make_soak(alloc, &options)?;
     soak_ready(&mut ready, options, sink, core)
@@ -70,7 +71,7 @@ fn soak_ready<S: Sink, C: Core>(
 ) -> Result<u8, Failure>
     requires { IsSoakReady options ready.old }
     ensures { (bytes : FileBytes) → WritesText C.gives (Soak options) bytes
-        (change core.old core.new) (sink_change S.contents S.faults sink.old sink.new) result }
+        (asking core.old core.new no_lanes) (sink_change S.contents S.faults sink.old sink.new) result }
 {
     drive_both(ready, &options, core);
     write_soaked(&ready.first, &ready.second, sink)?;

@@ -42,7 +42,7 @@ impl From<AllocError> for Stop {
 
 /// Why there is no whole answer.
 #[derive(Clone, Copy, Debug)]
-pub(crate) enum Failure {
+pub enum Failure {
     /// The sink failed.
     Cut,
     /// Memory ran out, and nothing was written.

@@ -2,9 +2,12 @@
 ghost use Rattle.std.specs.Prelude.{◌≡◌, ◌+◌, ◌<◌, ◌≤◌, ◌^◌, length, OnOk};
 ghost use Rattle.diva_tape.specs.TapeText.{IsList, list_text};
 ghost use Rattle.diva_cli.specs.Changes.{PutsTo, change, sink_change};
+ghost use Rattle.diva_machine.specs.Asked.{asked_over};
+ghost use Rattle.diva_cli.specs.Lanes.{AreHonest, are_asked};
 ghost use Rattle.diva_cli.specs.Tasks.{IsWritten, Performs};
 
 use crate::checking::turn_checked;
+use crate::lanes::Lanes;
 use diva_args::LanePlace;
 use diva_core::{Claims, Core};
 use diva_isa::Record;
@@ -12,6 +15,7 @@ use diva_machine::Machine;
 use diva_outside::{Sink, SinkFailed, put_line};
 use diva_tape::tape_piece;
 use diva_trace::write_commits;
+use diva_vote::Lane;
 
 /// What writes a text for each cycle.
 pub(crate) trait CycleWriter {
@@ -94,19 +98,22 @@ fn write_list<S: Sink>(list: &Claims, sink: &mut S) -> Result<(), SinkFailed>
 }
 
 /// Takes turns, and writes the text of each, until the machine ends, the budget's cycles are run or
-/// the sink fails. Where a place is given, three lanes vote, and the one in that place lies.
-pub(crate) fn drive_writing<D: Core, W: CycleWriter, S: Sink>(
+/// the sink fails. Where a place is given, three lanes vote, and the one in that place is the liar.
+pub(crate) fn drive_writing<D: Core, W: CycleWriter, S: Sink, L: Lane>(
     m: &mut Machine,
     core: &mut D,
     budget: u64,
     liar: Option<LanePlace>,
+    lanes: &mut Lanes<L>,
     writer: &W,
     sink: &mut S,
 ) -> Result<(), SinkFailed>
-    requires { m.old.timed.cycles + budget ≤ 2 ^ 60 }
+    requires cycles { m.old.timed.cycles + budget ≤ 2 ^ 60 }
+    requires honest { AreHonest L.honest lanes.old }
     ensures { Performs D.gives (change m.old.timed m.new.timed) (change core.old core.new)
         (λ lists. IsWritten W.text W.says budget (change m.old.timed m.new.timed) lists
-        (sink_change S.contents S.faults sink.old sink.new) result) }
+        (sink_change S.contents S.faults sink.old sink.new) result
+        × are_asked L.says lanes.old lanes.new liar (asked_over m.old.timed lists)) }
 {
     if !m.goes_on() {
         return Ok(());
@@ -114,7 +121,7 @@ pub(crate) fn drive_writing<D: Core, W: CycleWriter, S: Sink>(
     let mut list = Claims::new();
     for _ in 0..budget {
         let first = m.count();
-        turn_checked(m, core, &mut list, liar);
+        turn_checked(m, core, &mut list, liar, lanes);
         writer.write(first, m.last(), &list, sink)?;
         if !m.goes_on() {
             return Ok(());

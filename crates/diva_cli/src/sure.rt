@@ -2,9 +2,10 @@
 ghost use Rattle.std.specs.Prelude.{◌≡◌, ◌≢◌, ◌⊎◌, None};
 ghost use Rattle.diva_outside.specs.Text.{Text};
 ghost use Rattle.diva_cli.specs.Asked.{asked_by, job_in};
-ghost use Rattle.diva_cli.specs.Changes.{change};
+ghost use Rattle.diva_cli.specs.Changes.{asking};
+ghost use Rattle.diva_cli.specs.Lanes.{own_asked};
 ghost use Rattle.diva_cli.specs.Statuses.{CanWork, HasEnded, HasWorked, IsStatus, MustRefuse};
-ghost use Rattle.diva_cli.specs.Sure.{sure_contents, unseen};
+ghost use Rattle.diva_cli.specs.Sure.{sure_contents, unfailing, unseen};
 ghost use Rattle.diva_cli.specs.Texts.{IsDone};
 
 use crate::program::top;
@@ -21,7 +22,7 @@ pub fn top_sure<C: Core>(alloc: Global, words: &[&str], files: Vec<MemFile>, cor
 
     // Where the job was done, the core is as its runs left it; else it was not asked.
     ensures worked { IsDone result
-        → HasWorked C.gives (asked_by words.now (sure_contents files.items)) (change core.old core.new) unseen result }
+        → HasWorked C.gives (asked_by words.now (sure_contents files.items)) unfailing (asking core.old core.new own_asked) unseen result }
     ensures unasked { (result ≡ 2) ⊎ ((result ≡ 5) ⊎ (result ≡ 10)) → core.new ≡ core.old }
 
     // The words and the files say which status it is, but where memory runs out.
@@ -30,7 +31,7 @@ pub fn top_sure<C: Core>(alloc: Global, words: &[&str], files: Vec<MemFile>, cor
     ensures refuses { (text : Text) → MustRefuse (asked_by words.now (sure_contents files.items)) text
         → (result ≡ 5) ⊎ (result ≡ 10) }
     ensures complete { CanWork (asked_by words.now (sure_contents files.items))
-        → HasEnded C.gives (asked_by words.now (sure_contents files.items)) (change core.old core.new) unseen result
+        → HasEnded C.gives (asked_by words.now (sure_contents files.items)) unfailing (asking core.old core.new own_asked) unseen result
         ⊎ (result ≡ 10) }
 {
     let mut files = SureFiles::new(files);

@@ -1,5 +1,6 @@
 -- A run as a drawing in text: a row for each claim that became pending, and for each instruction that was started solo; a column of three
--- bytes for each cycle. A row is drawn where it ends, and those that are open at the end of the run there; the scale stands below them.
+-- bytes for each cycle of an excerpt. A row is drawn where it ends, and those that are open at the end of the run there, if they have a
+-- cell in the excerpt; the scale stands below them.
 use Rattle.std.specs.Prelude.{ℕ, zero, suc, ◌+◌, ◌-◌, ◌%◌, ◌==◌, ◌&&◌, not, nat_lt, List, [], ◌∷◌, ◌++◌, length, map, take, drop, codes, Bool, true, false, Option, Some, None, if◌then◌else◌}
 use Rattle.std.specs.Fmt.{decimal}
 use Rattle.std.specs.List.{concat, flat_map}
@@ -16,6 +17,13 @@ use Rattle.diva_drawing.specs.declared.snapshot.SnapshotSolo.{SnapshotSolo}
 use Rattle.diva_drawing.specs.declared.rows.Ending.{Ending}
 use Rattle.diva_drawing.specs.declared.rows.Ending.TheVariants.{Commits, Flushes, Drops, Stays}
 use Rattle.diva_drawing.specs.declared.rows.DrawnRow.{DrawnRow}
+use Rattle.diva_drawing.specs.declared.excerpt.Excerpt.{Excerpt}
+
+-- ---- the cycles that are drawn
+
+-- of what stands for each cycle of a run, that of the cycles of an excerpt: cycles count from 1
+abbrev pub in_excerpt : Excerpt → List Text → List Text
+in_excerpt excerpt columns = drop (excerpt.from - 1) (take excerpt.to columns)
 
 -- ---- a row
 
@@ -60,12 +68,16 @@ cell row cycle =
     else (0x20 ∷ 0x20 ∷ (if cycle == row.last then last_letter (letter row.solo (cycle - row.since)) row.ending
     else letter row.solo (cycle - row.since)) ∷ [])
 
--- the cells up to the last one
-abbrev pub cells : DrawnRow → List Text
-cells row = numbered row.last (λ n. cell row (n + 1))
+-- the cells up to the last one, in the excerpt
+abbrev pub cells : Excerpt → DrawnRow → List Text
+cells excerpt row = in_excerpt excerpt (numbered row.last (λ n. cell row (n + 1)))
 
-unfoldable pub row_text : DrawnRow → Text
-row_text row = name_text row.claim ++ concat (cells row) ++ codes "\n"
+-- the row has begun by the end of the excerpt, and has not ended before it
+abbrev pub meets : Excerpt → DrawnRow → Bool
+meets excerpt row = not (nat_lt excerpt.to row.since) && not (nat_lt row.last excerpt.from)
+
+unfoldable pub row_text : Excerpt → DrawnRow → Text
+row_text excerpt row = if meets excerpt row then name_text row.claim ++ concat (cells excerpt row) ++ codes "\n" else []
 
 -- ---- the rows of a cycle
 
@@ -108,31 +120,31 @@ dropped_claims before after = take (dropped_rows before after) (drop (committed_
 
 -- ---- the text
 
-abbrev pub rows_text : List DrawnRow → Text
-rows_text rows = flat_map row_text rows
+abbrev pub rows_text : Excerpt → List DrawnRow → Text
+rows_text excerpt rows = flat_map (row_text excerpt) rows
 
 -- the rows that end in a cycle
-unfoldable pub drawn_cycle : (before after : Snapshot) → Text
-drawn_cycle before after =
-    rows_text (solo_rows after.cycles Commits (ended_solo before after))
-    ++ rows_text (map (claim_row after.cycles Commits) (committed_claims before after))
-    ++ rows_text (dropped_claim_rows after.cycles (first_drop before after) (dropped_claims before after))
+unfoldable pub drawn_cycle : Excerpt → (before after : Snapshot) → Text
+drawn_cycle excerpt before after =
+    rows_text excerpt (solo_rows after.cycles Commits (ended_solo before after))
+    ++ rows_text excerpt (map (claim_row after.cycles Commits) (committed_claims before after))
+    ++ rows_text excerpt (dropped_claim_rows after.cycles (first_drop before after) (dropped_claims before after))
 
 -- a cycle's number, its last two digits
 abbrev pub number_cell : ℕ → Text
 number_cell cycle = if nat_lt (cycle % 100) 10 then codes "  " ++ decimal (cycle % 100) else codes " " ++ decimal (cycle % 100)
 
--- the numbers of all cycles up to the last one
-abbrev pub scale : (last : ℕ) → List Text
-scale last = numbered last (λ n. number_cell (n + 1))
+-- the numbers of all cycles up to the last one, in the excerpt
+abbrev pub scale : Excerpt → (last : ℕ) → List Text
+scale excerpt last = in_excerpt excerpt (numbered last (λ n. number_cell (n + 1)))
 
 -- the scale
-unfoldable pub scale_text : (last : ℕ) → Text
-scale_text last = padded (codes "cycle") ++ concat (scale last) ++ codes "\n"
+unfoldable pub scale_text : Excerpt → (last : ℕ) → Text
+scale_text excerpt last = padded (codes "cycle") ++ concat (scale excerpt last) ++ codes "\n"
 
 -- the rows that are open behind the last cycle, and the scale
-unfoldable pub drawn_end : Snapshot → Text
-drawn_end last =
-    rows_text (solo_rows last.cycles Stays last.solo)
-    ++ rows_text (map (claim_row last.cycles Stays) last.claims)
-    ++ scale_text last.cycles
+unfoldable pub drawn_end : Excerpt → Snapshot → Text
+drawn_end excerpt last =
+    rows_text excerpt (solo_rows last.cycles Stays last.solo)
+    ++ rows_text excerpt (map (claim_row last.cycles Stays) last.claims)
+    ++ scale_text excerpt last.cycles

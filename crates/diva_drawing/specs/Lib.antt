@@ -3,3 +3,4 @@ pub mod Snapshot
 pub mod Rows
 pub mod Log
 pub mod Drawing
+pub mod Pieces

@@ -1,15 +1,20 @@
 // A text of some lines.
-ghost use Rattle.std.specs.Prelude.{◌≡◌, ◌≤◌, ◌<◌, ◌+◌, ◌++◌, length, []};
+ghost use Rattle.std.specs.Prelude.{◌≡◌, ◌≤◌, ◌<◌, ◌+◌, ◌*◌, ◌++◌, length, [], OnOk};
 ghost use Rattle.diva_outside.specs.Sink.{Puts};
+ghost use Rattle.diva_drawing.specs.Pieces.{Passes};
 
 use arrayvec::ArrayVec;
 use diva_outside::{Line, Sink, SinkFailed};
 use std::marker::Model;
 
-/// The lines of a cycle, of at most 65,536 bytes, written one behind the other, and then put at once. What is appended has to fit.
+/// How many bytes are put at once, where a text is longer.
+const PIECE: usize = 4096;
+
+/// Lines on their way to a sink, which takes them in pieces of at most 4,096 bytes, each one put. It has room for a line more. What is
+/// appended has to fit.
 #[derive(Drop)]
 pub struct Block {
-    text: ArrayVec<u8, 65536>,
+    text: ArrayVec<u8, 4224>,
 }
 
 impl Model for Block {
@@ -19,7 +24,7 @@ impl Model for Block {
 
     ghost view = { λ block. block.text.items };
 
-    ghost invariant = { λ block. length block.text.items ≤ 65536 };
+    ghost invariant = { λ block. length block.text.items ≤ 4224 };
 }
 
 impl Block {
@@ -34,11 +39,43 @@ impl Block {
 
     /// Appends a line.
     pub(crate) fn line(&mut self, line: &Line)
-        requires { length self.old + 128 ≤ 65536 }
+        requires { length self.old + 128 ≤ 4224 }
         ensures bytes { self.new ≡ self.old ++ line.now }
         ensures len { length self.new ≤ length self.old + 128 }
     {
         self.text.try_extend_from_slice(line.bytes()).unwrap();
+    }
+
+    /// Appends a line; if a piece has no room for it, the others are put first. Where that fails, a prefix of them was appended.
+    pub(crate) fn push<S: Sink>(&mut self, line: &Line, sink: &mut S) -> Result<(), SinkFailed>
+        ensures { Passes line.now self.old self.new
+            (S.contents sink.old) (S.contents sink.new) (S.faults sink.old) (S.faults sink.new) result }
+    {
+        if self.text.len() + line.bytes().len() > PIECE {
+            self.put(sink)?;
+            self.clear();
+        }
+        self.line(line);
+        Ok(())
+    }
+
+    /// Makes room for so many lines: where there is none, those that are held are put, and dropped. Where that fails, a prefix of them
+    /// was appended.
+    pub(crate) fn make_room<S: Sink>(
+        &mut self,
+        lines: usize,
+        sink: &mut S,
+    ) -> Result<(), SinkFailed>
+        requires { lines ≤ 32 }
+        ensures room { OnOk result (length self.new + 128 * lines ≤ 4096) }
+        ensures passes { Passes [] self.old self.new
+            (S.contents sink.old) (S.contents sink.new) (S.faults sink.old) (S.faults sink.new) result }
+    {
+        if self.text.len() + 128 * lines > PIECE {
+            self.put(sink)?;
+            self.clear();
+        }
+        Ok(())
     }
 
     /// Drops all lines.

@@ -1,15 +1,18 @@
 // A run as a drawing in text.
-ghost use Rattle.std.specs.Prelude.{◌≡◌, ◌≤◌, ◌++◌, codes, length, map};
+ghost use Rattle.std.specs.Prelude.{◌≡◌, ◌≤◌, ◌++◌, ◌-◌, codes, length, map, min};
 ghost use Rattle.std.specs.List.{concat};
 ghost use Rattle.diva_outside.specs.Sink.{Puts};
+ghost use Rattle.diva_drawing.specs.Pieces.{Passes};
 ghost use Rattle.diva_drawing.specs.Drawing.{cell, claim_row, committed_claims, drawn_cycle, drawn_end, dropped_claim_rows, dropped_claims, ended_solo, first_drop, last_letter, letter, listed_in, name_text, number_cell, padded, row_text, rows_text, scale_text, solo_rows};
 
+use crate::block::Block;
+use crate::excerpt::Excerpt;
 use crate::rows::{DrawnRow, Ending, committed_rows, dropped_rows};
 use crate::snapshot::{Snapshot, SnapshotClaim, SnapshotSolo};
 use diva_asm::list_line;
 use diva_core::Cause;
 use diva_isa::Record;
-use diva_outside::{Line, LineList, Sink, SinkFailed, put_line, put_lines};
+use diva_outside::{Line, LineList, Sink, SinkFailed};
 
 /// As many blanks as the name of a row has bytes.
 const BLANKS: &[u8; 26] = b"                          ";
@@ -19,9 +22,11 @@ const BLANKS: &[u8; 26] = b"                          ";
 pub(crate) fn put_drawn<S: Sink>(
     before: &Snapshot,
     after: &Snapshot,
+    excerpt: Excerpt,
+    block: &mut Block,
     sink: &mut S,
 ) -> Result<(), SinkFailed>
-    ensures { Puts (drawn_cycle before.now after.now)
+    ensures { Puts (drawn_cycle excerpt before.now after.now)
         (S.contents sink.old) (S.contents sink.new) (S.faults sink.old) (S.faults sink.new) result }
 {
     let last = after.cycles();
@@ -29,9 +34,9 @@ pub(crate) fn put_drawn<S: Sink>(
     let commits = committed_claims(before, after);
     let drops = dropped_claims(before, after);
     let first = first_drop(before, after);
-    put_solo(solo, last, Ending::Commits, sink)?;
-    put_claims(commits, last, Ending::Commits, sink)?;
-    put_dropped(drops, last, first, sink)
+    put_solo(solo, last, Ending::Commits, excerpt, block, sink)?;
+    put_claims(commits, last, Ending::Commits, excerpt, block, sink)?;
+    put_dropped(drops, last, first, excerpt, block, sink)
 }
 
 /// The instruction that ran solo and committed in a cycle, if one did.
@@ -67,14 +72,19 @@ fn dropped_claims<'a>(before: &'a Snapshot, after: &Snapshot) -> &'a [SnapshotCl
 }
 
 /// Puts the rows that are open at last, and the scale. Where a put fails, a prefix of them was appended.
-pub(crate) fn put_stopped<S: Sink>(last: &Snapshot, sink: &mut S) -> Result<(), SinkFailed>
-    ensures { Puts (drawn_end last.now)
+pub(crate) fn put_stopped<S: Sink>(
+    last: &Snapshot,
+    excerpt: Excerpt,
+    block: &mut Block,
+    sink: &mut S,
+) -> Result<(), SinkFailed>
+    ensures { Puts (drawn_end excerpt last.now)
         (S.contents sink.old) (S.contents sink.new) (S.faults sink.old) (S.faults sink.new) result }
 {
     let cycles = last.cycles();
-    put_solo(last.solo(), cycles, Ending::Stays, sink)?;
-    put_claims(last.claims(), cycles, Ending::Stays, sink)?;
-    put_scale(cycles, sink)
+    put_solo(last.solo(), cycles, Ending::Stays, excerpt, block, sink)?;
+    put_claims(last.claims(), cycles, Ending::Stays, excerpt, block, sink)?;
+    put_scale(cycles, excerpt, block, sink)
 }
 
 /// How the first of the claims that are dropped in a cycle ends: it flushes, where it is the one that differed.
@@ -96,9 +106,11 @@ fn put_solo<S: Sink>(
     solo: Option<SnapshotSolo>,
     last: u64,
     ending: Ending,
+    excerpt: Excerpt,
+    block: &mut Block,
     sink: &mut S,
 ) -> Result<(), SinkFailed>
-    ensures { Puts (rows_text (solo_rows last ending solo))
+    ensures { Puts (rows_text excerpt (solo_rows last ending solo))
         (S.contents sink.old) (S.contents sink.new) (S.faults sink.old) (S.faults sink.new) result }
 {
     match solo {
@@ -110,6 +122,8 @@ fn put_solo<S: Sink>(
                 last,
                 ending,
             },
+            excerpt,
+            block,
             sink,
         ),
         None => Ok(()),
@@ -121,13 +135,15 @@ fn put_claims<S: Sink>(
     claims: &[SnapshotClaim],
     last: u64,
     ending: Ending,
+    excerpt: Excerpt,
+    block: &mut Block,
     sink: &mut S,
 ) -> Result<(), SinkFailed>
-    ensures { Puts (rows_text (map (claim_row last ending) claims.now))
+    ensures { Puts (rows_text excerpt (map (claim_row last ending) claims.now))
         (S.contents sink.old) (S.contents sink.new) (S.faults sink.old) (S.faults sink.new) result }
 {
     for claim in claims {
-        put_row(&claim_row(claim, last, ending), sink)?;
+        put_row(&claim_row(claim, last, ending), excerpt, block, sink)?;
     }
     Ok(())
 }
@@ -137,16 +153,18 @@ fn put_dropped<S: Sink>(
     claims: &[SnapshotClaim],
     last: u64,
     first: Ending,
+    excerpt: Excerpt,
+    block: &mut Block,
     sink: &mut S,
 ) -> Result<(), SinkFailed>
-    ensures { Puts (rows_text (dropped_claim_rows last first claims.now))
+    ensures { Puts (rows_text excerpt (dropped_claim_rows last first claims.now))
         (S.contents sink.old) (S.contents sink.new) (S.faults sink.old) (S.faults sink.new) result }
 {
     match claims {
         [] => Ok(()),
         [claim, others @ ..] => {
-            put_row(&claim_row(claim, last, first), sink)?;
-            put_claims(others, last, Ending::Drops, sink)
+            put_row(&claim_row(claim, last, first), excerpt, block, sink)?;
+            put_claims(others, last, Ending::Drops, excerpt, block, sink)
         }
     }
 }
@@ -164,27 +182,67 @@ fn claim_row(claim: &SnapshotClaim, last: u64, ending: Ending) -> DrawnRow
     }
 }
 
-/// Puts a row: the listed instruction, and its cells.
+/// Puts a row, the listed instruction and its cells, if it has a cell in the excerpt.
 #[tactic(auto, unfolding(crate::specs::Drawing::row_text))]
-fn put_row<S: Sink>(row: &DrawnRow, sink: &mut S) -> Result<(), SinkFailed>
-    ensures { Puts (row_text row.now)
+fn put_row<S: Sink>(
+    row: &DrawnRow,
+    excerpt: Excerpt,
+    block: &mut Block,
+    sink: &mut S,
+) -> Result<(), SinkFailed>
+    ensures { Puts (row_text excerpt row.now)
         (S.contents sink.old) (S.contents sink.new) (S.faults sink.old) (S.faults sink.new) result }
 {
+    if excerpt.to < row.since || row.last < excerpt.from {
+        return Ok(());
+    }
     let cells = Cells {
         row,
         last: row.last,
+        excerpt,
     };
-    put_cells(&name_line(&row.claim), &cells, sink)
+    put_cells(&name_line(&row.claim), &cells, block, sink)
 }
 
-/// Puts a name, with cells behind it, as one line.
-fn put_cells<L: LineList, S: Sink>(name: &Line, cells: &L, sink: &mut S) -> Result<(), SinkFailed>
+/// Puts a name, with cells behind it, as one line, in pieces. Where a put fails, a prefix of it was appended.
+fn put_cells<L: LineList, S: Sink>(
+    name: &Line,
+    cells: &L,
+    block: &mut Block,
+    sink: &mut S,
+) -> Result<(), SinkFailed>
     ensures { Puts (name.now ++ concat (L.lines cells.now) ++ codes "\n")
         (S.contents sink.old) (S.contents sink.new) (S.faults sink.old) (S.faults sink.new) result }
 {
-    put_line(name, sink)?;
-    put_lines(cells, sink)?;
-    sink.put(b"\n")
+    block.clear();
+    block.line(name);
+    push_cells(cells, block, sink)?;
+    block.push(&line_end(), sink)?;
+    block.put(sink)
+}
+
+/// Appends cells to what is held, in pieces.
+fn push_cells<L: LineList, S: Sink>(
+    cells: &L,
+    block: &mut Block,
+    sink: &mut S,
+) -> Result<(), SinkFailed>
+    ensures { Passes (concat (L.lines cells.now)) block.old block.new
+        (S.contents sink.old) (S.contents sink.new) (S.faults sink.old) (S.faults sink.new) result }
+{
+    for at in 0..cells.count() {
+        block.push(&cells.line(at), sink)?;
+    }
+    Ok(())
+}
+
+/// What ends a line.
+fn line_end() -> Line
+    ensures { result ≡ codes "\n" }
+{
+    let mut line = Line::new();
+    line.text(b"\n");
+    line
 }
 
 /// The name of a row: what the listing has of the word, without its address and its digits.
@@ -217,29 +275,43 @@ fn padded(text: &[u8]) -> Line
     line
 }
 
-/// The cells of a row, up to its last one.
+/// The cells of a row in the excerpt, up to its last one.
 #[derive(Drop)]
 struct Cells<'a> {
     row: &'a DrawnRow,
     /// The row's last cycle.
     last: u64,
+    excerpt: Excerpt,
     ghost same: { last ≡ row.now.last },
 }
 
 impl LineList for Cells<'_> {
     ghost use Rattle.diva_drawing.specs.Drawing.{cells};
 
-    ghost lines = { λ s. cells s.row.now };
+    ghost lines = { λ s. cells s.excerpt s.row.now };
 
-    #[tactic(auto, using(diva_trace::proofs::Numbered::length_numbered))]
+    #[tactic(auto, using(crate::proofs::Excerpts::length_numbered_in))]
     fn count(&self) -> usize {
-        self.last as usize
+        columns(self.last, self.excerpt)
     }
 
-    #[tactic(auto, using(diva_trace::proofs::Numbered::length_numbered, diva_trace::proofs::Numbered::line_numbered))]
+    #[tactic(auto, using(crate::proofs::Excerpts::length_numbered_in, crate::proofs::Excerpts::line_numbered_in))]
     fn line(&self, at: usize) -> Line {
-        cell(self.row, at as u64 + 1)
+        cell(
+            self.row,
+            self.excerpt.from.saturating_sub(1) + at as u64 + 1,
+        )
     }
+}
+
+/// How many cycles of the excerpt there are up to a last cycle.
+fn columns(last: u64, excerpt: Excerpt) -> usize
+    ensures { result ≡ min excerpt.to last - (excerpt.from - 1) }
+{
+    excerpt
+        .to
+        .min(last)
+        .saturating_sub(excerpt.from.saturating_sub(1)) as usize
 }
 
 /// The cell of a row in a cycle.
@@ -291,32 +363,38 @@ fn last_letter(stays: u8, ending: Ending) -> u8
 
 /// Puts the scale: the last two digits of each cycle's number.
 #[tactic(auto, unfolding(crate::specs::Drawing::scale_text))]
-fn put_scale<S: Sink>(last: u64, sink: &mut S) -> Result<(), SinkFailed>
-    ensures { Puts (scale_text last)
+fn put_scale<S: Sink>(
+    last: u64,
+    excerpt: Excerpt,
+    block: &mut Block,
+    sink: &mut S,
+) -> Result<(), SinkFailed>
+    ensures { Puts (scale_text excerpt last)
         (S.contents sink.old) (S.contents sink.new) (S.faults sink.old) (S.faults sink.new) result }
 {
-    put_cells(&padded(b"cycle"), &Scale { last }, sink)
+    put_cells(&padded(b"cycle"), &Scale { last, excerpt }, block, sink)
 }
 
-/// The numbers of the cycles up to a last one.
+/// The numbers of the cycles in the excerpt, up to a last one.
 #[derive(Drop)]
 struct Scale {
     last: u64,
+    excerpt: Excerpt,
 }
 
 impl LineList for Scale {
     ghost use Rattle.diva_drawing.specs.Drawing.{scale};
 
-    ghost lines = { λ s. scale s.last };
+    ghost lines = { λ s. scale s.excerpt s.last };
 
-    #[tactic(auto, using(diva_trace::proofs::Numbered::length_numbered))]
+    #[tactic(auto, using(crate::proofs::Excerpts::length_numbered_in))]
     fn count(&self) -> usize {
-        self.last as usize
+        columns(self.last, self.excerpt)
     }
 
-    #[tactic(auto, using(diva_trace::proofs::Numbered::length_numbered, diva_trace::proofs::Numbered::line_numbered))]
+    #[tactic(auto, using(crate::proofs::Excerpts::length_numbered_in, crate::proofs::Excerpts::line_numbered_in))]
     fn line(&self, at: usize) -> Line {
-        number_cell(at as u64 + 1)
+        number_cell(self.excerpt.from.saturating_sub(1) + at as u64 + 1)
     }
 }
 

@@ -1,9 +1,10 @@
 // A run as a log in the Kanata format, version 4.
-ghost use Rattle.std.specs.Prelude.{◌≡◌, ◌≤◌, ◌<◌, ◌+◌, ◌*◌, ◌^◌, ◌++◌, [], length, drop, slice_get, Some};
+ghost use Rattle.std.specs.Prelude.{◌≡◌, ◌≤◌, ◌<◌, ◌+◌, ◌-◌, ◌*◌, ◌^◌, ◌++◌, ◌∷◌, [], length, drop, slice_get, Some};
 ghost use Rattle.std.specs.List.{concat};
 ghost use Rattle.diva_outside.specs.Sink.{Puts};
+ghost use Rattle.diva_drawing.specs.Pieces.{Passes};
 ghost use Rattle.diva_drawing.specs.Log.{claim_text, claims_text, cycle_line, end_line, end_lines, ended_text, ending_number, flush_text, log_begin, noted_text, open_text, solo_text, surplus_text, was_noted};
-ghost use Rattle.diva_drawing.specs.Rows.{committed_rows};
+ghost use Rattle.diva_drawing.specs.Rows.{accepted_claims, committed_rows, open_rows};
 
 use crate::block::Block;
 use crate::rows::{Ending, accepted_claims, begun_rows, committed_rows, dropped_rows, open_rows};
@@ -31,112 +32,151 @@ fn first_lines() -> Line
     line
 }
 
-/// Appends the lines of what goes on behind a cycle, or begins in it: `row` is the number of the oldest such row.
-#[tactic(auto, unfolding(crate::specs::Log::open_text))]
-pub(crate) fn push_open(
+/// Puts the lines of what goes on after a cycle, or begins in it: `row` is the number of the oldest such row. They are put in pieces.
+/// Where a put fails, a prefix of them was appended.
+pub(crate) fn put_open<S: Sink>(
     block: &mut Block,
     row: u64,
     before: &Snapshot,
     after: &Snapshot,
     handed: &Claims,
-)
-    requires empty { block.old ≡ [] }
+    sink: &mut S,
+) -> Result<(), SinkFailed>
     requires row { row < 2 ^ 63 }
     requires count { after.now.count ≤ 2 ^ 62 }
-    ensures { block.new ≡ open_text row before.now after.now handed.now }
+    ensures { Puts (open_text row before.now after.now handed.now)
+        (S.contents sink.old) (S.contents sink.new) (S.faults sink.old) (S.faults sink.new) result }
 {
-    push_cycle(block);
-    push_claims(block, row, before, after);
-    push_solo(block, row, after);
+    block.clear();
+    push_open(block, row, before, after, handed, sink)?;
+    block.put(sink)
+}
+
+/// Appends these lines to those that are held, which are put where they fill a piece.
+#[tactic(auto, unfolding(crate::specs::Log::open_text))]
+fn push_open<S: Sink>(
+    block: &mut Block,
+    row: u64,
+    before: &Snapshot,
+    after: &Snapshot,
+    handed: &Claims,
+    sink: &mut S,
+) -> Result<(), SinkFailed>
+    requires row { row < 2 ^ 63 }
+    requires count { after.now.count ≤ 2 ^ 62 }
+    ensures { Passes (open_text row before.now after.now handed.now) block.old block.new
+        (S.contents sink.old) (S.contents sink.new) (S.faults sink.old) (S.faults sink.new) result }
+{
+    push_cycle(block, sink)?;
+    push_claims(block, row, before, after, sink)?;
+    push_solo(block, row, after, sink)?;
+    push_others(block, row, before, after, handed, sink)
+}
+
+/// Appends the claims of the list that were not accepted, below the newest row.
+fn push_others<S: Sink>(
+    block: &mut Block,
+    row: u64,
+    before: &Snapshot,
+    after: &Snapshot,
+    handed: &Claims,
+    sink: &mut S,
+) -> Result<(), SinkFailed>
+    requires { row < 2 ^ 63 }
+    ensures { Passes (surplus_text (row + open_rows after.now - 1) (drop (accepted_claims before.now after.now) handed.now))
+        block.old block.new
+        (S.contents sink.old) (S.contents sink.new) (S.faults sink.old) (S.faults sink.new) result }
+{
     let newest = (row + open_rows(after)).saturating_sub(1);
     let accepted = accepted_claims(before, after);
     let surplus = handed.as_slice().get(accepted..).unwrap_or(&[]);
-    push_surplus(block, newest, surplus);
+    push_surplus(block, newest, surplus, sink)
 }
 
 /// Appends the line of the next cycle.
-fn push_cycle(block: &mut Block)
-    requires { block.old ≡ [] }
-    ensures bytes { block.new ≡ cycle_line }
-    ensures len { length block.new ≤ 128 }
+fn push_cycle<S: Sink>(block: &mut Block, sink: &mut S) -> Result<(), SinkFailed>
+    ensures { Passes cycle_line block.old block.new
+        (S.contents sink.old) (S.contents sink.new) (S.faults sink.old) (S.faults sink.new) result }
 {
     let mut line = Line::new();
     line.text(b"C\t1\n");
-    block.line(&line);
+    block.push(&line, sink)
 }
 
 /// Appends the lines of the pending claims, the oldest first.
-fn push_claims(block: &mut Block, row: u64, before: &Snapshot, after: &Snapshot)
-    requires room { length block.old + 128 * 6 * 64 ≤ 65536 }
+fn push_claims<S: Sink>(
+    block: &mut Block,
+    row: u64,
+    before: &Snapshot,
+    after: &Snapshot,
+    sink: &mut S,
+) -> Result<(), SinkFailed>
     requires row { row < 2 ^ 63 }
     requires count { after.now.count ≤ 2 ^ 62 }
-    ensures bytes { block.new ≡ block.old ++ claims_text row after.now.count after.now.cycles
-        (drop (committed_rows before.now after.now) before.now.claims) after.now.claims }
-    ensures len { length block.new ≤ length block.old + 128 * 6 * 64 }
+    ensures { Passes (claims_text row after.now.count after.now.cycles
+        (drop (committed_rows before.now after.now) before.now.claims) after.now.claims) block.old block.new
+        (S.contents sink.old) (S.contents sink.new) (S.faults sink.old) (S.faults sink.new) result }
 {
     let committed = committed_rows(before, after) as usize;
     let was = before.claims().get(committed..).unwrap_or(&[]);
-    push_each(
-        block,
+    let numbers = Numbers {
         row,
-        after.count(),
-        after.cycles(),
-        was,
-        after.claims(),
-    );
+        place: after.count(),
+    };
+    push_each(block, numbers, after.cycles(), was, after.claims(), sink)
 }
 
-/// Appends the lines of some pending claims, the oldest first: its row has this number, and its place. Those that were pending before
-/// the cycle are given as they were then.
-fn push_each(
+/// Appends the lines of some pending claims, the oldest first, which has these numbers. Those that were pending before the cycle are
+/// given as they were then.
+fn push_each<S: Sink>(
     block: &mut Block,
-    row: u64,
-    place: u64,
+    first: Numbers,
     now: u64,
     was: &[SnapshotClaim],
     claims: &[SnapshotClaim],
-)
-    requires room { length block.old + 128 * 6 * 64 ≤ 65536 }
+    sink: &mut S,
+) -> Result<(), SinkFailed>
     requires few { length claims.now ≤ 64 }
-    requires row { row < 2 ^ 63 }
-    requires place { place ≤ 2 ^ 62 }
-    ensures bytes { block.new ≡ block.old ++ claims_text row place now was.now claims.now }
-    ensures len { length block.new ≤ length block.old + 128 * 6 * 64 }
+    requires row { first.row < 2 ^ 63 }
+    requires place { first.place ≤ 2 ^ 62 }
+    ensures { Passes (claims_text first.row first.place now was.now claims.now) block.old block.new
+        (S.contents sink.old) (S.contents sink.new) (S.faults sink.old) (S.faults sink.new) result }
 {
     for n in 0..claims.len() {
-        push_numbered(block, row, place, now, was, claims, n);
+        block.make_room(6, sink)?;
+        push_numbered(block, first, now, was, claims, n);
     }
+    Ok(())
 }
 
 /// Appends the lines of the claim at a place among these.
 fn push_numbered(
     block: &mut Block,
-    row: u64,
-    place: u64,
+    first: Numbers,
     now: u64,
     was: &[SnapshotClaim],
     claims: &[SnapshotClaim],
     n: usize,
 )
-    requires room { length block.old + 768 ≤ 65536 }
+    requires room { length block.old + 768 ≤ 4096 }
     requires inside { n < length claims.now }
     requires few { length claims.now ≤ 64 }
-    requires row { row < 2 ^ 63 }
-    requires place { place ≤ 2 ^ 62 }
+    requires row { first.row < 2 ^ 63 }
+    requires place { first.place ≤ 2 ^ 62 }
     ensures bytes { block.new ≡ block.old
-        ++ claim_text (row + n) (place + n) now (was_noted (slice_get was.now n)) (slice_get claims.now n) }
+        ++ claim_text (first.row + n) (first.place + n) now (was_noted (slice_get was.now n)) (slice_get claims.now n) }
     ensures len { length block.new ≤ length block.old + 768 }
 {
     let numbers = Numbers {
-        row: row + n as u64,
-        place: place + n as u64,
+        row: first.row + n as u64,
+        place: first.place + n as u64,
     };
     push_claim(block, numbers, now, was_noted(was, n), &claims[n]);
 }
 
 /// Appends the lines of a pending claim, of which a verdict had been noted before the cycle or not.
 fn push_claim(block: &mut Block, numbers: Numbers, now: u64, noted: bool, claim: &SnapshotClaim)
-    requires room { length block.old + 768 ≤ 65536 }
+    requires room { length block.old + 768 ≤ 4096 }
     ensures bytes { block.new ≡ block.old ++ claim_text numbers.row numbers.place now noted (Some claim.now) }
     ensures len { length block.new ≤ length block.old + 768 }
 {
@@ -157,7 +197,7 @@ fn was_noted(claims: &[SnapshotClaim], at: usize) -> bool
 
 /// Appends the verdict of a claim, where it was not noted before.
 fn push_noted(block: &mut Block, row: u64, before: bool, verdict: Option<Diff>)
-    requires { length block.old + 128 ≤ 65536 }
+    requires { length block.old + 128 ≤ 4096 }
     ensures bytes { block.new ≡ block.old ++ noted_text row before verdict }
     ensures len { length block.new ≤ length block.old + 128 }
 {
@@ -169,10 +209,24 @@ fn push_noted(block: &mut Block, row: u64, before: bool, verdict: Option<Diff>)
 }
 
 /// Appends the lines of the instruction that runs solo, if one does.
-fn push_solo(block: &mut Block, row: u64, after: &Snapshot)
-    requires room { length block.old + 128 * 6 ≤ 65536 }
-    ensures bytes { block.new ≡ block.old ++ solo_text row after.now.count after.now.cycles after.now.newest after.now.solo }
-    ensures len { length block.new ≤ length block.old + 128 * 6 }
+fn push_solo<S: Sink>(
+    block: &mut Block,
+    row: u64,
+    after: &Snapshot,
+    sink: &mut S,
+) -> Result<(), SinkFailed>
+    ensures { Passes (solo_text row after.now.count after.now.cycles after.now.newest after.now.solo) block.old block.new
+        (S.contents sink.old) (S.contents sink.new) (S.faults sink.old) (S.faults sink.new) result }
+{
+    block.make_room(6, sink)?;
+    push_alone(block, row, after);
+    Ok(())
+}
+
+/// Appends the same lines, for which there is room.
+fn push_alone(block: &mut Block, row: u64, after: &Snapshot)
+    requires { length block.old + 768 ≤ 4096 }
+    ensures { block.new ≡ block.old ++ solo_text row after.now.count after.now.cycles after.now.newest after.now.solo }
 {
     let Some(solo) = &after.solo else {
         return;
@@ -188,7 +242,7 @@ fn push_solo(block: &mut Block, row: u64, after: &Snapshot)
 
 /// Appends the cause of the flush that started an instruction solo, where it starts in this cycle.
 fn push_flush(block: &mut Block, row: u64, age: u64, newest: Option<FlushRow>)
-    requires { length block.old + 128 ≤ 65536 }
+    requires { length block.old + 128 ≤ 4096 }
     ensures bytes { block.new ≡ block.old ++ flush_text row age newest }
     ensures len { length block.new ≤ length block.old + 128 }
 {
@@ -199,18 +253,32 @@ fn push_flush(block: &mut Block, row: u64, age: u64, newest: Option<FlushRow>)
     }
 }
 
-/// Appends the claims that were not accepted, below the newest row.
-fn push_surplus(block: &mut Block, row: u64, claims: &[Claim])
-    requires few { length claims.now ≤ 8 }
-    requires room { length block.old + 256 * 8 ≤ 65536 }
-    ensures { block.new ≡ block.old ++ surplus_text row claims.now }
+/// Appends claims that were not accepted, below a row.
+fn push_surplus<S: Sink>(
+    block: &mut Block,
+    row: u64,
+    claims: &[Claim],
+    sink: &mut S,
+) -> Result<(), SinkFailed>
+    ensures { Passes (surplus_text row claims.now) block.old block.new
+        (S.contents sink.old) (S.contents sink.new) (S.faults sink.old) (S.faults sink.new) result }
 {
     for claim in claims {
-        let mut lead = note_lead(row);
-        lead.text(b"\\ndropped ");
-        block.line(&lead);
-        block.line(&list_line(claim.pc, claim.word));
+        block.make_room(2, sink)?;
+        push_dropped(block, row, claim);
     }
+    Ok(())
+}
+
+/// Appends a claim that was not accepted.
+fn push_dropped(block: &mut Block, row: u64, claim: &Claim)
+    requires { length block.old + 256 ≤ 4096 }
+    ensures { block.new ≡ block.old ++ surplus_text row (claim.now ∷ []) }
+{
+    let mut lead = note_lead(row);
+    lead.text(b"\\ndropped ");
+    block.line(&lead);
+    block.line(&list_line(claim.pc, claim.word));
 }
 
 /// Puts the lines of the rows that end in a cycle: `row` is the number of the oldest that was open. Where a put fails, a

@@ -2,13 +2,14 @@
 ghost use Rattle.std.specs.Prelude.{◌≡◌, ◌≤◌, ◌<◌, ◌+◌, ◌++◌, ◌^◌};
 ghost use Rattle.diva_outside.specs.Sink.{Puts};
 ghost use Rattle.diva_drawing.specs.Drawing.{drawn_cycle, drawn_end};
-ghost use Rattle.diva_drawing.specs.Log.{ended_text, log_cycle};
+ghost use Rattle.diva_drawing.specs.Log.{ended_text, log_cycle, open_text};
 ghost use Rattle.diva_drawing.specs.Rows.{begun_rows};
 ghost use Rattle.diva_drawing.specs.Snapshot.{IsSnapshot};
 
 use crate::block::Block;
 use crate::drawing::{put_drawn, put_stopped};
-use crate::log::{push_open, put_ended};
+use crate::excerpt::Excerpt;
+use crate::log::{put_ended, put_open};
 use crate::rows::{begun_rows, open_rows};
 use crate::snapshot::Snapshot;
 use diva_core::Claims;
@@ -23,7 +24,7 @@ pub struct Pen {
     rows: u64,
     /// What was seen of the machine last.
     seen: Snapshot,
-    /// The lines of a cycle, before they are put.
+    /// Lines on their way to the sink.
     block: Block,
 }
 
@@ -67,54 +68,68 @@ impl Pen {
         let after = Snapshot::of(m);
         let rows = self.rows + begun_rows(&self.seen, &after);
         let oldest = rows.saturating_sub(open_rows(&after));
-        self.block.clear();
-        push_open(&mut self.block, oldest, &self.seen, &after, handed);
         let first = self.rows.saturating_sub(open_rows(&self.seen));
-        let put = put_logged(&self.block, first, &self.seen, &after, sink);
+        let put = put_logged(
+            &mut self.block,
+            (oldest, first),
+            &self.seen,
+            &after,
+            handed,
+            sink,
+        );
         self.rows = rows;
         self.seen = after;
         put
     }
 
-    /// Puts the rows of the drawing that end in a cycle; the machine is shown as the cycle has left it. Where a put fails, a prefix
-    /// of them was appended. Fewer than 2^62 rows may have begun before.
-    pub fn draw_cycle<S: Sink>(&mut self, m: &Machine, sink: &mut S) -> Result<(), SinkFailed>
+    /// Puts the rows of the drawing that end in a cycle and have a cell in the excerpt; the machine is shown as the cycle has left
+    /// it. Where a put fails, a prefix of them was appended. Fewer than 2^62 rows may have begun before.
+    pub fn draw_cycle<S: Sink>(
+        &mut self,
+        m: &Machine,
+        excerpt: Excerpt,
+        sink: &mut S,
+    ) -> Result<(), SinkFailed>
         requires rows { self.old.rows < 2 ^ 62 }
         ensures seen { IsSnapshot m.now.timed self.new.seen }
         ensures rows { self.new.rows ≡ self.old.rows + begun_rows self.old.seen self.new.seen }
         ensures few { self.new.rows ≤ self.old.rows + 65 }
-        ensures put { Puts (drawn_cycle self.old.seen self.new.seen)
+        ensures put { Puts (drawn_cycle excerpt self.old.seen self.new.seen)
             (S.contents sink.old) (S.contents sink.new) (S.faults sink.old) (S.faults sink.new) result }
     {
         let after = Snapshot::of(m);
-        let put = put_drawn(&self.seen, &after, sink);
+        let put = put_drawn(&self.seen, &after, excerpt, &mut self.block, sink);
         self.rows += begun_rows(&self.seen, &after);
         self.seen = after;
         put
     }
 
-    /// Puts the rows of the drawing that are open at last, and the scale below them. Where a put fails, a prefix of them was appended.
-    pub fn end_drawing<S: Sink>(&self, sink: &mut S) -> Result<(), SinkFailed>
-        ensures { Puts (drawn_end self.now.seen)
+    /// Puts the rows of the drawing that are open at last and have a cell in the excerpt, and the scale below them. Where a put
+    /// fails, a prefix of them was appended.
+    pub fn end_drawing<S: Sink>(&mut self, excerpt: Excerpt, sink: &mut S) -> Result<(), SinkFailed>
+        ensures { Puts (drawn_end excerpt self.old.seen)
             (S.contents sink.old) (S.contents sink.new) (S.faults sink.old) (S.faults sink.new) result }
     {
-        put_stopped(&self.seen, sink)
+        put_stopped(&self.seen, excerpt, &mut self.block, sink)
     }
 }
 
-/// Puts the lines of what is open behind a cycle, which the block has, and then those of the rows that ended in it.
+/// Puts the lines of what is open after a cycle, and then those of the rows that ended in it. Of both the number of the oldest is
+/// given. Where a put fails, a prefix of them was appended.
 fn put_logged<S: Sink>(
-    block: &Block,
-    first: u64,
+    block: &mut Block,
+    oldest: (u64, u64),
     before: &Snapshot,
     after: &Snapshot,
+    handed: &Claims,
     sink: &mut S,
 ) -> Result<(), SinkFailed>
-    requires row { first < 2 ^ 62 }
+    requires open { oldest.0 < 2 ^ 63 }
+    requires ended { oldest.1 < 2 ^ 62 }
     requires count { after.now.count ≤ 2 ^ 62 }
-    ensures { Puts (block.now ++ ended_text first before.now after.now)
+    ensures { Puts (open_text oldest.0 before.now after.now handed.now ++ ended_text oldest.1 before.now after.now)
         (S.contents sink.old) (S.contents sink.new) (S.faults sink.old) (S.faults sink.new) result }
 {
-    block.put(sink)?;
-    put_ended(first, before, after, sink)
+    put_open(block, oldest.0, before, after, handed, sink)?;
+    put_ended(oldest.1, before, after, sink)
 }

@@ -24,7 +24,7 @@ pub(crate) fn push_stage(
     claim: &Record,
     age: u64,
 )
-    requires room { length block.old + 640 ≤ 65536 }
+    requires room { length block.old + 640 ≤ 4096 }
     requires short { length first.now ≤ 8 }
     ensures bytes { block.new ≡ block.old ++ stage_text first.now numbers.row numbers.place claim.now age }
     ensures len { length block.new ≤ length block.old + 640 }
@@ -47,7 +47,7 @@ pub(crate) fn push_stage(
 
 /// Appends the lines with which a row begins.
 fn push_begun(block: &mut Block, stage: &'static [u8], numbers: Numbers, claim: &Record)
-    requires room { length block.old + 640 ≤ 65536 }
+    requires room { length block.old + 640 ≤ 4096 }
     requires short { length stage.now ≤ 8 }
     ensures bytes { block.new ≡ block.old ++ begun_text stage.now numbers.row numbers.place claim.now }
     ensures len { length block.new ≤ length block.old + 640 }

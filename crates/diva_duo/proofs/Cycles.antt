@@ -1,11 +1,13 @@
 -- A cycle of two harts: what holds after it, and its actions.
 use Rattle.std.proofs.Common.{◌≡◌, ◌≢◌, ℕ, suc, ◌+◌, ◌-◌, ◌<◌, ◌≤◌, ◌==◌, Bool, true, false, not, List, [], ◌∷◌, ◌++◌, length, take, drop, Some, refl, ap, sym, ◌∙◌, arith, subst, ◌⊎◌, inl, inr, if◌then◌else◌}
 use Rattle.std.specs.Prelude.{replicate, option_and_then}
-use Rattle.std.proofs.lemmas.Bool.{cases_Bool, ne_eqb, eq-eqb, eqb-true, eqb-false, and_left, and_right}
+use Rattle.std.proofs.lemmas.Bool.{cases_Bool, ne_eqb, eq-eqb, eqb-true, eqb-false, and_left, and_parts, and_right}
 use Rattle.std.proofs.lemmas.List.{length-drop}
 use Rattle.diva_memory.specs.Bytes.{Bytes}
 use Rattle.diva_storeq.specs.declared.masked.Masked.{Masked}
+use Rattle.diva_storeq.specs.Stores.{laid}
 use Rattle.diva_storeq.proofs.Laying.{laid_base, laid_length}
+use Rattle.diva_core.specs.Timed.{Timed, is_empty}
 use Rattle.diva_isa.specs.declared.record.Record.{Record}
 use Rattle.diva_core.proofs.Stalling.{Stalls}
 use Rattle.diva_commit.specs.Committing.{AreInside}
@@ -17,7 +19,9 @@ use Rattle.diva_duo.specs.Harts.{Harts, may_drain, memory_drained, replay, state
 use Rattle.diva_duo.specs.Duo.{Duo, Hart, timed, drained_hart, hart_cycle, duo_drained, duo_cycle_of, phased, is_over, is_hart_over, harts_of, drains, actions}
 use Rattle.diva_duo.specs.Which.{Which, First, Second, hart_at, machine_at}
 use Rattle.diva_duo.specs.Between.{CountsFew, IsDuo, IsHart}
-use Rattle.diva_duo.proofs.Moving.{Moves, moves_on, keeps_on, other_memory, stalls_hart}
+use Rattle.diva_duo.specs.Headline.{CommitsAt, CommitsBy, FlushesOnce, LogsAt, WithoutFlush, judged_at}
+use Rattle.diva_duo.proofs.Headlines.{commits_none, logs_none}
+use Rattle.diva_duo.proofs.Moving.{Moves, moves_on, keeps_on, commits_on, logs_on, other_memory, stalls_hart}
 use Rattle.diva_duo.proofs.Replaying.{replays, replay_then, went_on, went_none}
 
 -- ---- one hart, which goes on or has ended
@@ -58,7 +62,62 @@ module _ (now : ℕ) (before memory : Bytes) (h : Hart) (inv : IsHart now before
         })
   ]
 
+  -- what it commits, and what that adds to its log
+  abbrev judged : Timed
+  judged = timed now memory (drained_hart h)
+
+  abbrev after : Timed
+  after = timed (now + 1) memory (hart_cycle (now + 1) memory list (drained_hart h))
+
+  ended_is : h.state.end ≢ 0 → after ≡ timed (now + 1) memory (drained_hart h)
+  ended_is off = ap (timed (now + 1) memory) (stands off)
+
+  pub commits_hart : CommitsBy judged after
+  commits_hart = elim (cases_Bool (h.state.end == 0)) [
+    | inl on ↦ commits_on now before memory h inv inside list (eqb-true _ _ on)
+    | inr off ↦ commits_none judged after (now + 1) (ended_is (eqb-false _ _ off))
+  ]
+
+  pub logs_hart : WithoutFlush judged after ⊎ FlushesOnce judged after
+  logs_hart = elim (cases_Bool (h.state.end == 0)) [
+    | inl on ↦ logs_on now before memory h inv inside list (eqb-true _ _ on)
+    | inr off ↦ inl (logs_none judged after (now + 1) (ended_is (eqb-false _ _ off)))
+  ]
+
 -- ---- both
+
+none_there : (b : List Masked) → is_empty b ≡ true → b ≡ []
+none_there [] e = refl
+none_there (x ∷ xs) e = let n = eqb-true (suc (length xs)) 0 e in absurd (omega arith)
+
+-- a hart drains nothing where its buffer is empty
+still : (now : ℕ) (memory : Bytes) (a b : List Masked) (h : Hart) → a ≡ [] → b ≡ [] → h.state.buffer ≡ []
+    → timed now (laid (laid memory (take 1 a)) (take 1 b)) (drained_hart h) ≡ timed now memory h
+still now memory a b h e f g =
+    let left : timed now (laid (laid memory (take 1 a)) (take 1 b)) (drained_hart h) ≡ timed now memory (record h { state = record h.state { buffer = [] } }) =
+    λ i. timed now (laid (laid memory (take 1 (e i))) (take 1 (f i))) (record h { state = record h.state { buffer = drop 1 (g i) } }) in
+    let right : timed now memory h ≡ timed now memory (record h { state = record h.state { buffer = [] } }) =
+    λ i. timed now memory (record h { state = record h.state { buffer = g i } }) in
+    left ∙ sym right
+
+-- where both are over, each is judged as it stands, and nothing becomes of it
+module _ (d : Duo) (over : is_over d ≡ true) where
+  none_first : d.first.state.buffer ≡ []
+  none_first = none_there d.first.state.buffer (and_parts (not (d.first.state.end == 0)) _ (and_parts (is_hart_over d.first) _ over).0).1
+
+  none_second : d.second.state.buffer ≡ []
+  none_second = none_there d.second.state.buffer (and_parts (not (d.second.state.end == 0)) _ (and_parts (is_hart_over d.first) _ over).1).1
+
+  over_judged : (w : Which) → machine_at w d ≡ judged_at w d
+  unfolding duo_drained
+  over_judged First = sym (still d.cycles d.memory d.first.state.buffer d.second.state.buffer d.first none_first none_second none_first)
+  over_judged Second = sym (still d.cycles d.memory d.first.state.buffer d.second.state.buffer d.second none_first none_second none_second)
+
+  pub over_commits : (w : Which) → CommitsAt w d d
+  over_commits w = commits_none (judged_at w d) (machine_at w d) d.cycles (over_judged w)
+
+  pub over_logs : (w : Which) → LogsAt w d d
+  over_logs w = inl (logs_none (judged_at w d) (machine_at w d) d.cycles (over_judged w))
 
 drains_first : (memory : Bytes) (x : HartState) (regs : List ℕ) (pc : ℕ) (output : List ℕ) (instret end : ℕ) (buffer : List Masked)
     → (let h : HartState = record { regs = regs; pc = pc; output = output; instret = instret; end = end; buffer = buffer } in
@@ -192,6 +251,28 @@ module _ (d : Duo) (inv : IsDuo d) (a b : List Record) where
   unfolding duo_drained
   next_stalls First on = stalls_hart d.cycles d.memory memory d.first inv.first inside_first a on
   next_stalls Second on = stalls_hart d.cycles d.memory memory d.second inv.second inside_second b on
+
+  next_commits : (w : Which) → CommitsAt w d next
+  unfolding duo_drained
+  next_commits First = commits_hart d.cycles d.memory memory d.first inv.first inside_first a
+  next_commits Second = commits_hart d.cycles d.memory memory d.second inv.second inside_second b
+
+  next_logs : (w : Which) → LogsAt w d next
+  unfolding duo_drained
+  next_logs First = logs_hart d.cycles d.memory memory d.first inv.first inside_first a
+  next_logs Second = logs_hart d.cycles d.memory memory d.second inv.second inside_second b
+
+  pub commits_at : (w : Which) → CommitsAt w d (duo_cycle_of d a b)
+  commits_at w = elim (cases_Bool (is_over d)) [
+    | inl over ↦ subst (CommitsAt w d) (sym (cycle_over over)) (over_commits d over w)
+    | inr goes ↦ subst (CommitsAt w d) (sym (cycle_next goes)) (next_commits w)
+  ]
+
+  pub logs_at : (w : Which) → LogsAt w d (duo_cycle_of d a b)
+  logs_at w = elim (cases_Bool (is_over d)) [
+    | inl over ↦ subst (LogsAt w d) (sym (cycle_over over)) (over_logs d over w)
+    | inr goes ↦ subst (LogsAt w d) (sym (cycle_next goes)) (next_logs w)
+  ]
 
   pub continues : (w : Which) → Continues w (duo_cycle_of d a b)
   continues w = elim (cases_Bool (is_over d)) [

@@ -4,7 +4,9 @@ pub mod Replaying
 pub mod Growing
 pub mod Fronting
 pub mod Readying
+pub mod Headlines
 pub mod Moving
 pub mod Cycles
+pub mod Logging
 pub mod Progress
 pub mod Turning

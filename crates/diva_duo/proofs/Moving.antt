@@ -21,7 +21,9 @@ use Rattle.diva_hart.specs.HartArch.{HartState, hart_in, seen}
 use Rattle.diva_duo.specs.Rules.{fence_waits, fences_wait, is_fence}
 use Rattle.diva_duo.specs.Duo.{Hart, timed, moved, drained_hart, hart_cycle}
 use Rattle.diva_duo.specs.Between.{IsHart}
+use Rattle.diva_duo.specs.Headline.{CommitsBy, FlushesOnce, WithoutFlush}
 use Rattle.diva_duo.proofs.Replaying.{Goes, goes_by, went_on}
+use Rattle.diva_duo.proofs.Headlines.{commits_by, commits_owing, logs_by, logs_owing}
 
 -- ---- the rule of two harts
 
@@ -170,6 +172,9 @@ module _ (now : ℕ) (before memory : Bytes) (h : Hart) (inv : IsHart now before
         let undos : 0 ≡ n.undos = sym any.base.undos in
         λ i. record n { arch = sees i; owed = owes i; cycles = c i; count = counts i; undos = undos i }
 
+    after_is : timed (now + 1) memory (hart_cycle (now + 1) memory list d) ≡ n
+    after_is = ap (timed (now + 1) memory) cycle_is ∙ timed_is
+
     pub moves_on : Moves (now + 1) memory list d
     moves_on =
         record {
@@ -200,12 +205,20 @@ module _ (now : ℕ) (before memory : Bytes) (h : Hart) (inv : IsHart now before
 
     pub stalls_hart : (h.state.instret < (hart_cycle (now + 1) memory list d).state.instret) ⊎ Stalls (timed now before h) (timed (now + 1) memory (hart_cycle (now + 1) memory list d))
     stalls_hart =
-        let t : timed (now + 1) memory (hart_cycle (now + 1) memory list d) ≡ n = ap (timed (now + 1) memory) cycle_is ∙ timed_is in
         elim stalls_on [
-          | inl more ↦ inl (subst (λ (z : Timed). h.state.instret < z.count) (sym t) more)
-          | inr s ↦ inr (subst (λ (z : Timed). Stalls (timed now before h) z) (sym t) (record {
+          | inl more ↦ inl (subst (λ (z : Timed). h.state.instret < z.count) (sym after_is) more)
+          | inr s ↦ inr (subst (λ (z : Timed). Stalls (timed now before h) z) (sym after_is) (record {
             same = s.same;
             on = s.on;
             longer = subst (λ k. k < stalled n) (sym (stalled_same (timed now before h) (seen memory d.state) (length h.state.buffer) h.solo)) s.longer;
           }))
         ]
+
+    -- what it commits, and what that adds to its log, told from the machine as it is judged
+    pub commits_on : CommitsBy (timed now memory d) (timed (now + 1) memory (hart_cycle (now + 1) memory list d))
+    commits_on = subst (CommitsBy (timed now memory d)) (sym after_is) (commits_owing b n (length d.state.buffer) (commits_by b list n how))
+
+    pub logs_on : WithoutFlush (timed now memory d) (timed (now + 1) memory (hart_cycle (now + 1) memory list d)) ⊎ FlushesOnce (timed now memory d) (timed (now + 1) memory (hart_cycle (now + 1) memory list d))
+    logs_on =
+        subst (λ (z : Timed). WithoutFlush (timed now memory d) z ⊎ FlushesOnce (timed now memory d) z) (sym after_is)
+        (logs_owing b n (length d.state.buffer) (logs_by b list n sound how))

@@ -1,5 +1,5 @@
 -- A hart's numbers leave room for a cycle.
-use Rattle.std.proofs.Common.{◌≡◌, ℕ, ◌+◌, ◌*◌, ◌<◌, ◌≤◌, ◌^◌, length, Option, Some, None, refl, arith}
+use Rattle.std.proofs.Common.{◌≡◌, ℕ, ◌+◌, ◌*◌, ◌<◌, ◌≤◌, ◌^◌, List, length, take, Option, Some, None, refl, arith}
 use Rattle.std.proofs.Math.Nat.{mul-le-mul_right}
 use Rattle.std.proofs.lemmas.List.{length-drop}
 use Rattle.diva_memory.specs.Bytes.{Bytes}
@@ -7,8 +7,11 @@ use Rattle.diva_isa.specs.State.{State, memory_of}
 use Rattle.diva_core.specs.Timed.{Config, Timed}
 use Rattle.diva_core.specs.Machine.{IsConfig, Lives}
 use Rattle.diva_core.proofs.Starting.{new-machine}
-use Rattle.diva_hart.specs.HartArch.{seen}
-use Rattle.diva_duo.specs.Harts.{first_state}
+use Rattle.diva_storeq.specs.declared.masked.Masked.{Masked}
+use Rattle.diva_commit.specs.Committing.{AreInside}
+use Rattle.diva_commit.proofs.Storing.{inside_later}
+use Rattle.diva_hart.specs.HartArch.{HartState, seen}
+use Rattle.diva_duo.specs.Harts.{first_state, memory_drained}
 use Rattle.diva_duo.specs.Duo.{Duo, Hart, drained_hart, new_duo, new_hart}
 use Rattle.diva_duo.specs.Which.{Which, First, Second, hart_at}
 use Rattle.diva_duo.specs.Between.{IsDuo, IsHart}
@@ -80,3 +83,7 @@ new_at z s n ok port none =
 -- two harts that begin with a state
 pub new_holds : (z : Config) (s : State) → IsConfig z → z.port ≡ 1 → s.instret ≡ 0 → s.base + length s.bytes ≤ 2 ^ 32 → IsDuo (new_duo z s)
 new_holds z s ok port none range = record { range = range; first = new_at z s 0 ok port none; second = new_at z s 1 ok port none }
+
+-- what waits lies inside the memory behind a drain too
+pub inside_drained : (m n : Bytes) (h : HartState) (b : List Masked) → n ≡ memory_drained m h → AreInside m b → AreInside n b
+inside_drained m n h b is inside = rw is (inside_later m (take 1 h.buffer) b inside)

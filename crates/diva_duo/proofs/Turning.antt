@@ -1,5 +1,5 @@
 -- Turns of two harts, one after another.
-use Rattle.std.proofs.Common.{◌≡◌, ◌+◌, List, [], ◌∷◌, ◌++◌, false, refl, ap, sym, ◌∙◌, arith, length-append}
+use Rattle.std.proofs.Common.{◌≡◌, ◌+◌, List, [], ◌∷◌, ◌++◌, false, refl, ap, sym, ◌∙◌, arith, length-append, subst}
 use Rattle.std.proofs.lemmas.List.{append-nil, append_assoc, map-append}
 use Rattle.diva_isa.specs.declared.record.Record.{Record}
 use Rattle.diva_core.specs.History.{Meaning}
@@ -9,8 +9,10 @@ use Rattle.diva_duo.specs.Duo.{Duo, actions, duo_cycle_of, harts_of, is_over}
 use Rattle.diva_duo.specs.Which.{First, Second}
 use Rattle.diva_duo.specs.Between.{IsDuo, duo_run}
 use Rattle.diva_duo.specs.Shown.{Shown}
+use Rattle.diva_duo.specs.Headline.{AddsRowsAt}
 use Rattle.diva_duo.specs.Turns.{HandsOver, DrivesDuo, DuoTurn, DuoTurns, IsDuoHistory, acted_by, last_acted, pairs_of}
 use Rattle.diva_duo.proofs.Cycles.{cycles_more, replays_actions}
+use Rattle.diva_duo.proofs.Logging.{adds_rows, are_committed}
 use Rattle.diva_duo.proofs.Replaying.{replay_then}
 
 abbrev Pair : Type 0
@@ -62,18 +64,21 @@ last_more before d [] p = refl
 last_more before d (q ∷ rest) p = last_more (actions d (duo_cycle_of d q.0 q.1)) (duo_cycle_of d q.0 q.1) rest p
 
 module _ {A B : Type 0} (gives_a : Meaning A) (gives_b : Meaning B) where
-  pub drives_none : (d : Shown) (a : A) (b : B) → DrivesDuo gives_a gives_b d a b d a b
-  drives_none d a b =
+  pub drives_none : (d : Shown) (a : A) (b : B) → IsDuo d.duo → DrivesDuo gives_a gives_b d a b d a b
+  drives_none d a b inv =
       record {
         turns = record { history = []; good = (refl, refl, refl); each = omega arith };
         replayed = refl;
         shows = refl;
+        committed = λ w. tt;
+        rows = λ w. adds_rows w [] d.duo inv;
       }
 
   -- one turn more
   pub drives_more :
       (d : Shown) (a : A) (b : B) (mid : Shown) (between_a : A) (between_b : B) (t : DuoTurn A B) (last : Shown)
       → DrivesDuo gives_a gives_b d a b mid between_a between_b
+      → IsDuo d.duo
       → IsDuo mid.duo
       → is_over mid.duo ≡ false
       → HandsOver gives_a First mid.duo between_a t.first t.first_core
@@ -82,7 +87,7 @@ module _ {A B : Type 0} (gives_a : Meaning A) (gives_b : Meaning B) where
       → last.last ≡ actions mid.duo last.duo
       → DrivesDuo gives_a gives_b d a b last t.first_core t.second_core
   unfolding turns_more
-  drives_more d a b mid between_a between_b t last drives sound over x y is acts =
+  drives_more d a b mid between_a between_b t last drives began sound over x y is acts =
       let turns = drives.turns in
       let pairs = pairs_of turns.history in
       let e = duo_cycle_of mid.duo t.first t.second in
@@ -93,8 +98,12 @@ module _ {A B : Type 0} (gives_a : Meaning A) (gives_b : Meaning B) where
       let acted : acted_by d.duo (pairs_of (turns.history ++ t ∷ [])) ≡ acted_by d.duo pairs ++ actions mid.duo e =
       ap (acted_by d.duo) more ∙ acted_more d.duo pairs p ∙ ap (λ (xs : List Action). acted_by d.duo pairs ++ xs) (sym here) in
       let step = replays_actions mid.duo sound t.first t.second in
+      let further = turns_more gives_a gives_b d.duo a b mid.duo between_a between_b t turns over x y (cycles_more mid.duo sound t.first t.second over) in
+      let reached = history_run gives_a gives_b d.duo a b further.history e t.first_core t.second_core further.good in
       rw is (record {
-        turns = turns_more gives_a gives_b d.duo a b mid.duo between_a between_b t turns over x y (cycles_more mid.duo sound t.first t.second over);
+        turns = further;
         replayed = ap (λ (xs : List Action). replay xs (harts_of d.duo)) acted ∙ replay_then (acted_by d.duo pairs) (actions mid.duo e) (harts_of d.duo) (harts_of mid.duo) (harts_of e) drives.replayed step;
         shows = acts ∙ ap (actions mid.duo) is ∙ here ∙ sym (ap (last_acted d.last d.duo) more ∙ last_more d.last d.duo pairs p);
+        committed = λ w. are_committed w (pairs_of further.history) d.duo began;
+        rows = λ w. subst (AddsRowsAt w d.duo (pairs_of further.history)) (sym reached) (adds_rows w (pairs_of further.history) d.duo began);
       })

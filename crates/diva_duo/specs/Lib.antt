@@ -5,6 +5,7 @@ pub mod Duo
 pub mod Which
 pub mod Shown
 pub mod Between
+pub mod Headline
 pub mod Turns
 -- a worked example, for the function of `worked` alone
 pub mod Programs

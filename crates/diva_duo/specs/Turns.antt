@@ -5,6 +5,7 @@ use Rattle.diva_core.specs.Told.{told_of}
 use Rattle.diva_core.specs.History.{Meaning}
 use Rattle.diva_duo.specs.Duo.{Duo, actions, duo_cycle_of, harts_of, is_over}
 use Rattle.diva_duo.specs.Harts.{replay}
+use Rattle.diva_duo.specs.Headline.{AddsRowsAt, AreCommittedAt}
 use Rattle.diva_duo.specs.Shown.{Shown}
 use Rattle.diva_duo.specs.Which.{Which, First, Second, hart_at, machine_at}
 use Rattle.diva_duo.specs.declared.action.Action.{Action}
@@ -57,8 +58,11 @@ last_acted before d [] = before
 last_acted before d (lists ∷ rest) = last_acted (actions d (duo_cycle_of d lists.0 lists.1)) (duo_cycle_of d lists.0 lists.1) rest
 
 -- turns lead from a duo and its cores to others. Their actions, replayed, lead from the harts to the last ones, and the duo shows
--- those of the last cycle; where no turn was taken, those that it showed before
+-- those of the last cycle; where no turn was taken, those that it showed before. In each cycle each hart commits equal claims that had
+-- waited, or the one instruction that ran solo for six cycles; and the rows that were added to its log are those of its flushes
 pub record DrivesDuo {A B : Type 0} (gives_a : Meaning A) (gives_b : Meaning B) (d : Shown) (a : A) (b : B) (last : Shown) (final_a : A) (final_b : B) : Type 0 where
   pub turns : DuoTurns gives_a gives_b d.duo a b last.duo final_a final_b
   pub replayed : replay (acted_by d.duo (pairs_of turns.history)) (harts_of d.duo) ≡ Some (harts_of last.duo)
   pub shows : last.last ≡ last_acted d.last d.duo (pairs_of turns.history)
+  pub committed : (w : Which) → AreCommittedAt w d.duo (pairs_of turns.history)
+  pub rows : (w : Which) → AddsRowsAt w d.duo (pairs_of turns.history) last.duo

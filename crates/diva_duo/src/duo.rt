@@ -9,8 +9,9 @@ ghost use Rattle.diva_commit.specs.Committing.{AreInside};
 ghost use Rattle.diva_hart.specs.Start.{start_of};
 ghost use Rattle.diva_duo.specs.Harts.{memory_drained, replay};
 ghost use Rattle.diva_duo.specs.Duo.{actions, drained_hart, drains, duo_cycle_of, goes, hart_cycle, harts_of, is_over, new_duo};
-ghost use Rattle.diva_duo.specs.Which.{First, Second, hart_at, machine_at, which};
+ghost use Rattle.diva_duo.specs.Which.{First, Second, Which, hart_at, machine_at, which};
 ghost use Rattle.diva_duo.specs.Between.{CountsFew, IsDuo, WillGo, HasGone};
+ghost use Rattle.diva_duo.specs.Headline.{CommitsAt, LogsAt};
 ghost use Rattle.diva_duo.specs.Inner.{CanCycle};
 
 use crate::action::Action;
@@ -68,7 +69,7 @@ impl Parts {
     }
 
     /// One cycle of harts that are not over.
-    #[tactic(auto, unfolding(crate::specs::Duo::duo_cycle_of, crate::specs::Duo::duo_drained, crate::specs::Duo::actions))]
+    #[tactic(auto, unfolding(crate::specs::Duo::duo_cycle_of, crate::specs::Duo::duo_drained, crate::specs::Duo::actions), using(crate::proofs::Readying::inside_drained))]
     fn cycle(&mut self, a: &[Claim], b: &[Claim])
         requires goes_on { is_over self.old.duo ≡ false }
         requires duo { IsDuo self.old.duo }
@@ -289,7 +290,7 @@ impl Duo {
 
     /// Runs one cycle, each hart on its list. Where they are over, nothing changes but `last`, which is then empty. Fewer than
     /// 2^60 cycles may have run before.
-    #[tactic(auto, using(crate::proofs::Cycles::replays_actions, crate::proofs::Cycles::stays, crate::proofs::Cycles::counts_few, crate::proofs::Progress::will_go, crate::proofs::Progress::has_gone, crate::proofs::Cycles::cycle_over))]
+    #[tactic(auto, using(crate::proofs::Cycles::replays_actions, crate::proofs::Cycles::stays, crate::proofs::Cycles::counts_few, crate::proofs::Cycles::commits_at, crate::proofs::Cycles::logs_at, crate::proofs::Cycles::over_commits, crate::proofs::Cycles::over_logs, crate::proofs::Progress::will_go, crate::proofs::Progress::has_gone, crate::proofs::Cycles::cycle_over))]
     pub fn cycle(&mut self, a: &Claims, b: &Claims)
         requires { self.old.duo.cycles < 2 ^ 60 }
         // It is the cycle of the definition, in every part.
@@ -300,6 +301,11 @@ impl Duo {
         ensures replayed { replay self.new.last (harts_of self.old.duo) ≡ Some (harts_of self.new.duo) }
         ensures first_few { CountsFew First self.old.duo self.new.duo }
         ensures second_few { CountsFew Second self.old.duo self.new.duo }
+
+        // Each hart commits equal claims that had waited, or the one instruction that ran solo for six cycles. It is flushed only
+        // where a claim differs from what is due, or idle stands at the limit; and only with a flush an instruction begins to run solo.
+        ensures commits { (w : Which) → CommitsAt w self.old.duo self.new.duo }
+        ensures logs { (w : Which) → LogsAt w self.old.duo self.new.duo }
 
         // Each hart goes on within the watchdog's limit and six cycles, whatever is handed over, and has done so until now.
         ensures first_will_go { WillGo First self.new.duo }

@@ -39,7 +39,7 @@ history-none gives m core (turn ∷ rest) last after h =
 -- ---- cycles that no row touches
 
 -- a history of a core in cycles in which the rows change nothing is a history of the core under the script
-history-untouched : {C : Type 0} (gives : Meaning C) (rows : List Row) (m : Timed) (core : C) (history : List (List Record × C)) (last : Timed) (after : C)
+pub history-untouched : {C : Type 0} (gives : Meaning C) (rows : List Row) (m : Timed) (core : C) (history : List (List Record × C)) (last : Timed) (after : C)
     → IsMachine m
     → ((now : ℕ) (list : List Record) → m.cycles < now → now ≤ m.cycles + length history → scripted rows now list ≡ list)
     → IsHistory gives m core history last after → IsHistory (spoiled rows gives) m core history last after
@@ -54,7 +54,7 @@ history-untouched gives rows m core (turn ∷ rest) last after inv untouched h =
     (h.0, (one, more))
 
 -- so turns of a core in such cycles are its turns under the script
-pub Turns-untouched : {C : Type 0} (gives : Meaning C) (rows : List Row) (m : Timed) (core : C) (last : Timed) (after : C)
+unfoldable pub Turns-untouched : {C : Type 0} (gives : Meaning C) (rows : List Row) (m : Timed) (core : C) (last : Timed) (after : C)
     → IsMachine m
     → ((now : ℕ) (list : List Record) → m.cycles < now → now ≤ last.cycles → scripted rows now list ≡ list)
     → Turns gives m core last after → Turns (spoiled rows gives) m core last after

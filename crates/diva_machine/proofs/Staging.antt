@@ -27,7 +27,7 @@ use Rattle.diva_core.proofs.Bypassing.{after_goes, before_is}
 use Rattle.diva_core.proofs.Leaving.{claims_alike, future_begun, older_more}
 use Rattle.diva_vote.specs.declared.stage.Stage.{Stage}
 use Rattle.diva_machine.specs.Staged.{AreChecked, AreInOrder, IsChecked, IsFilled, IsSoloFilled, IsStaged, Parts, last_stage, passed_by}
-use Rattle.diva_vote.specs.Lanes.{earlier_of, own_of}
+use Rattle.diva_vote.specs.Questions.{earlier_of, own_of}
 use Rattle.diva_machine.specs.Inner.{age_of, IsAdvanced}
 use Rattle.diva_machine.proofs.Verdicts.{age_from, before_of, decodes_none, form_kept, form_whole, found_by, stays_found, verdict_past, whole_verdict}
 

@@ -15,7 +15,7 @@ use Rattle.diva_core.specs.Stages.{Answers, HasVerdict, fields_at, fetch_fields,
 use Rattle.diva_vote.specs.declared.stage.Stage.{Stage}
 use Rattle.diva_vote.specs.declared.stage.Stage.TheVariants.{Fetch, Operands, Execute, Memory}
 use Rattle.diva_machine.specs.Staged.{decoded_at, last_stage}
-use Rattle.diva_vote.specs.Lanes.{earlier_of, own_of}
+use Rattle.diva_vote.specs.Questions.{earlier_of, own_of}
 use Rattle.diva_machine.specs.Inner.{age_of}
 
 -- the verdict of a claim p of an age, where r is due

@@ -1,7 +1,7 @@
 -- What is asked of the lanes of a machine that is voted on: of each claim, once at each stage that compares.
 use Rattle.std.specs.Prelude.{ℕ, zero, suc, ◌+◌, ◌-◌, List, [], ◌∷◌, ◌++◌, map, if◌then◌else◌}
-use Rattle.std.specs.List.{flat_map}
-use Rattle.diva_isa.specs.State.{goes_on}
+use Rattle.diva_isa.specs.State.{State, goes_on}
+use Rattle.diva_isa.specs.Step.{apply}
 use Rattle.diva_isa.specs.declared.record.Record.{Record}
 use Rattle.diva_core.specs.Timed.{Timed, PendingClaim}
 use Rattle.diva_core.specs.Cycle.{begun, commits_under, cycle_of, drained, stores_wait}
@@ -22,17 +22,21 @@ stages_at (suc (suc (suc (suc zero)))) = Execute ∷ []
 stages_at (suc (suc (suc (suc (suc zero))))) = Memory ∷ []
 stages_at (suc (suc (suc (suc (suc (suc age)))))) = []
 
--- what is asked of a claim of an age
-abbrev pub asked_at : (age : ℕ) → Record → List Question
-asked_at age claim = map (λ stage. record { stage = stage; claim = claim }) (stages_at age)
+-- what is asked of a claim of an age that stands in a state
+abbrev pub asked_at : (age : ℕ) → State → Record → List Question
+asked_at age s claim = map (λ stage. record { stage = stage; claim = claim; state = s }) (stages_at age)
 
--- what is asked in a cycle of the claims that are pending, the oldest first
-abbrev pub asked_in : (cycle : ℕ) → List PendingClaim → List Question
-asked_in cycle pending = flat_map (λ p. asked_at (cycle - p.cycle) p.claim) pending
+-- what is asked in a cycle of the claims that are pending behind a committed state, the oldest first: each stands in the state after
+-- the older ones
+abbrev pub asked_in : (cycle : ℕ) → State → List PendingClaim → List Question
+asked_in cycle s [] = []
+asked_in cycle s (p ∷ rest) = asked_at (cycle - p.cycle) s p.claim ++ asked_in cycle (apply s p.claim) rest
 
--- what is asked in the coming cycle: of the claims that its commits leave
+-- what is asked in the coming cycle: of the claims that its commits leave, behind the state to which they lead
 unfoldable pub asked_of : Timed → List Question
-asked_of m = if goes_on m.arch then asked_in (m.cycles + 1) (commits_under stores_wait (drained (begun m))).pending else []
+asked_of m =
+    let left : Timed = commits_under stores_wait (drained (begun m)) in
+    if goes_on m.arch then asked_in (m.cycles + 1) left.arch left.pending else []
 
 -- what is asked in the cycles in which a machine is handed these lists
 abbrev pub asked_over : Timed → List (List Record) → List Question

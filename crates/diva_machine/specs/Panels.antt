@@ -1,7 +1,8 @@
 -- Three lanes that are lent to the stages.
 -- Only private contracts of this crate cite this: a reader of its promises can pass over it.
 use Rattle.std.specs.Prelude.{ℕ, ◌≡◌, List}
-use Rattle.diva_vote.specs.Questions.{HeardAll, Hearing, Question}
+use Rattle.diva_vote.specs.Polls.{AlwaysTwoAreRight, ArePolledAndCounted}
+use Rattle.diva_vote.specs.Questions.{Question, Saying}
 use Rattle.diva_machine.specs.declared.panel.Panel.{Panel}
 
 -- the lanes that are lent
@@ -20,15 +21,13 @@ pub record ArePanel {A B L : Type 0} (first second third : ℕ) (p : Panel A B L
   pub second_is : p.second.ghost_name ≡ second
   pub third_is : p.third.ghost_name ≡ third
 
--- a lane that was honest is honest, and has heard these questions
-pub record LedLane {L : Type 0} (honest : L → Type 0) (hears : Hearing L) (before : L) (asked : List Question) (after : L) : Type 0 where
-  pub stays : honest before → honest after
-  pub heard : HeardAll hears before asked after
+-- of the lanes that are lent, at least two will be right each time
+abbrev pub IsSound : {A B L : Type 0} → Saying A → Saying B → Saying L → Panel A B L → Type 0
+IsSound first_says second_says third_says p = AlwaysTwoAreRight first_says second_says third_says (in_first p) (in_second p) (in_third p)
 
--- so has each of three, and the same ones are lent
-pub record LedLanes {A B L : Type 0} (first_honest : A → Type 0) (first_hears : Hearing A) (second_honest : B → Type 0) (second_hears : Hearing B)
-    (third_honest : L → Type 0) (third_hears : Hearing L) (p : Panel A B L) (asked : List Question) (q : Panel A B L) : Type 0 where
-  pub first : LedLane first_honest first_hears (in_first p) asked (in_first q)
-  pub second : LedLane second_honest second_hears (in_second p) asked (in_second q)
-  pub third : LedLane third_honest third_hears (in_third p) asked (in_third q)
+-- they were polled on these questions, where one was outvoted the panel counted it, and the same ones are lent
+pub record LedLanes {A B L : Type 0} (first_says : Saying A) (second_says : Saying B) (third_says : Saying L)
+    (p : Panel A B L) (asked : List Question) (q : Panel A B L) : Type 0 where
+  pub polled : ArePolledAndCounted first_says second_says third_says asked
+      (in_first p) (in_second p) (in_third p) (in_first q) (in_second q) (in_third q) p.outvoted q.outvoted
   pub same : ArePanel p.first.ghost_name p.second.ghost_name p.third.ghost_name q

@@ -14,8 +14,8 @@ ghost use Rattle.diva_core.specs.Machine.{IsMachine};
 ghost use Rattle.diva_core.specs.Headline.{dues, Rises, ByClaims, BySolo, IsJudged, SameLog, AddsRow, HasPace, WillCount, WillJudge};
 ghost use Rattle.diva_core.specs.Right.{IsRight, IsCalm, StaysCalm};
 ghost use Rattle.diva_hart.specs.Start.{start_of};
-ghost use Rattle.diva_vote.specs.Questions.{HeardAll, Question};
-ghost use Rattle.diva_vote.specs.Votes.{AtLeastTwo};
+ghost use Rattle.diva_vote.specs.Polls.{AlwaysTwoAreRight, ArePolledAndCounted};
+ghost use Rattle.diva_vote.specs.Questions.{Question};
 ghost use Rattle.diva_machine.specs.Asked.{asked_of};
 ghost use Rattle.diva_machine.specs.Staged.{AreChecked, IsChecked};
 
@@ -25,7 +25,7 @@ use crate::stages::{Checks, Stages};
 use diva_core::{Claims, Config, Entry, FlushRow, Told, View};
 use diva_image::Image;
 use diva_isa::{End, Record, Undo};
-use diva_vote::Lane;
+use diva_vote::{Lane, Outvoted};
 use diva_watchdog::Recover;
 use std::alloc::{AllocError, Global};
 use std::marker::Model;
@@ -39,6 +39,8 @@ use std::marker::Model;
 #[derive(Drop)]
 pub struct Machine {
     parts: Parts,
+    /// How often each of the lanes that voted was outvoted.
+    outvoted: Outvoted,
 }
 
 impl Model for Machine {
@@ -49,7 +51,12 @@ impl Model for Machine {
 
     ghost Value = { Machine };
 
-    ghost view = { λ m. record { timed = m.parts.timed; last = m.parts.last; entries = m.parts.entries } };
+    ghost view = { λ m. record {
+      timed = m.parts.timed;
+      last = m.parts.last;
+      entries = m.parts.entries;
+      outvoted = m.outvoted;
+    } };
 
     ghost invariant = { λ m. IsBetweenCycles m.parts.timed
         × (IsStaged m.parts.timed.cycles m.parts × IsSoloFilled m.parts.timed.cycles m.parts) };
@@ -63,12 +70,16 @@ impl Machine {
         ensures timed { IfOk result (λ m. m.timed ≡ new_timed config (start_of (layout image.now))) }
         ensures last { IfOk result (λ m. m.last ≡ []) }
         ensures entries { IfOk result (λ m. m.entries ≡ []) }
+        ensures outvoted { IfOk result (λ m. m.outvoted ≡ record { first = 0; second = 0; third = 0 }) }
         ensures counts { IfOk result (λ m. WillCount m.timed) }
         ensures paced { IfOk result (λ m. HasPace m.timed) }
         ensures calm { IfOk result (λ m. IsCalm m.timed) }
     {
         let parts = Parts::new(alloc, image, config)?;
-        Ok(Machine { parts })
+        Ok(Machine {
+            parts,
+            outvoted: Outvoted::default(),
+        })
     }
 
     /// What a core is told before the coming cycle.
@@ -145,6 +156,14 @@ impl Machine {
         ensures { result ≡ self.now.timed.undos }
     {
         self.parts.under.undos
+    }
+
+    /// How often each of three lanes was outvoted, in all the cycles in which lanes voted: its answer was not the vote. Each is counted
+    /// to 2^64 - 1. An undo does not change it.
+    pub fn outvoted(&self) -> Outvoted
+        ensures { result ≡ self.now.outvoted }
+    {
+        self.outvoted
     }
 
     /// The rows of the first flushes, 1,024 at most.
@@ -238,6 +257,7 @@ impl Machine {
         // The stages have checked each pending claim as far as its age goes; an ended machine keeps what it noted.
         ensures checked { AreChecked self.new.timed.arch self.new.timed.cycles self.new.entries }
         ensures stays { goes_on self.old.timed.arch ≡ false → self.new.entries ≡ self.old.entries }
+        ensures outvoted { self.new.outvoted ≡ self.old.outvoted }
 
         // Nothing ready is held up for longer than until the port opens, and only a store is; a solo one never.
         ensures judges { WillJudge self.new.timed }
@@ -257,8 +277,9 @@ impl Machine {
     }
 
     /// The same, where what a stage finds in a claim is what most of three lanes say. Each is asked once for each claim and
-    /// stage, whatever the others said, and whatever an earlier stage found. Two honest lanes are enough: the third may be
-    /// anything. The registers, the store queue, what commits, and an instruction that runs solo are not voted on.
+    /// stage, whatever the others said, and whatever an earlier stage found, and it is counted where one is outvoted. It is enough
+    /// that of the three answers to each question two are right, whichever they are: of lanes two of which are honest `recall_two_honest`
+    /// of `diva_vote` says so. The registers, the store queue, what commits, and an instruction that runs solo are not voted on.
     #[tactic(auto, using(diva_core::proofs::Keeping::stays, diva_core::proofs::Outcomes::rises, diva_core::proofs::Outcomes::logs, diva_core::proofs::Outcomes::records_by, diva_core::proofs::Pacing::will_count, diva_core::proofs::Progressing::has_pace, diva_core::proofs::Calming::stays_calm, crate::proofs::Laws::sixth_commits))]
     pub fn cycle_voted<A: Lane, B: Lane, L: Lane>(
         &mut self,
@@ -268,14 +289,15 @@ impl Machine {
         l: &mut L,
     )
         requires cycles { self.old.timed.cycles < 2 ^ 60 }
-        requires honest { AtLeastTwo (A.honest a.old) (B.honest b.old) (L.honest l.old) }
-        // Each lane that was honest is honest again, and it has heard each question of the cycle.
+        requires majority { AlwaysTwoAreRight A.says B.says L.says a.old b.old l.old }
+        // The lanes were polled on the questions of the cycle, and it was counted where one was outvoted.
+        ensures polled { ArePolledAndCounted A.says B.says L.says (asked_of self.old.timed)
+            a.old b.old l.old a.new b.new l.new self.old.outvoted self.new.outvoted }
+        // Two at least will be right again, and each lane that was honest is honest again.
+        ensures majority { AlwaysTwoAreRight A.says B.says L.says a.new b.new l.new }
         ensures first_stays { A.honest a.old → A.honest a.new }
         ensures second_stays { B.honest b.old → B.honest b.new }
         ensures third_stays { L.honest l.old → L.honest l.new }
-        ensures first_hears { HeardAll A.hears a.old (asked_of self.old.timed) a.new }
-        ensures second_hears { HeardAll B.hears b.old (asked_of self.old.timed) b.new }
-        ensures third_hears { HeardAll L.hears l.old (asked_of self.old.timed) l.new }
 
         // It is the cycle of the definition, in every part.
         ensures cycled { self.new.timed ≡ cycle_of self.old.timed list.now }
@@ -316,8 +338,9 @@ impl Machine {
             → self.old.timed.cycles + 1 ≡ start + depth
             → self.new.timed.count ≡ self.old.timed.count + 1 }
     {
-        let mut panel = Panel::new(a, b, l);
+        let mut panel = Panel::new(a, b, l, self.outvoted);
         self.cycle_by(list, &mut panel);
+        self.note_outvoted(panel.outvoted);
     }
 
     /// Takes the last instruction back, which overwrote `u`. All stores that are not in memory yet are put there before. What is
@@ -329,6 +352,7 @@ impl Machine {
         ensures undone { self.new.timed ≡ undone self.old.timed u.now }
         ensures last { self.new.last ≡ self.old.last }
         ensures entries { self.new.entries ≡ [] }
+        ensures outvoted { self.new.outvoted ≡ self.old.outvoted }
 
         // Its numbers are within their bounds again, it goes on counting, and no right list leads to a flush.
         ensures machine { IsMachine self.new.timed }
@@ -353,6 +377,7 @@ impl Machine {
             ≡ dues (self.new.timed.count - self.old.timed.count) self.old.timed.arch }
         ensures checked { AreChecked self.new.timed.arch self.new.timed.cycles self.new.entries }
         ensures stays { goes_on self.old.timed.arch ≡ false → self.new.entries ≡ self.old.entries }
+        ensures outvoted { self.new.outvoted ≡ self.old.outvoted }
     {
         if self.parts.goes_on() {
             let room = self.room();
@@ -360,6 +385,13 @@ impl Machine {
         } else {
             self.parts.forget_last();
         }
+    }
+
+    /// Notes how often each lane was outvoted, where others have counted on from what it was.
+    pub(crate) fn note_outvoted(&mut self, outvoted: Outvoted)
+        ensures { self.new ≡ record self.old { outvoted = outvoted } }
+    {
+        self.outvoted = outvoted;
     }
 
     /// What a core is told before the coming cycle of a machine that goes on: whether it does is not asked.
@@ -396,6 +428,7 @@ impl Machine {
             ≡ dues (self.new.timed.count - self.old.timed.count) self.old.timed.arch }
         ensures none { result ≡ false → self.new.last ≡ [] }
         ensures stays { goes_on self.old.timed.arch ≡ false → self.new.entries ≡ self.old.entries }
+        ensures outvoted { self.new.outvoted ≡ self.old.outvoted }
     {
         self.cycle_by(list, stages);
         !self.parts.last.is_empty()
@@ -415,6 +448,7 @@ impl Machine {
         ensures last { self.new.last
             ≡ dues (self.new.timed.count - self.old.timed.count) self.old.timed.arch }
         ensures none { result ≡ false → self.new.last ≡ [] }
+        ensures outvoted { self.new.outvoted ≡ self.old.outvoted }
     {
         self.parts.cycle(list, usize::MAX, stages)
     }
@@ -438,6 +472,7 @@ impl Machine {
         ensures last { self.new.last
             ≡ dues (self.new.timed.count - self.old.timed.count) self.old.timed.arch }
         ensures none { result ≡ false → self.new.last ≡ [] }
+        ensures outvoted { self.new.outvoted ≡ self.old.outvoted }
     {
         if fits {
             self.cycle_fitting(list, stages)

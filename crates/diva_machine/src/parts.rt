@@ -15,6 +15,7 @@ ghost use Rattle.diva_core.specs.Undone.{CanUndo, undone};
 ghost use Rattle.diva_core.specs.declared.pending.Entry.{Entry};
 ghost use Rattle.diva_core.specs.Entries.{pending_claim_of};
 ghost use Rattle.diva_core.specs.Future.{IsFuture, committed_file};
+ghost use Rattle.diva_core.specs.Older.{before_entry};
 ghost use Rattle.diva_core.specs.Machine.{IsMachine, IsConfig};
 ghost use Rattle.diva_core.specs.Headline.{dues, SameLog};
 ghost use Rattle.diva_core.specs.Cycle.{Commit, accepted_in, accepts, commits_under, committed, cycle_of, drained, flushed, number, port_opens, stores_wait, watched};
@@ -417,7 +418,7 @@ impl Parts {
         requires stages_sound { S.sound stages.old }
         ensures stages_sound { S.sound stages.new }
         ensures led { (first : S) (before : List Question) → S.led first before stages.old
-            → S.led first (before ++ asked_in self.old.timed.cycles self.old.timed.pending) stages.new }
+            → S.led first (before ++ asked_in self.old.timed.cycles (record self.old.timed.arch { end = 0 }) self.old.timed.pending) stages.new }
         ensures rest { self.new ≡ record self.old { entries = self.new.entries; passed = self.new.passed; future = self.new.future } }
         ensures staged { IsStaged self.new.timed.cycles self.new }
     {
@@ -434,7 +435,7 @@ impl Parts {
         requires stages_sound { S.sound stages.old }
         ensures stages_sound { S.sound stages.new }
         ensures led { (first : S) (before : List Question) → S.led first before stages.old
-            → S.led first (before ++ asked_in self.old.timed.cycles self.old.timed.pending) stages.new }
+            → S.led first (before ++ asked_in self.old.timed.cycles (record self.old.timed.arch { end = 0 }) self.old.timed.pending) stages.new }
         ensures rest { self.new ≡ record self.old { entries = self.new.entries; passed = self.new.passed; future = self.new.future } }
         ensures staged { IsStaged self.new.timed.cycles self.new }
     {
@@ -459,7 +460,9 @@ impl Parts {
         ensures stages_sound { S.sound stages.new }
         ensures led { (e : Entry) (first : S) (before : List Question) → slice_get self.old.entries at ≡ Some e
             → S.led first before stages.old
-            → S.led first (before ++ asked_at (self.old.timed.cycles - e.cycle) e.claim) stages.new }
+            → S.led first
+            (before ++ asked_at (self.old.timed.cycles - e.cycle)
+            (before_entry (record self.old.timed.arch { end = 0 }) self.old.entries at) e.claim) stages.new }
         ensures rest { self.new ≡ record self.old { entries = self.new.entries; passed = self.new.passed; future = self.new.future } }
         ensures waits { map pending_claim_of self.new.entries ≡ map pending_claim_of self.old.entries }
         ensures passed { (e : Entry) → slice_get self.old.entries at ≡ Some e → self.new.passed

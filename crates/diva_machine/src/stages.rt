@@ -39,6 +39,7 @@ pub(crate) trait Stages {
     ghost use Rattle.std.specs.Prelude.{◌++◌, List};
     ghost use Rattle.diva_core.specs.Entries.{pending_claim_of};
     ghost use Rattle.diva_core.specs.Future.{IsFuture};
+    ghost use Rattle.diva_core.specs.Older.{before_entry};
     ghost use Rattle.diva_core.specs.declared.pending.Entry.{Entry};
     ghost use Rattle.diva_vote.specs.Questions.{Question};
     ghost use Rattle.diva_machine.specs.Asked.{asked_at};
@@ -68,7 +69,9 @@ pub(crate) trait Stages {
         requires future { IsFuture arch.now.state pending.old.items future.old }
         ensures sound { sound self.new }
         ensures led { (e : Entry) (first : Self) (before : List Question) → slice_get pending.old.items at ≡ Some e
-            → led first before self.old → led first (before ++ asked_at age e.claim) self.new }
+            → led first before self.old
+            → led first
+            (before ++ asked_at age (before_entry (record arch.now.state { end = 0 }) pending.old.items at) e.claim) self.new }
         ensures future { IsFuture arch.now.state pending.new.items future.new }
         ensures waits { map pending_claim_of pending.new.items ≡ map pending_claim_of pending.old.items }
         ensures capacity { pending.new.capacity ≡ pending.old.capacity }

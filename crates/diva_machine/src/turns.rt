@@ -28,6 +28,7 @@ pub fn turn<C: Core>(m: &mut Machine, core: &mut C, list: &mut Claims)
     ensures ended { goes_on m.old.timed.arch ≡ false
         → (m.new.timed ≡ m.old.timed) × (m.new.last ≡ []) × (core.new ≡ core.old) × (list.new ≡ []) }
     ensures stays { goes_on m.old.timed.arch ≡ false → m.new.entries ≡ m.old.entries }
+    ensures outvoted { m.new.outvoted ≡ m.old.outvoted }
 
     // The committed state is the table's after the counted instructions, each committed by an
     // equal claim or by the checker alone, and each flush has its cause.
@@ -55,6 +56,7 @@ pub(crate) fn turn_by<C: Core, S: Stages>(
 )
     requires cycles { m.old.timed.cycles < 2 ^ 60 }
     requires stages_sound { S.sound stages.old }
+    ensures stages_sound { S.sound stages.new }
     ensures led { (first : S) (before : List Question) → S.led first before stages.old
         → S.led first (before ++ asked_of m.old.timed) stages.new }
     ensures was { IsMachine m.old.timed }
@@ -64,6 +66,7 @@ pub(crate) fn turn_by<C: Core, S: Stages>(
     ensures ended { goes_on m.old.timed.arch ≡ false
         → (m.new.timed ≡ m.old.timed) × (m.new.last ≡ []) × (core.new ≡ core.old) × (list.new ≡ []) }
     ensures stays { goes_on m.old.timed.arch ≡ false → m.new.entries ≡ m.old.entries }
+    ensures outvoted { m.new.outvoted ≡ m.old.outvoted }
     ensures last { m.new.last ≡ dues (m.new.timed.count - m.old.timed.count) m.old.timed.arch }
 {
     if m.goes_on() {
@@ -104,6 +107,7 @@ pub fn drive<C: Core>(m: &mut Machine, core: &mut C, budget: u64) -> Drive
     ensures within { m.new.timed.cycles ≤ m.old.timed.cycles + budget }
     ensures stays { goes_on m.old.timed.arch ≡ false
         → (m.new ≡ m.old) × (core.new ≡ core.old) }
+    ensures outvoted { m.new.outvoted ≡ m.old.outvoted }
 
     // The committed state is the table's after the counted instructions.
     ensures rises { Rises m.old.timed m.new.timed }
@@ -129,6 +133,7 @@ pub(crate) fn drive_by<C: Core, S: Stages>(
 ) -> Drive
     requires cycles { m.old.timed.cycles + budget ≤ 2 ^ 60 }
     requires stages_sound { S.sound stages.old }
+    ensures stages_sound { S.sound stages.new }
     ensures was { IsMachine m.old.timed }
     ensures led { LedTurns C.gives m.old core.old m.new core.new S.led stages.old stages.new }
     ensures ended { (result ≡ Drive.Ended) ↔ (goes_on m.new.timed.arch ≡ false) }
@@ -136,7 +141,8 @@ pub(crate) fn drive_by<C: Core, S: Stages>(
         ↔ ((m.new.timed.cycles ≡ m.old.timed.cycles + budget) × (goes_on m.new.timed.arch ≡ true)) }
     ensures within { m.new.timed.cycles ≤ m.old.timed.cycles + budget }
     ensures stays { goes_on m.old.timed.arch ≡ false
-        → (m.new ≡ m.old) × (core.new ≡ core.old) }
+        → (m.new ≡ m.old) × (core.new ≡ core.old) × (stages.new ≡ stages.old) }
+    ensures outvoted { m.new.outvoted ≡ m.old.outvoted }
 {
     if !m.goes_on() {
         return Drive::Ended;

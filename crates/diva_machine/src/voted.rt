@@ -6,8 +6,7 @@ ghost use Rattle.diva_core.specs.Cycle.{cycle_of};
 ghost use Rattle.diva_core.specs.Machine.{IsMachine};
 ghost use Rattle.diva_core.specs.Headline.{AddsRow, ByClaims, BySolo, HasPace, KeepsPace, Rises, SameLog, WillCount, dues};
 ghost use Rattle.diva_core.specs.Right.{IsRight, IsCalm, StaysCalm};
-ghost use Rattle.diva_vote.specs.Questions.{HeardAll};
-ghost use Rattle.diva_vote.specs.Votes.{AtLeastTwo};
+ghost use Rattle.diva_vote.specs.Polls.{AlwaysTwoAreRight, ArePolledAndCounted};
 ghost use Rattle.diva_machine.specs.Asked.{DrivesAsking, asked_of};
 ghost use Rattle.diva_machine.specs.Drives.{Drives};
 
@@ -18,8 +17,8 @@ use diva_core::{Claims, Core};
 use diva_hart::Drive;
 use diva_vote::Lane;
 
-/// Asks the core once and runs one cycle, as `turn`, where what a stage finds in a claim is what most of three lanes say. Two
-/// honest lanes are enough: the third may be anything.
+/// Asks the core once and runs one cycle, as `turn`, where what a stage finds in a claim is what most of three lanes say. It is enough
+/// that of the three answers to each question two are right, whichever they are.
 #[tactic(auto, using(diva_core::proofs::Outcomes::rises, diva_core::proofs::Outcomes::logs, diva_core::proofs::Outcomes::records_by, diva_core::proofs::Keeping::stays, diva_core::proofs::Pacing::will_count, diva_core::proofs::Progressing::has_pace, diva_core::proofs::Calming::stays_calm))]
 pub fn turn_voted<C: Core, A: Lane, B: Lane, L: Lane>(
     m: &mut Machine,
@@ -30,14 +29,15 @@ pub fn turn_voted<C: Core, A: Lane, B: Lane, L: Lane>(
     l: &mut L,
 )
     requires cycles { m.old.timed.cycles < 2 ^ 60 }
-    requires honest { AtLeastTwo (A.honest a.old) (B.honest b.old) (L.honest l.old) }
-    // Each lane that was honest is honest again, and it has heard each question of the cycle.
+    requires majority { AlwaysTwoAreRight A.says B.says L.says a.old b.old l.old }
+    // The lanes were polled on the questions of the cycle, and it was counted where one was outvoted.
+    ensures polled { ArePolledAndCounted A.says B.says L.says (asked_of m.old.timed)
+        a.old b.old l.old a.new b.new l.new m.old.outvoted m.new.outvoted }
+    // Two at least will be right again, and each lane that was honest is honest again.
+    ensures majority { AlwaysTwoAreRight A.says B.says L.says a.new b.new l.new }
     ensures first_stays { A.honest a.old → A.honest a.new }
     ensures second_stays { B.honest b.old → B.honest b.new }
     ensures third_stays { L.honest l.old → L.honest l.new }
-    ensures first_hears { HeardAll A.hears a.old (asked_of m.old.timed) a.new }
-    ensures second_hears { HeardAll B.hears b.old (asked_of m.old.timed) b.new }
-    ensures third_hears { HeardAll L.hears l.old (asked_of m.old.timed) l.new }
 
     ensures cycled { m.new.timed ≡ cycle_of m.old.timed list.new }
     ensures asked { goes_on m.old.timed.arch ≡ true
@@ -59,13 +59,14 @@ pub fn turn_voted<C: Core, A: Lane, B: Lane, L: Lane>(
     // A right list leaves a calm machine calm, and leads to no flush.
     ensures calm { IsCalm m.old.timed → IsRight m.old.timed list.new → StaysCalm m.old.timed m.new.timed }
 {
-    let mut panel = Panel::new(a, b, l);
+    let mut panel = Panel::new(a, b, l, m.outvoted());
     turn_by(m, core, list, &mut panel);
+    m.note_outvoted(panel.outvoted);
 }
 
 /// Takes turns until the machine ends or the budget's cycles are run, as `drive`, where what a stage finds in a claim is what
-/// most of three lanes say. Two honest lanes are enough: the third may be anything. On an ended machine nothing changes, and
-/// neither the core nor a lane is asked.
+/// most of three lanes say. It is enough that of the three answers to each question two are right, whichever they are. On an ended
+/// machine nothing changes, and neither the core nor a lane is asked.
 pub fn drive_voted<C: Core, A: Lane, B: Lane, L: Lane>(
     m: &mut Machine,
     core: &mut C,
@@ -75,13 +76,15 @@ pub fn drive_voted<C: Core, A: Lane, B: Lane, L: Lane>(
     budget: u64,
 ) -> Drive
     requires cycles { m.old.timed.cycles + budget ≤ 2 ^ 60 }
-    requires honest { AtLeastTwo (A.honest a.old) (B.honest b.old) (L.honest l.old) }
-    // Each lane that was honest is honest again, and each has heard each question of the drive's turns.
+    requires majority { AlwaysTwoAreRight A.says B.says L.says a.old b.old l.old }
+    // The lanes were polled on the questions of the drive's turns, and it was counted where one was outvoted.
+    ensures polled { DrivesAsking C.gives m.old core.old m.new core.new (λ asked. ArePolledAndCounted A.says B.says L.says asked
+        a.old b.old l.old a.new b.new l.new m.old.outvoted m.new.outvoted) }
+    // Two at least will be right again, and each lane that was honest is honest again.
+    ensures majority { AlwaysTwoAreRight A.says B.says L.says a.new b.new l.new }
     ensures first_stays { A.honest a.old → A.honest a.new }
     ensures second_stays { B.honest b.old → B.honest b.new }
     ensures third_stays { L.honest l.old → L.honest l.new }
-    ensures hears { DrivesAsking C.gives m.old core.old m.new core.new (λ asked.
-        HeardAll A.hears a.old asked a.new × (HeardAll B.hears b.old asked b.new × HeardAll L.hears l.old asked l.new)) }
 
     // Machine and core are reached by turns, one for each cycle. In each cycle equal claims committed,
     // or the checker's own instruction; the machine shows those of the last one. Each row of the log is
@@ -104,6 +107,8 @@ pub fn drive_voted<C: Core, A: Lane, B: Lane, L: Lane>(
     ensures paced { HasPace m.new.timed }
     ensures counts { WillCount m.new.timed }
 {
-    let mut panel = Panel::new(a, b, l);
-    drive_by(m, core, &mut panel, budget)
+    let mut panel = Panel::new(a, b, l, m.outvoted());
+    let driven = drive_by(m, core, &mut panel, budget);
+    m.note_outvoted(panel.outvoted);
+    driven
 }

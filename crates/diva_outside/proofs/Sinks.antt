@@ -38,7 +38,7 @@ appends_nothing (Some x) = sym (append-nil x)
 
 -- no piece was put
 pub puts_nothing : {E : Type 0} (c : Option (List ℕ)) (f : ℕ) → Puts {E = E} [] c c f f (Ok tt)
-puts_nothing c f = record { later = omega arith; ok = appends_nothing c; part = tt; failed = tt }
+puts_nothing c f = record { later = omega arith; ok = appends_nothing c; uncounted = refl; part = tt; failed = tt }
 
 -- a piece was put, and then another one
 pub puts_then : {E : Type 0} (a b : List ℕ) (c0 c1 c2 : Option (List ℕ)) (f0 f1 f2 : ℕ) (result : Result (Unit {0}) E)
@@ -46,12 +46,14 @@ pub puts_then : {E : Type 0} (a b : List ℕ) (c0 c1 c2 : Option (List ℕ)) (f0
 puts_then a b c0 c1 c2 f0 f1 f2 (Ok u) first second = record {
   later = omega (arith, first.later, second.later);
   ok = appends_then c0 c1 c2 a b first.ok second.ok;
+  uncounted = second.uncounted ∙ first.uncounted;
   part = tt;
   failed = tt;
 }
 puts_then a b c0 c1 c2 f0 f1 f2 (Err e) first second = record {
   later = omega (arith, first.later, second.later);
   ok = tt;
+  uncounted = tt;
   part = part_then c0 c1 c2 a b first.ok second.part;
   failed = omega (arith, first.later, second.failed);
 }
@@ -67,6 +69,7 @@ pub puts_cut : {E : Type 0} (a b : List ℕ) (c0 c1 : Option (List ℕ)) (f0 f1 
 puts_cut a b c0 c1 f0 f1 e puts = record {
   later = puts.later;
   ok = tt;
+  uncounted = tt;
   part = record {
     front = puts.part.front;
     rest = puts.part.rest ++ b;

@@ -17,9 +17,10 @@ pub record AppendsPast (old new : Option (List ℕ)) (put text : List ℕ) : Typ
   pub whole : text ≡ put ++ front ++ rest
   pub appended : Appends old new (put ++ front)
 
--- the piece was put: all of it, or a prefix of it and a fault was counted
+-- the piece was put: all of it and no fault was counted, or a prefix of it and one was
 pub record Puts {E : Type 0} (piece : List ℕ) (old new : Option (List ℕ)) (before now : ℕ) (result : Result (Unit {0}) E) : Type 0 where
   pub later : before ≤ now
   pub ok : OnOk result (Appends old new piece)
+  pub uncounted : OnOk result (now ≡ before)
   pub part : OnErr result (AppendsPart old new piece)
   pub failed : OnErr result (Rose before now)

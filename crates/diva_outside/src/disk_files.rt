@@ -2,12 +2,12 @@
 ghost use Rattle.std.specs.Prelude.{◌≡◌, ◌≤◌, ◌<◌, ◌≢◌, ◌⊎◌, IfOk, IfErr, IfSome, IsErrOf, length};
 ghost use Rattle.std.specs.Io.KnownBytes.{ReadConsumes};
 ghost use Rattle.diva_outside.specs.Causes.{Rose};
-ghost use Rattle.diva_outside.specs.Files.{unknown, Has, IsMissing, IsLonger};
+ghost use Rattle.diva_outside.specs.Files.{unknown, Has, HasNotFailed, IsMissing, IsLonger};
 
 use crate::faults::Faults;
 use crate::{Files, LoadFault, What};
 use std::alloc::Global;
-use std::io::Read;
+use std::io::{ErrorKind, Read};
 use std::marker::Model;
 use std::{fs, rt};
 
@@ -64,6 +64,7 @@ impl<R: rt::Files> Files for DiskFiles<'_, R> {
             → IsLonger unknown name.now limit }
         ensures failed { IsErrOf result LoadFault.Failed
             → Rose (faults_of self.old what) (faults_of self.new what) ⊎ IsMissing unknown name.now }
+        ensures counted { HasNotFailed result → (w : What) → faults_of self.new w ≡ faults_of self.old w }
         ensures missing { IsMissing unknown name.now
             → IsErrOf result LoadFault.Failed ⊎ IsErrOf result LoadFault.Memory }
         ensures uncounted { IsMissing unknown name.now
@@ -119,11 +120,19 @@ fn read_whole<R: Read>(file: &mut R, alloc: Global, limit: usize) -> Result<Vec<
     }
 }
 
-/// Reads bytes that come next, none only at the end. A file that can't be read has failed.
+/// Reads bytes that come next, none only at the end. A read that a signal interrupted is tried again; a file that can't be
+/// read otherwise has failed.
 fn read_some<R: Read>(file: &mut R, buffer: &mut [u8]) -> Result<usize, LoadFault>
     ensures bound { IfOk result (λ count. count ≤ length buffer.new) }
     ensures bytes { ReadConsumes (R.remaining file.old) (R.remaining file.new) result buffer.new }
     ensures failed { IfErr result (λ fault. fault ≡ LoadFault.Failed) }
 {
-    file.read(buffer).map_err(|_| LoadFault::Failed)
+    for _ in 0..u64::MAX {
+        match file.read(buffer) {
+            Ok(count) => return Ok(count),
+            Err(error) if error.kind() == ErrorKind::Interrupted => {}
+            Err(_) => return Err(LoadFault::Failed),
+        }
+    }
+    Err(LoadFault::Failed)
 }

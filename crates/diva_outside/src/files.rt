@@ -3,7 +3,7 @@ ghost use Rattle.std.specs.Prelude.{◌≡◌, ◌≤◌, ◌≢◌, ◌⊎◌, 
 ghost use Rattle.diva_outside.specs.declared.files.What.{What};
 ghost use Rattle.diva_outside.specs.declared.files.LoadFault.TheVariants.{Memory};
 ghost use Rattle.diva_outside.specs.Causes.{Rose};
-ghost use Rattle.diva_outside.specs.Files.{Has, IsMissing, IsLonger};
+ghost use Rattle.diva_outside.specs.Files.{Has, HasNotFailed, IsMissing, IsLonger};
 
 use std::alloc::{AllocError, AllocFailed, Global};
 
@@ -62,8 +62,8 @@ pub trait Files {
     /// failure is counted; the counts of the other kinds stay as they are.
     ///
     /// The error is `TooLong` where the file has more than `limit` bytes, `Memory` where memory runs out, and `Failed`
-    /// where there is no such file or the load fails otherwise. Where the contents are known, a name that no file has
-    /// is answered by `Failed` or `Memory`, and is not counted as a fault.
+    /// where there is no such file or the load fails otherwise: only then is a fault counted. Where the contents are known, a
+    /// name that no file has is answered by `Failed` or `Memory`, and is not counted as a fault.
     fn load(
         &mut self,
         alloc: Global,
@@ -86,6 +86,9 @@ pub trait Files {
             → IsLonger (contents self.old) name.now limit }
         ensures failed { IsErrOf result LoadFault.Failed
             → Rose (faults self.old what) (faults self.new what) ⊎ IsMissing (contents self.old) name.now }
+
+        // A fault is counted only where the load fails.
+        ensures counted { HasNotFailed result → (w : What) → faults self.new w ≡ faults self.old w }
 
         // A name that no file has is not counted as a fault.
         ensures missing { IsMissing (contents self.old) name.now

@@ -1,7 +1,7 @@
 // Files in memory, where loads fail as a test asks for it.
-ghost use Rattle.std.specs.Prelude.{◌≡◌, ◌==◌, ◌≤◌, ◌≢◌, ◌⊎◌, List, ℕ, Some, Ok, Err, IfOk, IfErr, IsErrOf, length};
+ghost use Rattle.std.specs.Prelude.{◌≡◌, ◌==◌, ◌≤◌, ◌≢◌, ◌⊎◌, List, ℕ, Some, Ok, Err, IfOk, IfErr, IsErrOf, length, false};
 ghost use Rattle.diva_outside.specs.Causes.{Rose};
-ghost use Rattle.diva_outside.specs.Files.{Has, IsMissing, IsLonger};
+ghost use Rattle.diva_outside.specs.Files.{Has, HasNotFailed, IsMissing, IsLonger};
 ghost use Rattle.std.specs.List.{list_any};
 ghost use Rattle.std.specs.Option.{option_copied};
 ghost use Rattle.diva_outside.specs.Named.{named_bytes, answer_to};
@@ -71,6 +71,7 @@ impl Files for MemFiles {
             → IsLonger (contents_of self.old) name.now limit }
         ensures failed { IsErrOf result LoadFault.Failed
             → Rose (faults_in self.old what) (faults_in self.new what) ⊎ IsMissing (contents_of self.old) name.now }
+        ensures counted { HasNotFailed result → (w : What) → faults_in self.new w ≡ faults_in self.old w }
         ensures missing { IsMissing (contents_of self.old) name.now
             → IsErrOf result LoadFault.Failed ⊎ IsErrOf result LoadFault.Memory }
         ensures uncounted { IsMissing (contents_of self.old) name.now
@@ -109,6 +110,7 @@ fn answer(
     ensures ok { IfOk result (λ v. answer_to (option_copied found.entry) fails limit ≡ Ok v.items) }
     ensures err { IfErr result (λ fault. fault ≢ LoadFault.Memory
         → answer_to (option_copied found.entry) fails limit ≡ Err fault) }
+    ensures fails { HasNotFailed result → fails ≡ false }
 {
     match found {
         Some(bytes) if !fails => copy(alloc, bytes, limit),

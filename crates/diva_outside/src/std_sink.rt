@@ -1,11 +1,12 @@
 // A sink that writes to a writer, such as standard output.
 ghost use Rattle.std.specs.Prelude.{◌≡◌, None, OnOk, OnErr};
-ghost use Rattle.std.specs.Io.KnownBytes.{Appends};
+ghost use Rattle.std.specs.Io.{WritesAtMost};
+ghost use Rattle.std.specs.Io.KnownBytes.{Appends, WriteAppends};
 ghost use Rattle.diva_outside.specs.Sink.{AppendsPart, Puts};
 ghost use Rattle.diva_outside.specs.StdSink.{CountsPut};
 
 use crate::{Sink, SinkFailed};
-use std::io::Write;
+use std::io::{ErrorKind, Write};
 use std::marker::Model;
 
 /// A sink that writes each piece through to a writer. As a sink its contents are not known. Each error of the writer
@@ -55,17 +56,32 @@ impl<W: Write> Sink for StdSink<W> {
     }
 }
 
-/// Writes until the whole piece is taken.
+/// Writes until the whole piece is taken. A write that takes nothing, or fails, has failed.
 fn write_whole<W: Write>(out: &mut W, piece: &[u8]) -> Result<(), SinkFailed>
     ensures ok { OnOk result (Appends (W.contents out.old) (W.contents out.new) piece.now) }
     ensures err { OnErr result (AppendsPart (W.contents out.old) (W.contents out.new) piece.now) }
 {
     let mut taken = 0;
     while taken < piece.len() {
-        match out.write(&piece[taken..]) {
+        match write_some(out, &piece[taken..]) {
             Ok(count) if count > 0 => taken += count,
             _ => return Err(SinkFailed),
         }
     }
     Ok(())
+}
+
+/// Writes bytes that come first. A write that a signal interrupted is tried again.
+fn write_some<W: Write>(out: &mut W, piece: &[u8]) -> Result<usize, SinkFailed>
+    ensures bound { WritesAtMost result piece.now }
+    ensures bytes { WriteAppends (W.contents out.old) (W.contents out.new) result piece.now }
+{
+    for _ in 0..u64::MAX {
+        match out.write(piece) {
+            Ok(count) => return Ok(count),
+            Err(error) if error.kind() == ErrorKind::Interrupted => {}
+            Err(_) => return Err(SinkFailed),
+        }
+    }
+    Err(SinkFailed)
 }

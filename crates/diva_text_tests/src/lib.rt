@@ -4,7 +4,7 @@
 //! - `asm`: sources and words that were worked out by hand, and some that an assembler made: `asm/sources`, `asm/gnu`.
 //! - `scripts`: scripts, and lists under them. `tapes`: tapes that are read, played and written. `cores`: what a core hands over.
 //! - `commands`: commands of a session. `run_texts`: the text of a run, that of two harts, and other lines.
-//! - `outside`: files, sinks and numbers, and the lines and words of texts.
+//! - `outside`: files, sinks and numbers, and the lines and words of texts. `disk`: what is asked of a disk and a writer.
 //!
 //! What is due was worked out by hand from `docs/FORMATS.md`, or came from an outside tool; none of it is taken from what
 //! this repository's code answered.
@@ -18,6 +18,8 @@ mod asm;
 mod commands;
 #[cfg(test)]
 mod cores;
+#[cfg(test)]
+mod disk;
 #[cfg(test)]
 mod outside;
 #[cfg(test)]

@@ -1,3 +1,4 @@
 pub mod Lanes
+pub mod Polls
 pub mod Questions
 pub mod Votes

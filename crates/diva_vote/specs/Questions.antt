@@ -1,18 +1,43 @@
--- What lanes are asked, and what they are then.
-use Rattle.std.specs.Prelude.{◌≡◌, List, [], ◌∷◌}
+-- What lanes are asked, and which answer is right.
+use Rattle.std.specs.Prelude.{ℕ, Bool, List, [], Option}
+use Rattle.diva_isa.specs.State.{State}
 use Rattle.diva_isa.specs.declared.record.Record.{Record}
+use Rattle.diva_core.specs.declared.pending.Entry.{Entry}
+use Rattle.diva_core.specs.declared.differences.Diff.{Diff}
+use Rattle.diva_core.specs.declared.differences.Field.{Field}
+use Rattle.diva_core.specs.Older.{before_entry}
+use Rattle.diva_core.specs.Stages.{Answers, fetch_fields, operand_fields, execute_fields, memory_fields, read_fields, address_fields}
 use Rattle.diva_vote.specs.declared.stage.Stage.{Stage}
+use Rattle.diva_vote.specs.declared.stage.Stage.TheVariants.{Fetch, Operands, Execute, Memory}
 
--- what a lane is asked: what the check of a stage finds in a claim
+-- what a lane is asked: what the check of a stage finds in a claim that stands in a state, the committed one after the older claims
 pub record Question : Type 0 where
   pub stage : Stage
   pub claim : Record
+  pub state : State
 
--- the meaning of a lane's hearing: the lane before a question, the question, and the lane after it
-abbrev pub Hearing : Type 0 → Type 1
-Hearing L = L → Question → L → Type 0
+-- what is asked at a stage of the entry at a place, behind a committed state
+abbrev pub question_at : Stage → State → List Entry → (at : ℕ) → Entry → Question
+question_at stage s entries at e = record { stage = stage; claim = e.claim; state = before_entry s entries at }
 
--- a lane heard these questions, one after the other, and no others
-abbrev pub HeardAll : {L : Type 0} → Hearing L → (before : L) → List Question → (after : L) → Type 0
-HeardAll hears before [] after = after ≡ before
-HeardAll {L} hears before (question ∷ rest) after = (between : L) × (hears before question between × HeardAll hears between rest after)
+-- the fields that a stage compares; `memory` says whether the due record is a load or a store
+abbrev pub own_of : Stage → (memory : Bool) → List Field
+own_of Fetch memory = fetch_fields
+own_of Operands memory = operand_fields
+own_of Execute memory = execute_fields memory
+own_of Memory memory = memory_fields memory
+
+-- those that have to agree before: where they do not, nothing is said of the answer
+abbrev pub earlier_of : Stage → List Field
+earlier_of Fetch = []
+earlier_of Operands = fetch_fields
+earlier_of Execute = read_fields
+earlier_of Memory = address_fields
+
+-- the answer is that of the check
+abbrev pub IsAnswer : Question → Option Diff → Type 0
+IsAnswer q answer = Answers (earlier_of q.stage) (own_of q.stage) q.state q.claim answer
+
+-- the meaning of what a lane says: the lane before a question, the question, its answer, and the lane after
+abbrev pub Saying : Type 0 → Type 1
+Saying L = L → Question → Option Diff → L → Type 0

@@ -1,7 +1,6 @@
 // The lane that is the checks, the one that always lies, and one that is either.
-ghost use Rattle.std.specs.Prelude.{◌≡◌, ◌<◌, length, slice_get, Some};
-ghost use Rattle.diva_core.specs.declared.pending.Entry.{Entry};
-ghost use Rattle.diva_vote.specs.Lanes.{IsHonest, IsLie, IsSaidByLiar};
+ghost use Rattle.std.specs.Prelude.{◌≡◌};
+ghost use Rattle.diva_vote.specs.Lanes.{lie};
 
 use crate::lane::Lane;
 use crate::stage::{Stage, check};
@@ -13,10 +12,13 @@ pub struct Honest;
 
 impl Lane for Honest {
     ghost use Rattle.std.specs.Prelude.{⊤, ◌≡◌};
+    ghost use Rattle.diva_vote.specs.Questions.{IsAnswer};
+
+    ghost says = { λ before q answer after. IsAnswer q answer × (after ≡ before) };
 
     ghost honest = { λ lane. ⊤ };
 
-    ghost hears = { λ before question after. after ≡ before };
+    ghost keeps = { λ lane q answer after honest said. (said.0, tt) };
 
     fn judge(
         &mut self,
@@ -29,8 +31,18 @@ impl Lane for Honest {
     }
 }
 
-/// The lane that finds nothing where the check finds a difference, and where the check finds none a wrong pc: 1 claimed
+/// What a liar says in the place of an answer: nothing where it is a difference, and where it is none a wrong pc, 1 claimed
 /// where 0 is due.
+pub fn lie(answer: Option<Diff>) -> Option<Diff>
+    ensures { result ≡ lie answer }
+{
+    match answer {
+        Some(_) => None,
+        None => Some(Diff::new(Field::Pc, 1, 0)),
+    }
+}
+
+/// The lane that lies in the place of each answer of the checks.
 #[derive(Clone, Copy, Debug, Default, Drop)]
 pub struct Liar;
 
@@ -38,20 +50,20 @@ impl Lane for Liar {
     ghost use Rattle.std.specs.Prelude.{◌≡◌};
     ghost use Rattle.diva_vote.specs.Lanes.{IsLie};
 
+    ghost says = { λ before q answer after. IsLie q answer × (after ≡ before) };
+
     ghost honest = { λ lane. ⊥ };
 
-    ghost hears = { λ before question after. after ≡ before };
+    ghost keeps = { λ lane q answer after honest said. absurd honest };
 
-    fn judge(&mut self, stage: Stage, pending: &Pending, at: usize, view: &View<'_>) -> Option<Diff>
-        requires { at < length pending.now.items }
-        ensures lies { IsLie stage view.now pending.now.items at result }
-        ensures few { IsSaidByLiar result }
-        ensures same { self.new ≡ self.old }
-    {
-        match check(stage, pending, at, view) {
-            Some(_) => None,
-            None => Some(Diff::new(Field::Pc, 1, 0)),
-        }
+    fn judge(
+        &mut self,
+        stage: Stage,
+        pending: &Pending,
+        at: usize,
+        view: &View<'_>,
+    ) -> Option<Diff> {
+        lie(check(stage, pending, at, view))
     }
 }
 
@@ -66,19 +78,23 @@ pub enum EitherLane {
 
 impl Lane for EitherLane {
     ghost use Rattle.std.specs.Prelude.{◌≡◌};
+    ghost use Rattle.std.proofs.Common.{subst, ◌∙◌};
     ghost use Rattle.diva_vote.specs.declared.lanes.EitherLane.TheVariants as lanes;
+    ghost use Rattle.diva_vote.specs.Lanes.{SaysEither};
+
+    ghost says = { λ before q answer after. SaysEither before q answer × (after ≡ before) };
 
     ghost honest = { λ lane. lane ≡ lanes.Honest };
 
-    ghost hears = { λ before question after. after ≡ before };
+    ghost keeps = { λ lane q answer after is said. (subst (λ other. SaysEither other q answer) is said.0, said.1 ∙ is) };
 
-    fn judge(&mut self, stage: Stage, pending: &Pending, at: usize, view: &View<'_>) -> Option<Diff>
-        requires { at < length pending.now.items }
-        ensures honest { self.old ≡ EitherLane.Honest → IsHonest stage view.now pending.now.items at result }
-        ensures lies { self.old ≡ EitherLane.Liar → IsLie stage view.now pending.now.items at result }
-        ensures few { self.old ≡ EitherLane.Liar → IsSaidByLiar result }
-        ensures same { self.new ≡ self.old }
-    {
+    fn judge(
+        &mut self,
+        stage: Stage,
+        pending: &Pending,
+        at: usize,
+        view: &View<'_>,
+    ) -> Option<Diff> {
         match self {
             EitherLane::Honest => Honest.judge(stage, pending, at, view),
             EitherLane::Liar => Liar.judge(stage, pending, at, view),

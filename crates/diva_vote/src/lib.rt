@@ -14,10 +14,12 @@
 
 mod lane;
 mod lanes;
+mod polls;
 mod stage;
 mod votes;
 
 pub use lane::Lane;
-pub use lanes::{EitherLane, Honest, Liar};
+pub use lanes::{EitherLane, Honest, Liar, lie};
+pub use polls::{judge_by_vote, recall_two_honest};
 pub use stage::{Stage, check};
-pub use votes::{judge_by_vote, vote};
+pub use votes::{Ballot, Outvoted, vote};

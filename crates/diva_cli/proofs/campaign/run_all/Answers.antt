@@ -9,8 +9,8 @@ use Rattle.diva_cli.specs.CampaignTexts.{flipped_runs, run_under, tally_of}
 use Rattle.diva_cli.proofs.campaign.run_all.Goals as goal
 
 pub returns-clause-tally : goal.returns-clause-tally
-returns-clause-tally c =
+returns-clause-tally g c =
     let start : State = start_of (layout c.args.image.now) in
-    c.in_ok-tally.ensures
+    c.in_ok-tally.ensures.tally
     ∙ ap (λ (m : Timed). tally_of m (flipped_runs c.args.last c.args.cycles start))
-    (c.in_ok-first.ensures ∙ ap (λ (rows : List Row). run_under rows c.args.cycles start) c.none.ensures)
+    (c.in_ok-first.ensures.ran ∙ ap (λ (rows : List Row). run_under rows c.args.cycles start) c.none.ensures)

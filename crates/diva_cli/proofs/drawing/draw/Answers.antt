@@ -7,10 +7,10 @@ use Rattle.diva_cli.proofs.drawing.draw.Goals as goal
 
 pub returns-in-Ok : goal.returns-in-Ok
 returns-in-Ok g c =
-    ready_answers g.C.Core.gives _ _ _ _ (Draw c.args.options) _ c.args.options.run.setup _ _ _ (ap (λ (o : DrawOptions). o.run.setup) c.options.view_is) refl
-    c.in-Ok.ensures.ready c.draw_ready.ensures
+    ready_answers g.C.Core.gives _ _ _ _ _ (Draw c.args.options) _ c.args.options.run.setup _ _ _ (ap (λ (o : DrawOptions). o.run.setup) c.options.view_is) refl
+    c.in-Ok.ensures.ready c.in-Ok.ensures.uncounted c.draw_ready.ensures
 
 pub returns-in-Err : goal.returns-in-Err
 returns-in-Err g c =
-    unready_answers g.C.Core.gives _ _ _ _ (Draw c.args.options) _ c.args.options.run.setup c.in-Err.stop _ (ap (λ (o : DrawOptions). o.run.setup) c.options.view_is) refl
+    unready_answers g.C.Core.gives _ _ _ _ _ (Draw c.args.options) _ c.args.options.run.setup c.in-Err.stop _ refl (ap (λ (o : DrawOptions). o.run.setup) c.options.view_is) refl
     c.in-Err.ensures.stopped c.write_stop.ensures

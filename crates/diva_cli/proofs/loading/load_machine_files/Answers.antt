@@ -1,7 +1,6 @@
 -- The loading stops at the image, the script or the tape, and those before it can be used.
-use Rattle.std.proofs.Common.{◌∙◌, arith, subst}
+use Rattle.std.proofs.Common.{◌∙◌, subst}
 use Rattle.std.proofs.lemmas.Result.{err_from_is_err_and}
-use Rattle.diva_outside.specs.declared.files.What.TheVariants.{Tape}
 use Rattle.diva_args.specs.Options.{Setup}
 use Rattle.diva_cli.specs.Wanted.{machine_files}
 use Rattle.diva_cli.specs.Parts.{Stops}
@@ -16,7 +15,7 @@ returns-in_err-script-clause-stopped g c =
     c.in_ok-image.ensures.holds
     (g.F.Files.contents c.load.new.files)
     (g.F.Files.faults c.args.files.now) (g.F.Files.faults c.load.new.files) (g.F.Files.faults c.load_script_if.new.files) _
-    c.load.ensures.stays c.load.ensures.later c.load.ensures.others c.load_script_if.ensures.others
+    c.load.ensures.stays c.in_ok-image.ensures.uncounted c.load_script_if.ensures.others
     c.in_err-script.ensures.stopped))
 
 pub returns-in_err-core-clause-stopped : goal.returns-in_err-core-clause-stopped
@@ -28,6 +27,5 @@ returns-in_err-core-clause-stopped g c =
     (g.F.Files.contents c.load.new.files) (g.F.Files.contents c.load_script_if.new.files)
     (g.F.Files.faults c.args.files.now) (g.F.Files.faults c.load_script_if.new.files) (g.F.Files.faults c.load_core.new.files) _ _
     c.load.ensures.stays (c.load_script_if.ensures.stays ∙ c.load.ensures.stays)
-    (λ w. let a = c.load.ensures.later w in let b = c.load_script_if.ensures.later w in omega arith)
-    (c.load_script_if.ensures.others Tape (λ e. cc) ∙ c.load.ensures.others Tape (λ e. cc))
+    (λ w. c.in_ok-script.ensures.uncounted w ∙ c.in_ok-image.ensures.uncounted w)
     c.in_ok-script.ensures.holds c.in_err-core.ensures.stopped))

@@ -22,4 +22,4 @@ returns-in_err-commands-clause-stopped g c =
     rw (p.1, p.2) (subst (λ (o : DebugOptions). Stops (g.F.Files.contents c.args.files.now) (g.F.Files.faults c.args.files.now) (g.F.Files.faults c.load.new.files) (session_files o) c.in_err-commands.field-0.0) c.options.view_is
     (at_commands (g.F.Files.contents c.args.files.now) (g.F.Files.contents c.make_ready.new.files) (record { setup = c.options.inside.setup; commands = c.options.inside.commands }) c.in_ok-ready.ensures.ready.bytes
     (g.F.Files.faults c.args.files.now) (g.F.Files.faults c.make_ready.new.files) (g.F.Files.faults c.load.new.files) c.in_err-commands.field-0.0 c.in_ok-ready.ensures.ready.sound
-    c.make_ready.ensures.stays c.make_ready.ensures.later (c.make_ready.ensures.others Commands (λ e. cc) (λ e. cc) (λ e. cc)) c.in_err-commands.ensures.stopped))
+    c.make_ready.ensures.stays c.in_ok-ready.ensures.uncounted c.in_err-commands.ensures.stopped))

@@ -11,8 +11,9 @@ returns-in_err-perform_by g c = λ bytes is.
     rw (p.1, p.2) (cut_trace g.C.Core.gives c.args.options bytes c.args.ready.now _ _ _ _ _ _ c.options.inside.dump g.S.Sink.contents g.S.Sink.faults _ _ c.perform_by.new.sink _
     (ap (λ (o : RunOptions). o.trace) c.options.view_is)
     (ap (λ (o : RunOptions). o.cycles) c.options.view_is)
+    (ap (λ (o : RunOptions). o.liar) c.options.view_is)
     (ap (λ (o : RunOptions). o.dump) c.options.view_is)
-    c.requires.fits is c.run_task-task.result c.run_task-task.ensures c.in_err-perform_by.ensures _ refl)
+    c.requires.fits is c.run_task-task.result c.run_task-task.ensures _ c.in_err-perform_by.ensures _ refl)
 
 pub returns-in_err-write_finished : goal.returns-in_err-write_finished
 returns-in_err-write_finished g c = λ bytes is.
@@ -20,15 +21,17 @@ returns-in_err-write_finished g c = λ bytes is.
     rw (p.1, p.2) (cut_run g.C.Core.gives c.args.options bytes c.args.ready.now _ _ _ _ _ _ _ g.S.Sink.contents g.S.Sink.faults _ _ _ (Ok tt)
     (ap (λ (o : RunOptions). o.trace) c.options.view_is)
     (ap (λ (o : RunOptions). o.cycles) c.options.view_is)
+    (ap (λ (o : RunOptions). o.liar) c.options.view_is)
     (ap (λ (o : RunOptions). o.dump) c.options.view_is)
-    c.requires.fits is c.run_task-task.result c.run_task-task.ensures c.in_ok-perform_by.ensures refl _ c.in_err-write_finished.ensures)
+    c.requires.fits is c.run_task-task.result c.run_task-task.ensures _ c.in_ok-perform_by.ensures refl _ c.in_err-write_finished.ensures)
 
 pub returns : goal.returns
 returns g c = λ bytes is.
     wrote_run g.C.Core.gives c.args.options bytes c.args.ready.now _ _ _ _ _ _ _ g.S.Sink.contents g.S.Sink.faults _ _ _ (Ok tt)
     (ap (λ (o : RunOptions). o.trace) c.options.view_is)
     (ap (λ (o : RunOptions). o.cycles) c.options.view_is)
+    (ap (λ (o : RunOptions). o.liar) c.options.view_is)
     (ap (λ (o : RunOptions). o.dump) c.options.view_is)
-    c.requires.fits is c.run_task-task.result c.run_task-task.ensures c.in_ok-perform_by.ensures refl c.end_status.result
+    c.requires.fits is c.run_task-task.result c.run_task-task.ensures _ c.in_ok-perform_by.ensures refl c.end_status.result
     c.end_status.ensures
     c.in_ok-write_finished.ensures

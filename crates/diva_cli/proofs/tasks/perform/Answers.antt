@@ -4,9 +4,9 @@ use Rattle.diva_cli.proofs.tasks.perform.Goals as goal
 
 pub returns-in-Quiet : goal.returns-in-Quiet
 returns-in-Quiet g c =
-    rw c.in-Quiet.is (performs_quiet g.D.Core.gives _ _ _ _ _ g.S.Sink.contents g.S.Sink.faults _
-    (drives_for g.D.Core.gives _ _ _ _ _ c.drive_checked.result
-    c.drive_checked.ensures.drives.turns c.drive_checked.ensures.within c.drive_checked.ensures.ended c.drive_checked.ensures.budget))
+    rw c.in-Quiet.is (performs_quiet g.D.Core.gives _ _ _ _ _ g.S.Sink.contents g.S.Sink.faults _ _
+    (drives_for g.D.Core.gives _ _ _ _ _ c.drive_checked.result _
+    c.drive_checked.ensures.drives.drives.turns c.drive_checked.ensures.drives.asked c.drive_checked.ensures.within c.drive_checked.ensures.ended c.drive_checked.ensures.budget))
 
 pub returns-in-Trace : goal.returns-in-Trace
 returns-in-Trace g c = rw c.in-Trace.is c.drive_writing.ensures

@@ -6,7 +6,7 @@ use Rattle.diva_cli.proofs.tasks.perform_faulty.Goals as goal
 
 pub returns-in-Quiet : goal.returns-in-Quiet
 returns-in-Quiet g c =
-    rw c.in-Quiet.is (performs_quiet (spoiled c.args.script.now g.D.Core.gives) _ _ _ _ _ g.S.Sink.contents g.S.Sink.faults _ c.drive_scripted.ensures)
+    rw c.in-Quiet.is (performs_quiet (spoiled c.args.script.now g.D.Core.gives) _ _ _ _ _ g.S.Sink.contents g.S.Sink.faults _ _ c.drive_scripted.ensures.drives)
 
 pub returns : goal.returns
 returns g c = performs_faulty g.D.Core.gives _ _ _ _ _ _ _ _ c.new-faulty.ensures.inner c.new-faulty.ensures.script (search rules) c.perform.ensures

@@ -7,4 +7,4 @@ use Rattle.diva_drawing.proofs.drawing.put_claims.Given as goal
 
 abbrev pub invariant-loop-claim : goal.invariant-loop-claim
 invariant-loop-claim g l =
-    Puts {E = SinkFailed} (rows_text (map (claim_row l.last l.ending) (take l.claim-index l.claims))) (g.S.Sink.contents l.initial.sink) (g.S.Sink.contents l.sink) (g.S.Sink.faults l.initial.sink) (g.S.Sink.faults l.sink) (Ok tt)
+    Puts {E = SinkFailed} (rows_text l.excerpt (map (claim_row l.last l.ending) (take l.claim-index l.claims))) (g.S.Sink.contents l.initial.sink) (g.S.Sink.contents l.sink) (g.S.Sink.faults l.initial.sink) (g.S.Sink.faults l.sink) (Ok tt)

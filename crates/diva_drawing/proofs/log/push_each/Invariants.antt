@@ -1,11 +1,12 @@
--- The claims so far are written, in six lines each at most.
-use Rattle.std.proofs.Common.{◌≡◌, ◌≤◌, ◌+◌, ◌*◌, ◌++◌, length, slice_get}
+-- The lines of the claims so far were written.
+use Rattle.std.proofs.Common.{◌+◌, Ok, slice_get}
 use Rattle.std.specs.List.{flat_map, range_with_len}
+use Rattle.diva_outside.specs.declared.sink.SinkFailed.{SinkFailed}
 use Rattle.diva_drawing.specs.Log.{claim_text, was_noted}
+use Rattle.diva_drawing.specs.Pieces.{Passes}
 use Rattle.diva_drawing.proofs.log.push_each.Given as goal
 
 abbrev pub invariant-loop-n : goal.invariant-loop-n
-invariant-loop-n l = record {
-  bytes : l.block ≡ l.initial.block ++ flat_map (λ n. claim_text (l.row + n) (l.place + n) l.now (was_noted (slice_get l.was n)) (slice_get l.claims n)) (range_with_len 0 l.n);
-  len : length l.block ≤ length l.initial.block + 768 * l.n;
-}
+invariant-loop-n g l =
+    Passes {E = SinkFailed} (flat_map (λ n. claim_text (l.first.row + n) (l.first.place + n) l.now (was_noted (slice_get l.was n)) (slice_get l.claims n)) (range_with_len 0 l.n))
+    l.initial.block l.block (g.S.Sink.contents l.initial.sink) (g.S.Sink.contents l.sink) (g.S.Sink.faults l.initial.sink) (g.S.Sink.faults l.sink) (Ok tt)

@@ -1,10 +1,11 @@
--- The claims so far are written, in two lines each.
-use Rattle.std.proofs.Common.{◌≡◌, ◌≤◌, ◌+◌, ◌*◌, ◌++◌, length, take}
+-- The lines of the claims so far were written.
+use Rattle.std.proofs.Common.{Ok, take}
+use Rattle.diva_outside.specs.declared.sink.SinkFailed.{SinkFailed}
 use Rattle.diva_drawing.specs.Log.{surplus_text}
+use Rattle.diva_drawing.specs.Pieces.{Passes}
 use Rattle.diva_drawing.proofs.log.push_surplus.Given as goal
 
 abbrev pub invariant-loop-claim : goal.invariant-loop-claim
-invariant-loop-claim l = record {
-  bytes : l.block ≡ l.initial.block ++ surplus_text l.row (take l.claim-index l.claims);
-  len : length l.block ≤ length l.initial.block + 256 * l.claim-index;
-}
+invariant-loop-claim g l =
+    Passes {E = SinkFailed} (surplus_text l.row (take l.claim-index l.claims))
+    l.initial.block l.block (g.S.Sink.contents l.initial.sink) (g.S.Sink.contents l.sink) (g.S.Sink.faults l.initial.sink) (g.S.Sink.faults l.sink) (Ok tt)

@@ -7,19 +7,19 @@ use Rattle.diva_duo.proofs.Turning.{drives_none, drives_more}
 use Rattle.diva_duo.proofs.drives.drive2.Goals as goal
 
 pub returns-then-ended-clause-drives : goal.returns-then-ended-clause-drives
-returns-then-ended-clause-drives g c = drives_none g.A.Core.gives g.B.Core.gives _ _ _
+returns-then-ended-clause-drives g c = drives_none g.A.Core.gives g.B.Core.gives _ _ _ c.ended.ensures.duo
 
 pub loop-init : goal.loop-init
 loop-init g c =
     let on = sym c.ended.ensures.value ∙ c.if-ended.false in
-    record { drives = drives_none g.A.Core.gives g.B.Core.gives _ _ _; on = on; began = on; sound = c.ended.ensures.duo; cycles = omega arith }
+    record { drives = drives_none g.A.Core.gives g.B.Core.gives _ _ _ c.ended.ensures.duo; on = on; began = on; start = c.ended.ensures.duo; sound = c.ended.ensures.duo; cycles = omega arith }
 
 pub returns-then-ended-2-clause-drives : goal.returns-then-ended-2-clause-drives
 returns-then-ended-2-clause-drives g c =
     let inv = c.loop.invariant in
     drives_more g.A.Core.gives g.B.Core.gives _ _ _ c.loop.duo _ _
     (record { first = c.ask.new.list; first_core = c.ask.new.core; second = c.ask-in-loop.new.list; second_core = c.ask-in-loop.new.core })
-    c.cycle.new.self inv.drives inv.sound inv.on c.ask.ensures c.ask-in-loop.ensures c.cycle.ensures.cycled c.cycle.ensures.last
+    c.cycle.new.self inv.drives inv.start inv.sound inv.on c.ask.ensures c.ask-in-loop.ensures c.cycle.ensures.cycled c.cycle.ensures.last
 
 pub returns-then-ended-2-clause-within : goal.returns-then-ended-2-clause-within
 returns-then-ended-2-clause-within g c =
@@ -34,9 +34,10 @@ loop-preserved g c =
     record {
       drives = drives_more g.A.Core.gives g.B.Core.gives _ _ _ c.loop.duo _ _
           (record { first = c.ask.new.list; first_core = c.ask.new.core; second = c.ask-in-loop.new.list; second_core = c.ask-in-loop.new.core })
-          c.cycle.new.self inv.drives inv.sound inv.on c.ask.ensures c.ask-in-loop.ensures c.cycle.ensures.cycled c.cycle.ensures.last;
+          c.cycle.new.self inv.drives inv.start inv.sound inv.on c.ask.ensures c.ask-in-loop.ensures c.cycle.ensures.cycled c.cycle.ensures.last;
       on = sym c.ended-in-loop.ensures.value ∙ c.if-ended-2.false;
       began = inv.began;
+      start = inv.start;
       sound = c.cycle.ensures.duo;
       cycles = (let at = inv.cycles in omega arith);
     }

@@ -9,6 +9,7 @@ invariant-loop g l = record {
   drives : DrivesDuo g.A.Core.gives g.B.Core.gives l.fn.duo l.fn.a l.fn.b l.duo l.a l.b;
   on : is_over l.duo.duo ≡ false;
   began : is_over l.fn.duo.duo ≡ false;
+  start : IsDuo l.fn.duo.duo;
   sound : IsDuo l.duo.duo;
   cycles : l.duo.duo.cycles ≡ l.fn.duo.duo.cycles + l.counter;
 }

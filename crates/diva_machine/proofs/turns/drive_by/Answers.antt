@@ -1,4 +1,4 @@
-use Rattle.std.proofs.Common.{◌≡◌, true, sym, ◌∙◌, ap, not, arith}
+use Rattle.std.proofs.Common.{◌≡◌, true, refl, sym, ◌∙◌, ap, not, arith}
 use Rattle.std.proofs.Math.Bool.{not-not}
 use Rattle.diva_isa.specs.State.{goes_on}
 use Rattle.diva_core.proofs.Outcomes.{cycle-cycles}
@@ -19,6 +19,7 @@ loop-list-init g c =
       began = sym c.goes_on.ensures.value ∙ c.if-not-goes_on.false;
       within = omega arith;
       sound = c.goes_on.ensures.machine;
+      outvoted = refl;
       stages = c.requires.stages_sound;
       led = led_none g.C.Core.gives _ _ g.S.Stages.led _;
     }
@@ -68,6 +69,7 @@ loop-list-preserved g c =
       began = inv.began;
       within = omega arith;
       sound = inv.sound;
+      outvoted = c.cycle_within-committed.ensures.outvoted ∙ inv.outvoted;
       stages = c.cycle_within-committed.ensures.stages_sound;
       led = led_more g.C.Core.gives _ _ _ _ g.S.Stages.led _ _ inv.led inv.sound c.cycle_within-committed.new.self c.ask-fits.new.list c.ask-fits.new.core c.cycle_within-committed.new.stages inv.on c.ask-fits.ensures.asked c.cycle_within-committed.ensures.cycled c.cycle_within-committed.ensures.last c.cycle_within-committed.ensures.led;
     }

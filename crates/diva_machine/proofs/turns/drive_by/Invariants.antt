@@ -10,6 +10,7 @@ invariant-loop-list g l = record {
   began : goes_on l.fn.m.timed.arch ≡ true;
   within : l.m.timed.cycles ≤ l.fn.m.timed.cycles + l.fn.budget;
   sound : IsMachine l.fn.m.timed;
+  outvoted : l.m.outvoted ≡ l.fn.m.outvoted;
   stages : g.S.Stages.sound l.stages;
   led : LedTurns g.C.Core.gives l.fn.m l.fn.core l.m l.core g.S.Stages.led l.fn.stages l.stages;
 }

@@ -1,27 +1,49 @@
-use Rattle.std.proofs.Common.{[], rules}
+-- The lanes were polled while they were lent, and are given back.
+use Rattle.std.proofs.Common.{[], sym, ap, ◌∙◌, rules}
+use Rattle.diva_vote.proofs.Polling.{stays_honest}
+use Rattle.diva_machine.specs.Machine.{Machine}
 use Rattle.diva_machine.proofs.Laws.{front_is_judged, judges_again}
+use Rattle.diva_machine.proofs.Asking.{polled_lent, sound_back, sound_lent}
 use Rattle.diva_machine.proofs.machine.Machine.cycle_voted.Goals as goal
 
 pub returns-clause-judges : goal.returns-clause-judges
-returns-clause-judges g c = judges_again _ _ _ c.cycle_by.ensures.was c.cycle_by.ensures.cycled
+returns-clause-judges g c = rw c.note_outvoted.ensures (judges_again _ _ _ c.cycle_by.ensures.was c.cycle_by.ensures.cycled)
 
 pub returns-clause-front : goal.returns-clause-front
-returns-clause-front g c = front_is_judged _ _ _ c.cycle_by.ensures.was c.cycle_by.ensures.cycled
+returns-clause-front g c = rw c.note_outvoted.ensures (front_is_judged _ _ _ c.cycle_by.ensures.was c.cycle_by.ensures.cycled)
+
+pub cycle_by-requires-clause-stages_sound : goal.cycle_by-requires-clause-stages_sound
+cycle_by-requires-clause-stages_sound g c =
+    let lent = c.new-panel.ensures in
+    sound_lent g.A.Lane.says g.B.Lane.says g.L.Lane.says c.new-panel.result _ _ _ lent.first lent.second lent.third c.requires.majority
+
+pub returns-clause-checked : goal.returns-clause-checked
+returns-clause-checked g c = rw c.note_outvoted.ensures c.cycle_by.ensures.checked
+
+pub returns-clause-polled : goal.returns-clause-polled
+returns-clause-polled g c =
+    let lent = c.new-panel.ensures in
+    let led = c.cycle_by.ensures.led c.new-panel.result [] lent.begins in
+    polled_lent g.A.Lane.says g.B.Lane.says g.L.Lane.says c.new-panel.result c.cycle_by.new.stages _ _ _ _ _ _ _ _ _
+    lent.first lent.second lent.third (lent.outvoted ∙ ap (λ (m : Machine). m.outvoted) c.self.view_is)
+    (search (rules, led)) (search (rules, led)) (search (rules, led)) (sym (ap (λ (m : Machine). m.outvoted) c.note_outvoted.ensures)) led
+
+pub returns-clause-majority : goal.returns-clause-majority
+returns-clause-majority g c =
+    let led = c.cycle_by.ensures.led c.new-panel.result [] c.new-panel.ensures.begins in
+    sound_back g.A.Lane.says g.B.Lane.says g.L.Lane.says c.cycle_by.new.stages _ _ _ (search (rules, led)) (search (rules, led)) (search (rules, led)) c.cycle_by.ensures.stages_sound
 
 pub returns-clause-first_stays : goal.returns-clause-first_stays
-returns-clause-first_stays g c = search (rules, c.cycle_by.ensures.led c.new-panel.result [] c.new-panel.ensures.begins)
-
-pub returns-clause-first_hears : goal.returns-clause-first_hears
-returns-clause-first_hears g c = search (rules, c.cycle_by.ensures.led c.new-panel.result [] c.new-panel.ensures.begins)
+returns-clause-first_stays g c =
+    let polled = returns-clause-polled g c in
+    stays_honest g.A.Lane.says g.A.Lane.honest g.met.A.Lane.keeps (λ ballot. ballot.first) _ _ polled.held.polls polled.held.first
 
 pub returns-clause-second_stays : goal.returns-clause-second_stays
-returns-clause-second_stays g c = search (rules, c.cycle_by.ensures.led c.new-panel.result [] c.new-panel.ensures.begins)
-
-pub returns-clause-second_hears : goal.returns-clause-second_hears
-returns-clause-second_hears g c = search (rules, c.cycle_by.ensures.led c.new-panel.result [] c.new-panel.ensures.begins)
+returns-clause-second_stays g c =
+    let polled = returns-clause-polled g c in
+    stays_honest g.B.Lane.says g.B.Lane.honest g.met.B.Lane.keeps (λ ballot. ballot.second) _ _ polled.held.polls polled.held.second
 
 pub returns-clause-third_stays : goal.returns-clause-third_stays
-returns-clause-third_stays g c = search (rules, c.cycle_by.ensures.led c.new-panel.result [] c.new-panel.ensures.begins)
-
-pub returns-clause-third_hears : goal.returns-clause-third_hears
-returns-clause-third_hears g c = search (rules, c.cycle_by.ensures.led c.new-panel.result [] c.new-panel.ensures.begins)
+returns-clause-third_stays g c =
+    let polled = returns-clause-polled g c in
+    stays_honest g.L.Lane.says g.L.Lane.honest g.met.L.Lane.keeps (λ ballot. ballot.third) _ _ polled.held.polls polled.held.third

@@ -6,7 +6,7 @@ use Rattle.diva_machine.proofs.panel.PanelStages.pass.Goals as goal
 
 pub returns-in-1-clause-led : goal.returns-in-1-clause-led
 returns-in-1-clause-led g c = λ e first before here h.
-    lanes_more _ _ _ _ _ _ first _ _ before _ 1 e.claim (let is = c.in-1.is in omega arith) h (c.ask.ensures.led e here)
+    lanes_more _ _ _ first _ _ before _ 1 _ e.claim (let is = c.in-1.is in omega arith) h (c.ask.ensures.led e here)
 
 pub returns-in-1-clause-future : goal.returns-in-1-clause-future
 returns-in-1-clause-future g c = future_same _ _ _ _ c.ask.ensures.waits c.requires.future
@@ -17,7 +17,7 @@ returns-in-1-clause-advanced g c = λ now e here age adv.
 
 pub returns-in-3-clause-led : goal.returns-in-3-clause-led
 returns-in-3-clause-led g c = λ e first before here h.
-    lanes_more _ _ _ _ _ _ first _ _ before _ 3 e.claim (let is = c.in-3.is in omega arith) h (c.ask-in-3.ensures.led e here)
+    lanes_more _ _ _ first _ _ before _ 3 _ e.claim (let is = c.in-3.is in omega arith) h (c.ask-in-3.ensures.led e here)
 
 pub returns-in-3-clause-future : goal.returns-in-3-clause-future
 returns-in-3-clause-future g c = future_same _ _ _ _ c.ask-in-3.ensures.waits (c.keep_next.ensures _ c.requires.future)
@@ -28,7 +28,7 @@ returns-in-3-clause-advanced g c = λ now e here age adv.
 
 pub returns-in-4-clause-led : goal.returns-in-4-clause-led
 returns-in-4-clause-led g c = λ e first before here h.
-    lanes_more _ _ _ _ _ _ first _ _ before _ 4 e.claim (let is = c.in-4.is in omega arith) h (c.ask-in-4.ensures.led e here)
+    lanes_more _ _ _ first _ _ before _ 4 _ e.claim (let is = c.in-4.is in omega arith) h (c.ask-in-4.ensures.led e here)
 
 pub returns-in-4-clause-future : goal.returns-in-4-clause-future
 returns-in-4-clause-future g c = future_same _ _ _ _ c.ask-in-4.ensures.waits c.requires.future
@@ -39,7 +39,7 @@ returns-in-4-clause-advanced g c = λ now e here age adv.
 
 pub returns-in-5-clause-led : goal.returns-in-5-clause-led
 returns-in-5-clause-led g c = λ e first before here h.
-    lanes_more _ _ _ _ _ _ first _ _ before _ 5 e.claim (let is = c.in-5.is in omega arith) h (c.ask-in-5.ensures.led e here)
+    lanes_more _ _ _ first _ _ before _ 5 _ e.claim (let is = c.in-5.is in omega arith) h (c.ask-in-5.ensures.led e here)
 
 pub returns-in-5-clause-future : goal.returns-in-5-clause-future
 returns-in-5-clause-future g c = future_same _ _ _ _ c.ask-in-5.ensures.waits c.requires.future
@@ -50,7 +50,7 @@ returns-in-5-clause-advanced g c = λ now e here age adv.
 
 pub returns-in-2-clause-led : goal.returns-in-2-clause-led
 returns-in-2-clause-led g c = λ e first before here h.
-    lanes_more _ _ _ _ _ _ first _ _ before _ 2 e.claim (let is = c.in-2.is in omega arith) h (lanes_none _ _ _ _ _ _ _)
+    lanes_more _ _ _ first _ _ before _ 2 _ e.claim (let is = c.in-2.is in omega arith) h (lanes_none _ _ _ _)
 
 pub returns-in-2-clause-future : goal.returns-in-2-clause-future
 returns-in-2-clause-future g c = future_same _ _ _ _ c.note_decoded.ensures.waits c.requires.future

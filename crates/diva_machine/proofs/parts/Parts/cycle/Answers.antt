@@ -4,11 +4,13 @@ use Rattle.diva_isa.specs.State.{goes_on}
 use Rattle.std.proofs.lemmas.List.{take_min}
 use Rattle.diva_isa.specs.declared.record.Record.{Record}
 use Rattle.diva_isa.specs.Step.{record_of}
-use Rattle.diva_core.specs.Timed.{PendingClaim, Timed, depth, room_of}
+use Rattle.diva_core.specs.Timed.{Timed, depth, room_of}
 use Rattle.diva_core.specs.Cycle.{accepted_in, accepts, begun, commits_under, cycle_under, drained, watched, stores_wait}
 use Rattle.diva_core.specs.Headline.{dues}
 use Rattle.diva_core.proofs.Passing.{alone_stores}
+use Rattle.diva_vote.specs.Questions.{Question}
 use Rattle.diva_machine.specs.Asked.{asked_in, asked_of}
+use Rattle.diva_machine.proofs.Asking.{asked_shown, alone_pending}
 use Rattle.diva_machine.specs.Inner.{takes_claims, Tells}
 use Rattle.diva_machine.specs.Staged.{Parts}
 use Rattle.diva_machine.proofs.Staging.{staged_begun}
@@ -96,10 +98,13 @@ returns-clause-last g c =
     c.watch.ensures.last ∙ comes-due g c ∙ ap (λ n. dues (n - old.count) old.arch) (sym same)
 
 pub returns-clause-led : goal.returns-clause-led
-unfolding asked_of
+unfolding asked_of drained
 returns-clause-led g c = λ first before h.
     let old : Timed = c.args.self.now.timed in
     let on : goes_on old.arch ≡ true = ap (λ n. n == 0) c.requires.goes_on in
     let left : c.commits.new.self.timed ≡ commits_under stores_wait (drained (begun old)) = c.commits.ensures.timed ∙ ap (commits_under stores_wait) (begins g c) in
-    rw on (subst (λ (ps : List PendingClaim). g.S.Stages.led first (before ++ asked_in (old.cycles + 1) ps) c.advance.new.stages) (ap (λ (m : Timed). m.pending) left)
-    (subst (λ (n : ℕ). g.S.Stages.led first (before ++ asked_in n c.commits.new.self.timed.pending) c.advance.new.stages) (runs_on g c) (c.advance.ensures.led first before h)))
+    let shown = asked_shown (old.cycles + 1) (drained (begun old)) on (alone_pending old c.requires.machine) in
+    rw on (subst (λ (qs : List Question). g.S.Stages.led first (before ++ qs) c.advance.new.stages) shown
+    (subst (λ (m : Timed). g.S.Stages.led first (before ++ asked_in (old.cycles + 1) (record m.arch { end = 0 }) m.pending) c.advance.new.stages) left
+    (subst (λ (n : ℕ). g.S.Stages.led first (before ++ asked_in n (record c.commits.new.self.timed.arch { end = 0 }) c.commits.new.self.timed.pending) c.advance.new.stages) (runs_on g c)
+    (c.advance.ensures.led first before h))))

@@ -3,6 +3,8 @@ use Rattle.std.proofs.Common.{◌≡◌, ◌≤◌, ◌-◌, ◌+◌, ◌++◌, 
 use Rattle.diva_core.specs.Future.{IsFuture}
 use Rattle.diva_core.specs.Timed.{Timed}
 use Rattle.diva_core.specs.Entries.{pending_claim_of}
+use Rattle.diva_core.specs.Older.{before_entry}
+use Rattle.diva_isa.specs.State.{State}
 use Rattle.diva_machine.specs.Staged.{Parts}
 use Rattle.diva_machine.specs.Inner.{IsAdvanced}
 use Rattle.diva_vote.specs.Questions.{Question}
@@ -29,7 +31,8 @@ loop-at-init g c =
       advanced = rw at begins.0;
       sound = c.requires.stages_sound;
       led = λ first before h.
-          let none : asked_in w.timed.cycles (take c.self.inside.passed w.timed.pending) ≡ [] = ap (λ (n : ℕ). asked_in w.timed.cycles (take n w.timed.pending)) at ∙ none_before w c.requires.cycles c.requires.staged in
+          let shown : State = record w.timed.arch { end = 0 } in
+          let none : asked_in w.timed.cycles shown (take c.self.inside.passed w.timed.pending) ≡ [] = ap (λ (n : ℕ). asked_in w.timed.cycles shown (take n w.timed.pending)) at ∙ none_before w shown c.requires.cycles c.requires.staged in
           subst (λ (qs : List Question). g.S.Stages.led first (before ++ qs) c.args.stages.now) (sym none) (rw (append-nil before) h);
     }
 
@@ -72,8 +75,9 @@ loop-at-preserved g c =
       led = λ first before h.
           let there = entry_at c.loop-at.self.entries c.loop-at.at (omega arith) in
           let stands : slice_get w.timed.pending c.loop-at.at ≡ Some (pending_claim_of there.0) = ap (λ ps. slice_get ps c.loop-at.at) (sym inv.waits) ∙ get_mapped c.loop-at.self.entries c.loop-at.at there.0 there.1 in
-          rw (asked_next before w.timed.cycles w.timed.pending c.loop-at.at (pending_claim_of there.0) stands)
-          (subst (λ (m : Timed). g.S.Stages.led first ((before ++ asked_in w.timed.cycles (take c.loop-at.at w.timed.pending)) ++ asked_at (m.cycles - there.0.cycle) there.0.claim) c.pass_stage.new.stages) same
+          let shown : State = record w.timed.arch { end = 0 } in
+          rw (asked_next before w.timed.cycles shown c.loop-at.self.entries w.timed.pending c.loop-at.at (pending_claim_of there.0) inv.waits stands)
+          (subst (λ (m : Timed). g.S.Stages.led first ((before ++ asked_in w.timed.cycles shown (take c.loop-at.at w.timed.pending)) ++ asked_at (m.cycles - there.0.cycle) (before_entry (record m.arch { end = 0 }) c.loop-at.self.entries c.loop-at.at) there.0.claim) c.pass_stage.new.stages) same
           (c.pass_stage.ensures.led there.0 first _ there.1 (inv.led first before h)));
     }
 
@@ -89,4 +93,4 @@ returns-clause-led g c = λ first before h.
     let inv = c.loop-at.invariant in
     let len : length c.self-in-loop-at.inside.under.pending.items ≡ length c.loop-at.self.entries = ap (λ (x : Parts). length x.entries) c.self-in-loop-at.view_is in
     let few : length w.timed.pending ≤ c.loop-at.at = (let e = ap (λ ps. length ps) inv.waits in let m = length-map c.loop-at.self.entries pending_claim_of in omega arith) in
-    subst (λ ps. g.S.Stages.led first (before ++ asked_in w.timed.cycles ps) c.loop-at.stages) (take_all c.loop-at.at w.timed.pending few) (inv.led first before h)
+    subst (λ ps. g.S.Stages.led first (before ++ asked_in w.timed.cycles (record w.timed.arch { end = 0 }) ps) c.loop-at.stages) (take_all c.loop-at.at w.timed.pending few) (inv.led first before h)

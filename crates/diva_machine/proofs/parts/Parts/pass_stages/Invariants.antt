@@ -20,7 +20,7 @@ invariant-loop-at g l = record {
   advanced : IsAdvanced l.fn.self.timed.arch (l.fn.self.timed.cycles - 1) l.at l.self.entries;
   sound : g.S.Stages.sound l.stages;
   led : (first : _) (before : List Question) → g.S.Stages.led first before l.fn.stages
-      → g.S.Stages.led first (before ++ asked_in l.fn.self.timed.cycles (take l.at l.fn.self.timed.pending)) l.stages;
+      → g.S.Stages.led first (before ++ asked_in l.fn.self.timed.cycles (record l.fn.self.timed.arch { end = 0 }) (take l.at l.fn.self.timed.pending)) l.stages;
 }
 
 abbrev pub decreases-loop-at : goal.decreases-loop-at

@@ -7,6 +7,7 @@ pub returns-then-is_some-clause-puts : goal.returns-then-is_some-clause-puts
 returns-then-is_some-clause-puts c = record {
   later = search rules;
   ok = tt;
+  uncounted = tt;
   part = part_taken c.args.piece.now c.min-count.result _ _ (search rules);
   failed = search rules;
 }
