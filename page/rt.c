@@ -78,8 +78,9 @@ static word end_of(struct block *block) {
     return (word)block + block->size;
 }
 
+/* The block of these bytes; none for a place that stands for no bytes. */
 static struct block *block_of(void *bytes) {
-    return (struct block *)((word)bytes - sizeof(word));
+    return (word)bytes > (word)&__heap_base ? (struct block *)((word)bytes - sizeof(word)) : 0;
 }
 
 /* A block above all others, or none where memory runs out. */
@@ -130,6 +131,7 @@ static void join(struct block *block) {
 
 void rattle_dealloc(void *old) {
     struct block *block = block_of(old), *before = 0;
+    if (!block) return;
     for (struct block *each = given_back; each && each < block; each = each->next) before = each;
     block->next = before ? before->next : given_back;
     if (before) before->next = block;
@@ -152,7 +154,8 @@ struct taken rattle_alloc(word length, word alignment) {
 
 /* What has shrunk stays; what has grown is copied. */
 struct taken rattle_realloc(void *old, word old_length, word length, word alignment) {
-    word wanted = length ? length : alignment, had = block_of(old)->size - sizeof(word);
+    struct block *block = block_of(old);
+    word wanted = length ? length : alignment, had = block ? block->size - sizeof(word) : 0;
     if (wanted <= had) return answer(old, alignment);
     void *at = take(wanted);
     if (at) {
