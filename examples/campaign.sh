@@ -18,7 +18,7 @@
 #         examples/campaign.sh runs p1.diva $((n + 1)) $((n + 4)) --core scalar > lines/$n'
 #
 # and when all are done, `examples/campaign.sh table lines/*`. PROGRAM names the program, ./diva by default. The launcher of that name sees first
-# whether its sources have changed; crates/diva/out/diva, which it leaves, is the program itself.
+# whether its sources have changed; crates/diva/out/diva, which ./prove leaves, is the program itself.
 set -u
 : "${PROGRAM:=./diva}" "${JOBS:=$(getconf _NPROCESSORS_ONLN 2>/dev/null || echo 1)}"
 export PROGRAM
@@ -86,8 +86,20 @@ usage() {
     exit 2
 }
 
+# Refuses words that are no cycle: a number of ten digits at most, the first of which is no 0.
+each_is_a_cycle() {
+    for cycle; do
+        case $cycle in
+        '' | 0* | *[!0-9]* | ???????????*) usage ;;
+        esac
+    done
+}
+
 case ${1-} in
-runs) [ $# -ge 4 ] || usage ;;
+runs)
+    [ $# -ge 4 ] || usage
+    each_is_a_cycle "$3" "$4"
+    ;;
 table | one) ;;
 *) usage ;;
 esac

@@ -1,39 +1,59 @@
 // Runs the proved program: what it asks of its host, by five imports, whether that is a page, a worker of one, or node.
 
-/** What a file is, once it is opened: its bytes, and how many of them were read. */
-function openedFile(bytes) {
-  return { bytes, read: 0 };
+/**
+ * Files in memory, by the bytes of each name. `open` answers an opened file, or nothing if none can be opened: `next` gives so many bytes at
+ * most, none only at the end, and nothing at all if the file can't be read.
+ */
+function filesInMemory(contents) {
+  return {
+    open(name) {
+      const bytes = contents[new TextDecoder().decode(name)];
+      return bytes && openedBytes(bytes);
+    },
+  };
+}
+
+function openedBytes(bytes) {
+  let read = 0;
+  return {
+    next(length) {
+      const piece = bytes.subarray(read, read + length);
+      read += piece.length;
+      return piece;
+    },
+    close() {},
+  };
 }
 
 /**
  * The five imports of page/rt.c. Places and lengths are plain numbers of 32 bits.
  *
- * `view` gives the instance's memory as it now stands, `words` are those behind the program's name, `files` has the bytes of
- * each name that can be opened, and `take` is handed each piece of text as it is written; the piece is the taker's own.
+ * `view` gives the instance's memory as it now stands, `words` are those behind the program's name, each a text or its bytes, `files` opens
+ * files by the bytes of their names, and `take` is handed each piece of text as it is written, and answers false if it could not write it;
+ * the piece is the taker's own.
  */
 function hostImports(view, words, files, take) {
   const opened = [];
   const bytesOf = (from, length) => view().slice(from >>> 0, (from >>> 0) + length);
   const put = (bytes, to) => view().set(bytes, to >>> 0);
-  const spoken = ["diva", ...words].map((word) => new TextEncoder().encode(word));
+  const spoken = ["diva", ...words].map((word) => (typeof word === "string" ? new TextEncoder().encode(word) : word));
   return {
-    write(file, from, length) {
-      take(bytesOf(from, length));
-      return length;
-    },
+    write: (file, from, length) => (take(bytesOf(from, length)) === false ? -1 : length),
     open(name, length) {
-      const bytes = files[new TextDecoder().decode(bytesOf(name, length))];
+      const file = files.open(bytesOf(name, length));
       // The numbers 0 to 2 are those of standard input, output and error.
-      return bytes === undefined ? -1 : opened.push(openedFile(bytes)) + 2;
+      return file === undefined ? -1 : opened.push(file) + 2;
     },
     read(file, to, length) {
-      const from = opened[file - 3];
-      const next = from.bytes.subarray(from.read, from.read + length);
+      const next = opened[file - 3].next(length);
+      if (next === undefined) return -1;
       put(next, to);
-      from.read += next.length;
       return next.length;
     },
-    close: () => 0,
+    close(file) {
+      opened[file - 3].close();
+      return 0;
+    },
     arg(place, to, length) {
       const word = spoken[place];
       if (word === undefined) return -1;

@@ -11,13 +11,13 @@ typedef unsigned __int128 wide;
 
 #define IMPORT(name) __attribute__((import_module("host"), import_name(name))) extern
 
-/* Takes bytes of the program's text. */
+/* Takes bytes of the program's text, and answers how many they are, or -1. */
 IMPORT("write") int host_write(int file, half from, half length);
 
 /* The number of an opened file, or -1 where there is none of that name. */
 IMPORT("open") int host_open(half name, half length);
 
-/* How many of the file's next bytes were put, 0 at its end. */
+/* How many of the file's next bytes were put, 0 at its end, or -1. */
 IMPORT("read") int host_read(int file, half to, half length);
 
 IMPORT("close") int host_close(int file);
@@ -61,23 +61,83 @@ __attribute__((optnone, noinline)) word strlen(const char *text) {
     return length;
 }
 
-/* ---- memory, which nobody gives back: each run has an instance of its own */
+/* ---- memory: blocks one after the other, each with its size in front */
 
 #define PAGE 65536ul
 #define MOST 0x100000000ul
 
+/* A block that was given back. In one that is taken, the bytes begin where this has `next`, at a multiple of 16. */
+struct block { word size; struct block *next; };
+
 extern byte __heap_base;
 static word top = 0;
+/* Those that were given back, by their places; no two of them touch. */
+static struct block *given_back = 0;
 
-/* So many bytes at a multiple of 16, with their number in the eight bytes before; nothing where memory runs out. */
-static void *take(word length) {
-    word at = ((top ? top : (word)&__heap_base) + sizeof(word) + 15) & ~15ul;
+static word end_of(struct block *block) {
+    return (word)block + block->size;
+}
+
+/* The block of these bytes; none for a place that stands for no bytes. */
+static struct block *block_of(void *bytes) {
+    return (word)bytes > (word)&__heap_base ? (struct block *)((word)bytes - sizeof(word)) : 0;
+}
+
+/* A block above all others, or none where memory runs out. */
+static struct block *block_on_top(word size) {
+    word at = top ? top : (((word)&__heap_base + 15) & ~15ul) + sizeof(word);
     word have = __builtin_wasm_memory_size(0) * PAGE;
-    if (length > MOST - at) return 0;
-    if (at + length > have && __builtin_wasm_memory_grow(0, (at + length - have + PAGE - 1) / PAGE) == (word)-1) return 0;
-    ((word *)at)[-1] = length;
-    top = at + length;
-    return (void *)at;
+    if (size > MOST - at) return 0;
+    if (at + size > have && __builtin_wasm_memory_grow(0, (at + size - have + PAGE - 1) / PAGE) == (word)-1) return 0;
+    top = at + size;
+    ((struct block *)at)->size = size;
+    return (struct block *)at;
+}
+
+/* The first block that was given back and is large enough, without what lies over; or none. */
+static struct block *block_again(word size) {
+    struct block **link = &given_back;
+    while (*link && (*link)->size < size) link = &(*link)->next;
+    struct block *found = *link;
+    if (!found) return 0;
+    if (found->size == size) {
+        *link = found->next;
+    } else {
+        struct block *rest = (struct block *)((word)found + size);
+        rest->size = found->size - size;
+        rest->next = found->next;
+        *link = rest;
+        found->size = size;
+    }
+    return found;
+}
+
+/* So many bytes at a multiple of 16; nothing where memory runs out. */
+static void *take(word length) {
+    if (length > MOST) return 0;
+    word size = (length + sizeof(word) + 15) & ~15ul;
+    struct block *block = block_again(size);
+    if (!block) block = block_on_top(size);
+    return block ? &block->next : 0;
+}
+
+/* Makes one of a block and the next one that was given back, if they touch. */
+static void join(struct block *block) {
+    struct block *next = block->next;
+    if (!next || end_of(block) != (word)next) return;
+    block->size += next->size;
+    block->next = next->next;
+}
+
+void rattle_dealloc(void *old) {
+    struct block *block = block_of(old), *before = 0;
+    if (!block) return;
+    for (struct block *each = given_back; each && each < block; each = each->next) before = each;
+    block->next = before ? before->next : given_back;
+    if (before) before->next = block;
+    else given_back = block;
+    join(block);
+    if (before) join(before);
 }
 
 /* What the program is answered: whether there is such memory, and where. Its type is handed on, never read, where there is none. */
@@ -94,14 +154,16 @@ struct taken rattle_alloc(word length, word alignment) {
 
 /* What has shrunk stays; what has grown is copied. */
 struct taken rattle_realloc(void *old, word old_length, word length, word alignment) {
-    word wanted = length ? length : alignment, had = ((word *)old)[-1];
+    struct block *block = block_of(old);
+    word wanted = length ? length : alignment, had = block ? block->size - sizeof(word) : 0;
     if (wanted <= had) return answer(old, alignment);
     void *at = take(wanted);
-    if (at) memcpy(at, old, had);
+    if (at) {
+        memcpy(at, old, had);
+        rattle_dealloc(old);
+    }
     return answer(at, alignment);
 }
-
-void rattle_dealloc(void *old) {}
 
 /* ---- words, files and text */
 
@@ -135,12 +197,18 @@ int open(const char *name, int flags, ...) {
     return file;
 }
 
+/* What a call answered; where it failed, 5 is the number of a device that does not answer. */
+static long answered(long count) {
+    if (count < 0) error = 5;
+    return count;
+}
+
 long read(int file, byte *to, word length) {
-    return host_read(file, place(to), (half)length);
+    return answered(host_read(file, place(to), (half)length));
 }
 
 long write(int file, const byte *from, word length) {
-    return host_write(file, place(from), (half)length);
+    return answered(host_write(file, place(from), (half)length));
 }
 
 long __write(int file, const byte *from, word length) {

@@ -6,7 +6,7 @@ const PAUSE = 200;
 
 /** Runs a job whose text is wanted as it is. */
 function textOf(job) {
-  return wholeRun(job.module, job.words, job.files);
+  return wholeRun(job.module, job.words, filesInMemory(job.files));
 }
 
 /** Runs a job whose text is a log, and tells the page meanwhile how many cycles it has. */
@@ -15,7 +15,7 @@ function logOf(job) {
   const pieces = [];
   let last = performance.now();
   let sent = false;
-  const status = runProgram(job.module, job.words, job.files, (piece) => {
+  const status = runProgram(job.module, job.words, filesInMemory(job.files), (piece) => {
     reader.take(piece);
     if (reader.cycles === 0) pieces.push(piece);
     const now = performance.now();
