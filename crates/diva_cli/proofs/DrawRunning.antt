@@ -374,6 +374,7 @@ module _ {C S : Type 0} (gives : Meaning C) (options : DrawOptions) (bytes : Fil
   means ended text written = record { last = last; of_files = of_files; first = d.first; saw = saw; seen = d.seen; are = are; written = written }
 
   pub wrote_drawing : result ≡ Ok tt → (status : ℕ) → status ≡ end_status (end_of last.arch.end) → WritesWhole gives (Draw options) bytes (asking core after lanes) sink status
+  unfolding means
   wrote_drawing ok status says =
       let w = subst (λ (r : Result (Unit {0}) SinkFailed). OnOk r ((goes_on last.arch ≡ true → length p.lists ≡ cycles) × Takes sink (drawn_text options.format d.first p.lists d.seen))) ok d.whole in
       record {
@@ -384,6 +385,7 @@ module _ {C S : Type 0} (gives : Meaning C) (options : DrawOptions) (bytes : Fil
       }
 
   pub cut_drawing : (e : SinkFailed) → result ≡ Err e → WritesPart gives (Draw options) bytes (asking core after lanes) sink
+  unfolding means
   cut_drawing e err =
       let c = subst (λ (r : Result (Unit {0}) SinkFailed). OnErr r (HasFailed sink × IsCutDrawing options.format cycles last d.first p.lists d.seen sink)) err d.cut in
       elim c.1 [

@@ -2,7 +2,7 @@
 //!
 //! - `arch`: the committed state, memory with what the hart has for itself;
 //! - `stages`: what a pending claim passes through at each age, `Stages`: the checks, `Checks`;
-//! - `panel`: or three lanes that vote in their place, `Panel`;
+//! - `panel`: or three lanes that vote in their place, with how often each was outvoted, `Panel`;
 //! - `parts`: the parts of the machine, and the phases of a cycle over them;
 //! - `front`: what became of the front claim, `Judged`;
 //! - `machine`: the machine between cycles, `Machine`;

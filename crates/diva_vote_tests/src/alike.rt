@@ -1,14 +1,15 @@
 // Two machines, of which one is voted on: what they show, cycle by cycle.
+ghost use Rattle.diva_vote.specs.Polls.{AlwaysTwoAreRight};
 ghost use Rattle.diva_vote.specs.Votes.{AtLeastTwo};
 
 use crate::cores::{AnyCore, Kind};
-use crate::lanes::{ODD, field_by, next_number};
+use crate::lanes::{Alternating, ODD, Watching, field_by, next_number, recall_alternating};
 use crate::programs::{PRODUCTS, PRODUCTS_COUNT, PRODUCTS_OUTPUT, SIZE, machine_of};
 use diva_core::{Claims, Core, Told};
 use diva_faults::{Faulty, Script};
 use diva_isa::End;
 use diva_machine::{Config, Machine, turn, turn_voted};
-use diva_vote::{Honest, Lane};
+use diva_vote::{Honest, Lane, recall_two_honest};
 use std::alloc::Global;
 use std::process::Abort;
 use std::test::Fail;
@@ -145,8 +146,8 @@ fn take_voted_turn<C: Core, A: Lane, B: Lane, L: Lane>(
     b: &mut B,
     l: &mut L,
 )
-    requires { AtLeastTwo (A.honest a.old) (B.honest b.old) (L.honest l.old) }
-    ensures { AtLeastTwo (A.honest a.new) (B.honest b.new) (L.honest l.new) }
+    requires { AlwaysTwoAreRight A.says B.says L.says a.old b.old l.old }
+    ensures { AlwaysTwoAreRight A.says B.says L.says a.new b.new l.new }
 {
     assert!(rt; m.cycles() < 10_000);
     turn_voted(m, core, list, a, b, l);
@@ -161,7 +162,7 @@ fn compare_run<A: Lane, B: Lane, L: Lane>(
     b: &mut B,
     l: &mut L,
 ) -> Result<(), Fail>
-    requires { AtLeastTwo (A.honest a.old) (B.honest b.old) (L.honest l.old) }
+    requires { AlwaysTwoAreRight A.says B.says L.says a.old b.old l.old }
 {
     let mut plain = machine_of(alloc, &PRODUCTS, run.config)?;
     let mut voted = machine_of(alloc, &PRODUCTS, run.config)?;
@@ -184,14 +185,44 @@ fn compare_run<A: Lane, B: Lane, L: Lane>(
     Ok(())
 }
 
+/// The same with lanes two of which are honest.
+fn compare_honest<A: Lane, B: Lane, L: Lane>(
+    rt: &impl Abort,
+    alloc: Global,
+    run: &Run<'_>,
+    a: &mut A,
+    b: &mut B,
+    l: &mut L,
+) -> Result<(), Fail>
+    requires { AtLeastTwo (A.honest a.old) (B.honest b.old) (L.honest l.old) }
+{
+    recall_two_honest(a, b, l);
+    compare_run(rt, alloc, run, a, b, l)
+}
+
 /// Puts each lane that is not to be believed in each of the three places.
 fn compare_lanes(rt: &impl Abort, alloc: Global, run: &Run<'_>) -> Result<(), Fail> {
     for odd in &ODD {
         let [mut first, mut second, mut third] = [*odd; 3];
-        compare_run(rt, alloc, run, &mut first, &mut Honest, &mut Honest)?;
-        compare_run(rt, alloc, run, &mut Honest, &mut second, &mut Honest)?;
-        compare_run(rt, alloc, run, &mut Honest, &mut Honest, &mut third)?;
+        compare_honest(rt, alloc, run, &mut first, &mut Honest, &mut Honest)?;
+        compare_honest(rt, alloc, run, &mut Honest, &mut second, &mut Honest)?;
+        compare_honest(rt, alloc, run, &mut Honest, &mut Honest, &mut third)?;
     }
+    Ok(())
+}
+
+/// Puts two lanes in the first two places that lie in turn, and one in the third that watches what a liar says.
+fn compare_alternating(rt: &impl Abort, alloc: Global, run: &Run<'_>) -> Result<(), Fail> {
+    let (mut first, mut second) = (Alternating { lies: true }, Alternating { lies: false });
+    recall_alternating(&first, &second, &Honest);
+    compare_run(rt, alloc, run, &mut first, &mut second, &mut Honest)?;
+    let mut watching = Watching {
+        strays: 0,
+        denials: 0,
+    };
+    compare_honest(rt, alloc, run, &mut Honest, &mut Honest, &mut watching)?;
+    assert_eq!(rt; watching.strays, 0, "{}", run.name);
+    assert_eq!(rt; watching.denials > 0, run.flushes > 0, "{}", run.name);
     Ok(())
 }
 
@@ -262,12 +293,13 @@ fn compare_cores(
                 flushes,
             };
             compare_lanes(rt, alloc, &run)?;
+            compare_alternating(rt, alloc, &run)?;
         }
     }
     Ok(())
 }
 
-/// Where nothing is spoiled, whatever one lane of three answers.
+/// Where nothing is spoiled, whatever one lane of three answers, and where two lie in turn.
 #[test]
 fn one_lane_of_three_changes_nothing(rt: HostRuntime) -> Result<(), Fail> {
     let alloc = rt.alloc();

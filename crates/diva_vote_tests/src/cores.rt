@@ -31,7 +31,7 @@ pub(crate) enum AnyCore {
 
 impl AnyCore {
     /// A new core of a kind.
-    pub fn new(alloc: Global, kind: Kind) -> Result<Self, AllocError> {
+    pub(crate) fn new(alloc: Global, kind: Kind) -> Result<Self, AllocError> {
         Ok(match kind {
             Kind::Lockstep => AnyCore::Lockstep,
             Kind::Scalar => AnyCore::Scalar(Scalar::new(alloc)?),

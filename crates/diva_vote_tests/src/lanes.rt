@@ -1,6 +1,10 @@
 // Lanes of the tests' own.
+ghost use Rattle.std.specs.Prelude.{◌≡◌, not};
+ghost use Rattle.diva_vote.specs.Polls.{AlwaysTwoAreRight};
+
 use diva_core::{Diff, Field, Pending, View};
-use diva_vote::{Lane, Liar, Stage, check};
+use diva_vote::{Honest, Lane, Liar, Stage, check, lie};
+use std::cell::Cell;
 
 /// What a lane is asked: the stage, and the pc of the claim.
 pub(crate) type Asked = (Stage, u32);
@@ -14,7 +18,7 @@ pub(crate) struct Noting {
 
 impl Noting {
     /// A lane that was asked nothing yet.
-    pub fn new() -> Self {
+    pub(crate) fn new() -> Self {
         Noting {
             notes: [(Stage::Fetch, 0); 32],
             calls: 0,
@@ -22,22 +26,25 @@ impl Noting {
     }
 
     /// How often it was asked.
-    pub fn calls(&self) -> usize {
+    pub(crate) fn calls(&self) -> usize {
         self.calls
     }
 
     /// What it was asked, in order: its first questions, where there were more than it can note.
-    pub fn notes(&self) -> &[Asked] {
+    pub(crate) fn notes(&self) -> &[Asked] {
         self.notes.get(..self.calls).unwrap_or(&self.notes)
     }
 }
 
 impl Lane for Noting {
     ghost use Rattle.std.specs.Prelude.{⊤};
+    ghost use Rattle.diva_vote.specs.Questions.{IsAnswer};
+
+    ghost says = { λ before q answer after. IsAnswer q answer };
 
     ghost honest = { λ lane. ⊤ };
 
-    ghost hears = { λ before question after. ⊤ };
+    ghost keeps = { λ lane q answer after honest said. (said, tt) };
 
     fn judge(
         &mut self,
@@ -52,6 +59,136 @@ impl Lane for Noting {
         self.calls = self.calls.saturating_add(1);
         check(stage, pending, at, view)
     }
+}
+
+/// Answers as the checks do, and notes how often it is not asked in its turn: three lanes share a cell in which they count what
+/// they are asked.
+#[derive(Drop)]
+pub(crate) struct Queueing<'a> {
+    asked: &'a Cell<u32>,
+    place: u32,
+    strays: u32,
+}
+
+impl<'a> Queueing<'a> {
+    /// The lane that is to be asked at this place, from 0 to 2.
+    pub(crate) fn new(asked: &'a Cell<u32>, place: u32) -> Self {
+        Queueing {
+            asked,
+            place,
+            strays: 0,
+        }
+    }
+
+    /// How often another lane was asked in its place.
+    pub(crate) fn strays(&self) -> u32 {
+        self.strays
+    }
+}
+
+impl<'a> Lane for Queueing<'a> {
+    ghost use Rattle.std.specs.Prelude.{⊤};
+    ghost use Rattle.diva_vote.specs.Questions.{IsAnswer};
+
+    ghost says = { λ before q answer after. IsAnswer q answer };
+
+    ghost honest = { λ lane. ⊤ };
+
+    ghost keeps = { λ lane q answer after honest said. (said, tt) };
+
+    fn judge(
+        &mut self,
+        stage: Stage,
+        pending: &Pending,
+        at: usize,
+        view: &View<'_>,
+    ) -> Option<Diff> {
+        let asked = self.asked.get();
+        if asked % 3 != self.place {
+            self.strays = self.strays.saturating_add(1);
+        }
+        self.asked.set(asked.wrapping_add(1));
+        check(stage, pending, at, view)
+    }
+}
+
+/// Answers as the checks do, and compares what `Liar` says each time with the lie of that answer.
+#[derive(Clone, Copy, Debug, Drop)]
+pub(crate) struct Watching {
+    /// How often the liar said something else.
+    pub(crate) strays: u32,
+    /// How often it said nothing.
+    pub(crate) denials: u32,
+}
+
+impl Lane for Watching {
+    ghost use Rattle.std.specs.Prelude.{⊤};
+    ghost use Rattle.diva_vote.specs.Questions.{IsAnswer};
+
+    ghost says = { λ before q answer after. IsAnswer q answer };
+
+    ghost honest = { λ lane. ⊤ };
+
+    ghost keeps = { λ lane q answer after honest said. (said, tt) };
+
+    fn judge(
+        &mut self,
+        stage: Stage,
+        pending: &Pending,
+        at: usize,
+        view: &View<'_>,
+    ) -> Option<Diff> {
+        let right = check(stage, pending, at, view);
+        let said = Liar.judge(stage, pending, at, view);
+        if said != lie(right) {
+            self.strays = self.strays.saturating_add(1);
+        }
+        if said.is_none() {
+            self.denials = self.denials.saturating_add(1);
+        }
+        right
+    }
+}
+
+/// Lies to every other question. It is never honest: at most one of two questions has its right answer.
+#[derive(Clone, Copy, Debug, Drop)]
+pub(crate) struct Alternating {
+    /// Whether it will lie to the next question.
+    pub(crate) lies: bool,
+}
+
+impl Lane for Alternating {
+    ghost use Rattle.std.specs.Prelude.{◌≡◌, false, not};
+    ghost use Rattle.diva_vote.specs.Questions.{IsAnswer};
+
+    ghost says = { λ before q answer after. (after.lies ≡ not before.lies) × (before.lies ≡ false → IsAnswer q answer) };
+
+    ghost honest = { λ lane. ⊥ };
+
+    ghost keeps = { λ lane q answer after honest said. absurd honest };
+
+    fn judge(
+        &mut self,
+        stage: Stage,
+        pending: &Pending,
+        at: usize,
+        view: &View<'_>,
+    ) -> Option<Diff> {
+        let lies = self.lies;
+        self.lies = !lies;
+        let right = check(stage, pending, at, view);
+        if lies { lie(right) } else { right }
+    }
+}
+
+/// Recalls for a proof that of two lanes that lie in turn and an honest one, at least two answers to each question will be right.
+pub(crate) fn recall_alternating(a: &Alternating, b: &Alternating, l: &Honest)
+    requires { b.now.lies ≡ not a.now.lies }
+    ensures { AlwaysTwoAreRight ⟦<Alternating as Lane>⟧.says ⟦<Alternating as Lane>⟧.says ⟦<Honest as Lane>⟧.says a.now b.now l.now }
+{
+    let _ = a;
+    let _ = b;
+    let _ = l;
 }
 
 /// A lane that is not to be believed, by what it answers.
@@ -81,9 +218,11 @@ pub(crate) const ODD: [Odd; 5] = [
 impl Lane for Odd {
     ghost use Rattle.std.specs.Prelude.{⊤};
 
+    ghost says = { λ before q answer after. ⊤ };
+
     ghost honest = { λ lane. ⊥ };
 
-    ghost hears = { λ before question after. ⊤ };
+    ghost keeps = { λ lane q answer after honest said. absurd honest };
 
     fn judge(
         &mut self,

@@ -1,12 +1,14 @@
 //! Tests of three lanes that vote, by themselves and in the place of a machine's checks.
 //!
-//! - `votes`: of which three answers which one is taken;
-//! - `lanes`: a lane that answers as the checks do, and notes what it is asked; and lanes that are not to be believed;
+//! - `votes`: of which three answers which one is taken, and what is counted of them;
+//! - `lanes`: lanes that answer as the checks do, and note what they are asked, when, or what a liar says; and lanes that are not to be
+//!   believed, of which two may lie in turn;
 //! - `cores`: the cores of these tests, one type for all of them;
 //! - `programs`: a small program, and machines that begin with words;
-//! - `runs`: short runs: how often each lane is asked, and of what, cycle by cycle, also where a claim is wrong or is dropped;
-//! - `alike`: longer runs of two machines, of which one is voted on and one lane in three answers anything: both show the same,
-//!   cycle by cycle.
+//! - `runs`: short runs: how often each lane is asked, of what and in which order, cycle by cycle, also where a claim is wrong or is
+//!   dropped, and how often each is outvoted;
+//! - `alike`: longer runs of two machines, of which one is voted on, and one lane in three answers anything, or two lie in turn: both
+//!   show the same, cycle by cycle.
 //!
 //! What is due in `votes` and `runs`, and how and when the runs of `alike` end, was worked out by hand from the rules that
 //! `docs/MACHINE.md` states. In `alike` the machine that is not voted on says what the other one has to show. None of it is taken

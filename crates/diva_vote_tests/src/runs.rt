@@ -1,8 +1,9 @@
 // Short runs: how often each lane is asked, and of what.
+ghost use Rattle.diva_vote.specs.Polls.{AlwaysTwoAreRight};
 ghost use Rattle.diva_vote.specs.Votes.{AtLeastTwo};
 
 use crate::cores::{AnyCore, Kind};
-use crate::lanes::Noting;
+use crate::lanes::{Alternating, Noting, Queueing, recall_alternating};
 use crate::programs::machine_of;
 use diva_core::{Cause, Claims, Diff, Field, FlushRow};
 use diva_faults::{Faulty, Script};
@@ -10,8 +11,9 @@ use diva_isa::End;
 use diva_machine::{Config, Drive, drive_voted, turn_voted};
 use diva_test_programs::FIVE;
 use diva_vote::Stage::{Execute, Fetch, Memory, Operands};
-use diva_vote::{Honest, Lane, Stage};
+use diva_vote::{Honest, Lane, Liar, Outvoted, Stage, recall_two_honest};
 use std::alloc::Global;
+use std::cell::Cell;
 use std::process::Abort;
 use std::test::Fail;
 
@@ -191,16 +193,17 @@ static RUNS: [Run; 6] = [
     },
 ];
 
-/// Drives a machine of `FIVE` as a row says, and compares what becomes of it.
+/// Drives a machine of `FIVE` as a row says, and compares what becomes of it, and how often each lane was outvoted.
 fn compare_run<A: Lane, B: Lane, L: Lane>(
     rt: &impl Abort,
     alloc: Global,
     run: &Run,
+    outvoted: [usize; 3],
     a: &mut A,
     b: &mut B,
     l: &mut L,
 ) -> Result<(), Fail>
-    requires { AtLeastTwo (A.honest a.old) (B.honest b.old) (L.honest l.old) }
+    requires { AlwaysTwoAreRight A.says B.says L.says a.old b.old l.old }
 {
     let script = Script::read(alloc, run.script.as_bytes())?;
     let mut inner = AnyCore::new(alloc, run.kind)?;
@@ -215,7 +218,30 @@ fn compare_run<A: Lane, B: Lane, L: Lane>(
     );
     assert_eq!(rt; m.log(), run.flush.as_slice(), "{}", run.name);
     assert_eq!(rt; (m.view().reg(1), m.silent()), (5, 0), "{}", run.name);
+    let [first, second, third] = outvoted.map(|times| times as u64);
+    let due = Outvoted {
+        first,
+        second,
+        third,
+    };
+    assert_eq!(rt; m.outvoted(), due, "{}", run.name);
     Ok(())
+}
+
+/// The same with lanes two of which are honest.
+fn compare_honest<A: Lane, B: Lane, L: Lane>(
+    rt: &impl Abort,
+    alloc: Global,
+    run: &Run,
+    outvoted: [usize; 3],
+    a: &mut A,
+    b: &mut B,
+    l: &mut L,
+) -> Result<(), Fail>
+    requires { AtLeastTwo (A.honest a.old) (B.honest b.old) (L.honest l.old) }
+{
+    recall_two_honest(a, b, l);
+    compare_run(rt, alloc, run, outvoted, a, b, l)
 }
 
 /// Takes the turns of a row, and compares what each of three lanes was asked behind each.
@@ -228,6 +254,7 @@ fn compare_cycles(rt: &impl Abort, alloc: Global, run: &Run) -> Result<(), Fail>
     let [mut a, mut b, mut l] = [Noting::new(); 3];
     for cycle in 1..=run.cycles {
         assert!(rt; m.cycles() < cycle && cycle < 1000);
+        recall_two_honest(&a, &b, &l);
         turn_voted(&mut m, &mut core, &mut list, &mut a, &mut b, &mut l);
         compare_notes(rt, run, cycle, &a);
         compare_notes(rt, run, cycle, &b);
@@ -244,9 +271,33 @@ fn how_often_a_lane_is_asked(rt: HostRuntime) -> Result<(), Fail> {
     let alloc = rt.alloc();
     for run in &RUNS {
         let [mut first, mut second, mut third] = [Noting::new(); 3];
-        compare_run(&rt, alloc, run, &mut first, &mut Honest, &mut Honest)?;
-        compare_run(&rt, alloc, run, &mut Honest, &mut second, &mut Honest)?;
-        compare_run(&rt, alloc, run, &mut Honest, &mut Honest, &mut third)?;
+        compare_honest(
+            &rt,
+            alloc,
+            run,
+            [0; 3],
+            &mut first,
+            &mut Honest,
+            &mut Honest,
+        )?;
+        compare_honest(
+            &rt,
+            alloc,
+            run,
+            [0; 3],
+            &mut Honest,
+            &mut second,
+            &mut Honest,
+        )?;
+        compare_honest(
+            &rt,
+            alloc,
+            run,
+            [0; 3],
+            &mut Honest,
+            &mut Honest,
+            &mut third,
+        )?;
         let due = run.asked.len();
         assert_eq!(rt;
             [first.calls(), second.calls(), third.calls()],
@@ -275,6 +326,75 @@ fn what_a_lane_is_asked(rt: HostRuntime) -> Result<(), Fail> {
     let alloc = rt.alloc();
     for run in &RUNS {
         compare_cycles(&rt, alloc, run)?;
+    }
+    Ok(())
+}
+
+/// A liar at each place is outvoted at each question, and nobody else is.
+#[test]
+fn how_often_a_liar_is_outvoted(rt: HostRuntime) -> Result<(), Fail> {
+    let alloc = rt.alloc();
+    for run in &RUNS {
+        let all = run.asked.len();
+        compare_honest(
+            &rt,
+            alloc,
+            run,
+            [all, 0, 0],
+            &mut Liar,
+            &mut Honest,
+            &mut Honest,
+        )?;
+        compare_honest(
+            &rt,
+            alloc,
+            run,
+            [0, all, 0],
+            &mut Honest,
+            &mut Liar,
+            &mut Honest,
+        )?;
+        compare_honest(
+            &rt,
+            alloc,
+            run,
+            [0, 0, all],
+            &mut Honest,
+            &mut Honest,
+            &mut Liar,
+        )?;
+    }
+    Ok(())
+}
+
+/// Two lanes that lie in turn, never both to one question, are outvoted in turn: the first at the first question, the second at the
+/// second one, and so on. In the first row each of the two is outvoted 6 times.
+#[test]
+fn two_lanes_lie_in_turn(rt: HostRuntime) -> Result<(), Fail> {
+    let alloc = rt.alloc();
+    for run in &RUNS {
+        let all = run.asked.len();
+        let due = [all.div_ceil(2), all / 2, 0];
+        let (mut first, mut second) = (Alternating { lies: true }, Alternating { lies: false });
+        recall_alternating(&first, &second, &Honest);
+        compare_run(&rt, alloc, run, due, &mut first, &mut second, &mut Honest)?;
+    }
+    Ok(())
+}
+
+/// Of three lanes the first is asked first, the second next, and the third last.
+#[test]
+fn in_which_order_lanes_are_asked(rt: HostRuntime) -> Result<(), Fail> {
+    let alloc = rt.alloc();
+    for run in &RUNS {
+        let asked = Cell::new(0);
+        let mut first = Queueing::new(&asked, 0);
+        let mut second = Queueing::new(&asked, 1);
+        let mut third = Queueing::new(&asked, 2);
+        compare_honest(&rt, alloc, run, [0; 3], &mut first, &mut second, &mut third)?;
+        let strays = [first.strays(), second.strays(), third.strays()];
+        assert_eq!(rt; strays, [0; 3], "{}", run.name);
+        assert_eq!(rt; asked.get() as usize, 3 * run.asked.len(), "{}", run.name);
     }
     Ok(())
 }

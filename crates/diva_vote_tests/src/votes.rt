@@ -1,6 +1,6 @@
-// Of which three answers which one is taken.
+// Of which three answers which one is taken, and what is counted of them.
 use diva_core::{Diff, Field};
-use diva_vote::vote;
+use diva_vote::{Ballot, Outvoted, vote};
 use std::test::Fail;
 
 /// An answer: what a lane finds.
@@ -98,6 +98,59 @@ static VOTES: [(Answer, Answer, Answer, Answer); 39] = [
 fn answers_of_three(rt: HostRuntime) -> Result<(), Fail> {
     for (place, &(a, b, c, taken)) in VOTES.iter().enumerate() {
         assert_eq!(rt; vote(a, b, c), taken, "row {place}");
+        assert_eq!(rt; ballot_of(a, b, c).vote(), taken, "row {place}");
+    }
+    Ok(())
+}
+
+/// These answers of three lanes.
+fn ballot_of(first: Answer, second: Answer, third: Answer) -> Ballot {
+    Ballot {
+        first,
+        second,
+        third,
+    }
+}
+
+/// The most that is counted.
+const MOST: u64 = u64::MAX;
+
+/// How often each lane was outvoted, what three lanes answer then, and how often each was outvoted after that.
+static COUNTS: [([u64; 3], (Answer, Answer, Answer), [u64; 3]); 12] = [
+    // All agree.
+    ([0, 0, 0], (NONE, NONE, NONE), [0, 0, 0]),
+    ([4, 5, 6], (PC, PC, PC), [4, 5, 6]),
+    // One differs.
+    ([4, 5, 6], (PC, NONE, NONE), [5, 5, 6]),
+    ([4, 5, 6], (NONE, PC, NONE), [4, 6, 6]),
+    ([4, 5, 6], (NONE, NONE, PC), [4, 5, 7]),
+    ([4, 5, 6], (CLAIMED, VALUE, VALUE), [5, 5, 6]),
+    // All differ: the first is taken.
+    ([4, 5, 6], (NONE, PC, VALUE), [4, 6, 7]),
+    ([4, 5, 6], (VALUE, NEXT, DUE), [4, 6, 7]),
+    // No count goes past the most.
+    ([MOST - 1, 0, 0], (PC, NONE, NONE), [MOST, 0, 0]),
+    ([MOST, 0, 0], (PC, NONE, NONE), [MOST, 0, 0]),
+    ([0, MOST, MOST - 1], (NONE, PC, VALUE), [0, MOST, MOST]),
+    ([0, MOST, MOST], (NONE, PC, VALUE), [0, MOST, MOST]),
+];
+
+/// The counts of three lanes.
+fn counts_of([first, second, third]: [u64; 3]) -> Outvoted {
+    Outvoted {
+        first,
+        second,
+        third,
+    }
+}
+
+/// Each row of the table is what is counted.
+#[test]
+fn what_is_counted(rt: HostRuntime) -> Result<(), Fail> {
+    for (place, &(before, (a, b, c), after)) in COUNTS.iter().enumerate() {
+        let mut counts = counts_of(before);
+        counts.count(&ballot_of(a, b, c));
+        assert_eq!(rt; counts, counts_of(after), "row {place}");
     }
     Ok(())
 }

@@ -1,5 +1,5 @@
 -- One run more is counted, and at the end there is one for each flip.
-use Rattle.std.proofs.Common.{◌≡◌, ℕ, ◌+◌, ◌*◌, List, [], ◌∷◌, map, ap, ◌∙◌, arith}
+use Rattle.std.proofs.Common.{◌≡◌, ℕ, ◌+◌, ◌*◌, List, [], ◌∷◌, map, ap, sym, subst, ◌∙◌, arith}
 use Rattle.diva_image.specs.ImageLayout.{layout}
 use Rattle.diva_isa.specs.State.{State}
 use Rattle.diva_hart.specs.Start.{start_of}
@@ -9,6 +9,8 @@ use Rattle.diva_faults.specs.declared.rows.Row.{Row}
 use Rattle.diva_faults.proofs.Flipping.{flips_by_place}
 use Rattle.diva_trace.specs.declared.report.Tally.{Tally}
 use Rattle.diva_cli.specs.CampaignTexts.{run_under, tally_of}
+use Rattle.diva_cli.specs.Lanes.{AreHonest}
+use Rattle.diva_cli.specs.declared.lanes.Lanes.{Lanes}
 use Rattle.diva_cli.proofs.Counting.{as_many, run_more, runs_to}
 use Rattle.diva_cli.proofs.campaign.run_flipped.Goals as goal
 

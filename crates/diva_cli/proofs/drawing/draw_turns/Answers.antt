@@ -5,12 +5,13 @@ use Rattle.diva_core.specs.Timed.{Timed}
 use Rattle.diva_core.proofs.Outcomes.{cycle-cycles}
 use Rattle.diva_cli.proofs.Cycling.{ended}
 use Rattle.diva_cli.proofs.DrawRunning.{counts_fit, draws_none, draws_performs, draws_turn}
+use Rattle.diva_cli.specs.Lanes.{are_asked}
 use Rattle.diva_cli.proofs.Polling.{asked_then, none_asked}
 use Rattle.diva_cli.proofs.drawing.draw_turns.Goals as goal
 
 pub returns-then-not-goes_on : goal.returns-then-not-goes_on
 returns-then-not-goes_on g c =
-    draws_performs g.D.Core.gives c.args.format _ _ _ g.S.Sink.contents g.S.Sink.faults _ _ 0 c.args.budget _ _ _ _ _ (draws_none g.D.Core.gives c.args.format _ _ _ _ _ _ (none_asked g.L.Lane.says c.args.lanes.now c.args.liar)) (omega arith)
+    draws_performs g.D.Core.gives c.args.format _ _ _ g.S.Sink.contents g.S.Sink.faults _ _ 0 c.args.budget _ _ _ _ (are_asked g.L.Lane.says c.args.lanes.now c.args.lanes.now c.args.liar) (draws_none g.D.Core.gives c.args.format _ _ _ _ _ _ (none_asked g.L.Lane.says c.args.lanes.now c.args.liar)) (omega arith)
     (ended c.args.m.now.timed 0 c.args.budget (sym c.goes_on.ensures.value ∙ c.if-not-goes_on.true))
 
 pub loop-init : goal.loop-init
@@ -34,16 +35,16 @@ pub returns-in_err-draw_turn : goal.returns-in_err-draw_turn
 returns-in_err-draw_turn g c =
     let inv = c.loop.invariant in
     let failed = err_from_is_err_and c.from_residual.result c.from_residual.ensures.1 in
-    rw failed.1 (draws_performs g.D.Core.gives c.args.format _ _ _ g.S.Sink.contents g.S.Sink.faults _ _ (c.loop.counter + 1) c.args.budget _ _ _ _ _
-    (draws_turn g.D.Core.gives c.args.format _ _ _ _ _ _ _ c.loop.counter _ _ _ _ _ inv.draws
+    rw failed.1 (draws_performs g.D.Core.gives c.args.format _ _ _ g.S.Sink.contents g.S.Sink.faults _ _ (c.loop.counter + 1) c.args.budget _ _ _ _ (are_asked g.L.Lane.says c.args.lanes.now c.turn_checked.new.lanes c.args.liar)
+    (draws_turn g.D.Core.gives c.args.format _ _ _ _ _ _ (are_asked g.L.Lane.says c.args.lanes.now c.turn_checked.new.lanes c.args.liar) c.loop.counter _ _ _ _ _ inv.draws
     (λ earlier asked. asked_then g.L.Lane.says _ _ _ c.args.liar earlier _ asked c.turn_checked.ensures.lanes) _ _ _ _ _ _ _ c.turn_checked.ensures.cycled c.goes_on.ensures.machine inv.on (c.turn_checked.ensures.asked inv.on) c.in_err-draw_turn.ensures.seen c.in_err-draw_turn.ensures.pen c.in_err-draw_turn.ensures.put)
     (let l = c.loop-test.true in omega arith) tt)
 
 pub returns-then-not-goes_on-2 : goal.returns-then-not-goes_on-2
 returns-then-not-goes_on-2 g c =
     let inv = c.loop.invariant in
-    draws_performs g.D.Core.gives c.args.format _ _ _ g.S.Sink.contents g.S.Sink.faults _ _ (c.loop.counter + 1) c.args.budget _ _ _ _ _
-    (draws_turn g.D.Core.gives c.args.format _ _ _ _ _ _ _ c.loop.counter _ _ _ _ _ inv.draws
+    draws_performs g.D.Core.gives c.args.format _ _ _ g.S.Sink.contents g.S.Sink.faults _ _ (c.loop.counter + 1) c.args.budget _ _ _ _ (are_asked g.L.Lane.says c.args.lanes.now c.turn_checked.new.lanes c.args.liar)
+    (draws_turn g.D.Core.gives c.args.format _ _ _ _ _ _ (are_asked g.L.Lane.says c.args.lanes.now c.turn_checked.new.lanes c.args.liar) c.loop.counter _ _ _ _ _ inv.draws
     (λ earlier asked. asked_then g.L.Lane.says _ _ _ c.args.liar earlier _ asked c.turn_checked.ensures.lanes) _ _ _ _ _ _ _ c.turn_checked.ensures.cycled c.goes_on.ensures.machine inv.on (c.turn_checked.ensures.asked inv.on) c.in_ok-draw_turn.ensures.seen c.in_ok-draw_turn.ensures.pen c.in_ok-draw_turn.ensures.put)
     (let l = c.loop-test.true in omega arith)
     (ended c.turn_checked.new.m.timed (c.loop.counter + 1) c.args.budget (sym c.goes_on-in-loop.ensures.value ∙ c.if-not-goes_on-2.true))
@@ -52,7 +53,7 @@ pub loop-preserved : goal.loop-preserved
 loop-preserved g c =
     let inv = c.loop.invariant in
     record {
-      draws = draws_turn g.D.Core.gives c.args.format _ _ _ _ _ _ _ c.loop.counter _ _ _ _ _ inv.draws
+      draws = draws_turn g.D.Core.gives c.args.format _ _ _ _ _ _ (are_asked g.L.Lane.says c.args.lanes.now c.turn_checked.new.lanes c.args.liar) c.loop.counter _ _ _ _ _ inv.draws
           (λ earlier asked. asked_then g.L.Lane.says _ _ _ c.args.liar earlier _ asked c.turn_checked.ensures.lanes) _ _ _ _ _ _ _ c.turn_checked.ensures.cycled c.goes_on.ensures.machine inv.on (c.turn_checked.ensures.asked inv.on) c.in_ok-draw_turn.ensures.seen c.in_ok-draw_turn.ensures.pen c.in_ok-draw_turn.ensures.put;
       on = sym c.goes_on-in-loop.ensures.value ∙ c.if-not-goes_on-2.false;
       sound = c.turn_checked.ensures.machine;

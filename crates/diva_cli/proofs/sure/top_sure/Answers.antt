@@ -22,7 +22,7 @@ returns-clause-complete g c = rw (sym c.new-files.ensures) (λ can.
         job = h.job;
         named = h.named;
         ends = h.ends;
-        worked = record { text = h.worked.text; done = h.worked.done; written = h.worked.written };
+        worked = record { text = h.worked.text; done = h.worked.done; written = record { appended = h.worked.written.appended; uncounted = h.worked.written.uncounted } };
       })
       | inr memory ↦ inr memory
     ])
