@@ -9,7 +9,8 @@ use Rattle.clap.specs.Walk.{Row, Text, nothing_held, walked}
 use Rattle.clap.specs.Simple.{Shape, argument_words, built}
 use Rattle.clap.proofs.WalkLemmas.{both}
 use Rattle.diva_core.specs.Timed.{default_config}
-use Rattle.diva_args.specs.Command.{Leaf, asm, campaign, debug, dis, diva, duo, leaves, migrate, run, soak, tape}
+use Rattle.diva_args.specs.Command.{Leaf, asm, campaign, debug, dis, diva, draw, duo, leaves, log, migrate, run, soak, tape}
+use Rattle.diva_args.specs.Drawn.{pipeline_job_from, pipeline_job_on, pipeline_of}
 use Rattle.diva_args.specs.Line.{command_of, config_from, config_with, cycles_from, job_from, room_from, run_from, run_with, setup_from, setup_with, taken, values_of}
 use Rattle.diva_args.specs.Options.{default_cycles, most_cycles}
 use Rattle.diva_args.specs.Plain.{IsPlainLine, PlainLine, Use, are_distinct, flagged, given_by, given_in, has_text, is_plain_word, is_use_of, job_on, name_of, names_in, use_words, value_in, valued, values_in}
@@ -49,6 +50,7 @@ pub record IsSound (l : Leaf) : Type 0 where
   pub flags_no_positionals : are_apart l.flags l.positionals ≡ true
   pub distinct : are_distinct l.positionals ≡ true
   pub same : (f g : Text → Option Text) → SameValues l.flags f g → job_from l.name f ≡ job_from l.name g
+  pub drawn_same : (f g : Text → Option Text) → SameValues l.flags f g → pipeline_job_from l.name f ≡ pipeline_job_from l.name g
 
 run_same : (f g : Text → Option Text) → SameValues run.flags f g → run_from f ≡ run_from g
 unfolding run_from setup_from room_from config_from cycles_from
@@ -84,6 +86,7 @@ run_sound = record {
   flags_no_positionals = refl;
   distinct = refl;
   same = λ f g s. ap (option_map Run) (run_same f g s);
+  drawn_same = λ f g s. ap (option_map Run) (run_same f g s);
 }
 
 -- a row without flags
@@ -102,6 +105,7 @@ sound_without_flags l none enters places named =
       flags_no_positionals = rw none refl;
       distinct = distinct.1;
       same = λ f g s. ap (job_from l.name) (one_source f g (subst (λ (flags : List Text). SameValues flags f g) none s));
+      drawn_same = λ f g s. ap (pipeline_job_from l.name) (one_source f g (subst (λ (flags : List Text). SameValues flags f g) none s));
     }
 
 tape_sound : IsSound tape
@@ -160,8 +164,22 @@ campaign_sound =
     (record { walk_is = refl; turn = refl; sub = refl; label = refl; bare = refl; negates = refl })
     (refl, refl, refl, (refl, refl, refl, tt)) refl
 
+log_sound : IsSound log
+unfolding diva walked
+log_sound =
+    sound_without_flags log refl
+    (record { walk_is = refl; turn = refl; sub = refl; label = refl; bare = refl; negates = refl })
+    (refl, refl, refl, tt) refl
+
+draw_sound : IsSound draw
+unfolding diva walked
+draw_sound =
+    sound_without_flags draw refl
+    (record { walk_is = refl; turn = refl; sub = refl; label = refl; bare = refl; negates = refl })
+    (refl, refl, refl, tt) refl
+
 each_sound : (l : Leaf) → Contains leaves l → IsSound l
-each_sound l listed = All-contains IsSound leaves l (All-from_recursion IsSound leaves (run_sound, (tape_sound, (duo_sound, (debug_sound, (asm_sound, (dis_sound, (migrate_sound, (soak_sound, (campaign_sound, tt)))))))))) listed
+each_sound l listed = All-contains IsSound leaves l (All-from_recursion IsSound leaves (run_sound, (tape_sound, (duo_sound, (debug_sound, (asm_sound, (dis_sound, (migrate_sound, (soak_sound, (campaign_sound, (log_sound, (draw_sound, tt)))))))))))) listed
 
 -- ---- names and words
 
@@ -228,6 +246,11 @@ line_at : (l : Leaf) (rest : List Text) (gs : Given) → IsSound l → PlainLeve
 unfolding command_of
 line_at l rest gs sound level = rw (taken_at l rest gs sound level) (sound.same _ _ (same_values l.flags gs))
 
+pipeline_at : (l : Leaf) (rest : List Text) (gs : Given) → IsSound l → PlainLevel l rest (map given_row gs)
+    → pipeline_of (l.name ∷ rest) ≡ pipeline_job_from l.name (value_in gs)
+unfolding pipeline_of
+pipeline_at l rest gs sound level = rw (taken_at l rest gs sound level) (sound.drawn_same _ _ (same_values l.flags gs))
+
 start : (s : Shape) → Stands s nothing_held []
 start s = record { rows_are = refl; passes = refl }
 
@@ -247,3 +270,9 @@ pub plain_line : (words : List Text) (line : PlainLine) → IsPlainLine words li
 plain_line words line plain =
     let sound = each_sound line.command plain.listed in
     ap command_of plain.spelled ∙ line_at line.command _ (given_in line) sound (level_at line words plain sound)
+
+-- the same for the program that draws runs
+pub plain_pipeline_line : (words : List Text) (line : PlainLine) → IsPlainLine words line → pipeline_of words ≡ pipeline_job_on line
+plain_pipeline_line words line plain =
+    let sound = each_sound line.command plain.listed in
+    ap pipeline_of plain.spelled ∙ pipeline_at line.command _ (given_in line) sound (level_at line words plain sound)

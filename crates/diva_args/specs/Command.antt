@@ -83,8 +83,24 @@ campaign = record {
   flags = [];
 }
 
+-- the options of a run that is drawn: those of `run`, but for the part of memory to show
+abbrev pub drawn_options : List Text
+drawn_options = setup_options ++ codes "cycles" ∷ codes "liar" ∷ []
+
+abbrev pub log : Leaf
+log = record { name = codes "log"; positionals = codes "IMAGE" ∷ []; options = drawn_options; flags = [] }
+
+abbrev pub draw : Leaf
+draw = record {
+  name = codes "draw";
+  positionals = codes "IMAGE" ∷ [];
+  options = drawn_options ++ codes "from" ∷ codes "to" ∷ [];
+  flags = [];
+}
+
+-- the commands of `diva`, and behind them those that draw runs, for which only the program that draws runs has a job
 abbrev pub leaves : List Leaf
-leaves = run ∷ tape ∷ duo ∷ debug ∷ asm ∷ dis ∷ migrate ∷ soak ∷ campaign ∷ []
+leaves = run ∷ tape ∷ duo ∷ debug ∷ asm ∷ dis ∷ migrate ∷ soak ∷ campaign ∷ log ∷ draw ∷ []
 
 -- ---- the same for `clap`
 

@@ -1,41 +1,45 @@
 -- What a command line asks for of the program that draws runs: it takes the words of `diva`, and has two commands more.
-use Rattle.std.specs.Prelude.{List, [], ◌∷◌, ◌||◌, Option, Some, None, is_some, codes, if◌then◌else◌}
+use Rattle.std.specs.Prelude.{ℕ, false, List, Option, Some, None, option_and_then, option_map, codes, if◌then◌else◌}
 use Rattle.std.specs.Str.{bytes_eq}
-use Rattle.clap.specs.Walk.{Text}
-use Rattle.diva_args.specs.Line.{command_of}
-use Rattle.diva_args.specs.Options.{RunOptions}
+use Rattle.clap.specs.Walk.{Row, Text}
+use Rattle.diva_args.specs.Line.{cycles_from, job_from, run_with, taken, values_of, wide_from}
+use Rattle.diva_args.specs.Options.{RunOptions, most_cycles}
+use Rattle.diva_args.specs.Plain.{PlainLine, given_in, value_in}
+use Rattle.diva_args.specs.Values.{liar_of, ranged_or}
+use Rattle.diva_args.specs.declared.job.DrawOptions.{DrawOptions}
 use Rattle.diva_args.specs.declared.job.Format.{Format}
 use Rattle.diva_args.specs.declared.job.Format.TheVariants.{Log, Drawing}
 use Rattle.diva_args.specs.declared.job.Job.{Job}
-use Rattle.diva_args.specs.declared.job.Job.TheVariants.{Run, Tape, Duo, Debug, Asm, Dis, Migrate, Soak, Campaign, Draw}
+use Rattle.diva_args.specs.declared.job.Job.TheVariants.{Draw}
 
--- the format that a command stands for, if it draws a run
-abbrev pub format_of : Text → Option Format
-format_of word = if bytes_eq word (codes "log") then Some Log else if bytes_eq word (codes "draw") then Some Drawing else None
+-- a run that is drawn has neither commit lines nor a part of memory to show
+unfoldable pub drawn_run_from : (Text → Option Text) → Option RunOptions
+drawn_run_from value = run_with (wide_from value) (cycles_from value) false (Some None) (liar_of (value (codes "liar")))
 
--- a run is drawn where neither commit lines nor a part of memory are asked for
-abbrev pub drawn_run : Format → RunOptions → Option Job
-drawn_run format run = if run.trace || is_some run.dump then None else Some (Draw (record { run = run; format = format }))
+-- a drawing of the cycles from one to another: all that a run can have, where none is given, and the second is not before the first
+abbrev pub drawing_to : (from : ℕ) → Option Text → Option Format
+drawing_to from to = option_map (λ t. Drawing from t) (ranged_or from most_cycles most_cycles to)
 
--- nothing else is
-abbrev pub drawn_by : Format → Option Job → Option Job
-drawn_by format None = None
-drawn_by format (Some (Run options)) = drawn_run format options
-drawn_by format (Some (Tape options)) = None
-drawn_by format (Some (Duo options)) = None
-drawn_by format (Some (Debug options)) = None
-drawn_by format (Some (Asm name)) = None
-drawn_by format (Some (Dis name)) = None
-drawn_by format (Some (Migrate options)) = None
-drawn_by format (Some (Soak options)) = None
-drawn_by format (Some (Campaign options)) = None
-drawn_by format (Some (Draw options)) = None
+unfoldable pub drawing_from : (Text → Option Text) → Option Format
+drawing_from value = option_and_then (λ from. drawing_to from (value (codes "to"))) (ranged_or 1 most_cycles 1 (value (codes "from")))
 
--- behind a command that draws stands what would stand behind `run`; any other words are those of `diva`
-abbrev pub pipeline_by : Option Format → Text → List Text → Option Job
-pipeline_by None word words = command_of (word ∷ words)
-pipeline_by (Some format) word words = drawn_by format (command_of (codes "run" ∷ words))
+abbrev pub drawn_by : Option RunOptions → Option Format → Option Job
+drawn_by run format = option_and_then (λ r. option_map (λ f. Draw (record { run = r; format = f })) format) run
 
-abbrev pub pipeline_of : List Text → Option Job
-pipeline_of [] = command_of []
-pipeline_of (word ∷ words) = pipeline_by (format_of word) word words
+-- the job of the command of this name
+abbrev pub pipeline_job_from : Text → (Text → Option Text) → Option Job
+pipeline_job_from name value =
+    if bytes_eq name (codes "log") then drawn_by (drawn_run_from value) (Some Log)
+    else if bytes_eq name (codes "draw") then drawn_by (drawn_run_from value) (drawing_from value)
+    else job_from name value
+
+abbrev pub pipeline_job_of : Text × List Row → Option Job
+pipeline_job_of found = pipeline_job_from found.0 (values_of found.1)
+
+-- the job that the words ask for, or `None` where they are not a valid command line
+unfoldable pub pipeline_of : List Text → Option Job
+pipeline_of words = option_and_then pipeline_job_of (taken words)
+
+-- what a plain line asks for
+abbrev pub pipeline_job_on : PlainLine → Option Job
+pipeline_job_on line = pipeline_job_from line.command.name (value_in (given_in line))

@@ -18,8 +18,8 @@ pub(crate) struct Leaf {
     flags: &'static [&'static str],
 }
 
-/// The commands of the program.
-static LEAVES: [Leaf; 9] = [
+/// The commands of `diva`, and behind them those that draw runs.
+static LEAVES: [Leaf; 11] = [
     Leaf {
         name: "run",
         positionals: &["IMAGE"],
@@ -82,6 +82,24 @@ static LEAVES: [Leaf; 9] = [
         name: "campaign",
         positionals: &["IMAGE", "LAST"],
         options: &["cycles"],
+        flags: &[],
+    },
+    Leaf {
+        name: "log",
+        positionals: &["IMAGE"],
+        options: &[
+            "core", "script", "tape", "width", "window", "stores", "watchdog", "port", "room",
+            "cycles", "liar",
+        ],
+        flags: &[],
+    },
+    Leaf {
+        name: "draw",
+        positionals: &["IMAGE"],
+        options: &[
+            "core", "script", "tape", "width", "window", "stores", "watchdog", "port", "room",
+            "cycles", "liar", "from", "to",
+        ],
         flags: &[],
     },
 ];

@@ -1,75 +1,100 @@
 // The words of the program that draws runs: those of `diva`, and two commands more.
-ghost use Rattle.std.specs.Prelude.{◌≡◌, ◌∷◌, IfOk, Err, None, Some, codes, map};
-ghost use Rattle.diva_args.specs.Drawn.{drawn_by, drawn_run, format_of, pipeline_of};
-ghost use Rattle.diva_args.specs.Line.{command_of};
+ghost use Rattle.std.specs.Prelude.{◌≡◌, ◌≤◌, IfOk, Err, None, Some, map, option_and_then};
+ghost use Rattle.clap.specs.Walk.{rows_of};
+ghost use Rattle.clap.specs.Words.{found_of, subcommand_rows_of};
+ghost use Rattle.diva_args.specs.Drawn.{drawing_from, drawn_by, drawn_run_from, pipeline_job_of, pipeline_job_on, pipeline_of};
+ghost use Rattle.diva_args.specs.Line.{taken, values_of};
+ghost use Rattle.diva_args.specs.Plain.{IsPlainLine, PlainLine};
 
 use crate::fault::ArgsFault;
-use crate::job::{DrawOptions, Format, Job, RunOptions};
-use crate::read::read_words;
-use std::alloc::{AllocError, Global};
+use crate::job::{DrawOptions, Format, Job, MOST_CYCLES, RunOptions};
+use crate::read::{cycles, job_named, matches, setup, text_of, width};
+use crate::values::{liar, number};
+use clap::ArgMatches;
+use std::alloc::Global;
 
-/// The job that the words ask for of the program that draws runs. `words` are those after the program's name: `log` or `draw`, and
-/// then what stands behind `run`, but for `--trace` and `--dump`; or any words of `diva`.
+/// The job that the words ask for of the program that draws runs. `words` are those after the program's name: `log` or `draw` with an
+/// image and options, or any words of `diva`.
 ///
 /// The error is `Usage` where the words are not a valid command line, and `Memory` where memory runs out.
+#[tactic(auto, using(crate::proofs::PlainLaw::plain_pipeline_line), unfolding(crate::specs::Drawn::pipeline_of))]
 pub fn read_pipeline_words(alloc: Global, words: &[&str]) -> Result<Job, ArgsFault>
     ensures job { IfOk result (λ job. pipeline_of (map (λ w. w.now) words.now) ≡ Some job) }
     ensures usage { result ≡ Err ArgsFault.Usage
         → pipeline_of (map (λ w. w.now) words.now) ≡ None }
+
+    // A plain line is read off its words, and only the rules on values refuse it.
+    ensures plain { (line : PlainLine) → IsPlainLine (map (λ w. w.now) words.now) line
+        → pipeline_of (map (λ w. w.now) words.now) ≡ pipeline_job_on line }
 {
-    match words {
-        [] => read_words(alloc, words),
-        [first, others @ ..] => match format(first) {
-            Some(format) => drawn(alloc, format, others),
-            None => read_words(alloc, words),
-        },
-    }
+    let matches = matches(alloc, words)?;
+    job(alloc, &matches)
 }
 
-/// The format that a command stands for, if it draws a run.
-fn format(word: &str) -> Option<Format>
-    ensures { result ≡ format_of word.now }
-{
-    match word {
-        "log" => Some(Format::Log),
-        "draw" => Some(Format::Drawing),
-        _ => None,
-    }
-}
-
-/// A run that is drawn, by the words that stand behind `run`.
-fn drawn(alloc: Global, format: Format, others: &[&str]) -> Result<Job, ArgsFault>
-    ensures job { IfOk result (λ job. drawn_by format (command_of (codes "run" ∷ map (λ w. w.now) others.now)) ≡ Some job) }
+/// The job of the subcommand that the matches entered.
+fn job(alloc: Global, matches: &ArgMatches<'_>) -> Result<Job, ArgsFault>
+    ensures job { IfOk result (λ job.
+        option_and_then pipeline_job_of (subcommand_rows_of matches.now) ≡ Some job) }
     ensures usage { result ≡ Err ArgsFault.Usage
-        → drawn_by format (command_of (codes "run" ∷ map (λ w. w.now) others.now)) ≡ None }
+        → option_and_then pipeline_job_of (subcommand_rows_of matches.now) ≡ None }
 {
-    let words = behind_run(alloc, others)?;
-    let job = read_words(alloc, &words)?;
-    match job {
-        Job::Run(run) => draw_of(format, run),
-        _ => Err(ArgsFault::Usage),
+    let Some((name, found)) = matches.subcommand() else {
+        return Err(ArgsFault::Usage);
+    };
+    match name {
+        "log" => drawn(alloc, found, Some(Format::Log)),
+        "draw" => drawn(alloc, found, drawing(found)),
+        _ => job_named(alloc, name, found),
     }
 }
 
-/// A run that is drawn, unless commit lines or a part of memory are asked for.
-fn draw_of(format: Format, run: RunOptions) -> Result<Job, ArgsFault>
-    ensures job { IfOk result (λ job. drawn_run format run ≡ Some job) }
-    ensures usage { result ≡ Err ArgsFault.Usage → drawn_run format run ≡ None }
+/// A run that is drawn in this format.
+fn drawn(alloc: Global, found: &ArgMatches<'_>, format: Option<Format>) -> Result<Job, ArgsFault>
+    ensures job { IfOk result (λ job.
+        drawn_by (drawn_run_from (values_of (rows_of (found_of found.now)))) format ≡ Some job) }
+    ensures usage { result ≡ Err ArgsFault.Usage
+        → drawn_by (drawn_run_from (values_of (rows_of (found_of found.now)))) format ≡ None }
 {
-    if run.trace || run.dump.is_some() {
+    let run = drawn_run(alloc, found)?;
+    let Some(format) = format else {
         return Err(ArgsFault::Usage);
-    }
+    };
     Ok(Job::Draw(DrawOptions { run, format }))
 }
 
-/// The word `run`, and the words behind it.
-fn behind_run<'a>(alloc: Global, others: &[&'a str]) -> Result<Vec<&'a str>, AllocError>
-    ensures { IfOk result (λ words. map (λ w. w.now) words.items ≡ codes "run" ∷ map (λ w. w.now) others.now) }
+/// The run, which has neither commit lines nor a part of memory to show.
+#[tactic(auto, unfolding(crate::specs::Drawn::drawn_run_from))]
+fn drawn_run(alloc: Global, found: &ArgMatches<'_>) -> Result<RunOptions, ArgsFault>
+    ensures run { IfOk result (λ run.
+        drawn_run_from (values_of (rows_of (found_of found.now))) ≡ Some run) }
+    ensures usage { result ≡ Err ArgsFault.Usage
+        → drawn_run_from (values_of (rows_of (found_of found.now))) ≡ None }
 {
-    let mut words = Vec::new(alloc);
-    words.push("run")?;
-    for word in others {
-        words.push(*word)?;
-    }
-    Ok(words)
+    let setup = setup(alloc, found, width(found))?;
+    let Some(cycles) = cycles(found) else {
+        return Err(ArgsFault::Usage);
+    };
+    let Some(liar) = liar(text_of(found, "liar")) else {
+        return Err(ArgsFault::Usage);
+    };
+    Ok(RunOptions {
+        setup,
+        cycles,
+        trace: false,
+        dump: None,
+        liar,
+    })
+}
+
+/// A drawing of the cycles that the words ask for: all that a run can have, where they ask for none.
+#[tactic(auto, unfolding(crate::specs::Drawn::drawing_from))]
+fn drawing(found: &ArgMatches<'_>) -> Option<Format>
+    ensures { result ≡ drawing_from (values_of (rows_of (found_of found.now))) }
+{
+    let from = number(text_of(found, "from"), 1, MOST_CYCLES, 1)?;
+    let to = number(text_of(found, "to"), from, MOST_CYCLES, MOST_CYCLES)?;
+    Some(Format::Drawing {
+        from: u64::from(from),
+        to: u64::from(to),
+    })
 }

@@ -106,7 +106,7 @@ impl Model for RunOptions {
     ghost invariant = { λ r. IsBudget r.cycles };
 }
 
-/// `log IMAGE` or `draw IMAGE`, with the options of `run` but `--trace` and `--dump`.
+/// `log IMAGE` or `draw IMAGE`, with the options of `run` but `--trace` and `--dump`; `draw` with two more.
 #[derive(Debug, Drop)]
 pub struct DrawOptions {
     /// The run.
@@ -120,8 +120,13 @@ pub struct DrawOptions {
 pub enum Format {
     /// `log`: as a log for the Konata viewer.
     Log,
-    /// `draw`: as a drawing in text.
-    Drawing,
+    /// `draw`: as a drawing in text, of some cycles. Cycles count from 1.
+    Drawing {
+        /// `--from`: the first of them, 1 to 1,000,000,000; 1 by default.
+        from: u64,
+        /// `--to`: the last of them, `from` to 1,000,000,000, which is by default as late as a run can last.
+        to: u64,
+    },
 }
 
 /// `tape IMAGE` with its options.

@@ -2,7 +2,7 @@
 ghost use Rattle.std.specs.Prelude.{◌≡◌, ◌≤◌, IfOk, IfSome, None, Some, codes, map, option_and_then, option_map};
 ghost use Rattle.clap.specs.Walk.{rows_of};
 ghost use Rattle.clap.specs.Words.{found_of, subcommand_rows_of};
-ghost use Rattle.diva_args.specs.Line.{campaign_from, command_of, config_from, cycles_from, debug_from, duo_from, job_of, migrate_from, port_from};
+ghost use Rattle.diva_args.specs.Line.{campaign_from, command_of, config_from, cycles_from, debug_from, duo_from, job_from, job_of, migrate_from, port_from};
 ghost use Rattle.diva_args.specs.Line.{room_from, run_from, setup_from, soak_from, taken, tape_from, values_of, width_from};
 ghost use Rattle.diva_args.specs.Options.{IsBudget, IsRoomBehind, default_campaign_cycles, latest_flip, most_campaign_cycles};
 ghost use Rattle.diva_args.specs.Plain.{IsPlainLine, PlainLine, job_on};
@@ -44,7 +44,7 @@ pub fn read_words(alloc: Global, words: &[&str]) -> Result<Job, ArgsFault>
 }
 
 /// The matches of the words, where `clap` takes them.
-fn matches<'a>(alloc: Global, words: &'a [&'a str]) -> Result<ArgMatches<'a>, ArgsFault>
+pub(crate) fn matches<'a>(alloc: Global, words: &'a [&'a str]) -> Result<ArgMatches<'a>, ArgsFault>
     ensures matches { IfOk result (λ m. taken (map (λ w. w.now) words.entry.now)
         ≡ subcommand_rows_of m) }
     ensures usage { result ≡ Err ArgsFault.Usage
@@ -64,6 +64,16 @@ fn job(alloc: Global, matches: &ArgMatches<'_>) -> Result<Job, ArgsFault>
     let Some((name, found)) = matches.subcommand() else {
         return Err(ArgsFault::Usage);
     };
+    job_named(alloc, name, found)
+}
+
+/// The job of the subcommand of this name.
+pub(crate) fn job_named(alloc: Global, name: &str, found: &ArgMatches<'_>) -> Result<Job, ArgsFault>
+    ensures job { IfOk result (λ job.
+        job_from name.now (values_of (rows_of (found_of found.now))) ≡ Some job) }
+    ensures usage { result ≡ Err ArgsFault.Usage
+        → job_from name.now (values_of (rows_of (found_of found.now))) ≡ None }
+{
     match name {
         "run" => Ok(Job::Run(run(alloc, found)?)),
         "tape" => Ok(Job::Tape(tape(alloc, found)?)),
@@ -270,7 +280,11 @@ fn number_of(found: &ArgMatches<'_>, id: &str, least: u32, most: u32) -> Option<
 
 /// What commands have in common that run an image, on a machine of this width.
 #[tactic(auto, unfolding(crate::specs::Line::setup_from))]
-fn setup(alloc: Global, found: &ArgMatches<'_>, width: Option<u32>) -> Result<Setup, ArgsFault>
+pub(crate) fn setup(
+    alloc: Global,
+    found: &ArgMatches<'_>,
+    width: Option<u32>,
+) -> Result<Setup, ArgsFault>
     ensures setup { IfOk result (λ setup.
         setup_from width (values_of (rows_of (found_of found.now))) ≡ Some setup) }
     ensures width { IfOk result (λ setup. width ≡ Some setup.config.width) }
@@ -314,7 +328,7 @@ fn config(found: &ArgMatches<'_>, width: Option<u32>, port: Option<u32>) -> Opti
 }
 
 /// The width that the words ask for.
-fn width(found: &ArgMatches<'_>) -> Option<u32>
+pub(crate) fn width(found: &ArgMatches<'_>) -> Option<u32>
     ensures { result ≡ width_from (values_of (rows_of (found_of found.now))) }
 {
     number_or(found, "width", Config::default().width())
@@ -336,7 +350,7 @@ fn number_or(found: &ArgMatches<'_>, name: &str, otherwise: u32) -> Option<u32>
 
 /// The cycles to run at most.
 #[tactic(auto, unfolding(crate::specs::Line::cycles_from))]
-fn cycles(found: &ArgMatches<'_>) -> Option<u64>
+pub(crate) fn cycles(found: &ArgMatches<'_>) -> Option<u64>
     ensures value { result ≡ cycles_from (values_of (rows_of (found_of found.now))) }
     ensures in_range { IfSome result IsBudget }
 {
@@ -375,7 +389,7 @@ fn is_set(found: &ArgMatches<'_>, name: &str) -> bool
 }
 
 /// The text that the words give for a positional, an option or a flag.
-fn text_of<'a>(found: &ArgMatches<'a>, id: &str) -> Option<&'a str>
+pub(crate) fn text_of<'a>(found: &ArgMatches<'a>, id: &str) -> Option<&'a str>
     ensures { option_map (λ text. text.now) result
         ≡ values_of (rows_of (found_of found.now)) id.now }
 {

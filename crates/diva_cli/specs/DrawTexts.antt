@@ -18,22 +18,22 @@ use Rattle.diva_cli.specs.Wanted.{FileBytes}
 use Rattle.diva_cli.specs.Cuts.{BeforeLast}
 use Rattle.diva_cli.specs.Runs.{EndsWith, IsRunOfFiles, IsWhole, start_in}
 
--- ---- the parts of the text, in each format
+-- ---- the parts of the text, in each format; a drawing is of the cycles from one to another
 
 -- before the first cycle
 abbrev pub begin_text : Format → Text
 begin_text Log = log_begin
-begin_text Drawing = []
+begin_text (Drawing from to) = []
 
 -- a cycle, in which a list was handed over, and behind which this was seen
 abbrev pub cycle_text : Format → Pen → (after : Snapshot) → (list : List Record) → Text
 cycle_text Log pen after list = log_cycle pen.rows pen.seen after list
-cycle_text Drawing pen after list = drawn_cycle pen.seen after
+cycle_text (Drawing from to) pen after list = drawn_cycle (record { from = from; to = to }) pen.seen after
 
 -- behind the last cycle
 abbrev pub end_text : Format → (last : Snapshot) → Text
 end_text Log last = []
-end_text Drawing last = drawn_end last
+end_text (Drawing from to) last = drawn_end (record { from = from; to = to }) last
 
 -- ---- some cycles
 

@@ -9,7 +9,7 @@ usage_line = codes "usage: diva run|tape|duo IMAGE, debug IMAGE COMMANDS, asm SR
 
 -- of the program that draws runs
 unfoldable pub pipeline_usage_line : List ℕ
-pipeline_usage_line = codes "usage: diva_pipeline log|draw IMAGE, with the options of run, or the words of diva\n"
+pipeline_usage_line = codes "usage: diva_pipeline log IMAGE, draw IMAGE [--from CYCLE] [--to CYCLE], with the options of run, or the words of diva\n"
 
 -- what a file is for, in a word
 abbrev pub word_for : What → List ℕ

@@ -19,7 +19,7 @@ use crate::tasks::Task;
 use crate::writing::{end_status, write_stop};
 use diva_args::{DrawOptions, Format, LanePlace};
 use diva_core::{Claims, Core};
-use diva_drawing::{Pen, begin_log};
+use diva_drawing::{Excerpt, Pen, begin_log};
 use diva_machine::Machine;
 use diva_outside::{Files, Sink, SinkFailed};
 use std::alloc::Global;
@@ -95,7 +95,7 @@ pub(crate) fn drive_drawing<D: Core, S: Sink>(
     let mut pen = Pen::new(m);
     begin(format, sink)?;
     draw_turns(m, core, budget, liar, format, &mut pen, sink)?;
-    end(format, &pen, sink)
+    end(format, &mut pen, sink)
 }
 
 /// Takes turns, and draws each, until the machine ends, the budget's cycles are run or the sink fails.
@@ -146,7 +146,7 @@ fn draw_turn<S: Sink>(
 {
     match format {
         Format::Log => pen.log_cycle(m, list, sink),
-        Format::Drawing => pen.draw_cycle(m, sink),
+        Format::Drawing { from, to } => pen.draw_cycle(m, Excerpt { from, to }, sink),
     }
 }
 
@@ -156,16 +156,16 @@ fn begin<S: Sink>(format: Format, sink: &mut S) -> Result<(), SinkFailed>
 {
     match format {
         Format::Log => begin_log(sink),
-        Format::Drawing => Ok(()),
+        Format::Drawing { .. } => Ok(()),
     }
 }
 
 /// Puts what stands behind the last cycle.
-fn end<S: Sink>(format: Format, pen: &Pen, sink: &mut S) -> Result<(), SinkFailed>
-    ensures { PutsTo (sink_change S.contents S.faults sink.old sink.new) (end_text format pen.now.seen) result }
+fn end<S: Sink>(format: Format, pen: &mut Pen, sink: &mut S) -> Result<(), SinkFailed>
+    ensures { PutsTo (sink_change S.contents S.faults sink.old sink.new) (end_text format pen.old.seen) result }
 {
     match format {
         Format::Log => Ok(()),
-        Format::Drawing => pen.end_drawing(sink),
+        Format::Drawing { from, to } => pen.end_drawing(Excerpt { from, to }, sink),
     }
 }

@@ -23,7 +23,7 @@ pub(crate) fn pipeline_usage_line() -> Line
 {
     let mut line = Line::new();
     line.text(
-        b"usage: diva_pipeline log|draw IMAGE, with the options of run, or the words of diva\n",
+        b"usage: diva_pipeline log IMAGE, draw IMAGE [--from CYCLE] [--to CYCLE], with the options of run, or the words of diva\n",
     );
     line
 }

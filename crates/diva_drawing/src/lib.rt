@@ -6,13 +6,15 @@
 //!
 //! - `snapshot`: `Snapshot`, what is seen of a machine between two cycles.
 //! - `rows`: rows, one for each claim that became pending and each instruction that was started solo: how many begin and end in a cycle.
-//! - `block`: `Block`, a text of some lines, which is one put.
+//! - `block`: `Block`, a text of some lines, which is one put, or goes in pieces.
+//! - `excerpt`: `Excerpt`, the cycles of a run that a drawing has.
 //! - `pen`: `Pen`, which is shown a machine cycle by cycle, and draws what becomes of its rows in one of the two formats.
 //! - `log`: a run as a log in the Kanata format, version 4, which the Konata viewer reads; `begin_log`.
 //! - `stages`: the lines of a row by its age.
-//! - `drawing`: a run as a drawing, a column for each cycle.
+//! - `drawing`: a run as a drawing, a column for each cycle of an excerpt.
 //!
 //! `specs/` says what is seen of a machine (`Snapshot`), what becomes of rows (`Rows`), and the text of each of the two (`Log`, `Drawing`).
+//! `Pieces` is for private contracts alone.
 #![tactic(auto)]
 
 mod block;

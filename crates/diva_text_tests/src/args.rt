@@ -412,14 +412,22 @@ fn lines_that_are_refused(rt: HostRuntime) -> Result<(), Fail> {
 }
 
 /// Lines of the program that draws runs, with what they ask for.
-static DRAWN: [(&str, &str); 4] = [
+static DRAWN: [(&str, &str); 6] = [
     (
         "log p1.diva",
         r#"Log of run "p1.diva" 0 Own None 2 16 4 64 1 1000000 false None None"#,
     ),
     (
         "draw --cycles 9 p1.diva --core silent --script faults.txt",
-        r#"Drawing of run "p1.diva" 0 Silent Some(FileName { text: "faults.txt" }) 2 16 4 64 1 9 false None None"#,
+        r#"Drawing { from: 1, to: 1000000000 } of run "p1.diva" 0 Silent Some(FileName { text: "faults.txt" }) 2 16 4 64 1 9 false None None"#,
+    ),
+    (
+        "draw p --from 90000 --to 90000 --cycles 100000",
+        r#"Drawing { from: 90000, to: 90000 } of run "p" 0 Own None 2 16 4 64 1 100000 false None None"#,
+    ),
+    (
+        "draw --to 1000000000 p --from 1000000000",
+        r#"Drawing { from: 1000000000, to: 1000000000 } of run "p" 0 Own None 2 16 4 64 1 1000000 false None None"#,
     ),
     (
         "run --trace p",
@@ -429,7 +437,7 @@ static DRAWN: [(&str, &str); 4] = [
 ];
 
 /// Lines that the program that draws runs refuses.
-static NOT_DRAWN: [&str; 8] = [
+static NOT_DRAWN: [&str; 15] = [
     "",
     "log",
     "log p --trace",
@@ -438,6 +446,13 @@ static NOT_DRAWN: [&str; 8] = [
     "Log p",
     "draw p --cycles 0",
     "draw p --core silent --cycles 9 q",
+    "draw p --from 0",
+    "draw p --to 0",
+    "draw p --from 90000 --to 89999",
+    "draw p --to 1000000001",
+    "draw p --from 3 --from 3",
+    "log p --from 1",
+    "run p --to 9",
 ];
 
 #[test]
@@ -451,7 +466,7 @@ fn lines_of_the_program_that_draws(rt: HostRuntime) -> Result<(), Fail> {
         let fault = read_pipeline_words(rt.alloc(), &words_of(rt.alloc(), line)?).err();
         assert_eq!(rt; fault, Some(ArgsFault::Usage), "{line}");
     }
-    for line in ["log p", "draw p"] {
+    for line in ["log p", "draw p", "draw p --to 9", "run p --from 1"] {
         let fault = read_words(rt.alloc(), &words_of(rt.alloc(), line)?).err();
         assert_eq!(rt; fault, Some(ArgsFault::Usage), "{line}");
     }

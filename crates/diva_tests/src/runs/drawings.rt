@@ -16,7 +16,7 @@ pub(super) struct Drawn {
 
 /// The usage line of that program.
 const PIPELINE_USAGE: &str = "\
-usage: diva_pipeline log|draw IMAGE, with the options of run, or the words of diva
+usage: diva_pipeline log IMAGE, draw IMAGE [--from CYCLE] [--to CYCLE], with the options of run, or the words of diva
 ";
 
 /// The claim of cycle 1 has a wrong value, which the stage that executes finds in cycle 5. It flushes in cycle 7, and its
@@ -52,7 +52,7 @@ S\t1\t0\tfetch
 ";
 
 /// Each row as it is drawn where it ends, and the scale.
-pub(super) static ROWS: [Drawn; 8] = [
+pub(super) static ROWS: [Drawn; 13] = [
     Drawn {
         line: "draw a.diva --core scalar",
         script: b"",
@@ -94,6 +94,37 @@ cycle                       1  2  3  4  5  6  7  8  9 10 11 12 13 14 15
 cycle                       1  2  3
 ",
     },
+    // Of the second of these runs three cycles alone: the rows that have ended by then, or have not begun, are not drawn.
+    Drawn {
+        line: "draw a.diva --core scalar --cycles 15 --from 7 --to 9",
+        script: b"at 1 lane 0 flip value 0\n",
+        status: 4,
+        text: "\
+addi x1, x0, 5              !
+addi x17, x0, 93            -
+ecall                       -
+addi x1, x0, 5              S  F  D
+cycle                       7  8  9
+",
+    },
+    // The first claim commits in cycle 7, and is drawn up to cycle 2.
+    Drawn {
+        line: "draw a.diva --core scalar --to 2",
+        script: b"",
+        status: 0,
+        text: "\
+addi x1, x0, 5              A  F
+addi x17, x0, 93               A
+cycle                       1  2
+",
+    },
+    // The run has ended before.
+    Drawn {
+        line: "draw a.diva --core scalar --from 10 --to 10",
+        script: b"",
+        status: 0,
+        text: "cycle                     \n",
+    },
     Drawn {
         line: "log a.diva --core lockstep --cycles 8",
         script: b"at 1 lane 0 flip value 0\n",
@@ -115,6 +146,18 @@ cycle                       1  2  3
     },
     Drawn {
         line: "log a.diva --dump 0:4",
+        script: b"",
+        status: 2,
+        text: PIPELINE_USAGE,
+    },
+    Drawn {
+        line: "draw a.diva --from 3 --to 2",
+        script: b"",
+        status: 2,
+        text: PIPELINE_USAGE,
+    },
+    Drawn {
+        line: "log a.diva --to 2",
         script: b"",
         status: 2,
         text: PIPELINE_USAGE,
