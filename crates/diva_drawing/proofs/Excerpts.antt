@@ -1,5 +1,5 @@
 -- Numbered columns of an excerpt.
-use Rattle.std.proofs.Common.{◌≡◌, ◌<◌, ◌∙◌, ℕ, ◌+◌, ◌-◌, List, [], length, min, take, drop, get_or, ap, arith}
+use Rattle.std.proofs.Common.{◌≡◌, ◌<◌, ◌∙◌, ℕ, ◌+◌, ◌-◌, List, [], length, min, take, get_or, ap, arith}
 use Rattle.std.proofs.lemmas.List.{get_or-drop, get_or-take, length-drop, length-take}
 use Rattle.diva_trace.specs.Text.{numbered}
 use Rattle.diva_trace.proofs.Numbered.{length_numbered, line_numbered}

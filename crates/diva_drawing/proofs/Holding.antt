@@ -1,5 +1,5 @@
 -- Lines that are appended to what is held, after room was made for them.
-use Rattle.std.proofs.Common.{◌≡◌, ◌<◌, ◌+◌, ◌++◌, ◌∷◌, length, take, get_or, ℕ, zero, suc, List, [], Option, Result, Ok, Err, ◌∙◌, ap, sym, subst, append_assoc, append-nil, arith}
+use Rattle.std.proofs.Common.{◌≡◌, ◌<◌, ◌+◌, ◌++◌, ◌∷◌, length, take, get_or, ℕ, zero, suc, List, [], Option, Ok, Err, ◌∙◌, ap, sym, subst, append_assoc, append-nil, arith}
 use Rattle.std.proofs.lemmas.Grind.{flat_map-append}
 use Rattle.std.proofs.lemmas.List.{take_more}
 use Rattle.std.specs.List.{flat_map, range_with_len}

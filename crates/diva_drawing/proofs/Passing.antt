@@ -1,7 +1,6 @@
 -- Texts that are written one behind the other, on their way to a sink.
 use Rattle.std.proofs.Common.{◌≡◌, ◌++◌, ℕ, List, [], Option, Result, Ok, Err, ◌∙◌, ap, sym, subst, append_assoc, append-nil}
-use Rattle.std.specs.Io.KnownBytes.{Appends}
-use Rattle.diva_outside.specs.Sink.{AppendsPart, Puts}
+use Rattle.diva_outside.specs.Sink.{Puts}
 use Rattle.diva_outside.proofs.Sinks.{puts_cut, puts_nothing, puts_then}
 use Rattle.diva_drawing.specs.Pieces.{Passes}
 

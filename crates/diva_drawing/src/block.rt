@@ -1,5 +1,5 @@
 // A text of some lines.
-ghost use Rattle.std.specs.Prelude.{◌≡◌, ◌≤◌, ◌<◌, ◌+◌, ◌*◌, ◌++◌, length, [], OnOk};
+ghost use Rattle.std.specs.Prelude.{◌≡◌, ◌≤◌, ◌<◌, ◌+◌, ◌++◌, length, [], OnOk};
 ghost use Rattle.diva_outside.specs.Sink.{Puts};
 ghost use Rattle.diva_drawing.specs.Pieces.{Passes};
 
@@ -51,27 +51,24 @@ impl Block {
         ensures { Passes line.now self.old self.new
             (S.contents sink.old) (S.contents sink.new) (S.faults sink.old) (S.faults sink.new) result }
     {
-        if self.text.len() + line.bytes().len() > PIECE {
-            self.put(sink)?;
-            self.clear();
-        }
+        self.make_room(line.bytes().len(), sink)?;
         self.line(line);
         Ok(())
     }
 
-    /// Makes room for so many lines: where there is none, those that are held are put, and dropped. Where that fails, a prefix of them
-    /// was appended.
+    /// Makes room for so many bytes: if a piece has none for them, those that are held are put, and dropped. Where that fails, a prefix
+    /// of them was appended.
     pub(crate) fn make_room<S: Sink>(
         &mut self,
-        lines: usize,
+        bytes: usize,
         sink: &mut S,
     ) -> Result<(), SinkFailed>
-        requires { lines ≤ 32 }
-        ensures room { OnOk result (length self.new + 128 * lines ≤ 4096) }
+        requires { bytes ≤ 4096 }
+        ensures room { OnOk result (length self.new + bytes ≤ 4096) }
         ensures passes { Passes [] self.old self.new
             (S.contents sink.old) (S.contents sink.new) (S.faults sink.old) (S.faults sink.new) result }
     {
-        if self.text.len() + 128 * lines > PIECE {
+        if self.text.len() + bytes > PIECE {
             self.put(sink)?;
             self.clear();
         }

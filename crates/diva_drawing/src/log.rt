@@ -143,7 +143,7 @@ fn push_each<S: Sink>(
         (S.contents sink.old) (S.contents sink.new) (S.faults sink.old) (S.faults sink.new) result }
 {
     for n in 0..claims.len() {
-        block.make_room(6, sink)?;
+        block.make_room(768, sink)?;
         push_numbered(block, first, now, was, claims, n);
     }
     Ok(())
@@ -218,7 +218,7 @@ fn push_solo<S: Sink>(
     ensures { Passes (solo_text row after.now.count after.now.cycles after.now.newest after.now.solo) block.old block.new
         (S.contents sink.old) (S.contents sink.new) (S.faults sink.old) (S.faults sink.new) result }
 {
-    block.make_room(6, sink)?;
+    block.make_room(768, sink)?;
     push_alone(block, row, after);
     Ok(())
 }
@@ -264,7 +264,7 @@ fn push_surplus<S: Sink>(
         (S.contents sink.old) (S.contents sink.new) (S.faults sink.old) (S.faults sink.new) result }
 {
     for claim in claims {
-        block.make_room(2, sink)?;
+        block.make_room(256, sink)?;
         push_dropped(block, row, claim);
     }
     Ok(())
