@@ -9,9 +9,9 @@
 //!
 //! What a cycle does is `duo_cycle_of` of `specs/Duo.antt`: phase by phase the timed machine's of `diva_core`, under the rule of
 //! `specs/Rules.antt`. `specs/Harts.antt` has the store-buffer machine, to which a cycle is some actions, `specs/Between.antt` what
-//! holds between cycles and how soon a hart goes on, and `specs/Turns.antt` the turns of two harts and their cores. `Shown` is
-//! what contracts see of a duo, `Which` one of its two harts, and `Programs` the program of `worked`; `Inner` is for private
-//! contracts alone.
+//! holds between cycles and how soon a hart goes on, `specs/Headline.antt` what each hart commits and why it is flushed, and
+//! `specs/Turns.antt` the turns of two harts and their cores. `Shown` is what contracts see of a duo, `Which` one of its two harts,
+//! and `Programs` the program of `worked`; `Inner` is for private contracts alone.
 #![tactic(auto)]
 
 mod action;

@@ -1,10 +1,15 @@
 // Small programs whose outcome depends on when each hart goes on.
+ghost use Rattle.std.specs.Prelude.{◌<◌};
+
+mod shapes;
 mod tables;
 
 use crate::cores::Planned;
-use crate::harts::{duo_of, word_at};
+use crate::harts::{duo_of, tape_core, word_at};
+use diva_core::{Cause, Diff, Field, FlushRow};
 use diva_duo::{Drive, Duo, drive2};
-use diva_tape::Scalar;
+use diva_tape::{Scalar, TapeCore};
+use shapes::{Came, SHAPES, Shape};
 use std::alloc::{AllocError, Global};
 use std::process::Abort;
 use std::test::Fail;
@@ -26,7 +31,7 @@ struct Tally {
 impl Tally {
     /// Notes what harts came to: one of the program's outcomes.
     fn note(&mut self, rt: &impl Abort, duo: &Duo, litmus: &Litmus) {
-        let came = outcome(duo, litmus);
+        let came = outcome(duo, litmus.seen);
         let place = litmus
             .outcomes
             .iter()
@@ -76,8 +81,8 @@ fn planned<'a>(
 }
 
 /// What a program's harts came to.
-fn outcome(duo: &Duo, litmus: &Litmus) -> Outcome {
-    litmus.seen.map(|seen| match seen {
+fn outcome(duo: &Duo, seen: [Seen; 2]) -> Outcome {
+    seen.map(|seen| match seen {
         Seen::Register { hart, number } => duo.view(hart.min(1)).reg(number.min(31)),
         Seen::Word(addr) => word_at(duo, addr),
     })
@@ -134,12 +139,78 @@ fn compare_foretold(
 ) -> Result<(), Fail> {
     let duo = driven(rt, alloc, litmus, plans, values)?;
     assert_eq!(rt;
-        (outcome(&duo, litmus), [duo.flushes(0), duo.flushes(1)]),
+        (outcome(&duo, litmus.seen), [duo.flushes(0), duo.flushes(1)]),
         (due, flushes),
         "{}, {values:?}",
         litmus.name
     );
     Ok(())
+}
+
+/// How many cycles later than the other one each hart begins, in the runs of a shape.
+static LATE: [[u32; 2]; 7] = [[3, 0], [2, 0], [1, 0], [0, 0], [0, 1], [0, 2], [0, 3]];
+
+/// Plays the claims of a shape in each of its runs, and compares what becomes of them.
+fn compare_shape(rt: &impl Abort, alloc: Global, shape: &Shape) -> Result<(), Fail> {
+    for (&late, &came) in LATE.iter().zip(&shape.came) {
+        let duo = played(rt, alloc, shape, late)?;
+        let due = match came {
+            Came::Comes => (true, [false, false]),
+            Came::Otherwise => (false, [false, false]),
+            Came::Flushes(harts) => (false, harts),
+        };
+        assert_eq!(rt;
+            (
+                outcome(&duo, shape.seen) == shape.outcome,
+                [duo.flushes(0) != 0, duo.flushes(1) != 0]
+            ),
+            due,
+            "{}, {late:?}",
+            shape.name
+        );
+        assert_eq!(rt;
+            [refuses_value(&duo, 0), refuses_value(&duo, 1)],
+            due.1,
+            "{}, {late:?}",
+            shape.name
+        );
+    }
+    Ok(())
+}
+
+/// Two harts that are over, to which the tapes of a shape were played, so many cycles late.
+fn played(rt: &impl Abort, alloc: Global, shape: &Shape, late: [u32; 2]) -> Result<Duo, Fail> {
+    let mut duo = duo_of(alloc, 128, shape.words, [4, 16, 4, 64])?;
+    let mut first = late_core(alloc, shape.tapes[0], late[0])?;
+    let mut second = late_core(alloc, shape.tapes[1], late[1])?;
+    let driven = drive2(&mut duo, &mut first, &mut second, 500);
+    assert_eq!(rt; driven, Drive::Ended, "{}", shape.name);
+    Ok(duo)
+}
+
+/// A core that plays a tape behind so many empty lists.
+fn late_core(alloc: Global, tape: &[u8], late: u32) -> Result<TapeCore, Fail> {
+    let mut text = Vec::new(alloc);
+    for _ in 0..late {
+        text.push(b'\n')?;
+    }
+    text.extend_from_slice(tape)?;
+    tape_core(alloc, text.as_slice())
+}
+
+/// Whether the first flush of a hart, 0 or 1, came since a value that was claimed was not due.
+fn refuses_value(duo: &Duo, hart: u8) -> bool
+    requires { hart < 2 }
+{
+    match duo.log(hart).first() {
+        Some(
+            FlushRow {
+                cause: Cause::Differs(Diff { field, .. }),
+                ..
+            },
+        ) => matches!(field, Field::Value),
+        _ => false,
+    }
 }
 
 #[test]
@@ -149,6 +220,14 @@ fn outcomes_that_come(rt: HostRuntime) -> Result<(), Fail> {
         for foretold in litmus.foretold {
             compare_foretold(&rt, rt.alloc(), litmus, foretold)?;
         }
+    }
+    Ok(())
+}
+
+#[test]
+fn shapes_by_their_names(rt: HostRuntime) -> Result<(), Fail> {
+    for shape in &SHAPES {
+        compare_shape(&rt, rt.alloc(), shape)?;
     }
     Ok(())
 }

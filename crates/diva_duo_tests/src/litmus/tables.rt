@@ -12,15 +12,15 @@ pub(super) enum Seen {
     Word(u32),
 }
 
-const LOADED_BY_0: Seen = Seen::Register { hart: 0, number: 2 };
+pub(super) const LOADED_BY_0: Seen = Seen::Register { hart: 0, number: 2 };
 
-const LOADED_BY_1: Seen = Seen::Register { hart: 1, number: 2 };
+pub(super) const LOADED_BY_1: Seen = Seen::Register { hart: 1, number: 2 };
 
-const LOADED_THEN: Seen = Seen::Register { hart: 1, number: 3 };
+pub(super) const LOADED_THEN: Seen = Seen::Register { hart: 1, number: 3 };
 
 const FIRST_WORD: Seen = Seen::Word(0x60);
 
-const SECOND_WORD: Seen = Seen::Word(0x70);
+pub(super) const SECOND_WORD: Seen = Seen::Word(0x70);
 
 /// What was seen.
 pub(super) type Outcome = [u32; 2];
@@ -45,9 +45,9 @@ pub(super) struct Litmus {
 }
 
 pub(super) static PROGRAMS: [Litmus; 10] = [
-    // Each hart stores 1, and loads what the other stores.
+    // Store buffering: each hart stores 1, and loads what the other stores.
     Litmus {
-        name: "store buffering",
+        name: "SB",
         words: &[
             0x00100093, 0x00200213, 0x05d00893, 0x00051863, 0x06102023, 0x07002103, 0x00000073,
             0x06102823, 0x06002103, 0x00000073,
@@ -65,7 +65,7 @@ pub(super) static PROGRAMS: [Litmus; 10] = [
     },
     // The same with a fence in between: one of the harts sees the other's store.
     Litmus {
-        name: "store buffering with fences",
+        name: "SB+fences",
         words: &[
             0x00100093, 0x00200213, 0x05d00893, 0x00051a63, 0x06102023, 0x0ff0000f, 0x07002103,
             0x00000073, 0x06102823, 0x0ff0000f, 0x06002103, 0x00000073,
@@ -94,7 +94,7 @@ pub(super) static PROGRAMS: [Litmus; 10] = [
     // The same with a fence in hart 0 alone. It is allowed that neither sees the other's store, but that comes only where a
     // store of hart 1 stands behind others.
     Litmus {
-        name: "store buffering with a fence",
+        name: "SB+fence",
         words: &[
             0x00100093, 0x00200213, 0x05d00893, 0x00051a63, 0x06102023, 0x0ff0000f, 0x07002103,
             0x00000073, 0x06102823, 0x06002103, 0x00000073,
@@ -116,7 +116,7 @@ pub(super) static PROGRAMS: [Litmus; 10] = [
     },
     // There it comes, in a buffer that holds four stores.
     Litmus {
-        name: "store buffering with a fence, behind stores",
+        name: "SB+fence, behind stores",
         words: &[
             0x00100093, 0x00200213, 0x05d00893, 0x00051a63, 0x06102023, 0x0ff0000f, 0x07002103,
             0x00000073, 0x06102423, 0x06102623, 0x06102823, 0x06002103, 0x00000073,
@@ -142,9 +142,9 @@ pub(super) static PROGRAMS: [Litmus; 10] = [
             ),
         ],
     },
-    // Hart 0 stores twice, and hart 1 loads in the other order: what was stored last is not seen before the first.
+    // Message passing: hart 0 stores twice, and hart 1 loads in the other order: what was stored last is not seen before the first.
     Litmus {
-        name: "message passing",
+        name: "MP",
         words: &[
             0x00100093, 0x00200213, 0x05d00893, 0x00051863, 0x06102023, 0x06102823, 0x00000073,
             0x07002103, 0x06002183, 0x00000073,
@@ -180,9 +180,9 @@ pub(super) static PROGRAMS: [Litmus; 10] = [
             ),
         ],
     },
-    // Each hart loads what the other stores behind its load: not both see it.
+    // Load buffering: each hart loads what the other stores behind its load, and not both see it.
     Litmus {
-        name: "load buffering",
+        name: "LB",
         words: &[
             0x00100093, 0x00200213, 0x05d00893, 0x00051863, 0x06002103, 0x06102823, 0x00000073,
             0x07002103, 0x06102023, 0x00000073,
@@ -208,9 +208,9 @@ pub(super) static PROGRAMS: [Litmus; 10] = [
             ([0, 0], [1, 1], [&[2, 2, 2, 1], &[2, 2, 2, 1]], [&[1], &[1]]),
         ],
     },
-    // Both harts store 1 and then 2, in the same words in opposite orders: not both words keep 1.
+    // Two and two writes: both harts store 1 and then 2, in the same words in opposite orders: not both words keep 1.
     Litmus {
-        name: "two and two stores",
+        name: "2+2W",
         words: &[
             0x00100093, 0x00200213, 0x05d00893, 0x00051863, 0x06102023, 0x06402823, 0x00000073,
             0x06102823, 0x06402023, 0x00000073,
@@ -235,9 +235,9 @@ pub(super) static PROGRAMS: [Litmus; 10] = [
             ([2, 2], [0, 0], [&[2, 2, 2, 1], &[2, 2, 2, 1]], [&[], &[]]),
         ],
     },
-    // Hart 1 loads twice what hart 0 stores: it does not see the old value behind the new one.
+    // Coherence of two reads: hart 1 loads twice what hart 0 stores. It does not see the old value behind the new one.
     Litmus {
-        name: "two loads of a word",
+        name: "CoRR",
         words: &[
             0x00100093, 0x00200213, 0x05d00893, 0x00051663, 0x06102023, 0x00000073, 0x06002103,
             0x06002183, 0x00000073,
@@ -261,7 +261,7 @@ pub(super) static PROGRAMS: [Litmus; 10] = [
     // Hart 0 stores twice. Hart 1 stores 2 where hart 0 stored last, and loads the other word. That the word keeps 2 and the load
     // is 0 is allowed, but comes only where the store of hart 1 stands behind others.
     Litmus {
-        name: "stores and a load",
+        name: "R",
         words: &[
             0x00100093, 0x00200213, 0x05d00893, 0x00051863, 0x06102023, 0x06102823, 0x00000073,
             0x06402823, 0x06002103, 0x00000073,
@@ -283,7 +283,7 @@ pub(super) static PROGRAMS: [Litmus; 10] = [
     },
     // There it comes.
     Litmus {
-        name: "stores and a load, behind stores",
+        name: "R, behind stores",
         words: &[
             0x00100093, 0x00200213, 0x05d00893, 0x00051863, 0x06102023, 0x06102823, 0x00000073,
             0x06102423, 0x06102623, 0x06402823, 0x06002103, 0x00000073,
