@@ -275,6 +275,24 @@ fn blocks_of(alloc: Global, text: &str) -> Result<Vec<Vec<u8>>, Fail> {
     Ok(pieces)
 }
 
+/// The puts of two rows of 3,117 and 6,207 bytes, and of a scale as long: a piece has at most 4,096 bytes, which are a name of 26 and
+/// 1,356 cells of three, and the rest is another piece.
+static PIECES: [usize; 5] = [3117, 4094, 2113, 4094, 2113];
+
+/// Each piece of long rows is one put. Where one fails, none follows.
+#[test]
+fn pieces_of_long_rows(rt: HostRuntime) -> Result<(), Fail> {
+    let alloc = rt.alloc();
+    let line = "draw a.diva --core silent --watchdog 1024 --cycles 2060";
+    for (call, status, puts) in [(3, 9, 3), (6, 4, 5)] {
+        let answer = run_cut(alloc, &mut Flipped, &FIVE_FILE, line, call, 0)?;
+        let due = PIECES.get(..puts).ok_or("too many")?;
+        assert_eq!(rt; answer.status, status, "{line}");
+        assert_eq!(rt; answer.puts.as_slice(), due, "{line}");
+    }
+    Ok(())
+}
+
 /// Compares the puts of a text, each of whose lines is one.
 fn compare_lines(
     rt: &impl Abort,
