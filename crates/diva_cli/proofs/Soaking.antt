@@ -75,7 +75,7 @@ pub drove :
     → (r ≡ Budget) ↔ ((last.cycles ≡ m.cycles + budget) × (goes_on last.arch ≡ true))
     → Soaks gives options (change core after) last
 drove gives options m core last after budget r is all t within ended ran =
-    let far = drives_for gives m core last after budget r t within ended ran in
+    let far = drives_for gives m core last after budget r (λ asked. Unit {0}) t tt within ended ran in
     let none : m.cycles ≡ 0 = ap (λ (n : Timed). n.cycles) is in
     record {
       turns = subst (λ (n : Timed). Turns gives n core last after) is t;

@@ -31,7 +31,7 @@
 //! - `Determined`: what is determined of a run; `Sure`: what files that never fail hold.
 //!
 //! `Tasks` and `Parts` are what the parts of the program promise one another. What each command promises, and so the whole
-//! program, stands once: `KeepsPromises` of `Parts`.
+//! program, stands once: `KeepsPromises` of `Promises`.
 #![tactic(auto)]
 
 mod asm;

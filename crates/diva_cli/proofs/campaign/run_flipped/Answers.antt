@@ -10,7 +10,6 @@ use Rattle.diva_faults.proofs.Flipping.{flips_by_place}
 use Rattle.diva_trace.specs.declared.report.Tally.{Tally}
 use Rattle.diva_cli.specs.CampaignTexts.{run_under, tally_of}
 use Rattle.diva_cli.specs.Lanes.{AreHonest}
-use Rattle.diva_cli.specs.declared.lanes.Lanes.{Lanes}
 use Rattle.diva_cli.proofs.Counting.{as_many, run_more, runs_to}
 use Rattle.diva_cli.proofs.campaign.run_flipped.Goals as goal
 
@@ -24,7 +23,7 @@ loop-place-preserved g c =
     let counted : c.count_run.new.tally ≡ tally_of c.args.first.now.timed (runs_to run (place + 1)) =
     c.count_run.ensures (runs_to run place) c.loop-place.invariant.counted
     ∙ ap (tally_of c.args.first.now.timed) (run_more run place c.in_ok-machine.machine.timed is) in
-    record { counted = counted; many = ap (λ (t : Tally). t.runs) counted ∙ as_many run (place + 1); lanes = c.run_under.ensures.lanes ∙ c.loop-place.invariant.lanes; honest = subst (λ (l : Lanes g.L). AreHonest g.L.Lane.honest l) (sym c.run_under.ensures.lanes) c.loop-place.invariant.honest }
+    record { counted = counted; many = ap (λ (t : Tally). t.runs) counted ∙ as_many run (place + 1); lanes = c.run_under.ensures.lanes ∙ c.loop-place.invariant.lanes; honest = subst (λ l. AreHonest g.L.Lane.honest l) (sym c.run_under.ensures.lanes) c.loop-place.invariant.honest }
 
 pub returns-clause-tally : goal.returns-clause-tally
 returns-clause-tally g c =

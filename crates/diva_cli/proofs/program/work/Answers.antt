@@ -27,3 +27,15 @@ returns-in-Migrate-clause-answers g c =
 pub returns-in-Soak-clause-answers : goal.returns-in-Soak-clause-answers
 returns-in-Soak-clause-answers g c =
     rw c.in-Soak.is (promises_less g.C.Core.gives _ _ no_lanes _ (λ liar asked none. rw none refl) _ _ _ _ c.soak.ensures)
+
+pub returns-in-Run-clause-answers : goal.returns-in-Run-clause-answers
+returns-in-Run-clause-answers g c = rw c.in-Run.is c.run.ensures
+
+pub returns-in-Tape-clause-answers : goal.returns-in-Tape-clause-answers
+returns-in-Tape-clause-answers g c = rw c.in-Tape.is c.tape.ensures
+
+pub returns-in-Campaign-clause-answers : goal.returns-in-Campaign-clause-answers
+returns-in-Campaign-clause-answers g c = rw c.in-Campaign.is c.campaign.ensures
+
+pub returns-in-Draw-clause-answers : goal.returns-in-Draw-clause-answers
+returns-in-Draw-clause-answers g c = rw c.in-Draw.is c.draw.ensures

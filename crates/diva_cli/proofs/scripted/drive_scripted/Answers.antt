@@ -1,9 +1,20 @@
 -- The machine ends in one of the three parts, or runs them all.
-use Rattle.std.proofs.Common.{arith}
+use Rattle.std.proofs.Common.{sym, ◌∙◌, arith}
+use Rattle.std.proofs.lemmas.Bool.{true≢false}
+use Rattle.diva_faults.specs.Spoiled.{spoiled}
+use Rattle.diva_cli.proofs.Cycling.{no_turn}
 use Rattle.diva_cli.proofs.Handing.{drives_for}
-use Rattle.diva_cli.proofs.Polling.{asked_then}
+use Rattle.diva_cli.proofs.Polling.{asked_then, none_asked}
 use Rattle.diva_cli.proofs.Scripting.{drives_behind, ended_before, ended_touched}
 use Rattle.diva_cli.proofs.scripted.drive_scripted.Goals as goal
+
+pub returns-then-not-goes_on-clause-drives : goal.returns-then-not-goes_on-clause-drives
+returns-then-not-goes_on-clause-drives g c = record {
+  turns = no_turn (spoiled c.args.script.now g.C.Core.gives) _ _;
+  asked = none_asked g.L.Lane.says c.args.lanes.now c.args.liar;
+  most = omega arith;
+  whole = λ on. absurd (true≢false (sym on ∙ (sym c.goes_on.ensures.value ∙ c.if-not-goes_on.true)));
+}
 
 pub returns-then-not-goes_on-2-clause-drives : goal.returns-then-not-goes_on-2-clause-drives
 returns-then-not-goes_on-2-clause-drives g c =
