@@ -1,6 +1,5 @@
 -- Turns that are drawn, one by one; and what is written of a run that is drawn.
 use Rattle.diva_cli.proofs.Polling.{asked_over-more}
-use Rattle.diva_args.specs.declared.job.LanePlace.{LanePlace}
 use Rattle.diva_cli.specs.Texts.{AsksInRun}
 use Rattle.diva_machine.specs.Asked.{asked_of, asked_over}
 use Rattle.diva_vote.specs.Questions.{Question}

@@ -43,7 +43,6 @@ use Rattle.diva_trace.specs.Text.{commits_text, text_of, trace_of}
 use Rattle.diva_trace.proofs.Numbered.{commits_text-append, commits_text-none}
 use Rattle.diva_cli.specs.declared.driving.CoreInUse.{CoreInUse}
 use Rattle.diva_cli.specs.declared.loading.Ready.{Ready}
-use Rattle.diva_vote.specs.Questions.{Question}
 use Rattle.diva_machine.specs.Asked.{asked_over}
 use Rattle.diva_cli.specs.Changes.{LanesAsked, SinkChange, asking, change, sink_change}
 use Rattle.diva_cli.specs.Texts.{AsksInRun}

@@ -4,9 +4,8 @@ use Rattle.diva_machine.specs.Asked.{asked_over}
 use Rattle.diva_vote.specs.Questions.{Question}
 use Rattle.diva_isa.specs.declared.record.Record.{Record}
 use Rattle.diva_core.proofs.Turning.{IsHistory-run}
-use Rattle.diva_core.specs.Cycle.{run_of}
 use Rattle.std.proofs.lemmas.List.{map-append}
-use Rattle.std.proofs.Common.{◌≡◌, ℕ, ◌+◌, ◌-◌, min, true, false, List, ◌++◌, sym, ◌∙◌, arith, length-append, ap, subst, map}
+use Rattle.std.proofs.Common.{◌≡◌, ℕ, ◌+◌, ◌-◌, min, true, false, List, ◌++◌, sym, ◌∙◌, arith, length-append, ap, subst}
 use Rattle.std.proofs.lemmas.Bool.{true≢false}
 use Rattle.diva_isa.specs.State.{goes_on}
 use Rattle.diva_core.specs.History.{Meaning, Turns, lists_of, IsHistory}

@@ -1,7 +1,6 @@
 -- What a command answers, from what was loaded for it and what was written of it.
 use Rattle.std.proofs.Common.{◌≡◌, ℕ, List, [], Option, None, Result, Ok, Err, IfErr, Some, refl, sym, ◌∙◌, ap, subst}
 use Rattle.diva_outside.specs.Files.{Contents}
-use Rattle.diva_outside.specs.declared.files.What.{What}
 use Rattle.diva_outside.proofs.Sinks.{past_nothing}
 use Rattle.diva_core.specs.History.{Meaning}
 use Rattle.diva_args.specs.Options.{Setup}
@@ -17,7 +16,7 @@ use Rattle.diva_cli.specs.Asked.{Asked, asked_for}
 use Rattle.diva_vote.specs.Questions.{Question}
 use Rattle.diva_args.specs.declared.job.Job.TheVariants.{Run, Tape, Duo, Debug, Asm, Dis, Migrate, Soak, Campaign, Draw}
 use Rattle.diva_args.specs.declared.job.LanePlace.{LanePlace}
-use Rattle.diva_cli.specs.Changes.{Asking, Change, FileFaults, IsUncounted, LanesAsked, SinkChange, asking, core_of}
+use Rattle.diva_cli.specs.Changes.{Asking, FileFaults, IsUncounted, LanesAsked, SinkChange, asking, core_of}
 use Rattle.diva_cli.specs.Texts.{AsksLanes, HasText}
 use Rattle.diva_cli.specs.Wanted.{Wanted, FileBytes, AreSound, machine_files, wanted}
 use Rattle.diva_cli.specs.Answers.{IsAnswer, misused, unread, refused, done}

@@ -1,7 +1,5 @@
 -- A line for each place of the liar.
 use Rattle.std.proofs.Common.{refl}
-use Rattle.diva_vote.specs.Polls.{ArePolledAndCounted}
-use Rattle.diva_cli.specs.Lanes.{are_asked}
 use Rattle.diva_cli.proofs.Polling.{asking_so, first_lies, second_lies, third_lies}
 use Rattle.diva_cli.proofs.checking.drive_with_liar.Goals as goal
 
