@@ -6,7 +6,6 @@ use Rattle.diva_args.specs.Line.{cycles_from, job_from, run_with, taken, values_
 use Rattle.diva_args.specs.Options.{RunOptions, most_cycles}
 use Rattle.diva_args.specs.Plain.{PlainLine, given_in, value_in}
 use Rattle.diva_args.specs.Values.{liar_of, ranged_or}
-use Rattle.diva_args.specs.declared.job.DrawOptions.{DrawOptions}
 use Rattle.diva_args.specs.declared.job.Format.{Format}
 use Rattle.diva_args.specs.declared.job.Format.TheVariants.{Log, Drawing}
 use Rattle.diva_args.specs.declared.job.Job.{Job}
