@@ -16,6 +16,7 @@ use std::alloc::Global;
 
 /// Assembles a source, and writes the bytes of its image in one put. All memory is taken before that, and the core can't be
 /// asked.
+#[inline(never)]
 pub(crate) fn asm<F: Files, S: Sink, C: Core>(
     alloc: Global,
     source: FileName,

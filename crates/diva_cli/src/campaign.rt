@@ -33,6 +33,7 @@ use std::alloc::{AllocError, Global};
 
 /// Runs an image with each flip, and then writes what the runs came to. Nothing is written before the last one; the core that is
 /// handed in can't be asked, and no lane is.
+#[inline(never)]
 pub(crate) fn campaign<F: Files, S: Sink, C: Core, L: Lane>(
     alloc: Global,
     options: CampaignOptions,

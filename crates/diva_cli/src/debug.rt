@@ -23,6 +23,7 @@ use std::alloc::Global;
 
 /// Replies to commands that step through an image. All memory is taken before the core is asked and
 /// before anything is written.
+#[inline(never)]
 pub(crate) fn debug<F: Files, S: Sink, C: Core>(
     alloc: Global,
     options: DebugOptions,

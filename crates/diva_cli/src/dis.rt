@@ -18,6 +18,7 @@ use diva_outside::{Files, Line, LineList, Sink, put_lines};
 use std::alloc::Global;
 
 /// Lists an image, each line in one put. The core can't be asked.
+#[inline(never)]
 pub(crate) fn dis<F: Files, S: Sink, C: Core>(
     alloc: Global,
     image: FileName,

@@ -30,6 +30,7 @@ use diva_vote::Lane;
 use std::alloc::Global;
 
 /// Runs an image, and draws the run. All memory is taken before the core is asked and before anything is written.
+#[inline(never)]
 pub(crate) fn draw<F: Files, S: Sink, C: Core, L: Lane>(
     alloc: Global,
     options: DrawOptions,

@@ -25,6 +25,7 @@ use std::alloc::{AllocError, Global};
 
 /// Runs an image on two harts, and then writes what they came to. All memory is taken before their cores are asked and before
 /// anything is written; the core that is handed in can't be asked.
+#[inline(never)]
 pub(crate) fn duo<F: Files, S: Sink, C: Core>(
     alloc: Global,
     options: DuoOptions,

@@ -15,6 +15,7 @@ use diva_outside::{Files, Sink};
 use std::alloc::Global;
 
 /// Writes the bytes of an image in version 2, in one put. All memory is taken before that, and the core can't be asked.
+#[inline(never)]
 pub(crate) fn migrate<F: Files, S: Sink, C: Core>(
     alloc: Global,
     options: MigrateOptions,

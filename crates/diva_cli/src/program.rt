@@ -171,6 +171,8 @@ fn write_misused<S: Sink>(fault: ArgsFault, usage: &Line, sink: &mut S) -> Resul
 ///
 /// Where the options of a run have a place for a liar, the three lanes of that place's `liar` and of the other places' `honest` are asked
 /// each question of the run, in order. No other lane is asked, and none by any other command.
+///
+/// None of the commands is inlined: what one has on the stack is not there while another runs.
 pub fn work<F: Files, S: Sink, C: Core, L: Lane>(
     alloc: Global,
     job: Job,

@@ -24,6 +24,7 @@ use std::alloc::Global;
 
 /// Runs an image, and writes the text of the run. All memory is taken before the core is asked and
 /// before anything is written.
+#[inline(never)]
 pub(crate) fn run<F: Files, S: Sink, C: Core, L: Lane>(
     alloc: Global,
     options: RunOptions,
@@ -84,6 +85,7 @@ fn run_task(trace: bool, cycles: u64, liar: Option<LanePlace>) -> Task
 
 /// Runs an image, and writes what was handed over in each cycle, as it goes. All memory is taken
 /// before the core is asked and before anything is written.
+#[inline(never)]
 pub(crate) fn tape<F: Files, S: Sink, C: Core, L: Lane>(
     alloc: Global,
     options: TapeOptions,

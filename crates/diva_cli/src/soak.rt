@@ -23,6 +23,7 @@ use std::alloc::{AllocError, Global};
 
 /// Runs the image of a seed under two cores, and then writes what the runs came to. All memory is taken before the core that is
 /// handed in is asked, and before anything is written; no file is loaded.
+#[inline(never)]
 pub(crate) fn soak<F: Files, S: Sink, C: Core>(
     alloc: Global,
     options: SoakOptions,
