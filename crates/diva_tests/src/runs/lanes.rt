@@ -144,32 +144,46 @@ fn job_of(alloc: Global, line: &str) -> Result<Job, Fail> {
     }
 }
 
-/// How often the honest lane and the liar of each place were asked where the program did a job.
-fn asked_by(alloc: Global, line: &str) -> Result<[(u64, u64); 3], Fail> {
-    let job = job_of(alloc, line)?;
+/// Files of which one is there: the image of `FIVE`.
+fn five_alone(alloc: Global) -> Result<MemFiles, Fail> {
     let name = String::from_str(alloc, file_name(What::Image))?;
+    let bytes = Vec::from_slice(alloc, &FIVE_FILE)?;
     let mut there = Vec::new(alloc);
-    there.push(MemFile::new(name, Vec::from_slice(alloc, &FIVE_FILE)?))?;
-    let mut files = MemFiles::new(there, Vec::new(alloc));
+    there.push(MemFile::new(name, bytes))?;
+    Ok(MemFiles::new(there, Vec::new(alloc)))
+}
+
+/// Does a job over these files and lanes.
+fn do_job(
+    alloc: Global,
+    job: Job,
+    files: &mut MemFiles,
+    lanes: &mut Lanes<Counter>,
+) -> Result<(), Fail> {
     let mut sink = MemSink::new(alloc, ROOM, Vec::new(alloc))?;
+    let mut core = Ooo::new(alloc)?;
+    work(alloc, job, files, &mut sink, &mut core, lanes)?;
+    Ok(())
+}
+
+/// How often the honest lane and the liar of a place were asked.
+fn counts_of(pair: &LanePair<Counter>) -> (u64, u64) {
+    (pair.honest.asked, pair.liar.asked)
+}
+
+/// The same of each place, where the program did a job.
+fn asked_by(alloc: Global, line: &str) -> Result<[(u64, u64); 3], Fail> {
     let mut lanes = Lanes {
         first: new_pair(),
         second: new_pair(),
         third: new_pair(),
     };
-    work(
-        alloc,
-        job,
-        &mut files,
-        &mut sink,
-        &mut Ooo::new(alloc)?,
-        &mut lanes,
-    )?;
-    let counts = |pair: LanePair<Counter>| (pair.honest.asked, pair.liar.asked);
+    let mut files = five_alone(alloc)?;
+    do_job(alloc, job_of(alloc, line)?, &mut files, &mut lanes)?;
     Ok([
-        counts(lanes.first),
-        counts(lanes.second),
-        counts(lanes.third),
+        counts_of(&lanes.first),
+        counts_of(&lanes.second),
+        counts_of(&lanes.third),
     ])
 }
 
