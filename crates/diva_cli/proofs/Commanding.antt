@@ -63,9 +63,9 @@ led-more start (d ∷ done) c w m [] part r by stands = absurd r
 led-more start (d ∷ done) c w m (first ∷ parts) part r by stands =
     (r.0, (r.1.0, led-more start done c (next_standing start d w) (run_part m first) parts part r.1.1 by stands))
 
-newest-more : (m : Timed) (parts : List Part) (part : Part) → newest_after m (parts ++ part ∷ []) ≡ newest_after m parts ++ (run_part (run_parts m parts) part).newest ∷ []
+newest-more : (m : Timed) (parts : List Part) (part : Part) → newest_after m (parts ++ part ∷ []) ≡ newest_after m parts ++ (run_part (run_parts m parts) part).under.log.newest ∷ []
 newest-more m [] part = refl
-newest-more m (first ∷ parts) part = ap (λ (rows : List (Option FlushRow)). (run_part m first).newest ∷ rows) (newest-more (run_part m first) parts part)
+newest-more m (first ∷ parts) part = ap (λ (rows : List (Option FlushRow)). (run_part m first).under.log.newest ∷ rows) (newest-more (run_part m first) parts part)
 
 -- its reply stands behind the others
 replies-more : (start : State) (done : List Command) (c : Command) (w : Standing) (m : Timed) (parts : List Part) (row : Option FlushRow)
@@ -75,7 +75,7 @@ replies-more start [] c w m parts row r =
     subst (λ (ps : List Part). replies_of start (c ∷ []) w (newest_after m ps ++ row ∷ []) ≡ reply_from start keep c w row) (sym r.0) (append-nil (reply_from start keep c w row))
 replies-more start (d ∷ done) c w m [] row r = absurd r
 replies-more start (d ∷ done) c w m (first ∷ parts) row r =
-    let here : List ℕ = reply_from start keep d w (run_part m first).newest in
+    let here : List ℕ = reply_from start keep d w (run_part m first).under.log.newest in
     let next : Standing = next_standing start d w in
     ap (λ (t : List ℕ). here ++ t) (replies-more start done c next (run_part m first) parts row r.1.1)
     ∙ sym (append_assoc here (replies_of start done next (newest_after (run_part m first) parts)) (reply_from start keep c (behind start done next) row))
@@ -87,7 +87,7 @@ replies-front : (start : State) (done : List Command) (w : Standing) (m : Timed)
 replies-front start [] w m parts rows r = refl
 replies-front start (d ∷ done) w m [] rows r = absurd r
 replies-front start (d ∷ done) w m (first ∷ parts) rows r =
-    ap (λ (t : List ℕ). reply_from start keep d w (run_part m first).newest ++ t)
+    ap (λ (t : List ℕ). reply_from start keep d w (run_part m first).under.log.newest ++ t)
     (replies-front start done (next_standing start d w) (run_part m first) parts rows r.1.1)
 
 handed-more : (parts : List Part) (part : Part) → length (handed_in (parts ++ part ∷ [])) ≡ length (handed_in parts) + length (handed_in (part ∷ []))
@@ -370,7 +370,7 @@ module _ {C : Type 0} (gives : Meaning C) (commands : List Command) (n : ℕ) (m
     (c : Command) (last : Rewindable) (after : C) (line : List ℕ) (result : Result (Unit {0}) SinkFailed)
     (s : RepliesSoFar gives commands n m core r between old now f g (Ok tt))
     (at : slice_get commands n ≡ Some c) (d : Done gives c r between last after)
-    (is : line ≡ reply_at c (kept_of r) last.machine.timed.count last.machine.timed.arch last.machine.timed.newest)
+    (is : line ≡ reply_at c (kept_of r) last.machine.timed.count last.machine.timed.arch last.machine.timed.under.log.newest)
     (puts : Puts line now new g h result) where
   abbrev w : Standing
   w = behind m.arch s.done at_start
@@ -394,10 +394,10 @@ module _ {C : Type 0} (gives : Meaning C) (commands : List Command) (n : ℕ) (m
   ends = one.reached ∙ ap (λ (k : Timed). run_part k (part_of one.leg)) begins
 
   abbrev reply : List ℕ
-  reply = reply_from m.arch keep c w last.machine.timed.newest
+  reply = reply_from m.arch keep c w last.machine.timed.under.log.newest
 
   told : line ≡ reply
-  told = is ∙ told_from_start gives m.arch w r between last after s.stands c last.machine.timed.newest d
+  told = is ∙ told_from_start gives m.arch w r between last after s.stands c last.machine.timed.under.log.newest d
 
   all_parts : map part_of (s.legs ++ one.leg ∷ []) ≡ parts ++ part_of one.leg ∷ []
   all_parts = map-append part_of s.legs (one.leg ∷ [])
@@ -411,13 +411,13 @@ module _ {C : Type 0} (gives : Meaning C) (commands : List Command) (n : ℕ) (m
   text : replies_of m.arch (s.done ++ c ∷ []) at_start (newest_after m (parts ++ part_of one.leg ∷ [])) ≡ replies_of m.arch s.done at_start (newest_after m parts) ++ reply
   text =
       ap (replies_of m.arch (s.done ++ c ∷ []) at_start) (newest-more m parts (part_of one.leg))
-      ∙ ap (λ (k : Timed). replies_of m.arch (s.done ++ c ∷ []) at_start (newest_after m parts ++ k.newest ∷ [])) (sym ends)
-      ∙ replies-more m.arch s.done c at_start m parts last.machine.timed.newest s.led
+      ∙ ap (λ (k : Timed). replies_of m.arch (s.done ++ c ∷ []) at_start (newest_after m parts ++ k.under.log.newest ∷ [])) (sym ends)
+      ∙ replies-more m.arch s.done c at_start m parts last.machine.timed.under.log.newest s.led
 
   before_it : replies_of m.arch s.done at_start (newest_after m (parts ++ part_of one.leg ∷ [])) ≡ replies_of m.arch s.done at_start (newest_after m parts)
   before_it =
       ap (replies_of m.arch s.done at_start) (newest-more m parts (part_of one.leg))
-      ∙ replies-front m.arch s.done at_start m parts ((run_part (run_parts m parts) (part_of one.leg)).newest ∷ []) s.led
+      ∙ replies-front m.arch s.done at_start m parts ((run_part (run_parts m parts) (part_of one.leg)).under.log.newest ∷ []) s.led
 
   put_it : Puts reply now new g h result
   put_it = subst (λ (x : List ℕ). Puts x now new g h result) told puts

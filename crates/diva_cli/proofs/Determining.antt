@@ -121,9 +121,9 @@ soak_same gives determined options core after last ended other text same h k =
     let ends : h.second ≡ k.second = last_same (spoiled [] gives) (spoiled_determined gives [] determined) (soak_cycles options.instructions) (new_timed default_config (soak_start options)) h.second k.second core after last i.history j.history i.good j.good i.most j.most i.all j.all in
     let counted : h.first.count ≡ k.first.count = sym h.same.1 ∙ ap (λ (m : Timed). m.count) ends ∙ k.same.1 in
     let cycles : h.first.cycles ≡ k.first.cycles = h.paced ∙ ap (λ n. n + depth) counted ∙ sym k.paced in
-    let flushes : h.first.flushes ≡ k.first.flushes = h.unflushed ∙ sym k.unflushed in
-    let line = line_same soak_core.Scalar h.first.count k.first.count h.first.cycles k.first.cycles h.first.flushes k.first.flushes counted cycles flushes in
+    let flushes : h.first.under.log.flushes ≡ k.first.under.log.flushes = h.unflushed ∙ sym k.unflushed in
+    let line = line_same soak_core.Scalar h.first.count k.first.count h.first.cycles k.first.cycles h.first.under.log.flushes k.first.under.log.flushes counted cycles flushes in
     h.lines ∙ ap (soak_text h.first) ends
-    ∙ ap (λ (l : List ℕ). l ++ soak_line soak_core.Own k.second.count k.second.cycles k.second.flushes ++ end_line_of (end_of k.second.arch.end) ++ output_text k.second.arch.output
+    ∙ ap (λ (l : List ℕ). l ++ soak_line soak_core.Own k.second.count k.second.cycles k.second.under.log.flushes ++ end_line_of (end_of k.second.arch.end) ++ output_text k.second.arch.output
     ++ registers_text k.second.arch.regs k.second.arch.pc) line
     ∙ sym k.lines

@@ -6,7 +6,7 @@ use Rattle.diva_isa.specs.State.{State, goes_on}
 use Rattle.diva_isa.specs.Step.{steps}
 use Rattle.diva_isa.specs.declared.record.Record.{Record}
 use Rattle.diva_args.specs.declared.job.LanePlace.{LanePlace}
-use Rattle.diva_core.specs.Timed.{Timed, Config, depth, new_timed}
+use Rattle.diva_core.specs.Timed.{Log, Timed, Config, depth, new_timed}
 use Rattle.diva_core.specs.Cycle.{cycle_of, run_of}
 use Rattle.diva_core.specs.History.{Meaning, IsHistory, FollowRule}
 use Rattle.std.proofs.lemmas.Bool.{true≢false}
@@ -61,7 +61,7 @@ use Rattle.diva_cli.specs.Parts.{IsReady, WritesWhole, WritesPart, core_for}
 no_flush : (z : Config) (s : State) (lists : List (List Record)) (last : Timed) → IsConfig z → s.instret ≡ 0 → last ≡ run_of (new_timed z s) lists → AreRight (new_timed z s) lists → IsUnflushed last
 no_flush z s lists last ok none led right =
     let c = run_calm (new_timed z s) lists (new-machine z s ok none) (new_calm z s ok) right in
-    subst IsUnflushed (sym led) (record { flushes = c.flushes; silent = c.silent })
+    subst IsUnflushed (sym led) (record { flushes = ap (λ (l : Log). l.flushes) c.log; silent = ap (λ (l : Log). l.silent) c.log })
 
 -- lists that follow a rule follow another that gives the same
 pub follow_same : (rule other : Timed → List Record) → ((m : Timed) → rule m ≡ other m) → (m : Timed) (lists : List (List Record)) → FollowRule rule m lists → FollowRule other m lists

@@ -8,7 +8,7 @@ use Rattle.diva_core.specs.Headline.{AddsRows, AreCommitted, HasPace, KeepsPace}
 use Rattle.diva_core.specs.Legs.{AreLegs, EachPart, Handed, Leg, OfLists, Part, TakenBack, Turned, WentBack, core_behind, handed_in, part_of, run_parts}
 use Rattle.diva_core.specs.Machine.{IsConfig, IsMachine}
 use Rattle.diva_core.specs.Right.{AreRight}
-use Rattle.diva_core.specs.Timed.{Timed, new_timed}
+use Rattle.diva_core.specs.Timed.{Log, Timed, new_timed}
 use Rattle.diva_core.specs.Told.{Told, told_of}
 use Rattle.diva_core.specs.Undone.{undone_all}
 use Rattle.diva_core.proofs.Adding.{run-adds}
@@ -294,7 +294,7 @@ session_from_start gives setup cycles tape script start core last after ok zero 
     let inv : IsMachine first = new-machine setup.config start ok zero in
     let unflushed : EachPart (OfLists AreRight) first d.parts → IsUnflushed last = λ right.
     let c = parts_calm first d.parts inv good (new_calm setup.config start ok) right in
-    subst IsUnflushed (sym d.ran) (record { flushes = c.flushes; silent = c.silent }) in
+    subst IsUnflushed (sym d.ran) (record { flushes = ap (λ (l : Log). l.flushes) c.log; silent = ap (λ (l : Log). l.silent) c.log }) in
     record {
       driven = d;
       committed = each_part AreCommitted are_committed first d.parts inv good;

@@ -56,10 +56,10 @@ is_same first last =
     && (last.arch.pc == first.arch.pc))))
 
 abbrev pub has_flush : Timed → Bool
-has_flush last = nat_lt 0 last.flushes
+has_flush last = nat_lt 0 last.under.log.flushes
 
 abbrev pub has_silent_flush : Timed → Bool
-has_silent_flush last = nat_lt 0 last.silent
+has_silent_flush last = nat_lt 0 last.under.log.silent
 
 -- how many runs there are, and of how many each of these holds
 abbrev pub tally_of : (first : Timed) → List Timed → Tally

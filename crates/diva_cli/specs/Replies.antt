@@ -69,7 +69,7 @@ AreLed start (command ∷ commands) w m (part ∷ parts) =
 -- the newest flush behind each part
 abbrev pub newest_after : Timed → List Part → List (Option FlushRow)
 newest_after m [] = []
-newest_after m (part ∷ parts) = (run_part m part).newest ∷ newest_after (run_part m part) parts
+newest_after m (part ∷ parts) = (run_part m part).under.log.newest ∷ newest_after (run_part m part) parts
 
 -- the most cycles of n commands: a million steps each, and W + 6 cycles a step, W being the watchdog's limit
 abbrev pub cycles_of : (n limit : ℕ) → ℕ

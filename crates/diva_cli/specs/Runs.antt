@@ -29,8 +29,8 @@ use Rattle.diva_cli.specs.Driven.{IsDriven}
 
 -- the machine was never flushed
 pub record IsUnflushed (m : Timed) : Type 0 where
-  pub flushes : m.flushes ≡ 0
-  pub silent : m.silent ≡ 0
+  pub flushes : m.under.log.flushes ≡ 0
+  pub silent : m.under.log.silent ≡ 0
 
 -- ---- a run
 

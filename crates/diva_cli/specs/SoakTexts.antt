@@ -48,6 +48,6 @@ pub record HasSoaked {C : Type 0} (gives : Meaning C) (options : SoakOptions) (c
   pub same : (second.arch ≡ first.arch) × (second.count ≡ first.count)
   -- the first counts an instruction in each cycle but the first six, and is never flushed
   pub paced : first.cycles ≡ first.count + depth
-  pub unflushed : first.flushes ≡ 0
+  pub unflushed : first.under.log.flushes ≡ 0
   pub lines : text ≡ soak_text first second
   pub whole : IfOk ended (λ s. s ≡ 0)

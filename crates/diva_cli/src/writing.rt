@@ -97,7 +97,7 @@ pub(crate) fn write_soaked<S: Sink>(
 
 /// The line of a run of `soak`.
 fn counts_line(core: SoakCore, machine: &Machine) -> Line
-    ensures { result ≡ soak_line core machine.now.timed.count machine.now.timed.cycles machine.now.timed.flushes }
+    ensures { result ≡ soak_line core machine.now.timed.count machine.now.timed.cycles machine.now.timed.under.log.flushes }
 {
     soak_line(core, machine.count(), machine.cycles(), machine.flushes())
 }

@@ -1,6 +1,6 @@
 -- The rows that many cycles add to the log.
 use Rattle.std.specs.List.{All}
-use Rattle.std.proofs.Common.{◌≡◌, ℕ, zero, suc, ◌+◌, ◌-◌, ◌<◌, ◌≤◌, Bool, List, [], ◌∷◌, ◌++◌, length, take, get_or, Option, Some, refl, ap, sym, ◌∙◌, arith, ◌⊎◌, inl, inr, length-append, length-take, append-nil, append_assoc, if◌then◌else◌}
+use Rattle.std.proofs.Common.{◌≡◌, ℕ, zero, suc, ◌+◌, ◌-◌, ◌<◌, ◌≤◌, Bool, List, [], ◌∷◌, ◌++◌, length, take, get_or, Option, Some, refl, ap, sym, subst, ◌∙◌, arith, ◌⊎◌, inl, inr, length-append, length-take, append-nil, append_assoc, if◌then◌else◌}
 use Rattle.std.specs.Prelude.{nat_lt, count_by}
 use Rattle.std.proofs.lemmas.Bool.{cond_both, cases_lt, ltb-true, ltb-false}
 use Rattle.std.proofs.lemmas.List.{take-append-le, take_all}
@@ -21,31 +21,11 @@ use Rattle.diva_core.proofs.Steps.{steps-add}
 use Rattle.diva_core.proofs.Outcomes.{logs, rises}
 use Rattle.diva_core.proofs.Keeping.{stays}
 use Rattle.diva_core.proofs.Progressing.{same-config}
+use Rattle.diva_core.proofs.Rows.{no_rows, one_row, rows_then}
 
 all-one : (P : FlushRow → Type 0) (row : FlushRow) → P row → (k : ℕ) (d : FlushRow) → k < 1 → P (get_or (row ∷ []) k d)
 all-one P row p zero d h = p
 all-one P row p (suc k) d h = absurd (omega arith)
-
-count-append : (p : FlushRow → Bool) (xs ys : List FlushRow) → count_by p (xs ++ ys) ≡ count_by p xs + count_by p ys
-count-append p xs ys = sum_by-append (λ x. if p x then 1 else 0) xs ys
-
-newest-append : (before : Option FlushRow) (xs ys : List FlushRow) → newest_of before (xs ++ ys) ≡ newest_of (newest_of before xs) ys
-newest-append before [] ys = refl
-newest-append before (x ∷ xs) ys = newest-append (Some x) xs ys
-
--- what was kept of the first is kept of both
-take-twice : (n : ℕ) (xs ys : List FlushRow) → take n (take n xs ++ ys) ≡ take n (xs ++ ys)
-take-twice n xs ys =
-    elim (cases_lt (length xs) n) [
-      | inl h ↦ ap (λ zs. take n (zs ++ ys)) (take_all n xs (omega arith))
-      | inr h ↦ take-append-le n (take n xs) ys (rw length-take (omega arith)) ∙ take_all n (take n xs) (rw length-take (omega arith)) ∙ sym (take-append-le n xs ys h)
-    ]
-
-kept-take : (rows : List FlushRow) (row : FlushRow) → length rows ≤ rows_kept → kept rows row ≡ take rows_kept (rows ++ row ∷ [])
-kept-take rows row few =
-    cond_both (nat_lt (length rows) rows_kept) _ _ (λ z. z ≡ take rows_kept (rows ++ row ∷ []))
-    (λ t. let l = ltb-true (length rows) rows_kept t in sym (take_all rows_kept (rows ++ row ∷ []) (rw length-append (omega arith))))
-    (λ f. let l = ltb-false (length rows) rows_kept f in sym (take-append-le rows_kept rows (row ∷ []) (omega arith) ∙ take_all rows_kept rows few))
 
 cause-since : (m last : Timed) (at : ℕ) (cause : Cause) → at ≡ last.count → IsCause m last cause → HasCause m.arch m.config.limit (at - m.count) cause
 cause-since m last at (Differs d) e c =
@@ -56,41 +36,6 @@ cause-since m last at (Silent limit) e c = c.0
 row-since : (m last : Timed) (row : FlushRow) → Rises m last → IsRowOf m last row → IsRowSince m row
 row-since m last row r a =
     record { later = (let e = a.at in let c = r.counted in omega arith); caused = cause-since m last row.at row.cause a.at a.caused }
-
--- ---- what stands in the log
-
-same-has : (m last : Timed) → length m.rows ≤ rows_kept → SameLog m last → HasRows m [] last
-same-has m last few s =
-    record {
-      rows = s.rows ∙ sym (ap (take rows_kept) (append-nil m.rows) ∙ take_all rows_kept m.rows few);
-      newest = s.newest;
-      flushes = s.flushes ∙ (omega arith);
-      silent = s.silent ∙ (omega arith);
-    }
-
-silent-one : (row : FlushRow) → number (is_silent row.cause) ≡ count_by is_silent_row (row ∷ [])
-silent-one row = go (is_silent row.cause)
-  where
-    go : (b : Bool) → (if b then 1 else 0) ≡ 0 + (if b then 1 else 0)
-    go b = omega arith
-
-one-has : (m last : Timed) (row : FlushRow) → length m.rows ≤ rows_kept → IsRowOf m last row → HasRows m (row ∷ []) last
-one-has m last row few a =
-    record {
-      rows = a.has.rows ∙ kept-take m.rows row few;
-      newest = a.has.newest;
-      flushes = a.has.flushes;
-      silent = a.has.silent ∙ ap (λ k. m.silent + k) (silent-one row);
-    }
-
-HasRows-trans : (m mid last : Timed) (first more : List FlushRow) → HasRows m first mid → HasRows mid more last → HasRows m (first ++ more) last
-HasRows-trans m mid last first more a b =
-    record {
-      rows = b.rows ∙ ap (λ xs. take rows_kept (xs ++ more)) a.rows ∙ take-twice rows_kept (m.rows ++ first) more ∙ ap (take rows_kept) (append_assoc m.rows first more);
-      newest = b.newest ∙ ap (λ o. newest_of o more) a.newest ∙ sym (newest-append m.newest first more);
-      flushes = rw length-append (let e = a.flushes in let f = b.flushes in omega arith);
-      silent = rw count-append (let e = a.silent in let f = b.silent in omega arith);
-    }
 
 -- ---- told from an earlier machine
 
@@ -126,7 +71,7 @@ run-more m list rest last inv (inl s) later =
       added = later.added;
       each = rows-same m list rest later.added s later.each;
       since = all-before m (cycle_of m list) later.added (rises m list inv) (ap (λ z. z.limit) (same-config m list inv)) later.since;
-      has = HasRows-trans m (cycle_of m list) last [] later.added (same-has m (cycle_of m list) inv.rows s) later.has;
+      has = rows_then m.under.log (cycle_of m list).under.log last.under.log [] later.added (subst (HasRows m.under.log []) (sym s) (no_rows m.under.log inv.rows)) later.has;
     }
 run-more m list rest last inv (inr a) later =
     record {
@@ -135,10 +80,10 @@ run-more m list rest last inv (inr a) later =
       since = All-append (IsRowSince m) (a.row ∷ []) later.added
           (all-one (IsRowSince m) a.row (row-since m (cycle_of m list) a.row (rises m list inv) a.is))
           (all-before m (cycle_of m list) later.added (rises m list inv) (ap (λ z. z.limit) (same-config m list inv)) later.since);
-      has = HasRows-trans m (cycle_of m list) last (a.row ∷ []) later.added (one-has m (cycle_of m list) a.row inv.rows a.is) later.has;
+      has = rows_then m.under.log (cycle_of m list).under.log last.under.log (a.row ∷ []) later.added (subst (HasRows m.under.log (a.row ∷ [])) (sym a.is.has) (one_row m.under.log a.row inv.rows)) later.has;
     }
 
 pub run-adds : (lists : List (List Record)) (m : Timed) → IsMachine m → AddsRows m lists (run_of m lists)
 run-adds [] m inv =
-    record { added = []; each = refl; since = λ k d h. absurd (omega arith); has = same-has m m inv.rows (record { rows = refl; newest = refl; flushes = refl; silent = refl }) }
+    record { added = []; each = refl; since = λ k d h. absurd (omega arith); has = no_rows m.under.log inv.rows }
 run-adds (list ∷ rest) m inv = run-more m list rest _ inv (logs m list inv) (run-adds rest (cycle_of m list) (stays m list inv))

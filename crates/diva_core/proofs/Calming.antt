@@ -54,15 +54,15 @@ claims-taken c (p ∷ xs) = ap (λ r. p ∷ r) (claims-taken c xs)
 -- what waits after a cycle is due
 AreDueFrom-more :
     (b : Timed) (list : List Record) (k : ℕ) (rest : List PendingClaim)
-    → Commits k b.arch (b.cycles + 1) b.pending rest
-    → AreDueFrom b.arch (map claim_of b.pending)
-    → AreDueFrom (steps (length b.pending) b.arch) (take (room_of b) list)
+    → Commits k b.arch (b.cycles + 1) b.under.pending rest
+    → AreDueFrom b.arch (map claim_of b.under.pending)
+    → AreDueFrom (steps (length b.under.pending) b.arch) (take (room_of b) list)
     → AreDueFrom (steps k b.arch) (map claim_of (rest ++ taken b list))
 AreDueFrom-more b list k rest h a r =
-    rw (map-append, claims-taken) (AreDueFrom-append (steps k b.arch) (map claim_of rest) (take (room_of b) list) (AreDueFrom-commits k b.arch (b.cycles + 1) b.pending rest h a) (subst (λ t. AreDueFrom t (take (room_of b) list)) (ap (λ n. steps n b.arch) (lengths k rest h) ∙ steps-add k (length rest) b.arch ∙ ap (λ n. steps n (steps k b.arch)) (sym (length-map rest claim_of))) r))
+    rw (map-append, claims-taken) (AreDueFrom-append (steps k b.arch) (map claim_of rest) (take (room_of b) list) (AreDueFrom-commits k b.arch (b.cycles + 1) b.under.pending rest h a) (subst (λ t. AreDueFrom t (take (room_of b) list)) (ap (λ n. steps n b.arch) (lengths k rest h) ∙ steps-add k (length rest) b.arch ∙ ap (λ n. steps n (steps k b.arch)) (sym (length-map rest claim_of))) r))
   where
-    lengths : (k : ℕ) (rest : List PendingClaim) → Commits k b.arch (b.cycles + 1) b.pending rest → length b.pending ≡ k + length rest
-    lengths k rest h = let e = length-commits k b.arch (b.cycles + 1) b.pending rest h in omega arith
+    lengths : (k : ℕ) (rest : List PendingClaim) → Commits k b.arch (b.cycles + 1) b.under.pending rest → length b.under.pending ≡ k + length rest
+    lengths k rest h = let e = length-commits k b.arch (b.cycles + 1) b.under.pending rest h in omega arith
 
 -- the wait of a machine in which the front claim was accepted in the past
 wait-most : (m : Timed) (xs : List PendingClaim) → IsConfig m.config → ArePast m.cycles xs → wait_by m xs ≤ depth + most_config.port
@@ -74,9 +74,9 @@ wait-most m (p ∷ xs) ok a =
     omega (arith, near.1)
 
 -- a calm machine flushes for no claim
-pub no-difference : (b n : Timed) (d : Differed stores_wait b n) → AreDueFrom b.arch (map claim_of b.pending) → ⊥
+pub no-difference : (b n : Timed) (d : Differed stores_wait b n) → AreDueFrom b.arch (map claim_of b.under.pending) → ⊥
 no-difference b n r a =
-    let front : AreDueFrom (steps r.k b.arch) (map claim_of (r.p ∷ r.rest)) = AreDueFrom-commits r.k b.arch (b.cycles + 1) b.pending (r.p ∷ r.rest) r.claims a in
+    let front : AreDueFrom (steps r.k b.arch) (map claim_of (r.p ∷ r.rest)) = AreDueFrom-commits r.k b.arch (b.cycles + 1) b.under.pending (r.p ∷ r.rest) r.claims a in
     let same : r.p.claim ≡ record_of (steps r.k b.arch) = front.0 (ap goes_on (sym r.base.stepped) ∙ r.on) in
     let differs = difference-some r.p.claim (record_of n.arch) r.d r.first in
     differs.differ (differs.claims ∙ ap (field_of r.d.field) (same ∙ ap record_of (sym r.base.stepped)) ∙ sym differs.dues)
@@ -121,9 +121,9 @@ wait-after :
     → n.config.port ≡ b.config.port
     → n.cycles ≡ b.cycles + 1
     → NotYet b xs
-    → (xs ≡ [] → zs ≡ [] → b.idle + (depth + b.config.port) < limit)
-    → b.idle + wait_by b xs ≤ limit
-    → b.idle + 1 + wait_by n (xs ++ map (accepted_in (b.cycles + 1)) zs) ≤ limit
+    → (xs ≡ [] → zs ≡ [] → b.under.idle + (depth + b.config.port) < limit)
+    → b.under.idle + wait_by b xs ≤ limit
+    → b.under.idle + 1 + wait_by n (xs ++ map (accepted_in (b.cycles + 1)) zs) ≤ limit
 wait-after b n [] [] limit ok same c late empty w = let h = empty refl refl in omega arith
 wait-after b n [] (z ∷ zs) limit ok same c late empty w =
     let ready : max (n.cycles + 1) (b.cycles + 1 + depth) ≡ b.cycles + 7 = omega arith in
@@ -133,7 +133,7 @@ wait-after b n (p ∷ xs) zs limit ok same c late empty w =
     let on = wait-on (b.cycles + 1) (p.cycle + depth) b.config.port ok.port_low ok.port_high (late p xs refl) in
     rw (same, c) (omega (arith, on.0, on.1))
 
-pub room-some : (b : Timed) → IsMachine b → b.solo ≡ None → goes_on b.arch ≡ true → b.pending ≡ [] → 1 ≤ room_of b
+pub room-some : (b : Timed) → IsMachine b → b.under.solo ≡ None → goes_on b.arch ≡ true → b.under.pending ≡ [] → 1 ≤ room_of b
 room-some b inv none on e = rw (none, on, e) (let w = inv.config.width_low in let q = inv.config.window_low in omega arith)
 
 pub take-none : (r : ℕ) (list : List Record) → 1 ≤ r → take r list ≡ [] → list ≡ []
@@ -141,17 +141,17 @@ take-none zero list h e = absurd (omega arith)
 take-none (suc r) [] h e = refl
 take-none (suc r) (p ∷ list) h e = absurd (grind arith)
 
-due-is : (b : Timed) → IsMachine b → b.solo ≡ None → goes_on b.arch ≡ true → b.pending ≡ [] → b.config.limit ≤ b.idle + (depth + b.config.port) → is_due b ≡ true
-due-is b inv none on e h = rw (le-leb b.config.limit (b.idle + (depth + b.config.port)) h, lt-ltb 0 (room_of b) (room-some b inv none on e), e) refl
+due-is : (b : Timed) → IsMachine b → b.under.solo ≡ None → goes_on b.arch ≡ true → b.under.pending ≡ [] → b.config.limit ≤ b.under.idle + (depth + b.config.port) → is_due b ≡ true
+due-is b inv none on e h = rw (le-leb b.config.limit (b.under.idle + (depth + b.config.port)) h, lt-ltb 0 (room_of b) (room-some b inv none on e), e) refl
 
-not-due : (b : Timed) (list : List Record) → IsMachine b → goes_on b.arch ≡ true → b.solo ≡ None → IsRight b list → b.pending ≡ [] → take (room_of b) list ≡ [] → b.idle + (depth + b.config.port) < b.config.limit
+not-due : (b : Timed) (list : List Record) → IsMachine b → goes_on b.arch ≡ true → b.under.solo ≡ None → IsRight b list → b.under.pending ≡ [] → take (room_of b) list ≡ [] → b.under.idle + (depth + b.config.port) < b.config.limit
 not-due b list inv on none right e t =
-    elim (cases_lt (b.idle + (depth + b.config.port)) b.config.limit) [
+    elim (cases_lt (b.under.idle + (depth + b.config.port)) b.config.limit) [
       | inl h ↦ h
       | inr h ↦ absurd (right.prompt (due-is b inv none on e h) (take-none (room_of b) list (room-some b inv none on e) t))
     ]
 
-pub not-yet : (b : Timed) → IsMachine b → b.solo ≡ None → Unjudged stores_wait b → NotYet b b.pending
+pub not-yet : (b : Timed) → IsMachine b → b.under.solo ≡ None → Unjudged stores_wait b → NotYet b b.under.pending
 not-yet b inv none u p rest e = not_yet b p rest inv none e u
 
 calm-cases : (b : Timed) (list : List Record) (n : Timed) → IsMachine b → IsMachine n → goes_on b.arch ≡ true → IsCalmRunning b → IsRight b list → Cycled stores_wait b list n → StaysCalm b n
@@ -160,48 +160,46 @@ calm-cases b list n inv after on quiet right (idled r) =
     record {
       calm = λ still. record {
         running = r.solo;
-        claims = due_at _ _ (AreDueFrom-at n.arch b.arch n.pending (b.pending ++ taken b list) r.base.stepped r.pending (AreDueFrom-more b list 0 b.pending refl (due_from _ _ quiet.claims) (due_from _ _ right.claims)));
-        waits = rw (r.idle, r.pending, l) (wait-after b n b.pending (take (room_of b) list) b.config.limit inv.config (ap (λ z. z.port) r.base.config) r.base.cycles (not-yet b inv r.was r.unjudged) (not-due b list inv on r.was right) quiet.waits);
+        claims = due_at _ _ (AreDueFrom-at n.arch b.arch n.under.pending (b.under.pending ++ taken b list) r.base.stepped r.pending (AreDueFrom-more b list 0 b.under.pending refl (due_from _ _ quiet.claims) (due_from _ _ right.claims)));
+        waits = rw (r.idle, r.pending, l) (wait-after b n b.under.pending (take (room_of b) list) b.config.limit inv.config (ap (λ z. z.port) r.base.config) r.base.cycles (not-yet b inv r.was r.unjudged) (not-due b list inv on r.was right) quiet.waits);
       };
-      flushes = r.log.flushes;
-      silent = r.log.silent;
+      log = r.log;
     }
 calm-cases b list n inv after on quiet right (ran r) =
-    let most = wait-most n n.pending after.config after.past in
+    let most = wait-most n n.under.pending after.config after.past in
     let low = after.config.limit_low in
     record {
       calm = λ still. record {
         running = r.solo;
-        claims = due_at _ _ (AreDueFrom-at n.arch (steps (suc r.k) b.arch) n.pending (r.rest ++ taken b list) r.base.stepped r.pending (AreDueFrom-more b list (suc r.k) r.rest r.claims (due_from _ _ quiet.claims) (due_from _ _ right.claims)));
+        claims = due_at _ _ (AreDueFrom-at n.arch (steps (suc r.k) b.arch) n.under.pending (r.rest ++ taken b list) r.base.stepped r.pending (AreDueFrom-more b list (suc r.k) r.rest r.claims (due_from _ _ quiet.claims) (due_from _ _ right.claims)));
         waits = (let i = r.idle in omega arith);
       };
-      flushes = r.log.flushes;
-      silent = r.log.silent;
+      log = r.log;
     }
 calm-cases b list n inv after on quiet right (barks r) =
-    absurd (let w = quiet.waits in let two = wait-least b b.pending inv.config (not-yet b inv r.was r.unjudged) in let i = r.idle in let late = r.late in omega arith)
+    absurd (let w = quiet.waits in let two = wait-least b b.under.pending inv.config (not-yet b inv r.was r.unjudged) in let i = r.idle in let late = r.late in omega arith)
 calm-cases b list n inv after on quiet right (differed r) = absurd (no-difference b n r (due_from _ _ quiet.claims))
-calm-cases b list n inv after on quiet right (ended r) = record { calm = λ still. absurd (true≢false (sym still ∙ r.off)); flushes = r.log.flushes; silent = r.log.silent }
+calm-cases b list n inv after on quiet right (ended r) = record { calm = λ still. absurd (true≢false (sym still ∙ r.off)); log = r.log }
 calm-cases b list n inv after on quiet right (finished r) = absurd (none-some _ (sym quiet.running ∙ r.since))
 calm-cases b list n inv after on quiet right (waited r) = absurd (none-some _ (sym quiet.running ∙ r.since))
 
 pub stays_calm : (m : Timed) (list : List Record) → IsMachine m → IsCalm m → IsRight m list → StaysCalm m (cycle_of m list)
 stays_calm m list inv calm right =
-    by-cases (StaysCalm m) m list inv (λ on c. calm-cases m list _ inv (stays m list inv) on (calm on) right c) (λ off. record { calm = calm; flushes = refl; silent = refl })
+    by-cases (StaysCalm m) m list inv (λ on c. calm-cases m list _ inv (stays m list inv) on (calm on) right c) (λ off. record { calm = calm; log = refl })
 
 -- what is left when the instruction that ran solo commits
 pub record Fresh (n : Timed) : Type 0 where
   pub calm : IsCalm n
-  pub pending : n.pending ≡ []
+  pub pending : n.under.pending ≡ []
 
-fresh-cases : (b : Timed) (list : List Record) (n : Timed) (start : ℕ) → IsMachine n → b.solo ≡ Some start → b.cycles + 1 ≡ start + depth → Cycled stores_wait b list n → Fresh n
+fresh-cases : (b : Timed) (list : List Record) (n : Timed) (start : ℕ) → IsMachine n → b.under.solo ≡ Some start → b.cycles + 1 ≡ start + depth → Cycled stores_wait b list n → Fresh n
 fresh-cases b list n start after some sixth (idled r) = absurd (none-some _ (sym r.was ∙ some))
 fresh-cases b list n start after some sixth (ran r) = absurd (none-some _ (sym r.was ∙ some))
 fresh-cases b list n start after some sixth (barks r) = absurd (none-some _ (sym r.was ∙ some))
 fresh-cases b list n start after some sixth (differed r) = absurd (none-some _ (sym r.was ∙ some))
 fresh-cases b list n start after some sixth (ended r) = absurd (none-some _ (sym r.was ∙ some))
 fresh-cases b list n start after some sixth (finished r) =
-    let most = wait-most n n.pending after.config after.past in
+    let most = wait-most n n.under.pending after.config after.past in
     let low = after.config.limit_low in
     record {
       calm = λ still. record { running = r.solo; claims = due_at _ _ (subst (λ xs. AreDueFrom n.arch (map claim_of xs)) (sym r.pending) tt); waits = (let i = r.idle in omega arith) };
@@ -209,5 +207,5 @@ fresh-cases b list n start after some sixth (finished r) =
     }
 fresh-cases b list n start after some sixth (waited r) = absurd (r.early (sixth ∙ ap (λ z. z + depth) (same_Some _ _ (sym some ∙ r.since))))
 
-pub solo_fresh : (m : Timed) (list : List Record) (start : ℕ) → IsMachine m → goes_on m.arch ≡ true → m.solo ≡ Some start → m.cycles + 1 ≡ start + depth → Fresh (cycle_of m list)
+pub solo_fresh : (m : Timed) (list : List Record) (start : ℕ) → IsMachine m → goes_on m.arch ≡ true → m.under.solo ≡ Some start → m.cycles + 1 ≡ start + depth → Fresh (cycle_of m list)
 solo_fresh m list start inv on some sixth = fresh-cases m list _ start (stays m list inv) some sixth (cycled m list inv on)

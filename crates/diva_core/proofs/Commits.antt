@@ -16,11 +16,11 @@ Commits (suc k) s cycle (p ∷ waiting) rest = (p.claim ≡ record_of s) × (p.c
 -- what commits between two machines are claims, or one instruction that ran solo
 pub record CommitsClaims (m last : Timed) : Type 0 where
   pub rest : List PendingClaim
-  pub commits : Commits (last.count - m.count) m.arch (m.cycles + 1) m.pending rest
+  pub commits : Commits (last.count - m.count) m.arch (m.cycles + 1) m.under.pending rest
 
 pub record CommitsItself (m last : Timed) : Type 0 where
   pub start : ℕ
-  pub since : m.solo ≡ Some start
+  pub since : m.under.solo ≡ Some start
   pub sixth : m.cycles + 1 ≡ start + depth
   pub one : last.count ≡ m.count + 1
 
@@ -39,5 +39,5 @@ Commits-dues (suc k) s c [] rest h = h
 Commits-dues (suc k) s c (p ∷ xs) rest h = (h.0, h.1, Commits-dues k (step s) c xs rest h.2)
 
 pub commits-records : (m last : Timed) → CommitsClaims m last ⊎ CommitsItself m last → ByClaims m (dues (last.count - m.count) m.arch) ⊎ BySolo m (dues (last.count - m.count) m.arch)
-commits-records m last (inl c) = inl (record { rest = c.rest; claims = Commits-dues (last.count - m.count) m.arch (m.cycles + 1) m.pending c.rest c.commits })
+commits-records m last (inl c) = inl (record { rest = c.rest; claims = Commits-dues (last.count - m.count) m.arch (m.cycles + 1) m.under.pending c.rest c.commits })
 commits-records m last (inr i) = inr (record { start = i.start; since = i.since; passed = i.sixth; one = length-dues (last.count - m.count) m.arch ∙ (let e = i.one in omega arith) })

@@ -9,7 +9,7 @@ use Rattle.diva_core.specs.declared.flushes.Cause.{Cause}
 use Rattle.diva_core.specs.declared.flushes.Cause.TheVariants.{Differs, Silent}
 use Rattle.diva_core.specs.Difference.{first_difference}
 use Rattle.diva_isa.specs.State.{goes_on}
-use Rattle.diva_core.specs.Timed.{Timed, PendingClaim, room_of, depth}
+use Rattle.diva_core.specs.Timed.{Log, Timed, PendingClaim, room_of, depth}
 use Rattle.diva_core.specs.Cycle.{Rule, accepted, accepted_in, accepts, barked, begun, commits_under, counted, cycle_of, cycle_under, drained, flushed, port_opens, stores_wait, watched}
 use Rattle.diva_core.specs.Machine.{IsMachine, Lives, IsSolo}
 use Rattle.diva_core.specs.Headline.{SameLog, HasRow}
@@ -30,7 +30,7 @@ module _ (rule : Rule) where
   -- what each way has in common, after k commits
   pub record Base (b n : Timed) (k : ℕ) : Type 0 where
     pub config : n.config ≡ b.config
-    pub undos : n.undos ≡ b.undos
+    pub undos : n.under.undos ≡ b.under.undos
     pub cycles : n.cycles ≡ b.cycles + 1
     pub counted : n.count ≡ b.count + k
     pub stepped : n.arch ≡ steps k b.arch
@@ -42,42 +42,42 @@ module _ (rule : Rule) where
   -- the commit phase neither counts nor flushes
   pub record Unjudged (b : Timed) : Type 0 where
     pub count : (commits_under rule (drained (begun b))).count ≡ b.count
-    pub flushes : (commits_under rule (drained (begun b))).flushes ≡ b.flushes
+    pub flushes : (commits_under rule (drained (begun b))).under.log.flushes ≡ b.under.log.flushes
 
   -- nothing commits, and the watchdog is silent
   pub record Idled (b : Timed) (list : List Record) (n : Timed) : Type 0 where
     pub base : Base b n 0
     pub log : SameLog b n
-    pub was : b.solo ≡ None
-    pub solo : n.solo ≡ None
-    pub idle : n.idle ≡ b.idle + 1
-    pub early : n.idle < b.config.limit
+    pub was : b.under.solo ≡ None
+    pub solo : n.under.solo ≡ None
+    pub idle : n.under.idle ≡ b.under.idle + 1
+    pub early : n.under.idle < b.config.limit
     pub unjudged : Unjudged b
-    pub pending : n.pending ≡ b.pending ++ taken b list
+    pub pending : n.under.pending ≡ b.under.pending ++ taken b list
 
   -- claims commit, and the machine goes on
   pub record Ran (b : Timed) (list : List Record) (n : Timed) : Type 0 where
     pub k : ℕ
     pub base : Base b n (suc k)
     pub log : SameLog b n
-    pub was : b.solo ≡ None
-    pub solo : n.solo ≡ None
-    pub idle : n.idle ≡ 0
+    pub was : b.under.solo ≡ None
+    pub solo : n.under.solo ≡ None
+    pub idle : n.under.idle ≡ 0
     pub rest : List PendingClaim
-    pub claims : Commits (suc k) b.arch (b.cycles + 1) b.pending rest
-    pub pending : n.pending ≡ rest ++ taken b list
+    pub claims : Commits (suc k) b.arch (b.cycles + 1) b.under.pending rest
+    pub pending : n.under.pending ≡ rest ++ taken b list
     pub on : goes_on n.arch ≡ true
 
   -- nothing commits, and the watchdog flushes
   pub record Barked (b n : Timed) : Type 0 where
     pub base : Base b n 0
     pub log : HasRow b n (record { cycle = b.cycles + 1; at = n.count; cause = Silent b.config.limit })
-    pub was : b.solo ≡ None
-    pub solo : n.solo ≡ Some (b.cycles + 1)
-    pub idle : n.idle ≡ b.idle + 1
-    pub late : b.config.limit ≤ n.idle
+    pub was : b.under.solo ≡ None
+    pub solo : n.under.solo ≡ Some (b.cycles + 1)
+    pub idle : n.under.idle ≡ b.under.idle + 1
+    pub late : b.config.limit ≤ n.under.idle
     pub unjudged : Unjudged b
-    pub pending : n.pending ≡ []
+    pub pending : n.under.pending ≡ []
 
   -- a claim differs
   pub record Differed (b n : Timed) : Type 0 where
@@ -89,11 +89,11 @@ module _ (rule : Rule) where
     pub log : HasRow b n (record { cycle = b.cycles + 1; at = n.count; cause = Differs d })
     pub first : first_difference p.claim (record_of n.arch) ≡ Some d
     pub ready : p.cycle + depth ≤ b.cycles + 1
-    pub claims : Commits k b.arch (b.cycles + 1) b.pending (p ∷ rest)
-    pub was : b.solo ≡ None
-    pub solo : n.solo ≡ Some (b.cycles + 1)
-    pub idle : n.idle ≤ b.idle + 1
-    pub pending : n.pending ≡ []
+    pub claims : Commits k b.arch (b.cycles + 1) b.under.pending (p ∷ rest)
+    pub was : b.under.solo ≡ None
+    pub solo : n.under.solo ≡ Some (b.cycles + 1)
+    pub idle : n.under.idle ≤ b.under.idle + 1
+    pub pending : n.under.pending ≡ []
     pub on : goes_on n.arch ≡ true
 
   -- a claim commits that ends the machine
@@ -102,35 +102,35 @@ module _ (rule : Rule) where
     pub base : Base b n (suc k)
     pub log : SameLog b n
     pub rest : List PendingClaim
-    pub claims : Commits (suc k) b.arch (b.cycles + 1) b.pending rest
-    pub was : b.solo ≡ None
-    pub solo : n.solo ≡ None
-    pub idle : n.idle ≡ 0
-    pub pending : n.pending ≡ []
+    pub claims : Commits (suc k) b.arch (b.cycles + 1) b.under.pending rest
+    pub was : b.under.solo ≡ None
+    pub solo : n.under.solo ≡ None
+    pub idle : n.under.idle ≡ 0
+    pub pending : n.under.pending ≡ []
     pub went : goes_on (steps k b.arch) ≡ true
     pub off : goes_on n.arch ≡ false
 
   -- the instruction that ran solo commits
   pub record Finished (b n : Timed) : Type 0 where
     pub start : ℕ
-    pub since : b.solo ≡ Some start
+    pub since : b.under.solo ≡ Some start
     pub sixth : b.cycles + 1 ≡ start + depth
     pub base : Base b n 1
     pub log : SameLog b n
-    pub solo : n.solo ≡ None
-    pub idle : n.idle ≡ 0
-    pub pending : n.pending ≡ []
+    pub solo : n.under.solo ≡ None
+    pub idle : n.under.idle ≡ 0
+    pub pending : n.under.pending ≡ []
 
   -- an instruction runs on solo
   pub record Waited (b n : Timed) : Type 0 where
     pub start : ℕ
-    pub since : b.solo ≡ Some start
+    pub since : b.under.solo ≡ Some start
     pub early : b.cycles + 1 ≡ start + depth → ⊥
     pub base : Base b n 0
     pub log : SameLog b n
-    pub solo : n.solo ≡ Some start
-    pub idle : n.idle ≡ b.idle + 1
-    pub pending : n.pending ≡ []
+    pub solo : n.under.solo ≡ Some start
+    pub idle : n.under.idle ≡ b.under.idle + 1
+    pub pending : n.under.pending ≡ []
 
   pub data Cycled (b : Timed) (list : List Record) (n : Timed) : Type 0 where
     idled : Idled b list n → Cycled b list n
@@ -157,8 +157,8 @@ module _ {rule : Rule} (keeps : Keeps rule) where
   some-idle false idle = omega arith
 
   -- what was accepted in a cycle that went on
-  all-accepted : (b m : Timed) (list : List Record) → goes_on m.arch ≡ true → m.flushes ≡ b.flushes → m.cycles ≡ b.cycles + 1 → accepted b list m ≡ m.pending ++ taken b list
-  all-accepted b m list on same c = rw (on, eq-eqb m.flushes b.flushes same, c) refl
+  all-accepted : (b m : Timed) (list : List Record) → goes_on m.arch ≡ true → m.under.log.flushes ≡ b.under.log.flushes → m.cycles ≡ b.cycles + 1 → accepted b list m ≡ m.under.pending ++ taken b list
+  all-accepted b m list on same c = rw (on, eq-eqb m.under.log.flushes b.under.log.flushes same, c) refl
 
   base-mid : (b : Timed) (list : List Record) (k : ℕ) → Moved rule (drained (begun b)) (commits_under rule (drained (begun b))) k → Base rule b (mid b list) k
   unfolding drained accepts
@@ -166,20 +166,20 @@ module _ {rule : Rule} (keeps : Keeps rule) where
 
   log-mid : (b : Timed) (list : List Record) → SameLog (drained (begun b)) (commits_under rule (drained (begun b))) → SameLog b (mid b list)
   unfolding drained accepts
-  log-mid b list v = record { rows = v.rows; newest = v.newest; flushes = v.flushes; silent = v.silent }
+  log-mid b list v = v
 
   -- a flush after a log that stayed
   HasRow-flushed : (b m : Timed) (c : ℕ) (cause : Cause) → SameLog b m → m.cycles ≡ c → HasRow b (flushed m cause) (record { cycle = c; at = m.count; cause = cause })
   unfolding flushed
-  HasRow-flushed b m c cause log e = record { rows = rw (log.rows, e) refl; newest = rw e refl; flushes = rw log.flushes refl; silent = rw log.silent refl }
+  HasRow-flushed b m c cause log e = rw (log, e) refl
 
   Barked-mid :
       (b : Timed) (list : List Record)
-      → b.solo ≡ None
+      → b.under.solo ≡ None
       → Base rule b (mid b list) 0
       → SameLog b (mid b list)
-      → (mid b list).idle ≡ b.idle + 1
-      → b.config.limit ≤ (mid b list).idle
+      → (mid b list).under.idle ≡ b.under.idle + 1
+      → b.config.limit ≤ (mid b list).under.idle
       → Unjudged rule b
       → Barked rule b (flushed (mid b list) (Silent b.config.limit))
   unfolding flushed
@@ -187,7 +187,7 @@ module _ {rule : Rule} (keeps : Keeps rule) where
       let h = HasRow-flushed b (mid b list) (b.cycles + 1) (Silent b.config.limit) log v.cycles in
       record {
         base = record { config = v.config; undos = v.undos; cycles = v.cycles; counted = v.counted; stepped = v.stepped; owes = v.owes; passed = v.passed; owed = v.owed; few = v.few };
-        log = record { rows = h.rows; newest = h.newest; flushes = h.flushes; silent = h.silent };
+        log = h;
         was = was;
         solo = ap Some v.cycles;
         idle = i;
@@ -199,16 +199,16 @@ module _ {rule : Rule} (keeps : Keeps rule) where
   Cycled-idle :
       (b : Timed) (list : List Record)
       → IsMachine b
-      → b.solo ≡ None
+      → b.under.solo ≡ None
       → (r : Still rule (drained (begun b)) (commits_under rule (drained (begun b))))
       → r.k ≡ 0
       → Cycled rule b list (barked (mid b list))
   unfolding drained accepts
   Cycled-idle b list inv was r none =
       let v : Base rule b (mid b list) 0 = base-mid b list 0 (subst (Moved rule (drained (begun b)) (commits_under rule (drained (begun b)))) none r.moved) in
-      let i : (mid b list).idle ≡ b.idle + 1 = more-idle _ b.count _ v.counted ∙ ap (λ z. z + 1) r.moved.idle in
+      let i : (mid b list).under.idle ≡ b.under.idle + 1 = more-idle _ b.count _ v.counted ∙ ap (λ z. z + 1) r.moved.idle in
       let limit : (mid b list).config.limit ≡ b.config.limit = ap (λ z. z.limit) v.config in
-      let y : Unjudged rule b = record { count = (let c = v.counted in omega arith); flushes = r.log.flushes } in
+      let y : Unjudged rule b = record { count = (let c = v.counted in omega arith); flushes = ap (λ (l : Log). l.flushes) r.log } in
       elim (bark (mid b list)) [
         | inl q ↦ subst (Cycled rule b list) (sym q.same) (idled (record {
           base = v;
@@ -218,7 +218,7 @@ module _ {rule : Rule} (keeps : Keeps rule) where
           idle = i;
           early = rw limit at (q.early r.solo r.on);
           unjudged = y;
-          pending = all-accepted b (commits_under rule (drained (begun b))) list r.on r.log.flushes r.moved.cycles ∙ ap (λ z. z ++ taken b list) (rw none at r.claims);
+          pending = all-accepted b (commits_under rule (drained (begun b))) list r.on (ap (λ (l : Log). l.flushes) r.log) r.moved.cycles ∙ ap (λ z. z ++ taken b list) (rw none at r.claims);
         }))
         | inr w ↦ subst (Cycled rule b list) (sym w.flushes) (rw limit (barks (Barked-mid b list was v (log-mid b list r.log) i (rw limit at w.late) y)))
       ]
@@ -226,14 +226,14 @@ module _ {rule : Rule} (keeps : Keeps rule) where
   Cycled-ran :
       (b : Timed) (list : List Record) (k : ℕ)
       → IsMachine b
-      → b.solo ≡ None
+      → b.under.solo ≡ None
       → (r : Still rule (drained (begun b)) (commits_under rule (drained (begun b))))
       → r.k ≡ suc k
       → Cycled rule b list (barked (mid b list))
   unfolding drained accepts
   Cycled-ran b list k inv was r more =
       let v : Base rule b (mid b list) (suc k) = base-mid b list (suc k) (subst (Moved rule (drained (begun b)) (commits_under rule (drained (begun b)))) more r.moved) in
-      let i : (mid b list).idle ≡ 0 = zero-idle _ b.count k _ v.counted in
+      let i : (mid b list).under.idle ≡ 0 = zero-idle _ b.count k _ v.counted in
       let low : 16 ≤ b.config.limit = inv.config.limit_low in
       let limit : (mid b list).config.limit ≡ b.config.limit = ap (λ z. z.limit) v.config in
       subst (Cycled rule b list) (sym (bark-quiet (mid b list) (λ none on. rw (limit, i) (omega arith)))) (ran (record {
@@ -243,25 +243,25 @@ module _ {rule : Rule} (keeps : Keeps rule) where
         was = was;
         solo = r.solo;
         idle = i;
-        rest = (commits_under rule (drained (begun b))).pending;
+        rest = (commits_under rule (drained (begun b))).under.pending;
         claims = rw more at r.claims;
-        pending = all-accepted b (commits_under rule (drained (begun b))) list r.on r.log.flushes r.moved.cycles;
+        pending = all-accepted b (commits_under rule (drained (begun b))) list r.on (ap (λ (l : Log). l.flushes) r.log) r.moved.cycles;
         on = r.on;
       }))
 
-  Cycled-still : (b : Timed) (list : List Record) → IsMachine b → b.solo ≡ None → (r : Still rule (drained (begun b)) (commits_under rule (drained (begun b)))) → (k : ℕ) → r.k ≡ k → Cycled rule b list (barked (mid b list))
+  Cycled-still : (b : Timed) (list : List Record) → IsMachine b → b.under.solo ≡ None → (r : Still rule (drained (begun b)) (commits_under rule (drained (begun b)))) → (k : ℕ) → r.k ≡ k → Cycled rule b list (barked (mid b list))
   Cycled-still b list inv was r zero e = Cycled-idle b list inv was r e
   Cycled-still b list inv was r (suc k) e = Cycled-ran b list k inv was r e
 
   -- nothing is accepted after a flush or an end
-  none-accepted : (b m : Timed) (list : List Record) → (goes_on m.arch && (m.flushes == b.flushes)) ≡ false → m.pending ≡ [] → accepted b list m ≡ []
+  none-accepted : (b m : Timed) (list : List Record) → (goes_on m.arch && (m.under.log.flushes == b.under.log.flushes)) ≡ false → m.under.pending ≡ [] → accepted b list m ≡ []
   none-accepted b m list off e = rw off e
 
-  Cycled-flushing : (b : Timed) (list : List Record) → b.solo ≡ None → Flushing rule (drained (begun b)) (commits_under rule (drained (begun b))) → Cycled rule b list (barked (mid b list))
+  Cycled-flushing : (b : Timed) (list : List Record) → b.under.solo ≡ None → Flushing rule (drained (begun b)) (commits_under rule (drained (begun b))) → Cycled rule b list (barked (mid b list))
   unfolding drained accepts
   Cycled-flushing b list was r =
       let v : Base rule b (mid b list) r.k = base-mid b list r.k r.moved in
-      let i : (mid b list).idle ≤ b.idle + 1 = subst (λ z. (mid b list).idle ≤ z + 1) r.moved.idle (some-idle ((commits_under rule (drained (begun b))).count == b.count) (commits_under rule (drained (begun b))).idle) in
+      let i : (mid b list).under.idle ≤ b.under.idle + 1 = subst (λ z. (mid b list).under.idle ≤ z + 1) r.moved.idle (some-idle ((commits_under rule (drained (begun b))).count == b.count) (commits_under rule (drained (begun b))).under.idle) in
       let m : Timed = commits_under rule (drained (begun b)) in
       subst (Cycled rule b list) (sym (bark-quiet (mid b list) (λ none on. absurd (none-some _ (sym none ∙ r.solo))))) (differed (record {
         k = r.k;
@@ -269,18 +269,18 @@ module _ {rule : Rule} (keeps : Keeps rule) where
         p = r.p;
         rest = r.rest;
         d = r.d;
-        log = record { rows = r.log.rows; newest = r.log.newest; flushes = r.log.flushes; silent = r.log.silent };
+        log = r.log;
         first = r.first;
         ready = r.ready;
         claims = r.claims;
         was = was;
         solo = r.solo;
         idle = i;
-        pending = none-accepted b m list (and_right (goes_on m.arch) _ (ne_eqb m.flushes b.flushes (λ e. let f : m.flushes ≡ b.flushes + 1 = r.log.flushes in omega arith))) r.pending;
+        pending = none-accepted b m list (and_right (goes_on m.arch) _ (ne_eqb m.under.log.flushes b.under.log.flushes (λ e. let f : m.under.log.flushes ≡ b.under.log.flushes + 1 = ap (λ (l : Log). l.flushes) r.log in omega arith))) r.pending;
         on = r.on;
       }))
 
-  Cycled-ending : (b : Timed) (list : List Record) → b.solo ≡ None → Ending rule (drained (begun b)) (commits_under rule (drained (begun b))) → Cycled rule b list (barked (mid b list))
+  Cycled-ending : (b : Timed) (list : List Record) → b.under.solo ≡ None → Ending rule (drained (begun b)) (commits_under rule (drained (begun b))) → Cycled rule b list (barked (mid b list))
   unfolding drained accepts
   Cycled-ending b list was r =
       let v : Base rule b (mid b list) (suc r.k) = base-mid b list (suc r.k) r.moved in
@@ -299,14 +299,14 @@ module _ {rule : Rule} (keeps : Keeps rule) where
         off = r.off;
       }))
 
-  no-room : (b : Timed) (start : ℕ) → b.solo ≡ Some start → room_of b ≡ 0
+  no-room : (b : Timed) (start : ℕ) → b.under.solo ≡ Some start → room_of b ≡ 0
   no-room b start e = rw e refl
 
   -- nothing is accepted where there is no room
-  none-taken : (b m : Timed) (list : List Record) → room_of b ≡ 0 → m.pending ≡ [] → accepted b list m ≡ []
-  none-taken b m list r e = rw (e, r) (cond_both {A = List PendingClaim} (goes_on m.arch && (m.flushes == b.flushes)) _ _ (λ x. x ≡ []) (λ t. refl) (λ f. refl))
+  none-taken : (b m : Timed) (list : List Record) → room_of b ≡ 0 → m.under.pending ≡ [] → accepted b list m ≡ []
+  none-taken b m list r e = rw (e, r) (cond_both {A = List PendingClaim} (goes_on m.arch && (m.under.log.flushes == b.under.log.flushes)) _ _ (λ x. x ≡ []) (λ t. refl) (λ f. refl))
 
-  alone-lives : (b : Timed) (start : ℕ) → IsMachine b → b.solo ≡ Some start → IsSolo b start
+  alone-lives : (b : Timed) (start : ℕ) → IsMachine b → b.under.solo ≡ Some start → IsSolo b start
   alone-lives b start inv e = subst (Lives b) e inv.lives
 
   Cycled-alone : (b : Timed) (list : List Record) → IsMachine b → Alone rule (drained (begun b)) (commits_under rule (drained (begun b))) → Cycled rule b list (barked (mid b list))
@@ -314,7 +314,7 @@ module _ {rule : Rule} (keeps : Keeps rule) where
   Cycled-alone b list inv r =
       let v : Base rule b (mid b list) 1 = base-mid b list 1 r.moved in
       let m : Timed = commits_under rule (drained (begun b)) in
-      let i : (mid b list).idle ≡ 0 = zero-idle _ b.count 0 _ v.counted in
+      let i : (mid b list).under.idle ≡ 0 = zero-idle _ b.count 0 _ v.counted in
       let low : 16 ≤ b.config.limit = inv.config.limit_low in
       let limit : (mid b list).config.limit ≡ b.config.limit = ap (λ z. z.limit) v.config in
       subst (Cycled rule b list) (sym (bark-quiet (mid b list) (λ none on. rw (limit, i) (omega arith)))) (finished (record {
@@ -332,7 +332,7 @@ module _ {rule : Rule} (keeps : Keeps rule) where
   Moved-same e m same owed = subst (λ z. Moved rule e z 0) (sym same) (record { config = refl; undos = refl; cycles = refl; idle = refl; counted = omega arith; stepped = refl; owes = refl; passed = tt; owed = owed; few = omega arith })
 
   SameLog-same : (e m : Timed) → m ≡ e → SameLog e m
-  SameLog-same e m same = subst (SameLog e) (sym same) (record { rows = refl; newest = refl; flushes = refl; silent = refl })
+  SameLog-same e m same = ap (λ (z : Timed). z.under.log) same
 
   Cycled-waits : (b : Timed) (list : List Record) → IsMachine b → Waits rule (drained (begun b)) (commits_under rule (drained (begun b))) → Cycled rule b list (barked (mid b list))
   unfolding drained accepts
@@ -340,7 +340,7 @@ module _ {rule : Rule} (keeps : Keeps rule) where
       let m : Timed = commits_under rule (drained (begun b)) in
       let w : Moved rule (drained (begun b)) m 0 = Moved-same (drained (begun b)) m r.same (drained-fits b inv.owed) in
       let v : Base rule b (mid b list) 0 = base-mid b list 0 w in
-      let alone : m.solo ≡ Some r.start = ap (λ z. z.solo) r.same ∙ r.since in
+      let alone : m.under.solo ≡ Some r.start = ap (λ (z : Timed). z.under.solo) r.same ∙ r.since in
       subst (Cycled rule b list) (sym (bark-quiet (mid b list) (λ none on. absurd (none-some _ (sym none ∙ alone))))) (waited (record {
         start = r.start;
         since = r.since;
@@ -349,10 +349,10 @@ module _ {rule : Rule} (keeps : Keeps rule) where
         log = log-mid b list (SameLog-same (drained (begun b)) m r.same);
         solo = alone;
         idle = more-idle _ b.count _ v.counted ∙ ap (λ z. z + 1) w.idle;
-        pending = none-taken b m list (no-room b r.start r.since) (ap (λ z. z.pending) r.same ∙ (alone-lives b r.start inv r.since).empty);
+        pending = none-taken b m list (no-room b r.start r.since) (ap (λ (z : Timed). z.under.pending) r.same ∙ (alone-lives b r.start inv r.since).empty);
       }))
 
-  Cycled-outcome : (b : Timed) (list : List Record) → IsMachine b → b.solo ≡ None → Outcome rule (drained (begun b)) (commits_under rule (drained (begun b))) → Cycled rule b list (barked (mid b list))
+  Cycled-outcome : (b : Timed) (list : List Record) → IsMachine b → b.under.solo ≡ None → Outcome rule (drained (begun b)) (commits_under rule (drained (begun b))) → Cycled rule b list (barked (mid b list))
   Cycled-outcome b list inv was (still r) = Cycled-still b list inv was r r.k refl
   Cycled-outcome b list inv was (flushing r) = Cycled-flushing b list was r
   Cycled-outcome b list inv was (ending r) = Cycled-ending b list was r

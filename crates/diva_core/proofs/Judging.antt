@@ -15,17 +15,17 @@ use Rattle.diva_core.proofs.Passing.{Keeps, Passed, Passed-more, owed_after, owe
 use Rattle.diva_core.proofs.Steps.{steps-shift, step-on}
 use Rattle.diva_core.proofs.Differing.{difference-none}
 
-pub past-off : (m : Timed) → goes_on (past_front m).arch ≡ false → (past_front m).pending ≡ []
-past-off m off = ap (λ (b : Bool). if b then drop 1 m.pending else []) off
+pub past-off : (m : Timed) → goes_on (past_front m).arch ≡ false → (past_front m).under.pending ≡ []
+past-off m off = ap (λ (b : Bool). if b then drop 1 m.under.pending else []) off
 
 module _ (rule : Rule) where
   -- R holds while at most so many claims more are judged, and Q where the judging stops
   pub record Judges (R : ℕ → Timed → Type 0) (Q : Timed → Type 0) : Type 0 where
     pub stop : (n : ℕ) (m : Timed) → R n m → Q m
-    pub flush : (n : ℕ) (m : Timed) (p : PendingClaim) (rest : List PendingClaim) (d : Diff) → m.pending ≡ p ∷ rest → nat_le (p.cycle + depth) m.cycles ≡ true → first_difference p.claim (record_of m.arch) ≡ Some d → R n m → Q (flushed m (Differs d))
+    pub flush : (n : ℕ) (m : Timed) (p : PendingClaim) (rest : List PendingClaim) (d : Diff) → m.under.pending ≡ p ∷ rest → nat_le (p.cycle + depth) m.cycles ≡ true → first_difference p.claim (record_of m.arch) ≡ Some d → R n m → Q (flushed m (Differs d))
     pub commit :
         (n : ℕ) (m : Timed) (p : PendingClaim) (rest : List PendingClaim)
-        → m.pending ≡ p ∷ rest
+        → m.under.pending ≡ p ∷ rest
         → nat_le (p.cycle + depth) m.cycles ≡ true
         → first_difference p.claim (record_of m.arch) ≡ None
         → rule m.config.stores m.owed (record_of m.arch) ≡ false
@@ -35,9 +35,9 @@ module _ (rule : Rule) where
   -- what every part of phase 2 does, after k commits
   pub record Moved (b m : Timed) (k : ℕ) : Type 0 where
     pub config : m.config ≡ b.config
-    pub undos : m.undos ≡ b.undos
+    pub undos : m.under.undos ≡ b.under.undos
     pub cycles : m.cycles ≡ b.cycles
-    pub idle : m.idle ≡ b.idle
+    pub idle : m.under.idle ≡ b.under.idle
     pub counted : m.count ≡ b.count + k
     pub stepped : m.arch ≡ steps k b.arch
     -- what is owed, and that each of the instructions passed the rule
@@ -50,8 +50,8 @@ module _ (rule : Rule) where
     pub k : ℕ
     pub moved : Moved b m k
     pub log : SameLog b m
-    pub solo : m.solo ≡ None
-    pub claims : Commits k b.arch b.cycles b.pending m.pending
+    pub solo : m.under.solo ≡ None
+    pub claims : Commits k b.arch b.cycles b.under.pending m.under.pending
     pub on : goes_on m.arch ≡ true
 
   -- at most n claims more are judged
@@ -68,9 +68,9 @@ module _ (rule : Rule) where
     pub log : HasRow b m (record { cycle = b.cycles; at = m.count; cause = Differs d })
     pub first : first_difference p.claim (record_of m.arch) ≡ Some d
     pub ready : p.cycle + depth ≤ b.cycles
-    pub claims : Commits k b.arch b.cycles b.pending (p ∷ rest)
-    pub solo : m.solo ≡ Some b.cycles
-    pub pending : m.pending ≡ []
+    pub claims : Commits k b.arch b.cycles b.under.pending (p ∷ rest)
+    pub solo : m.under.solo ≡ Some b.cycles
+    pub pending : m.under.pending ≡ []
     pub on : goes_on m.arch ≡ true
 
   pub record Ending (b m : Timed) : Type 0 where
@@ -78,9 +78,9 @@ module _ (rule : Rule) where
     pub moved : Moved b m (suc k)
     pub log : SameLog b m
     pub rest : List PendingClaim
-    pub claims : Commits (suc k) b.arch b.cycles b.pending rest
-    pub solo : m.solo ≡ None
-    pub pending : m.pending ≡ []
+    pub claims : Commits (suc k) b.arch b.cycles b.under.pending rest
+    pub solo : m.under.solo ≡ None
+    pub pending : m.under.pending ≡ []
     pub went : goes_on (steps k b.arch) ≡ true
     pub off : goes_on m.arch ≡ false
 
@@ -90,7 +90,7 @@ module _ (rule : Rule) where
     ending : Ending b m → Outcome b m
 
   -- where nothing is pending, nothing is judged
-  pub judged-none : (n : ℕ) (m : Timed) → m.pending ≡ [] → judged_under rule n m ≡ m
+  pub judged-none : (n : ℕ) (m : Timed) → m.under.pending ≡ [] → judged_under rule n m ≡ m
   judged-none zero m none = refl
   judged-none (suc n) m none = ap (λ ps. by_judgement m (judged_under rule n (past_front m)) (by_front rule m ps)) none
 
@@ -99,7 +99,7 @@ module _ (rule : Rule) where
       → ((m : Timed) → R n m → Q (judged_under rule n m))
       → (m : Timed) (p : PendingClaim) (rest : List PendingClaim) (o : Option Diff)
       → first_difference p.claim (record_of m.arch) ≡ o
-      → m.pending ≡ p ∷ rest
+      → m.under.pending ≡ p ∷ rest
       → nat_le (p.cycle + depth) m.cycles ≡ true
       → R (suc n) m
       → Q (by_judgement m (judged_under rule n (past_front m)) (by_difference rule m o))
@@ -118,7 +118,7 @@ module _ (rule : Rule) where
       (R : ℕ → Timed → Type 0) (Q : Timed → Type 0) (j : Judges R Q) (n : ℕ)
       → ((m : Timed) → R n m → Q (judged_under rule n m))
       → (m : Timed) (pending : List PendingClaim)
-      → m.pending ≡ pending
+      → m.under.pending ≡ pending
       → R (suc n) m
       → Q (by_judgement m (judged_under rule n (past_front m)) (by_front rule m pending))
   Judges-front R Q j n ih m [] e r = j.stop (suc n) m r
@@ -129,7 +129,7 @@ module _ (rule : Rule) where
 
   pub Judges-judged : (R : ℕ → Timed → Type 0) (Q : Timed → Type 0) → Judges R Q → (n : ℕ) (m : Timed) → R n m → Q (judged_under rule n m)
   Judges-judged R Q j zero m r = j.stop zero m r
-  Judges-judged R Q j (suc n) m r = Judges-front R Q j n (Judges-judged R Q j n) m m.pending refl r
+  Judges-judged R Q j (suc n) m r = Judges-front R Q j n (Judges-judged R Q j n) m m.under.pending refl r
 
   counts : (c : ℕ) → Judges (λ n x. c < x.count) (λ x. c < x.count)
   unfolding committed flushed
@@ -152,8 +152,8 @@ pub owed-fits : (b : Bool) (owed stores : ℕ) → (b && (owed == stores)) ≡ f
 owed-fits true owed stores e h = let n = eqb-false owed stores e in omega arith
 owed-fits false owed stores e h = omega arith
 
-past-on : (m : Timed) (p : PendingClaim) (rest : List PendingClaim) → m.pending ≡ p ∷ rest → goes_on (past_front m).arch ≡ true → (past_front m).pending ≡ rest
-past-on m p rest e on = ap (λ (b : Bool). if b then drop 1 m.pending else []) on ∙ ap (drop 1) e
+past-on : (m : Timed) (p : PendingClaim) (rest : List PendingClaim) → m.under.pending ≡ p ∷ rest → goes_on (past_front m).arch ≡ true → (past_front m).under.pending ≡ rest
+past-on m p rest e on = ap (λ (b : Bool). if b then drop 1 m.under.pending else []) on ∙ ap (drop 1) e
 
 module _ {rule : Rule} (keeps : Keeps rule) where
   Moved-commit :
@@ -182,18 +182,18 @@ module _ {rule : Rule} (keeps : Keeps rule) where
         few = few;
       }
 
-  Still-start : (b : Timed) → b.solo ≡ None → goes_on b.arch ≡ true → b.owed ≤ b.config.stores → Still rule b b
+  Still-start : (b : Timed) → b.under.solo ≡ None → goes_on b.arch ≡ true → b.owed ≤ b.config.stores → Still rule b b
   Still-start b none on owed =
       record {
         k = 0;
         moved = record { config = refl; undos = refl; cycles = refl; idle = refl; counted = omega arith; stepped = refl; owes = refl; passed = tt; owed = owed; few = omega arith };
-        log = record { rows = refl; newest = refl; flushes = refl; silent = refl };
+        log = refl;
         solo = none;
         claims = refl;
         on = on;
       }
 
-  Flushing-from : (b m : Timed) (p : PendingClaim) (rest : List PendingClaim) (d : Diff) → m.pending ≡ p ∷ rest → nat_le (p.cycle + depth) m.cycles ≡ true → first_difference p.claim (record_of m.arch) ≡ Some d → Still rule b m → Flushing rule b (flushed m (Differs d))
+  Flushing-from : (b m : Timed) (p : PendingClaim) (rest : List PendingClaim) (d : Diff) → m.under.pending ≡ p ∷ rest → nat_le (p.cycle + depth) m.cycles ≡ true → first_difference p.claim (record_of m.arch) ≡ Some d → Still rule b m → Flushing rule b (flushed m (Differs d))
   unfolding flushed
   Flushing-from b m p rest d e ready differs r =
       record {
@@ -202,12 +202,7 @@ module _ {rule : Rule} (keeps : Keeps rule) where
         p = p;
         rest = rest;
         d = d;
-        log = record {
-          rows = rw (r.log.rows, r.moved.cycles) refl;
-          newest = rw r.moved.cycles refl;
-          flushes = rw r.log.flushes refl;
-          silent = rw r.log.silent refl;
-        };
+        log = rw (r.log, r.moved.cycles) refl;
         first = differs;
         ready = rw r.moved.cycles at (leb-true _ _ ready);
         claims = rw e at r.claims;
@@ -216,15 +211,15 @@ module _ {rule : Rule} (keeps : Keeps rule) where
         on = r.on;
       }
 
-  claims-commit : (b m : Timed) (p : PendingClaim) (rest : List PendingClaim) → m.pending ≡ p ∷ rest → nat_le (p.cycle + depth) m.cycles ≡ true → first_difference p.claim (record_of m.arch) ≡ None → (r : Still rule b m) → Commits (suc r.k) b.arch b.cycles b.pending rest
+  claims-commit : (b m : Timed) (p : PendingClaim) (rest : List PendingClaim) → m.under.pending ≡ p ∷ rest → nat_le (p.cycle + depth) m.cycles ≡ true → first_difference p.claim (record_of m.arch) ≡ None → (r : Still rule b m) → Commits (suc r.k) b.arch b.cycles b.under.pending rest
   claims-commit b m p rest e ready same r =
-      Commits-more r.k b.arch b.cycles b.pending p rest
+      Commits-more r.k b.arch b.cycles b.under.pending p rest
       (rw e at r.claims)
       (difference-none p.claim (record_of m.arch) same ∙ ap record_of r.moved.stepped)
       (rw r.moved.cycles at (leb-true _ _ ready))
 
   -- the front claim commits, and the machine goes on or has ended
-  module _ (b m : Timed) (p : PendingClaim) (rest : List PendingClaim) (e : m.pending ≡ p ∷ rest) (ready : nat_le (p.cycle + depth) m.cycles ≡ true)
+  module _ (b m : Timed) (p : PendingClaim) (rest : List PendingClaim) (e : m.under.pending ≡ p ∷ rest) (ready : nat_le (p.cycle + depth) m.cycles ≡ true)
       (same : first_difference p.claim (record_of m.arch) ≡ None) (free : rule m.config.stores m.owed (record_of m.arch) ≡ false)
       (r : Still rule b m) (few : suc r.k ≤ b.config.width) where
     Still-commit : goes_on (past_front m).arch ≡ true → Still rule b (past_front m)
@@ -233,9 +228,9 @@ module _ {rule : Rule} (keeps : Keeps rule) where
         record {
           k = suc r.k;
           moved = Moved-commit b m r.k r.moved free r.on few;
-          log = record { rows = r.log.rows; newest = r.log.newest; flushes = r.log.flushes; silent = r.log.silent };
+          log = r.log;
           solo = r.solo;
-          claims = subst (Commits (suc r.k) b.arch b.cycles b.pending) (sym (past-on m p rest e on)) (claims-commit b m p rest e ready same r);
+          claims = subst (Commits (suc r.k) b.arch b.cycles b.under.pending) (sym (past-on m p rest e on)) (claims-commit b m p rest e ready same r);
           on = on;
         }
 
@@ -246,7 +241,7 @@ module _ {rule : Rule} (keeps : Keeps rule) where
         record {
           k = r.k;
           moved = record { config = v.config; undos = v.undos; cycles = v.cycles; idle = v.idle; counted = v.counted; stepped = v.stepped; owes = v.owes; passed = v.passed; owed = v.owed; few = v.few };
-          log = record { rows = r.log.rows; newest = r.log.newest; flushes = r.log.flushes; silent = r.log.silent };
+          log = r.log;
           rest = rest;
           claims = claims-commit b m p rest e ready same r;
           solo = r.solo;
@@ -267,6 +262,6 @@ module _ {rule : Rule} (keeps : Keeps rule) where
       }
 
   -- what judging leads to
-  pub judged-outcome : (b : Timed) → b.solo ≡ None → goes_on b.arch ≡ true → b.owed ≤ b.config.stores → Outcome rule b (judged_under rule b.config.width b)
+  pub judged-outcome : (b : Timed) → b.under.solo ≡ None → goes_on b.arch ≡ true → b.owed ≤ b.config.stores → Outcome rule b (judged_under rule b.config.width b)
   unfolding Still-start
   judged-outcome b none on owed = Judges-judged rule (Judging rule b) (Outcome rule b) (judges b) b.config.width b (record { now = Still-start b none on owed; few = omega arith })

@@ -7,7 +7,7 @@ use Rattle.diva_isa.specs.State.{State, goes_on}
 use Rattle.diva_isa.specs.declared.record.Record.{Record}
 use Rattle.diva_isa.specs.Step.{step}
 use Rattle.diva_core.specs.declared.flushes.FlushRow.{FlushRow}
-use Rattle.diva_core.specs.Timed.{Timed, PendingClaim, room_of, depth, rows_kept}
+use Rattle.diva_core.specs.Timed.{Log, Timed, PendingClaim, room_of, depth, rows_kept}
 use Rattle.diva_core.specs.Cycle.{Rule, accepted_in, cycle_of, cycle_under, drained, is_silent, kept}
 use Rattle.diva_core.proofs.Phases.{number-least}
 use Rattle.diva_core.specs.Machine.{IsMachine, Lives, IsSolo, ArePast}
@@ -43,29 +43,29 @@ length-commits (suc k) s c [] rest h = absurd h
 length-commits (suc k) s c (p ∷ xs) rest h = let e = length-commits k (step s) c xs rest h.2 in omega arith
 
 -- what is accepted has room
-room-fits : (b : Timed) → room_of b ≤ b.config.window - length b.pending
-room-fits b = cond_both (is_none b.solo && goes_on b.arch) _ _ (λ r. r ≤ b.config.window - length b.pending) (λ t. omega arith) (λ f. omega arith)
+room-fits : (b : Timed) → room_of b ≤ b.config.window - length b.under.pending
+room-fits b = cond_both (is_none b.under.solo && goes_on b.arch) _ _ (λ r. r ≤ b.config.window - length b.under.pending) (λ t. omega arith) (λ f. omega arith)
 
-taken-fits : (b : Timed) (list : List Record) → length (taken b list) ≤ b.config.window - length b.pending
+taken-fits : (b : Timed) (list : List Record) → length (taken b list) ≤ b.config.window - length b.under.pending
 taken-fits b list = rw (length-map, length-take) (let h = room-fits b in omega arith)
 
 kept-fits : (rows : List FlushRow) (row : FlushRow) → length rows ≤ rows_kept → length (kept rows row) ≤ rows_kept
 kept-fits rows row h = cond_both (nat_lt (length rows) rows_kept) _ _ (λ r. length r ≤ rows_kept) (λ t. rw length-append (let l = ltb-true (length rows) rows_kept t in omega arith)) (λ f. h)
 
-rows-fit : (b n : Timed) → length b.rows ≤ rows_kept → SameLog b n ⊎ AddsRow b n → length n.rows ≤ rows_kept
-rows-fit b n h (inl s) = rw s.rows h
-rows-fit b n h (inr a) = rw a.is.has.rows (kept-fits b.rows a.row h)
+rows-fit : (b n : Timed) → length b.under.log.rows ≤ rows_kept → SameLog b n ⊎ AddsRow b n → length n.under.log.rows ≤ rows_kept
+rows-fit b n h (inl s) = rw s h
+rows-fit b n h (inr a) = rw a.is.has (kept-fits b.under.log.rows a.row h)
 
-flushes-fit : (b n : Timed) → b.flushes ≤ b.cycles → n.cycles ≡ b.cycles + 1 → SameLog b n ⊎ AddsRow b n → n.flushes ≤ n.cycles
-flushes-fit b n h c (inl s) = let f = s.flushes in omega arith
-flushes-fit b n h c (inr a) = let f = a.is.has.flushes in omega arith
+flushes-fit : (b n : Timed) → b.under.log.flushes ≤ b.cycles → n.cycles ≡ b.cycles + 1 → SameLog b n ⊎ AddsRow b n → n.under.log.flushes ≤ n.cycles
+flushes-fit b n h c (inl s) = let f = ap (λ (l : Log). l.flushes) s in omega arith
+flushes-fit b n h c (inr a) = let f = ap (λ (l : Log). l.flushes) a.is.has in omega arith
 
-silent-fits : (b n : Timed) → b.silent ≤ b.flushes → SameLog b n ⊎ AddsRow b n → n.silent ≤ n.flushes
-silent-fits b n h (inl s) = let f = s.flushes in let x = s.silent in omega arith
-silent-fits b n h (inr a) = let f = a.is.has.flushes in let x = a.is.has.silent in let one = number-least (is_silent a.row.cause) in omega arith
+silent-fits : (b n : Timed) → b.under.log.silent ≤ b.under.log.flushes → SameLog b n ⊎ AddsRow b n → n.under.log.silent ≤ n.under.log.flushes
+silent-fits b n h (inl s) = let f = ap (λ (l : Log). l.flushes) s in let x = ap (λ (l : Log). l.silent) s in omega arith
+silent-fits b n h (inr a) = let f = ap (λ (l : Log). l.flushes) a.is.has in let x = ap (λ (l : Log). l.silent) a.is.has in let one = number-least (is_silent a.row.cause) in omega arith
 
 module _ {rule : Rule} where
-  count-fits : (b n : Timed) (k : ℕ) → b.count + b.undos ≤ b.config.width * b.cycles → Base rule b n k → n.count + n.undos ≤ n.config.width * n.cycles
+  count-fits : (b n : Timed) (k : ℕ) → b.count + b.under.undos ≤ b.config.width * b.cycles → Base rule b n k → n.count + n.under.undos ≤ n.config.width * n.cycles
   count-fits b n k h v = rw (v.config, v.cycles, v.counted, v.undos) (let f = v.few in omega arith)
 
   IsMachine-from :
@@ -73,9 +73,9 @@ module _ {rule : Rule} where
       → IsMachine b
       → Base rule b n k
       → SameLog b n ⊎ AddsRow b n
-      → Lives n n.solo
-      → ArePast n.cycles n.pending
-      → length n.pending ≤ n.config.window
+      → Lives n n.under.solo
+      → ArePast n.cycles n.under.pending
+      → length n.under.pending ≤ n.config.window
       → Paces n
       → n.arch.instret ≡ n.count
       → IsMachine n
@@ -95,7 +95,7 @@ module _ {rule : Rule} where
       }
 
   -- a machine in which nothing waits
-  IsMachine-empty : (b n : Timed) (k : ℕ) → IsMachine b → Base rule b n k → SameLog b n ⊎ AddsRow b n → Lives n n.solo → n.pending ≡ [] → Paces n → n.arch.instret ≡ n.count → IsMachine n
+  IsMachine-empty : (b n : Timed) (k : ℕ) → IsMachine b → Base rule b n k → SameLog b n ⊎ AddsRow b n → Lives n n.under.solo → n.under.pending ≡ [] → Paces n → n.arch.instret ≡ n.count → IsMachine n
   IsMachine-empty b n k inv v log lives e pace counted = IsMachine-from b n k inv v log lives (subst (ArePast n.cycles) (sym e) tt) (rw e (omega arith)) pace counted
 
   limit-is : (b n : Timed) (k : ℕ) → Base rule b n k → n.config.limit ≡ b.config.limit
@@ -107,10 +107,10 @@ module _ {rule : Rule} where
       → IsMachine b
       → Base rule b n k
       → SameLog b n
-      → Lives n n.solo
-      → n.pending ≡ rest ++ taken b list
+      → Lives n n.under.solo
+      → n.under.pending ≡ rest ++ taken b list
       → ArePast b.cycles rest
-      → length rest ≤ length b.pending
+      → length rest ≤ length b.under.pending
       → Paces n
       → n.arch.instret ≡ n.count
       → IsMachine n
@@ -120,10 +120,10 @@ module _ {rule : Rule} where
       (rw (e, length-append, v.config) (let t = taken-fits b list in let w = inv.window in omega arith))
       pace counted
 
-  lives-none : (b n : Timed) (k : ℕ) → Base rule b n k → n.solo ≡ None → n.idle + 1 ≤ b.config.limit → Lives n n.solo
+  lives-none : (b n : Timed) (k : ℕ) → Base rule b n k → n.under.solo ≡ None → n.under.idle + 1 ≤ b.config.limit → Lives n n.under.solo
   lives-none b n k v none h = subst (Lives n) (sym none) (rw (limit-is b n k v) h)
 
-  lives-flushed : (b n : Timed) (k : ℕ) → Base rule b n k → n.solo ≡ Some (b.cycles + 1) → n.pending ≡ [] → n.idle ≤ b.config.limit → Lives n n.solo
+  lives-flushed : (b n : Timed) (k : ℕ) → Base rule b n k → n.under.solo ≡ Some (b.cycles + 1) → n.under.pending ≡ [] → n.under.idle ≤ b.config.limit → Lives n n.under.solo
   lives-flushed b n k v some e h =
       let c = v.cycles in
       let l = limit-is b n k v in
@@ -139,20 +139,20 @@ module _ {rule : Rule} where
 
   machine-cases : (b : Timed) (list : List Record) (n : Timed) → IsMachine b → Cycled rule b list n → Paces n → n.arch.instret ≡ n.count → IsMachine n
   machine-cases b list n inv (idled r) pace counted =
-      IsMachine-more b n 0 list b.pending inv r.base r.log (lives-none b n 0 r.base r.solo (let e = r.early in omega arith)) r.pending inv.past (omega arith) pace counted
+      IsMachine-more b n 0 list b.under.pending inv r.base r.log (lives-none b n 0 r.base r.solo (let e = r.early in omega arith)) r.pending inv.past (omega arith) pace counted
   machine-cases b list n inv (ran r) pace counted =
       let low = inv.config.limit_low in
       let i = r.idle in
       IsMachine-more b n (suc r.k) list r.rest inv r.base r.log (lives-none b n (suc r.k) r.base r.solo (omega arith)) r.pending
-      (ArePast-commits (suc r.k) b.arch (b.cycles + 1) b.cycles b.pending r.rest r.claims inv.past)
-      (let l = length-commits (suc r.k) b.arch (b.cycles + 1) b.pending r.rest r.claims in omega arith)
+      (ArePast-commits (suc r.k) b.arch (b.cycles + 1) b.cycles b.under.pending r.rest r.claims inv.past)
+      (let l = length-commits (suc r.k) b.arch (b.cycles + 1) b.under.pending r.rest r.claims in omega arith)
       pace counted
   machine-cases b list n inv (barks r) pace counted =
-      let lives : b.idle + 1 ≤ b.config.limit = subst (Lives b) r.was inv.lives in
+      let lives : b.under.idle + 1 ≤ b.config.limit = subst (Lives b) r.was inv.lives in
       let i = r.idle in
       IsMachine-empty b n 0 inv r.base (log-cases b list n inv (barks r)) (lives-flushed b n 0 r.base r.solo r.pending (omega arith)) r.pending pace counted
   machine-cases b list n inv (differed r) pace counted =
-      let lives : b.idle + 1 ≤ b.config.limit = subst (Lives b) r.was inv.lives in
+      let lives : b.under.idle + 1 ≤ b.config.limit = subst (Lives b) r.was inv.lives in
       let i = r.idle in
       IsMachine-empty b n r.k inv r.base (log-cases b list n inv (differed r)) (lives-flushed b n r.k r.base r.solo r.pending (omega arith)) r.pending pace counted
   machine-cases b list n inv (ended r) pace counted =

@@ -60,13 +60,13 @@ undone_all_cycles m (u ∷ undos) = undone_all_cycles (undone m u) undos
 
 undone_one_calm : (m : Timed) (u : Undo) → IsMachine m → StaysCalm m (undone m u)
 unfolding undone
-undone_one_calm m u inv = record { calm = undone_calm m u inv.config; flushes = refl; silent = refl }
+undone_one_calm m u inv = record { calm = undone_calm m u inv.config; log = refl }
 
 StaysCalm-then : (m mid last : Timed) → StaysCalm m mid → StaysCalm mid last → StaysCalm m last
-StaysCalm-then m mid last a b = record { calm = b.calm; flushes = b.flushes ∙ a.flushes; silent = b.silent ∙ a.silent }
+StaysCalm-then m mid last a b = record { calm = b.calm; log = b.log ∙ a.log }
 
 undone_all_calm : (m : Timed) (undos : List Undo) → IsMachine m → CanUndoAll m undos → IsCalm m → StaysCalm m (undone_all m undos)
-undone_all_calm m [] inv can calm = record { calm = calm; flushes = refl; silent = refl }
+undone_all_calm m [] inv can calm = record { calm = calm; log = refl }
 undone_all_calm m (u ∷ undos) inv can calm =
     let one : StaysCalm m (undone m u) = undone_one_calm m u inv in
     StaysCalm-then m (undone m u) (undone_all (undone m u) undos) one (undone_all_calm (undone m u) undos (undone_stays m u inv can.0.counted) can.1 one.calm)
@@ -125,7 +125,7 @@ part_calm m (TakenBack undos) inv good calm right = undone_all_calm m undos inv 
 
 -- where each list is right for its machine nothing is flushed
 pub parts_calm : (m : Timed) (parts : List Part) → IsMachine m → EachPart IsGood m parts → IsCalm m → EachPart (OfLists AreRight) m parts → StaysCalm m (run_parts m parts)
-parts_calm m [] inv good calm right = record { calm = calm; flushes = refl; silent = refl }
+parts_calm m [] inv good calm right = record { calm = calm; log = refl }
 parts_calm m (part ∷ parts) inv good calm right =
     let one : StaysCalm m (run_part m part) = part_calm m part inv good.0 calm right.0 in
     StaysCalm-then m (run_part m part) (run_parts (run_part m part) parts) one (parts_calm (run_part m part) parts (part_stays m part inv good.0) good.1 one.calm right.1)

@@ -26,6 +26,7 @@ pub mod Passing
 pub mod Phases
 pub mod Progressing
 pub mod Reaching
+pub mod Rows
 pub mod Stalling
 pub mod Starting
 pub mod Steps

@@ -13,11 +13,11 @@ use Rattle.diva_core.proofs.Calming.{due_at, stays_calm}
 
 -- right lists leave a calm machine calm, and its flushes as they were
 pub run_calm : (m : Timed) (lists : List (List Record)) → IsMachine m → IsCalm m → AreRight m lists → StaysCalm m (run_of m lists)
-run_calm m [] inv calm right = record { calm = calm; flushes = refl; silent = refl }
+run_calm m [] inv calm right = record { calm = calm; log = refl }
 run_calm m (list ∷ rest) inv calm right =
     let one : StaysCalm m (cycle_of m list) = stays_calm m list inv calm right.0 in
     let more : StaysCalm (cycle_of m list) (run_of (cycle_of m list) rest) = run_calm (cycle_of m list) rest (stays m list inv) one.calm right.1 in
-    record { calm = more.calm; flushes = more.flushes ∙ one.flushes; silent = more.silent ∙ one.silent }
+    record { calm = more.calm; log = more.log ∙ one.log }
 
 -- every history of a core whose lists are right has right lists
 pub log_right :

@@ -3,7 +3,7 @@ use Rattle.std.proofs.Common.{◌≡◌, ◌≢◌, ◌+◌, ◌%◌, ◌<◌, �
 use Rattle.std.proofs.lemmas.Option.{none-some}
 use Rattle.diva_isa.specs.State.{goes_on}
 use Rattle.diva_isa.specs.declared.record.Record.{Record}
-use Rattle.diva_core.specs.Timed.{Config, PendingClaim, Timed, depth}
+use Rattle.diva_core.specs.Timed.{Log, Config, PendingClaim, Timed, depth}
 use Rattle.diva_core.specs.Cycle.{cycle_of, run_of, stores_wait}
 use Rattle.diva_core.specs.Machine.{IsMachine}
 use Rattle.diva_core.specs.Headline.{AddsRow, SameLog, WillJudge}
@@ -15,33 +15,33 @@ use Rattle.diva_core.proofs.Progressing.{run-rises, same-config}
 
 -- a claim committed, or the machine flushed
 abbrev Moved : Timed → Timed → Type 0
-Moved b n = (b.count < n.count) ⊎ (b.flushes < n.flushes)
+Moved b n = (b.count < n.count) ⊎ (b.under.log.flushes < n.under.log.flushes)
 
 -- the log grows
-log-grows : (b n : Timed) → SameLog b n ⊎ AddsRow b n → b.flushes ≤ n.flushes
-log-grows b n (inl s) = let f = s.flushes in omega arith
-log-grows b n (inr a) = let f = a.is.has.flushes in omega arith
+log-grows : (b n : Timed) → SameLog b n ⊎ AddsRow b n → b.under.log.flushes ≤ n.under.log.flushes
+log-grows b n (inl s) = let f = ap (λ (l : Log). l.flushes) s in omega arith
+log-grows b n (inr a) = let f = ap (λ (l : Log). l.flushes) a.is.has in omega arith
 
-run-grows : (m : Timed) (lists : List (List Record)) → IsMachine m → m.flushes ≤ (run_of m lists).flushes
+run-grows : (m : Timed) (lists : List (List Record)) → IsMachine m → m.under.log.flushes ≤ (run_of m lists).under.log.flushes
 run-grows m [] inv = omega arith
 run-grows m (list ∷ rest) inv =
     let one = log-grows m (cycle_of m list) (logs m list inv) in
     let more = run-grows (cycle_of m list) rest (stays m list inv) in
     omega arith
 
-moved-later : (b n last : Timed) → n.count ≤ last.count → n.flushes ≤ last.flushes → Moved b n → Moved b last
+moved-later : (b n last : Timed) → n.count ≤ last.count → n.under.log.flushes ≤ last.under.log.flushes → Moved b n → Moved b last
 moved-later b n last c f (inl h) = inl (omega arith)
 moved-later b n last c f (inr h) = inr (omega arith)
 
 -- the front claim stays at the front of a machine that goes on
 record StaysFront (b n : Timed) (p : PendingClaim) : Type 0 where
   rest : List PendingClaim
-  pending : n.pending ≡ p ∷ rest
-  solo : n.solo ≡ None
+  pending : n.under.pending ≡ p ∷ rest
+  solo : n.under.solo ≡ None
   on : goes_on n.arch ≡ true
   cycles : n.cycles ≡ b.cycles + 1
   count : n.count ≡ b.count
-  flushes : n.flushes ≡ b.flushes
+  flushes : n.under.log.flushes ≡ b.under.log.flushes
   -- it was not ready, or the port did not open
   late : (b.cycles + 1 < p.cycle + depth) ⊎ ((b.cycles + 1) % b.config.port ≢ 0)
 
@@ -49,8 +49,8 @@ front-cases :
     (b : Timed) (list : List Record) (n : Timed) (p : PendingClaim) (rest : List PendingClaim)
     → IsMachine b
     → goes_on b.arch ≡ true
-    → b.solo ≡ None
-    → b.pending ≡ p ∷ rest
+    → b.under.solo ≡ None
+    → b.under.pending ≡ p ∷ rest
     → Cycled stores_wait b list n
     → Moved b n ⊎ StaysFront b n p
 front-cases b list n p rest inv on none e (idled r) =
@@ -61,12 +61,12 @@ front-cases b list n p rest inv on none e (idled r) =
       on = ap goes_on r.base.stepped ∙ on;
       cycles = r.base.cycles;
       count = (let c = r.base.counted in omega arith);
-      flushes = r.log.flushes;
+      flushes = ap (λ (l : Log). l.flushes) r.log;
       late = not_yet b p rest inv none e r.unjudged;
     })
 front-cases b list n p rest inv on none e (ran r) = inl (inl (let c = r.base.counted in omega arith))
-front-cases b list n p rest inv on none e (barks r) = inl (inr (let f = r.log.flushes in omega arith))
-front-cases b list n p rest inv on none e (differed r) = inl (inr (let f = r.log.flushes in omega arith))
+front-cases b list n p rest inv on none e (barks r) = inl (inr (let f = ap (λ (l : Log). l.flushes) r.log in omega arith))
+front-cases b list n p rest inv on none e (differed r) = inl (inr (let f = ap (λ (l : Log). l.flushes) r.log in omega arith))
 front-cases b list n p rest inv on none e (ended r) = inl (inl (let c = r.base.counted in omega arith))
 front-cases b list n p rest inv on none e (finished r) = absurd (none-some _ (sym none ∙ r.since))
 front-cases b list n p rest inv on none e (waited r) = absurd (none-some _ (sym none ∙ r.since))
@@ -75,8 +75,8 @@ judged-by :
     (m : Timed) (list : List Record) (lists : List (List Record)) (p : PendingClaim) (rest : List PendingClaim)
     → IsMachine m
     → goes_on m.arch ≡ true
-    → m.solo ≡ None
-    → m.pending ≡ p ∷ rest
+    → m.under.solo ≡ None
+    → m.under.pending ≡ p ∷ rest
     → p.cycle + depth ≤ m.cycles + length (list ∷ lists)
     → (m.cycles + length (list ∷ lists)) % m.config.port ≡ 0
     → Moved m (cycle_of m list) ⊎ StaysFront m (cycle_of m list) p

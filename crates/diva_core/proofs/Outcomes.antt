@@ -77,7 +77,7 @@ module _ {rule : Rule} where
       let e : n.arch ≡ steps (n.count - b.count) b.arch = r.base.stepped ∙ ap (λ k. steps k b.arch) (sym (k-is b n r.k r.base)) in
       record {
         p = r.p;
-        waited = rw (k-is b n r.k r.base) (at-place r.k b.arch (b.cycles + 1) b.pending r.p r.rest r.claims);
+        waited = rw (k-is b n r.k r.base) (at-place r.k b.arch (b.cycles + 1) b.under.pending r.p r.rest r.claims);
         ready = r.ready;
         differs = subst (λ (s : State). first_difference r.p.claim (record_of s) ≡ Some r.d) e r.first;
       }
@@ -86,7 +86,7 @@ module _ {rule : Rule} where
   log-cases b list n inv (idled r) = inl r.log
   log-cases b list n inv (ran r) = inl r.log
   log-cases b list n inv (barks r) =
-      let lives : b.idle + 1 ≤ b.config.limit = subst (Lives b) r.was inv.lives in
+      let lives : b.under.idle + 1 ≤ b.config.limit = subst (Lives b) r.was inv.lives in
       inr (record { row = _; is = record { has = r.log; cycle = refl; at = refl; caused = (refl, (let i = r.idle in let l = r.late in omega arith)) } })
   log-cases b list n inv (differed r) =
       inr (record { row = _; is = record { has = r.log; cycle = refl; at = refl; caused = refuted b n r } })
@@ -95,31 +95,31 @@ module _ {rule : Rule} where
   log-cases b list n inv (waited r) = inl r.log
 
 pub logs : (m : Timed) (list : List Record) → IsMachine m → SameLog m (cycle_of m list) ⊎ AddsRow m (cycle_of m list)
-logs m list inv = by-cases (λ n. SameLog m n ⊎ AddsRow m n) m list inv (λ on c. log-cases m list _ inv c) (λ off. inl (record { rows = refl; newest = refl; flushes = refl; silent = refl }))
+logs m list inv = by-cases (λ n. SameLog m n ⊎ AddsRow m n) m list inv (λ on c. log-cases m list _ inv c) (λ off. inl refl)
 
 module _ {rule : Rule} where
   -- ---- what commits
 
-  Commits-base : (b n : Timed) (k : ℕ) (rest : List PendingClaim) → Base rule b n k → Commits k b.arch (b.cycles + 1) b.pending rest → CommitsClaims b n
+  Commits-base : (b n : Timed) (k : ℕ) (rest : List PendingClaim) → Base rule b n k → Commits k b.arch (b.cycles + 1) b.under.pending rest → CommitsClaims b n
   Commits-base b n k rest v h = record { rest = rest; commits = rw (k-is b n k v) h }
 
   commit-cases : (b : Timed) (list : List Record) (n : Timed) → Cycled rule b list n → CommitsClaims b n ⊎ CommitsItself b n
-  commit-cases b list n (idled r) = inl (Commits-base b n 0 b.pending r.base refl)
+  commit-cases b list n (idled r) = inl (Commits-base b n 0 b.under.pending r.base refl)
   commit-cases b list n (ran r) = inl (Commits-base b n (suc r.k) r.rest r.base r.claims)
-  commit-cases b list n (barks r) = inl (Commits-base b n 0 b.pending r.base refl)
+  commit-cases b list n (barks r) = inl (Commits-base b n 0 b.under.pending r.base refl)
   commit-cases b list n (differed r) = inl (Commits-base b n r.k (r.p ∷ r.rest) r.base r.claims)
   commit-cases b list n (ended r) = inl (Commits-base b n (suc r.k) r.rest r.base r.claims)
   commit-cases b list n (finished r) = inr (record { start = r.start; since = r.since; sixth = r.sixth; one = r.base.counted })
-  commit-cases b list n (waited r) = inl (Commits-base b n 0 b.pending r.base refl)
+  commit-cases b list n (waited r) = inl (Commits-base b n 0 b.under.pending r.base refl)
 
 pub commit_by : (m : Timed) (list : List Record) → IsMachine m → CommitsClaims m (cycle_of m list) ⊎ CommitsItself m (cycle_of m list)
 commit_by m list inv =
     by-cases (λ n. CommitsClaims m n ⊎ CommitsItself m n) m list inv (λ on c. commit-cases m list _ c)
-    (λ off. inl (record { rest = m.pending; commits = (let e : m.count - m.count ≡ 0 = omega arith in rw e refl) }))
+    (λ off. inl (record { rest = m.under.pending; commits = (let e : m.count - m.count ≡ 0 = omega arith in rw e refl) }))
 
 -- nothing commits where nothing changes
 pub none_commits : (m : Timed) → CommitsClaims m m ⊎ CommitsItself m m
-none_commits m = inl (record { rest = m.pending; commits = (let e : m.count - m.count ≡ 0 = omega arith in rw e refl) })
+none_commits m = inl (record { rest = m.under.pending; commits = (let e : m.count - m.count ≡ 0 = omega arith in rw e refl) })
 
 -- the records of a cycle's commits
 pub records_by : (m : Timed) (list : List Record) → IsMachine m → ByClaims m (dues ((cycle_of m list).count - m.count) m.arch) ⊎ BySolo m (dues ((cycle_of m list).count - m.count) m.arch)

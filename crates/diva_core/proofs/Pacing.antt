@@ -37,8 +37,8 @@ module _ {C : Type 0} (gives : Meaning C) (m : Timed) (core : C) (last : Timed) 
   turns-stay = subst IsMachine (sym reached) (run-stays m lists inv)
 
   -- no instruction is taken back
-  pub turns-undos : last.undos ≡ m.undos
-  turns-undos = ap (λ (n : Timed). n.undos) reached ∙ run-undos m lists inv
+  pub turns-undos : last.under.undos ≡ m.under.undos
+  turns-undos = ap (λ (n : Timed). n.under.undos) reached ∙ run-undos m lists inv
 
   pub turns-pace : KeepsPace m last
   turns-pace = subst (KeepsPace m) (sym reached) (run-pace m lists inv)

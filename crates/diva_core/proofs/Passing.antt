@@ -19,7 +19,7 @@ pub record Keeps (rule : Rule) : Type 0 where
 -- where a solo instruction commits, it passes the rule
 abbrev pub AlonePasses : Rule → Timed → Type 0
 AlonePasses rule b =
-    (start : ℕ) → b.solo ≡ Some start → b.cycles + 1 ≡ start + depth → rule b.config.stores (drained (begun b)).owed (record_of b.arch) ≡ false
+    (start : ℕ) → b.under.solo ≡ Some start → b.cycles + 1 ≡ start + depth → rule b.config.stores (drained (begun b)).owed (record_of b.arch) ≡ false
 
 -- how many stores are owed after k instructions
 abbrev pub owed_after : ℕ → State → ℕ → ℕ

@@ -18,8 +18,8 @@ use Rattle.diva_core.proofs.Keeping.{stays}
 pub same-config : (m : Timed) (list : List Record) → IsMachine m → (cycle_of m list).config ≡ m.config
 same-config m list inv = by-cases (λ n. n.config ≡ m.config) m list inv (λ on c. (any-base m list _ c).base.config) (λ off. refl)
 
-pub same-undos : (m : Timed) (list : List Record) → IsMachine m → (cycle_of m list).undos ≡ m.undos
-same-undos m list inv = by-cases (λ n. n.undos ≡ m.undos) m list inv (λ on c. (any-base m list _ c).base.undos) (λ off. refl)
+pub same-undos : (m : Timed) (list : List Record) → IsMachine m → (cycle_of m list).under.undos ≡ m.under.undos
+same-undos m list inv = by-cases (λ n. n.under.undos ≡ m.under.undos) m list inv (λ on c. (any-base m list _ c).base.undos) (λ off. refl)
 
 pub run-stays : (m : Timed) (lists : List (List Record)) → IsMachine m → IsMachine (run_of m lists)
 run-stays m [] inv = inv
@@ -29,7 +29,7 @@ pub run-config : (m : Timed) (lists : List (List Record)) → IsMachine m → (r
 run-config m [] inv = refl
 run-config m (list ∷ rest) inv = run-config (cycle_of m list) rest (stays m list inv) ∙ same-config m list inv
 
-pub run-undos : (m : Timed) (lists : List (List Record)) → IsMachine m → (run_of m lists).undos ≡ m.undos
+pub run-undos : (m : Timed) (lists : List (List Record)) → IsMachine m → (run_of m lists).under.undos ≡ m.under.undos
 run-undos m [] inv = refl
 run-undos m (list ∷ rest) inv = run-undos (cycle_of m list) rest (stays m list inv) ∙ same-undos m list inv
 

@@ -9,10 +9,10 @@ use Rattle.diva_core.specs.Machine.{IsMachine, Lives, IsSolo, stalled, stalled_s
 use Rattle.diva_core.proofs.Passing.{AlonePasses, Keeps, alone_stores, stores_keep}
 use Rattle.diva_core.proofs.Cycling.{Cycled, cycled_under, Base, idled, ran, barks, differed, ended, finished, waited}
 
-stalled-none : (m : Timed) → m.solo ≡ None → stalled m ≡ m.idle
+stalled-none : (m : Timed) → m.under.solo ≡ None → stalled m ≡ m.under.idle
 stalled-none m e = ap (stalled_since m) e
 
-stalled-some : (m : Timed) (start : ℕ) → m.solo ≡ Some start → stalled m ≡ m.config.limit + (m.cycles - start)
+stalled-some : (m : Timed) (start : ℕ) → m.under.solo ≡ Some start → stalled m ≡ m.config.limit + (m.cycles - start)
 stalled-some m start e = ap (stalled_since m) e
 
 stalled-most : (m : Timed) (o : Option ℕ) → Lives m o → 16 ≤ m.config.limit → stalled_since m o < m.config.limit + depth
@@ -28,13 +28,13 @@ pub record Stalls (b n : Timed) : Type 0 where
 Stalls-base : {rule : Rule} (b n : Timed) → goes_on b.arch ≡ true → Base rule b n 0 → stalled b < stalled n → Stalls b n
 Stalls-base b n on v h = record { same = (let c = v.counted in omega arith); on = ap goes_on v.stepped ∙ on; longer = h }
 
-flushed-longer : (b n : Timed) → IsMachine b → n.config ≡ b.config → b.solo ≡ None → n.solo ≡ Some (b.cycles + 1) → stalled b < stalled n
+flushed-longer : (b n : Timed) → IsMachine b → n.config ≡ b.config → b.under.solo ≡ None → n.under.solo ≡ Some (b.cycles + 1) → stalled b < stalled n
 flushed-longer b n inv z was some =
-    let lives : b.idle + 1 ≤ b.config.limit = subst (Lives b) was inv.lives in
+    let lives : b.under.idle + 1 ≤ b.config.limit = subst (Lives b) was inv.lives in
     let l : n.config.limit ≡ b.config.limit = ap (λ x. x.limit) z in
     rw (stalled-none b was, stalled-some n (b.cycles + 1) some) (omega arith)
 
-differed-stalls : {rule : Rule} (b n : Timed) (k : ℕ) → IsMachine b → goes_on b.arch ≡ true → Base rule b n k → b.solo ≡ None → n.solo ≡ Some (b.cycles + 1) → (b.count < n.count) ⊎ Stalls b n
+differed-stalls : {rule : Rule} (b n : Timed) (k : ℕ) → IsMachine b → goes_on b.arch ≡ true → Base rule b n k → b.under.solo ≡ None → n.under.solo ≡ Some (b.cycles + 1) → (b.count < n.count) ⊎ Stalls b n
 differed-stalls b n zero inv on v was some = inr (Stalls-base b n on v (flushed-longer b n inv v.config was some))
 differed-stalls b n (suc k) inv on v was some = inl (let c = v.counted in omega arith)
 
@@ -60,7 +60,7 @@ pub stalls : (m : Timed) (list : List Record) → IsMachine m → goes_on m.arch
 stalls m list inv = stalls_under stores_keep m list inv (alone_stores m inv)
 
 pub most : (m : Timed) → IsMachine m → stalled m < m.config.limit + depth
-most m inv = stalled-most m m.solo inv.lives inv.config.limit_low
+most m inv = stalled-most m m.under.solo inv.lives inv.config.limit_low
 
 -- ---- the pace
 
@@ -70,7 +70,7 @@ IsPaced m = m.cycles ≤ m.count * (m.config.limit + depth) + stalled m
 
 -- where no instruction was taken back
 abbrev pub Paces : Timed → Type 0
-Paces m = m.undos ≡ 0 → IsPaced m
+Paces m = m.under.undos ≡ 0 → IsPaced m
 
 pace-rise : (b n : Timed) → IsMachine b → n.config ≡ b.config → n.cycles ≡ b.cycles + 1 → b.count < n.count → IsPaced b → IsPaced n
 pace-rise b n inv z c rise h =

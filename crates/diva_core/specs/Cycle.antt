@@ -11,7 +11,7 @@ use Rattle.diva_core.specs.declared.flushes.FlushRow.{FlushRow}
 use Rattle.diva_core.specs.declared.flushes.Cause.{Cause}
 use Rattle.diva_core.specs.declared.flushes.Cause.TheVariants.{Differs, Silent}
 use Rattle.diva_core.specs.Difference.{first_difference}
-use Rattle.diva_core.specs.Timed.{Timed, PendingClaim, room_of, depth, rows_kept}
+use Rattle.diva_core.specs.Timed.{Timed, Log, PendingClaim, room_of, depth, rows_kept}
 
 -- ---- what the phases are made of
 
@@ -36,6 +36,16 @@ number b = if b then 1 else 0
 abbrev pub kept : List FlushRow → FlushRow → List FlushRow
 kept rows row = if nat_lt (length rows) rows_kept then rows ++ row ∷ [] else rows
 
+-- the log with one row more
+abbrev pub logged : Log → FlushRow → Log
+logged log row =
+    record {
+      rows = kept log.rows row;
+      newest = Some row;
+      flushes = log.flushes + 1;
+      silent = log.silent + number (is_silent row.cause);
+    }
+
 -- the row of a flush in the cycle that runs
 abbrev pub flush_row : Timed → Cause → FlushRow
 flush_row m cause = record { cycle = m.cycles; at = m.count; cause = cause }
@@ -43,14 +53,7 @@ flush_row m cause = record { cycle = m.cycles; at = m.count; cause = cause }
 -- the machine flushes: nothing is pending, and the next instruction starts solo
 unfoldable pub flushed : Timed → Cause → Timed
 flushed m cause =
-    record m {
-      pending = [];
-      solo = Some m.cycles;
-      flushes = m.flushes + 1;
-      silent = m.silent + number (is_silent cause);
-      rows = kept m.rows (flush_row m cause);
-      newest = Some (flush_row m cause);
-    }
+    record m { under = record m.under { pending = []; solo = Some m.cycles; log = logged m.under.log (flush_row m cause) } }
 
 -- a record commits
 unfoldable pub committed : Timed → Record → Timed
@@ -95,13 +98,17 @@ by_front rule m [] = Wait
 by_front rule m (p ∷ rest) = if nat_le (p.cycle + depth) m.cycles then by_difference rule m (first_difference p.claim (record_of m.arch)) else Wait
 
 abbrev pub judgement_under : Rule → Timed → Judgement
-judgement_under rule m = by_front rule m m.pending
+judgement_under rule m = by_front rule m m.under.pending
+
+-- the machine with these claims pending
+abbrev pub with_pending : Timed → List PendingClaim → Timed
+with_pending m claims = record m { under = record m.under { pending = claims } }
 
 -- the front claim has committed; an end drops the others too
 abbrev pub past_front : Timed → Timed
 past_front m =
     let after = committed m (record_of m.arch) in
-    record after { pending = if goes_on after.arch then drop 1 m.pending else [] }
+    with_pending after (if goes_on after.arch then drop 1 m.under.pending else [])
 
 -- the machine by what becomes of its front claim; `further` is what it comes to behind one that commits
 abbrev pub by_judgement : Timed → (further : Timed) → Judgement → Timed
@@ -114,13 +121,17 @@ abbrev pub judged_under : Rule → ℕ → Timed → Timed
 judged_under rule zero m = m
 judged_under rule (suc n) m = by_judgement m (judged_under rule n (past_front m)) (judgement_under rule m)
 
+-- no instruction runs solo
+abbrev pub without_solo : Timed → Timed
+without_solo m = record m { under = record m.under { solo = None } }
+
 -- an instruction that runs solo commits once it has passed through the stages; else the claims are judged
 abbrev pub by_solo : Rule → Timed → Option ℕ → Timed
 by_solo rule m None = judged_under rule m.config.width m
-by_solo rule m (Some start) = if m.cycles == start + depth then committed (record m { solo = None }) (record_of m.arch) else m
+by_solo rule m (Some start) = if m.cycles == start + depth then committed (without_solo m) (record_of m.arch) else m
 
 unfoldable pub commits_under : Rule → Timed → Timed
-commits_under rule m = by_solo rule m m.solo
+commits_under rule m = by_solo rule m m.under.solo
 
 -- phase 3, advance, changes nothing that is seen here
 
@@ -130,18 +141,18 @@ accepted_in cycle claim = record { claim = claim; cycle = cycle }
 
 abbrev pub accepted : Timed → List Record → Timed → List PendingClaim
 accepted before list m =
-    if goes_on m.arch && (m.flushes == before.flushes)
-    then m.pending ++ map (accepted_in m.cycles) (take (room_of before) list) else m.pending
+    if goes_on m.arch && (m.under.log.flushes == before.under.log.flushes)
+    then m.under.pending ++ map (accepted_in m.cycles) (take (room_of before) list) else m.under.pending
 
 unfoldable pub accepts : Timed → List Record → Timed → Timed
-accepts before list m = record m { pending = accepted before list m }
+accepts before list m = with_pending m (accepted before list m)
 
 -- phase 5, watchdog: too many cycles without a commit flush
 abbrev pub counted : Timed → Timed → Timed
-counted before m = record m { idle = if m.count == before.count then m.idle + 1 else 0 }
+counted before m = record m { under = record m.under { idle = if m.count == before.count then m.under.idle + 1 else 0 } }
 
 abbrev pub barked : Timed → Timed
-barked m = if nat_le m.config.limit m.idle && is_none m.solo && goes_on m.arch then flushed m (Silent m.config.limit) else m
+barked m = if nat_le m.config.limit m.under.idle && is_none m.under.solo && goes_on m.arch then flushed m (Silent m.config.limit) else m
 
 unfoldable pub watched : Timed → Timed → Timed
 watched before m = barked (counted before m)

@@ -9,8 +9,8 @@ use Rattle.diva_core.specs.declared.flushes.Cause.{Cause}
 use Rattle.diva_core.specs.declared.flushes.Cause.TheVariants.{Differs, Silent}
 use Rattle.diva_core.specs.declared.differences.Diff.{Diff}
 use Rattle.diva_core.specs.Difference.{field_of, first_difference}
-use Rattle.diva_core.specs.Timed.{Timed, PendingClaim, depth, rows_kept}
-use Rattle.diva_core.specs.Cycle.{begun, cycle_of, kept, number, is_silent, port_opens, puts_store, run_of}
+use Rattle.diva_core.specs.Timed.{Timed, Log, PendingClaim, depth, rows_kept}
+use Rattle.diva_core.specs.Cycle.{begun, cycle_of, is_silent, logged, port_opens, puts_store, run_of}
 
 -- ---- counted: the count rises, and the state has moved by as many steps
 pub record Rises (m last : Timed) : Type 0 where
@@ -40,12 +40,12 @@ AreClaims (r ∷ records) cycle (p ∷ waiting) rest =
 -- what a cycle committed are claims that waited
 pub record ByClaims (m : Timed) (records : List Record) : Type 0 where
   pub rest : List PendingClaim
-  pub claims : AreClaims records (m.cycles + 1) m.pending rest
+  pub claims : AreClaims records (m.cycles + 1) m.under.pending rest
 
 -- what a cycle committed is the one instruction that ran solo for six cycles
 pub record BySolo (m : Timed) (records : List Record) : Type 0 where
   pub start : ℕ
-  pub since : m.solo ≡ Some start
+  pub since : m.under.solo ≡ Some start
   pub passed : m.cycles + 1 ≡ start + depth
   pub one : length records ≡ 1
 
@@ -75,45 +75,39 @@ pub record IsHeld (m : Timed) : Type 0 where
 pub record IsJudged (m last : Timed) (p : PendingClaim) : Type 0 where
   pub equal : p.claim ≡ record_of m.arch → (m.count < last.count) ⊎ IsHeld m
   pub unequal : p.claim ≢ record_of m.arch
-      → (last.count ≡ m.count) × (last.flushes ≡ m.flushes + 1) × (last.silent ≡ m.silent)
+      → (last.count ≡ m.count) × (last.under.log.flushes ≡ m.under.log.flushes + 1) × (last.under.log.silent ≡ m.under.log.silent)
 
 -- it is held up no longer than until the port opens, whatever is handed over: in the first cycle in which the claim is ready
 -- and the port opens, or before, a claim commits or the machine flushes
 abbrev pub WillJudge : Timed → Type 0
 WillJudge m =
-    goes_on m.arch ≡ true → m.solo ≡ None → (p : PendingClaim) (rest : List PendingClaim) → m.pending ≡ p ∷ rest
+    goes_on m.arch ≡ true → m.under.solo ≡ None → (p : PendingClaim) (rest : List PendingClaim) → m.under.pending ≡ p ∷ rest
     → (list : List Record) (lists : List (List Record))
     → p.cycle + depth ≤ m.cycles + length (list ∷ lists) → (m.cycles + length (list ∷ lists)) % m.config.port ≡ 0
-    → (m.count < (run_of m (list ∷ lists)).count) ⊎ (m.flushes < (run_of m (list ∷ lists)).flushes)
+    → (m.count < (run_of m (list ∷ lists)).count) ⊎ (m.under.log.flushes < (run_of m (list ∷ lists)).under.log.flushes)
 
 -- ---- flushes come only where a claim differs or the watchdog barks
 
 -- the log is as it was
-pub record SameLog (m last : Timed) : Type 0 where
-  pub rows : last.rows ≡ m.rows
-  pub newest : last.newest ≡ m.newest
-  pub flushes : last.flushes ≡ m.flushes
-  pub silent : last.silent ≡ m.silent
+abbrev pub SameLog : (m last : Timed) → Type 0
+SameLog m last = last.under.log ≡ m.under.log
 
 -- the log has one row more
-pub record HasRow (m last : Timed) (row : FlushRow) : Type 0 where
-  pub rows : last.rows ≡ kept m.rows row
-  pub newest : last.newest ≡ Some row
-  pub flushes : last.flushes ≡ m.flushes + 1
-  pub silent : last.silent ≡ m.silent + number (is_silent row.cause)
+abbrev pub HasRow : (m last : Timed) → FlushRow → Type 0
+HasRow m last row = last.under.log ≡ logged m.under.log row
 
 -- of the claims that waited, the first that a cycle did not commit was ready, and d is the first field in which it differs
 -- from the record that was then due
 pub record IsRefuted (m last : Timed) (d : Diff) : Type 0 where
   pub p : PendingClaim
-  pub waited : slice_get m.pending (last.count - m.count) ≡ Some p
+  pub waited : slice_get m.under.pending (last.count - m.count) ≡ Some p
   pub ready : p.cycle + depth ≤ m.cycles + 1
   pub differs : first_difference p.claim (record_of (steps (last.count - m.count) m.arch)) ≡ Some d
 
 -- why a cycle flushed: a claim differed from the record that was due, or idle stood at the limit
 abbrev pub IsCause : Timed → Timed → Cause → Type 0
 IsCause m last (Differs d) = IsRefuted m last d
-IsCause m last (Silent limit) = (limit ≡ m.config.limit) × (last.idle ≡ limit)
+IsCause m last (Silent limit) = (limit ≡ m.config.limit) × (last.under.idle ≡ limit)
 
 -- the row is the one that the cycle from m to `last` added to the log
 pub record IsRowOf (m last : Timed) (row : FlushRow) : Type 0 where
@@ -154,20 +148,20 @@ newest_of before (row ∷ rows) = newest_of (Some row) rows
 abbrev pub is_silent_row : FlushRow → Bool
 is_silent_row row = is_silent row.cause
 
--- the log of `last` is that of m with these rows added: the first that there was room for are kept, the newest stands beside
--- them, and all are counted
-pub record HasRows (m : Timed) (added : List FlushRow) (last : Timed) : Type 0 where
-  pub rows : last.rows ≡ take rows_kept (m.rows ++ added)
-  pub newest : last.newest ≡ newest_of m.newest added
-  pub flushes : last.flushes ≡ m.flushes + length added
-  pub silent : last.silent ≡ m.silent + count_by is_silent_row added
+-- `last` is a log with these rows added: the first that there was room for are kept, the newest stands beside them, and all are
+-- counted
+pub record HasRows (log : Log) (added : List FlushRow) (last : Log) : Type 0 where
+  pub rows : last.rows ≡ take rows_kept (log.rows ++ added)
+  pub newest : last.newest ≡ newest_of log.newest added
+  pub flushes : last.flushes ≡ log.flushes + length added
+  pub silent : last.silent ≡ log.silent + count_by is_silent_row added
 
 -- the run of these lists from m to `last` added rows to the log: those of its cycles, each with the cause that it had there
 pub record AddsRows (m : Timed) (lists : List (List Record)) (last : Timed) : Type 0 where
   pub added : List FlushRow
   pub each : AreRowsOf m lists added
   pub since : All (IsRowSince m) added
-  pub has : HasRows m added last
+  pub has : HasRows m.under.log added last.under.log
 
 -- ---- until the end, every W + depth cycles count at least one instruction more, W being the watchdog's limit
 
@@ -183,4 +177,4 @@ KeepsPace m last = (d : ℕ) → m.cycles + d * (m.config.limit + depth) ≤ las
 
 -- since a machine was new, where no instruction was taken back
 abbrev pub HasPace : Timed → Type 0
-HasPace m = m.undos ≡ 0 → m.cycles / (m.config.limit + depth) ≤ m.count
+HasPace m = m.under.undos ≡ 0 → m.cycles / (m.config.limit + depth) ≤ m.count

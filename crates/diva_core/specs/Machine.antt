@@ -34,16 +34,16 @@ config_in_range z = if config_le least_config z && config_le z most_config then 
 
 -- an instruction runs solo since the cycle `start`
 pub record IsSolo (m : Timed) (start : ℕ) : Type 0 where
-  pub empty : m.pending ≡ []
+  pub empty : m.under.pending ≡ []
   pub started : start ≤ m.cycles
   pub soon : m.cycles + 1 ≤ start + depth
-  pub idled : m.idle ≤ m.config.limit + (m.cycles - start)
+  pub idled : m.under.idle ≤ m.config.limit + (m.cycles - start)
   -- the port has taken a store each time since, while one was owed; it did so once at least before the sixth cycle's commit
   pub drained : m.owed ≤ m.config.stores - (m.cycles / m.config.port - start / m.config.port)
 
 -- how long the machine can have been without a commit
 abbrev pub Lives : Timed → Option ℕ → Type 0
-Lives m None = m.idle + 1 ≤ m.config.limit
+Lives m None = m.under.idle + 1 ≤ m.config.limit
 Lives m (Some start) = IsSolo m start
 
 -- no claim was accepted in a later cycle
@@ -53,23 +53,23 @@ ArePast cycles (p ∷ rest) = (p.cycle ≤ cycles) × ArePast cycles rest
 
 -- the cycles that went by since the last commit, where a flush counts as the watchdog's limit
 abbrev pub stalled_since : Timed → Option ℕ → ℕ
-stalled_since m None = m.idle
+stalled_since m None = m.under.idle
 stalled_since m (Some start) = m.config.limit + (m.cycles - start)
 
 abbrev pub stalled : Timed → ℕ
-stalled m = stalled_since m m.solo
+stalled m = stalled_since m m.under.solo
 
 pub record IsMachine (m : Timed) : Type 0 where
   pub config : IsConfig m.config
   -- the instructions that led to the committed state are those that were counted
   pub counted : m.arch.instret ≡ m.count
-  pub lives : Lives m m.solo
+  pub lives : Lives m m.under.solo
   pub owed : m.owed ≤ m.config.stores
-  pub rows : length m.rows ≤ rows_kept
-  pub past : ArePast m.cycles m.pending
-  pub window : length m.pending ≤ m.config.window
-  pub flushes : m.flushes ≤ m.cycles
-  pub silent : m.silent ≤ m.flushes
-  pub count : m.count + m.undos ≤ m.config.width * m.cycles
+  pub rows : length m.under.log.rows ≤ rows_kept
+  pub past : ArePast m.cycles m.under.pending
+  pub window : length m.under.pending ≤ m.config.window
+  pub flushes : m.under.log.flushes ≤ m.cycles
+  pub silent : m.under.log.silent ≤ m.under.log.flushes
+  pub count : m.count + m.under.undos ≤ m.config.width * m.cycles
   -- each instruction took W + depth cycles at most, W being the watchdog's limit, where none was taken back
-  pub pace : m.undos ≡ 0 → m.cycles ≤ m.count * (m.config.limit + depth) + stalled m
+  pub pace : m.under.undos ≡ 0 → m.cycles ≤ m.count * (m.config.limit + depth) + stalled m

@@ -6,6 +6,7 @@ use Rattle.diva_isa.specs.declared.record.Record.{Record}
 use Rattle.diva_isa.specs.Step.{record_of, steps}
 use Rattle.diva_core.specs.Timed.{Timed, PendingClaim, depth, room_of, is_due}
 use Rattle.diva_core.specs.Cycle.{cycle_of}
+use Rattle.diva_core.specs.Headline.{SameLog}
 
 -- claim by claim, a list is what the table gives from a state on: the claim at place j is the record that is due after j
 -- steps. Where the machine ends before, any claim is right
@@ -16,7 +17,7 @@ AreDue s claims =
 -- a list is right for a machine: the claims that there is room for are due behind those that are pending, and it is not
 -- empty where a claim has to be handed over
 pub record IsRight (m : Timed) (list : List Record) : Type 0 where
-  pub claims : AreDue (steps (length m.pending) m.arch) (take (room_of m) list)
+  pub claims : AreDue (steps (length m.under.pending) m.arch) (take (room_of m) list)
   pub prompt : is_due m ≡ true → list ≢ []
 
 -- each list of a run is right for the machine that it is handed to
@@ -33,16 +34,16 @@ wait_by m [] = depth + m.config.port
 wait_by m (p ∷ rest) = next_multiple_of (max (m.cycles + 1) (p.cycle + depth)) m.config.port - m.cycles
 
 abbrev pub wait_of : Timed → ℕ
-wait_of m = wait_by m m.pending
+wait_of m = wait_by m m.under.pending
 
 abbrev pub claim_of : PendingClaim → Record
 claim_of p = p.claim
 
 -- no instruction runs solo, what is pending is due, and a commit can come before the watchdog barks
 pub record IsCalmRunning (m : Timed) : Type 0 where
-  pub running : m.solo ≡ None
-  pub claims : AreDue m.arch (map claim_of m.pending)
-  pub waits : m.idle + wait_of m ≤ m.config.limit
+  pub running : m.under.solo ≡ None
+  pub claims : AreDue m.arch (map claim_of m.under.pending)
+  pub waits : m.under.idle + wait_of m ≤ m.config.limit
 
 -- a machine is calm: it has ended, or it runs as above
 abbrev pub IsCalm : Timed → Type 0
@@ -51,5 +52,4 @@ IsCalm m = goes_on m.arch ≡ true → IsCalmRunning m
 -- no flush came between two machines, and the later one is calm
 pub record StaysCalm (m last : Timed) : Type 0 where
   pub calm : IsCalm last
-  pub flushes : last.flushes ≡ m.flushes
-  pub silent : last.silent ≡ m.silent
+  pub log : SameLog m last

@@ -31,59 +31,59 @@ pub record PendingClaim : Type 0 where
   pub claim : Record
   pub cycle : ℕ
 
-pub record Timed : Type 0 where
-  pub config : Config
-  -- the committed state
-  pub arch : State
-  -- the instructions committed, and the cycles run
-  pub count : ℕ
-  pub cycles : ℕ
-  -- oldest first
-  pub pending : List PendingClaim
-  -- the cycle in which an instruction was started solo
-  pub solo : Option ℕ
-  -- the committed stores that are not in memory yet
-  pub owed : ℕ
-  -- the cycles since the last commit
-  pub idle : ℕ
-  -- the rows of the flushes that are kept, the newest row, and the number of all flushes and of the silent ones
+-- the flushes that came: the rows that are kept, the newest row, and the number of all flushes and of the silent ones
+pub record Log : Type 0 where
   pub rows : List FlushRow
   pub newest : Option FlushRow
   pub flushes : ℕ
   pub silent : ℕ
+
+-- what is under way beside the committed state
+pub record UnderWay : Type 0 where
+  -- oldest first
+  pub pending : List PendingClaim
+  -- the cycle in which an instruction was started solo
+  pub solo : Option ℕ
+  -- the cycles since the last commit
+  pub idle : ℕ
+  pub log : Log
   -- how often the last instruction was taken back
   pub undos : ℕ
 
+pub record Timed : Type 0 where
+  pub config : Config
+  -- the cycles run
+  pub cycles : ℕ
+  -- the committed state, and the instructions committed
+  pub arch : State
+  pub count : ℕ
+  -- the committed stores that are not in memory yet
+  pub owed : ℕ
+  pub under : UnderWay
+
 -- the number of flushes and undos so far
 abbrev pub epoch_of : Timed → ℕ
-epoch_of m = m.flushes + m.undos
+epoch_of m = m.under.log.flushes + m.under.undos
 
 -- how many claims the coming cycle accepts at most
 abbrev pub room_of : Timed → ℕ
-room_of m = if is_none m.solo && goes_on m.arch then min m.config.width (m.config.window - length m.pending) else 0
+room_of m = if is_none m.under.solo && goes_on m.arch then min m.config.width (m.config.window - length m.under.pending) else 0
 
 abbrev pub is_empty : {A : Type 0} → List A → Bool
 is_empty xs = length xs == 0
 
 -- a claim has to be handed over in the coming cycle, or the watchdog may bark before it can commit
 abbrev pub is_due : Timed → Bool
-is_due m = is_empty m.pending && nat_lt 0 (room_of m) && nat_le m.config.limit (m.idle + (depth + m.config.port))
+is_due m = is_empty m.under.pending && nat_lt 0 (room_of m) && nat_le m.config.limit (m.under.idle + (depth + m.config.port))
+
+-- no flush came
+abbrev pub new_log : Log
+new_log = record { rows = []; newest = None; flushes = 0; silent = 0 }
+
+-- nothing is under way
+abbrev pub nothing_under_way : UnderWay
+nothing_under_way = record { pending = []; solo = None; idle = 0; log = new_log; undos = 0 }
 
 -- the machine that begins with a state
 abbrev pub new_timed : Config → State → Timed
-new_timed config s =
-    record {
-      config = config;
-      arch = s;
-      count = 0;
-      cycles = 0;
-      pending = [];
-      solo = None;
-      owed = 0;
-      idle = 0;
-      rows = [];
-      newest = None;
-      flushes = 0;
-      silent = 0;
-      undos = 0;
-    }
+new_timed config s = record { config = config; cycles = 0; arch = s; count = 0; owed = 0; under = nothing_under_way }

@@ -32,9 +32,9 @@ told_of m =
       count = m.count;
       pc = m.arch.pc;
       epoch = epoch_of m;
-      pending = length m.pending;
+      pending = length m.under.pending;
       room = room_of m;
-      idle = m.idle;
+      idle = m.under.idle;
       due = is_due m;
       ended = not (goes_on m.arch);
     }

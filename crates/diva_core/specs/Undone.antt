@@ -11,11 +11,8 @@ undone m u =
     record m {
       arch = restore m.arch u;
       count = m.count - 1;
-      pending = [];
-      solo = None;
       owed = 0;
-      idle = 0;
-      undos = m.undos + 1;
+      under = record m.under { pending = []; solo = None; idle = 0; undos = m.under.undos + 1 };
     }
 
 -- an instruction was counted, and u is what the last of them overwrote

@@ -14,8 +14,8 @@ use diva_trace::{flush_line, mem_line, push_end};
 #[tactic(auto, unfolding(crate::specs::Replies::reply_at))]
 pub(crate) fn reply_at(command: &Command, kept: u64, m: &Machine) -> Line
     ensures reply { result
-        ≡ reply_at command.now kept m.now.timed.count m.now.timed.arch m.now.timed.newest }
-    ensures no_flush { command.now ≡ Why → (result ≡ no_flush) ↔ (m.now.timed.flushes ≡ 0) }
+        ≡ reply_at command.now kept m.now.timed.count m.now.timed.arch m.now.timed.under.log.newest }
+    ensures no_flush { command.now ≡ Why → (result ≡ no_flush) ↔ (m.now.timed.under.log.flushes ≡ 0) }
 {
     match command {
         Command::Step(_) => stop_line(m),

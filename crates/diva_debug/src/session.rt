@@ -31,11 +31,11 @@ pub fn reply_to<C: Core>(m: &mut Rewindable, core: &mut C, command: &Command) ->
     // The reply is that of the place behind the command, of the state there, and of how many undos were kept before; the core
     // has a part in the newest flush alone.
     ensures reply { result ≡ reply_at command.now (kept_of m.old)
-        m.new.machine.timed.count m.new.machine.timed.arch m.new.machine.timed.newest }
+        m.new.machine.timed.count m.new.machine.timed.arch m.new.machine.timed.under.log.newest }
     ensures far { (pc : ℕ) → command.now ≡ Until pc
         → (result ≡ far_line m.new.machine.timed.count m.new.machine.timed.arch.pc)
         ↔ IsFar pc m.old.machine.timed m.new.machine.timed }
-    ensures no_flush { command.now ≡ Why → (result ≡ no_flush) ↔ (m.new.machine.timed.flushes ≡ 0) }
+    ensures no_flush { command.now ≡ Why → (result ≡ no_flush) ↔ (m.new.machine.timed.under.log.flushes ≡ 0) }
     ensures too_few { (k : ℕ) → command.now ≡ Back k → (result ≡ kept_line (kept_of m.old)) ↔ (kept_of m.old < k) }
 
     // The session stands where the command leads, and keeps as many undos as there is room for. As many steps as undos are
@@ -125,12 +125,12 @@ impl<'a, C: Core> Session<'a, C> {
     pub fn reply(&mut self, command: &Command) -> Line
         requires { (machine_of self.old).timed.cycles + most_cycles command.now (machine_of self.old).timed ≤ 2 ^ 60 }
         ensures reply { result ≡ reply_at command.now (kept_of (rewindable_of self.old))
-            (machine_of self.new).timed.count (machine_of self.new).timed.arch (machine_of self.new).timed.newest }
+            (machine_of self.new).timed.count (machine_of self.new).timed.arch (machine_of self.new).timed.under.log.newest }
         ensures far { (pc : ℕ) → command.now ≡ Until pc
             → (result ≡ far_line (machine_of self.new).timed.count (machine_of self.new).timed.arch.pc)
             ↔ IsFar pc (machine_of self.old).timed (machine_of self.new).timed }
         ensures no_flush { command.now ≡ Why
-            → (result ≡ no_flush) ↔ ((machine_of self.new).timed.flushes ≡ 0) }
+            → (result ≡ no_flush) ↔ ((machine_of self.new).timed.under.log.flushes ≡ 0) }
         ensures too_few { (k : ℕ) → command.now ≡ Back k
             → (result ≡ kept_line (kept_of (rewindable_of self.old))) ↔ (kept_of (rewindable_of self.old) < k) }
         ensures stands { standing_of (rewindable_of self.new)

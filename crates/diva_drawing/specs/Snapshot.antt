@@ -35,13 +35,13 @@ solo_since arch start = record { since = start; due = record_of (record arch { e
 pub record IsSnapshot (m : Timed) (s : Snapshot) : Type 0 where
   pub count : s.count ≡ m.count
   pub cycles : s.cycles ≡ m.cycles
-  pub flushes : s.flushes ≡ m.flushes
-  pub newest : s.newest ≡ m.newest
+  pub flushes : s.flushes ≡ m.under.log.flushes
+  pub newest : s.newest ≡ m.under.log.newest
   pub goes_on : s.goes_on ≡ goes_on m.arch
-  pub solo : s.solo ≡ option_map (solo_since m.arch) m.solo
+  pub solo : s.solo ≡ option_map (solo_since m.arch) m.under.solo
   pub entries : List Entry
   pub claims : s.claims ≡ map snapshot_claim_of entries
-  pub waits : m.pending ≡ map pending_claim_of entries
+  pub waits : m.under.pending ≡ map pending_claim_of entries
   -- the verdict of each pending claim is the first difference that the stages up to its age find in it
   pub checked : AreChecked m.arch m.cycles entries
 

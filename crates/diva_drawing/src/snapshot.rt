@@ -115,7 +115,7 @@ impl Snapshot {
 
 /// The instruction that runs solo, if one does.
 fn running_solo(m: &Machine) -> Option<SnapshotSolo>
-    ensures { result ≡ option_map (solo_since m.now.timed.arch) m.now.timed.solo }
+    ensures { result ≡ option_map (solo_since m.now.timed.arch) m.now.timed.under.solo }
 {
     let start = m.solo()?;
     Some(SnapshotSolo {
@@ -142,7 +142,7 @@ fn claims(m: &Machine) -> ArrayVec<SnapshotClaim, 64>
 
 /// How many claims are pending.
 fn pending(m: &Machine) -> usize
-    ensures pending { result ≡ length m.now.timed.pending }
+    ensures pending { result ≡ length m.now.timed.under.pending }
     ensures entries { result ≡ length m.now.entries }
     ensures few { result ≤ 64 }
 {

@@ -58,6 +58,7 @@ module _ (now : ℕ) (before memory : Bytes) (h : Hart) (inv : IsHart now before
           running = λ e. absurd (eqb-false _ _ off e);
           machine = other_memory (timed inv.at before h) (seen memory (drained_hart h).state) (length (drop 1 h.state.buffer)) (omega arith) refl inv.machine;
           port = inv.port;
+          undos = inv.undos;
           inside = inside;
         })
   ]

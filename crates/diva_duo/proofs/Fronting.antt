@@ -14,7 +14,7 @@ use Rattle.diva_core.specs.declared.flushes.Cause.TheVariants.{Differs}
 use Rattle.diva_core.specs.declared.pending.Entry.{Entry}
 use Rattle.diva_core.specs.Difference.{first_difference}
 use Rattle.diva_core.specs.Timed.{Timed, PendingClaim, depth}
-use Rattle.diva_core.specs.Cycle.{Judgement, Wait, Commit, Flush, by_difference, by_front, by_judgement, judgement_under, past_front, flushed, committed}
+use Rattle.diva_core.specs.Cycle.{Judgement, Wait, Commit, Flush, by_difference, by_front, by_judgement, judgement_under, past_front, flushed, committed, with_pending}
 use Rattle.diva_core.specs.Entries.{pending_claim_of}
 use Rattle.diva_duo.specs.Rules.{fences_wait}
 use Rattle.diva_memory.specs.Bytes.{Bytes}
@@ -41,8 +41,8 @@ pub some_wait : (items : List Entry) (e : Entry) → slice_get items 0 ≡ Some 
 some_wait [] e h = absurd (none-some _ h)
 some_wait (x ∷ items) e h = omega arith
 
-module _ (m : Timed) (items : List Entry) (e : Entry) (first : slice_get items 0 ≡ Some e) (waits : m.pending ≡ map pending_claim_of items) where
-  front_is : m.pending ≡ pending_claim_of e ∷ map pending_claim_of (drop 1 items)
+module _ (m : Timed) (items : List Entry) (e : Entry) (first : slice_get items 0 ≡ Some e) (waits : m.under.pending ≡ map pending_claim_of items) where
+  front_is : m.under.pending ≡ pending_claim_of e ∷ map pending_claim_of (drop 1 items)
   front_is = waits ∙ ap (map pending_claim_of) (first_is items e first)
 
   by : (w : Judgement) → judgement_under fences_wait m ≡ w → (next : Timed → Timed) → judge_next next m ≡ by_judgement m (next (past_front m)) w
@@ -65,27 +65,27 @@ module _ (m : Timed) (items : List Entry) (e : Entry) (first : slice_get items 0
     free is goes next = by Commit (ready None is ∙ rw goes refl) next
 
 -- the machine behind a front claim that committed
-module _ (m n : Timed) (ps : List PendingClaim) (is : n ≡ committed (record m { pending = ps }) (record_of m.arch)) where
+module _ (m n : Timed) (ps : List PendingClaim) (is : n ≡ committed (with_pending m ps) (record_of m.arch)) where
   same_end : goes_on (committed m (record_of m.arch)).arch ≡ goes_on n.arch
   unfolding committed
   same_end = ap (λ (z : Timed). goes_on z.arch) (sym is)
 
-  past_on : drop 1 m.pending ≡ ps → goes_on n.arch ≡ true → past_front m ≡ n
+  past_on : drop 1 m.under.pending ≡ ps → goes_on n.arch ≡ true → past_front m ≡ n
   unfolding committed
   past_on rest on =
-      ap (λ (b : Bool). record (committed m (record_of m.arch)) { pending = if b then drop 1 m.pending else [] }) (same_end ∙ on)
-      ∙ ap (λ (xs : List PendingClaim). record (committed m (record_of m.arch)) { pending = xs }) rest
+      ap (λ (b : Bool). with_pending (committed m (record_of m.arch)) (if b then drop 1 m.under.pending else [])) (same_end ∙ on)
+      ∙ ap (λ (xs : List PendingClaim). with_pending (committed m (record_of m.arch)) xs) rest
       ∙ sym is
 
-  past_off : goes_on n.arch ≡ false → past_front m ≡ record n { pending = [] }
+  past_off : goes_on n.arch ≡ false → past_front m ≡ with_pending n []
   unfolding committed
   past_off off =
-      ap (λ (b : Bool). record (committed m (record_of m.arch)) { pending = if b then drop 1 m.pending else [] }) (same_end ∙ off)
-      ∙ ap (λ (z : Timed). record z { pending = [] }) (sym is)
+      ap (λ (b : Bool). with_pending (committed m (record_of m.arch)) (if b then drop 1 m.under.pending else [])) (same_end ∙ off)
+      ∙ ap (λ (z : Timed). with_pending z []) (sym is)
 
 -- ---- of a hart
 
-front_goes_on : (h : Hart) (items : List Entry) (e : Entry) → NonePastEnd h → h.pending ≡ map pending_claim_of items → slice_get items 0 ≡ Some e → h.state.end ≡ 0
+front_goes_on : (h : Hart) (items : List Entry) (e : Entry) → NonePastEnd h → h.under.pending ≡ map pending_claim_of items → slice_get items 0 ≡ Some e → h.state.end ≡ 0
 front_goes_on h items e none_past_end waits first = none_past_end (subst (λ (xs : List PendingClaim). 0 < length xs) (sym waits) (some_wait items e first))
 
 pub due_is : (memory : Bytes) (h : Hart) (view : State) (r : Record) → view ≡ record (seen memory h.state) { end = 0 } → r ≡ record_of view → h.state.end ≡ 0 → r ≡ record_of (seen memory h.state)
@@ -96,14 +96,14 @@ due_is memory h view r shows is on =
 -- a hart whose claims are those in `left`
 abbrev pub behind_it : (memory : Bytes) (cycles : ℕ) → Buffer Entry → Hart → Timed
 behind_it memory cycles left h =
-    record (timed cycles memory h) { config = record h.config { window = left.capacity }; pending = map pending_claim_of left.items }
+    with_pending (record (timed cycles memory h) { config = record h.config { window = left.capacity } }) (map pending_claim_of left.items)
 
 -- the front claim of a hart: what its parts show is `inside`, `pending` has its claims, and `due` is worked out in what it sees
-module _ (memory : Bytes) (h inside : Hart) (is : inside ≡ h) (pending : Buffer Entry) (waits : inside.pending ≡ map pending_claim_of pending.items) (e : Entry)
+module _ (memory : Bytes) (h inside : Hart) (is : inside ≡ h) (pending : Buffer Entry) (waits : inside.under.pending ≡ map pending_claim_of pending.items) (e : Entry)
     (first : slice_get pending.items 0 ≡ Some e) (none_past_end : NonePastEnd h)
     (view : State) (shows : view ≡ record (seen memory h.state) { end = 0 }) (due : Record) (due_in : due ≡ record_of view) where
-  these_wait : h.pending ≡ map pending_claim_of pending.items
-  these_wait = ap (λ (x : Hart). x.pending) (sym is) ∙ waits
+  these_wait : h.under.pending ≡ map pending_claim_of pending.items
+  these_wait = ap (λ (x : Hart). x.under.pending) (sym is) ∙ waits
 
   due_here : due ≡ record_of (seen memory h.state)
   due_here = due_is memory h view due shows due_in (front_goes_on h pending.items e none_past_end these_wait first)
@@ -135,12 +135,12 @@ module _ (memory : Bytes) (h inside : Hart) (is : inside ≡ h) (pending : Buffe
         same_window : h.config.window ≡ left.capacity
         same_window = ap (λ (x : Hart). x.config.window) (sym is) ∙ window ∙ ap (λ (b : Buffer Entry). b.capacity) pops
 
-        reached : timed cycles memory g ≡ committed (record (timed cycles memory h) { pending = map pending_claim_of left.items }) (record_of (seen memory h.state))
+        reached : timed cycles memory g ≡ committed (with_pending (timed cycles memory h) (map pending_claim_of left.items)) (record_of (seen memory h.state))
         reached =
             settled
             ∙ ap (λ (x : Hart). committed (behind_it memory cycles left x) due) is
-            ∙ ap (λ (k : ℕ). committed (record (timed cycles memory h) { config = record h.config { window = k }; pending = map pending_claim_of left.items }) due) (sym same_window)
-            ∙ ap (committed (record (timed cycles memory h) { pending = map pending_claim_of left.items })) due_here
+            ∙ ap (λ (k : ℕ). committed (with_pending (record (timed cycles memory h) { config = record h.config { window = k } }) (map pending_claim_of left.items)) due) (sym same_window)
+            ∙ ap (committed (with_pending (timed cycles memory h) (map pending_claim_of left.items))) due_here
 
         goes : (next : Timed → Timed) → judge_next next (timed cycles memory h) ≡ next (past_front (timed cycles memory h))
         goes = free (timed cycles memory h) pending.items e first these_wait old (looked ∙ none) (stops_here ∙ passes)
@@ -151,6 +151,6 @@ module _ (memory : Bytes) (h inside : Hart) (is : inside ≡ h) (pending : Buffe
             ∙ ap next (past_on (timed cycles memory h) (timed cycles memory g) (map pending_claim_of left.items) reached
             (ap (drop 1) these_wait ∙ ap (λ (b : Buffer Entry). drop 1 (map pending_claim_of b.items)) pops) on)
 
-        pub front_off : goes_on (timed cycles memory g).arch ≡ false → (next : Timed → Timed) → judge_next next (timed cycles memory h) ≡ next (record (timed cycles memory g) { pending = [] })
+        pub front_off : goes_on (timed cycles memory g).arch ≡ false → (next : Timed → Timed) → judge_next next (timed cycles memory h) ≡ next (with_pending (timed cycles memory g) [])
         front_off off next =
             goes next ∙ ap next (past_off (timed cycles memory h) (timed cycles memory g) (map pending_claim_of left.items) reached off)

@@ -5,7 +5,7 @@ use Rattle.diva_isa.specs.Step.{steps}
 use Rattle.diva_core.specs.declared.flushes.FlushRow.{FlushRow}
 use Rattle.diva_core.specs.declared.flushes.Cause.{Cause}
 use Rattle.diva_core.specs.declared.flushes.Cause.TheVariants.{Differs, Silent}
-use Rattle.diva_core.specs.Timed.{Timed, PendingClaim}
+use Rattle.diva_core.specs.Timed.{Log, Timed, PendingClaim}
 use Rattle.diva_core.specs.Cycle.{Rule}
 use Rattle.diva_core.specs.Machine.{IsMachine}
 use Rattle.diva_core.specs.Headline.{ByClaims, BySolo, HasRow, IsCause, IsRowOf, Rises, SameLog, dues}
@@ -14,11 +14,11 @@ use Rattle.diva_core.proofs.Cycling.{Base, Cycled, barks, differed, ended, finis
 use Rattle.diva_core.proofs.Outcomes.{AnyBase, any-base, k-is, log-cases}
 use Rattle.diva_duo.specs.Headline.{CommitsBy, FlushesOnce, WithoutFlush}
 
-not_more : (b n : Timed) → SameLog b n → n.flushes ≢ b.flushes + 1
-not_more b n log e = let f = log.flushes in absurd (omega arith)
+not_more : (b n : Timed) → SameLog b n → n.under.log.flushes ≢ b.under.log.flushes + 1
+not_more b n log e = let f = ap (λ (l : Log). l.flushes) log in absurd (omega arith)
 
-not_same : (b n : Timed) (row : FlushRow) → HasRow b n row → n.flushes ≢ b.flushes
-not_same b n row log e = let f = log.flushes in absurd (omega arith)
+not_same : (b n : Timed) (row : FlushRow) → HasRow b n row → n.under.log.flushes ≢ b.under.log.flushes
+not_same b n row log e = let f = ap (λ (l : Log). l.flushes) log in absurd (omega arith)
 
 -- ---- by the ways in which a cycle goes
 
@@ -30,22 +30,22 @@ module _ {rule : Rule} where
         stepped = a.base.stepped ∙ ap (λ k. steps k b.arch) (sym (k-is b n a.k a.base));
       }
 
-  claims_by : (b n : Timed) (k : ℕ) (rest : List PendingClaim) → Base rule b n k → Commits k b.arch (b.cycles + 1) b.pending rest → CommitsClaims b n
+  claims_by : (b n : Timed) (k : ℕ) (rest : List PendingClaim) → Base rule b n k → Commits k b.arch (b.cycles + 1) b.under.pending rest → CommitsClaims b n
   claims_by b n k rest v h = record { rest = rest; commits = rw (k-is b n k v) h }
 
   ways : (b : Timed) (list : List Record) (n : Timed) → Cycled rule b list n → CommitsClaims b n ⊎ CommitsItself b n
-  ways b list n (idled r) = inl (claims_by b n 0 b.pending r.base refl)
+  ways b list n (idled r) = inl (claims_by b n 0 b.under.pending r.base refl)
   ways b list n (ran r) = inl (claims_by b n (suc r.k) r.rest r.base r.claims)
-  ways b list n (barks r) = inl (claims_by b n 0 b.pending r.base refl)
+  ways b list n (barks r) = inl (claims_by b n 0 b.under.pending r.base refl)
   ways b list n (differed r) = inl (claims_by b n r.k (r.p ∷ r.rest) r.base r.claims)
   ways b list n (ended r) = inl (claims_by b n (suc r.k) r.rest r.base r.claims)
   ways b list n (finished r) = inr (record { start = r.start; since = r.since; sixth = r.sixth; one = r.base.counted })
-  ways b list n (waited r) = inl (claims_by b n 0 b.pending r.base refl)
+  ways b list n (waited r) = inl (claims_by b n 0 b.under.pending r.base refl)
 
   pub commits_by : (b : Timed) (list : List Record) (n : Timed) → Cycled rule b list n → CommitsBy b n
   commits_by b list n c = record { rises = rises b n (any-base b list n c); by = commits-records b n (ways b list n c) }
 
-  solo_same : (b : Timed) (list : List Record) (n : Timed) → Cycled rule b list n → n.flushes ≡ b.flushes → (n.solo ≡ None) ⊎ (n.solo ≡ b.solo)
+  solo_same : (b : Timed) (list : List Record) (n : Timed) → Cycled rule b list n → n.under.log.flushes ≡ b.under.log.flushes → (n.under.solo ≡ None) ⊎ (n.under.solo ≡ b.under.solo)
   solo_same b list n (idled r) e = inl r.solo
   solo_same b list n (ran r) e = inl r.solo
   solo_same b list n (barks r) e = absurd (not_same b n _ r.log e)
@@ -54,7 +54,7 @@ module _ {rule : Rule} where
   solo_same b list n (finished r) e = inl r.solo
   solo_same b list n (waited r) e = inr (r.solo ∙ sym r.since)
 
-  solo_now : (b : Timed) (list : List Record) (n : Timed) → Cycled rule b list n → n.flushes ≡ b.flushes + 1 → n.solo ≡ Some n.cycles
+  solo_now : (b : Timed) (list : List Record) (n : Timed) → Cycled rule b list n → n.under.log.flushes ≡ b.under.log.flushes + 1 → n.under.solo ≡ Some n.cycles
   solo_now b list n (idled r) e = absurd (not_more b n r.log e)
   solo_now b list n (ran r) e = absurd (not_more b n r.log e)
   solo_now b list n (barks r) e = r.solo ∙ ap Some (sym r.base.cycles)
@@ -65,8 +65,8 @@ module _ {rule : Rule} where
 
   pub logs_by : (b : Timed) (list : List Record) (n : Timed) → IsMachine b → Cycled rule b list n → WithoutFlush b n ⊎ FlushesOnce b n
   logs_by b list n inv c = elim (log-cases b list n inv c) [
-    | inl same ↦ inl (record { log = same; solo = solo_same b list n c same.flushes })
-    | inr more ↦ inr (record { row = more.row; is = record { added = more.is; solo = solo_now b list n c more.is.has.flushes } })
+    | inl same ↦ inl (record { log = same; solo = solo_same b list n c (ap (λ (l : Log). l.flushes) same) })
+    | inr more ↦ inr (record { row = more.row; is = record { added = more.is; solo = solo_now b list n c (ap (λ (l : Log). l.flushes) more.is.has) } })
   ]
 
 -- ---- how many stores a machine owes plays no part in it
@@ -89,14 +89,14 @@ module _ (b n : Timed) (o : ℕ) where
   row_owing : (row : FlushRow) → IsRowOf b n row → IsRowOf owing n row
   row_owing row r =
       record {
-        has = record { rows = r.has.rows; newest = r.has.newest; flushes = r.has.flushes; silent = r.has.silent };
+        has = r.has;
         cycle = r.cycle;
         at = r.at;
         caused = cause_owing row.cause r.caused;
       }
 
   pub logs_owing : WithoutFlush b n ⊎ FlushesOnce b n → WithoutFlush owing n ⊎ FlushesOnce owing n
-  logs_owing (inl s) = inl (record { log = record { rows = s.log.rows; newest = s.log.newest; flushes = s.log.flushes; silent = s.log.silent }; solo = s.solo })
+  logs_owing (inl s) = inl (record { log = s.log; solo = s.solo })
   logs_owing (inr f) = inr (record { row = f.row; is = record { added = row_owing f.row f.is.added; solo = f.is.solo } })
 
 -- ---- a machine of which nothing has changed but the number of its cycles
@@ -107,12 +107,12 @@ module _ (m n : Timed) (cycles : ℕ) (e : n ≡ record m { cycles = cycles }) w
       let none : n.count - m.count ≡ 0 = let same = ap (λ (z : Timed). z.count) e in omega arith in
       record {
         rises = record { counted = (let same = ap (λ (z : Timed). z.count) e in omega arith); stepped = rw none (ap (λ (z : Timed). z.arch) e) };
-        by = inl (record { rest = m.pending; claims = rw none refl });
+        by = inl (record { rest = m.under.pending; claims = rw none refl });
       }
 
   pub logs_none : WithoutFlush m n
   logs_none =
       record {
-        log = record { rows = ap (λ (z : Timed). z.rows) e; newest = ap (λ (z : Timed). z.newest) e; flushes = ap (λ (z : Timed). z.flushes) e; silent = ap (λ (z : Timed). z.silent) e };
-        solo = inr (ap (λ (z : Timed). z.solo) e);
+        log = ap (λ (z : Timed). z.under.log) e;
+        solo = inr (ap (λ (z : Timed). z.under.solo) e);
       }

@@ -67,7 +67,7 @@ other_memory m s o few counts inv =
     record {
       config = inv.config;
       counted = counts ∙ inv.counted;
-      lives = lives_same m s o m.solo few inv.lives;
+      lives = lives_same m s o m.under.solo few inv.lives;
       owed = (let h = inv.owed in omega arith);
       rows = inv.rows;
       past = inv.past;
@@ -75,7 +75,7 @@ other_memory m s o few counts inv =
       flushes = inv.flushes;
       silent = inv.silent;
       count = inv.count;
-      pace = λ none. subst (λ k. m.cycles ≤ m.count * (m.config.limit + depth) + k) (stalled_same m s o m.solo) (inv.pace none);
+      pace = λ none. subst (λ k. m.cycles ≤ m.count * (m.config.limit + depth) + k) (stalled_same m s o m.under.solo) (inv.pace none);
     }
 
 -- the cycle is phase 1 and then the others
@@ -169,8 +169,7 @@ module _ (now : ℕ) (before memory : Bytes) (h : Hart) (inv : IsHart now before
         ap (λ (o : HartState). length o.buffer) state_is ∙ gone_on.owes ∙ ap (owed_after any.k (seen memory d.state)) (sym owes_now) ∙ sym any.base.owes in
         let c : now + 1 ≡ n.cycles = sym any.base.cycles in
         let counts : n.arch.instret ≡ n.count = after.counted in
-        let undos : 0 ≡ n.undos = sym any.base.undos in
-        λ i. record n { arch = sees i; owed = owes i; cycles = c i; count = counts i; undos = undos i }
+        λ i. record n { arch = sees i; owed = owes i; cycles = c i; count = counts i }
 
     after_is : timed (now + 1) memory (hart_cycle (now + 1) memory list d) ≡ n
     after_is = ap (timed (now + 1) memory) cycle_is ∙ timed_is
@@ -194,6 +193,7 @@ module _ (now : ℕ) (before memory : Bytes) (h : Hart) (inv : IsHart now before
           running = λ e. refl;
           machine = subst IsMachine (sym timed_is) after;
           port = ap (λ z. z.port) any.base.config ∙ inv.port;
+          undos = any.base.undos ∙ inv.undos;
           inside = subst (λ (o : HartState). AreInside memory o.buffer) (sym state_is) gone_on.inside;
         })
 
@@ -210,7 +210,7 @@ module _ (now : ℕ) (before memory : Bytes) (h : Hart) (inv : IsHart now before
           | inr s ↦ inr (subst (λ (z : Timed). Stalls (timed now before h) z) (sym after_is) (record {
             same = s.same;
             on = s.on;
-            longer = subst (λ k. k < stalled n) (sym (stalled_same (timed now before h) (seen memory d.state) (length h.state.buffer) h.solo)) s.longer;
+            longer = subst (λ k. k < stalled n) (sym (stalled_same (timed now before h) (seen memory d.state) (length h.state.buffer) h.under.solo)) s.longer;
           }))
         ]
 

@@ -18,7 +18,7 @@ is_machine_at w d inv on =
     let h = hart_holds w d inv in subst (λ a. IsMachine (timed a d.memory (hart_at w d))) (h.running on) h.machine
 
 pub has_gone : (w : Which) (d : Duo) → IsDuo d → HasGone w d
-has_gone w d inv on = has_pace (machine_at w d) (is_machine_at w d inv on) refl
+has_gone w d inv on = has_pace (machine_at w d) (is_machine_at w d inv on) (hart_holds w d inv).undos
 
 abbrev Pair : Type 0
 Pair = List Record × List Record

@@ -17,7 +17,7 @@ use Rattle.diva_duo.specs.Which.{Which, First, Second, hart_at}
 use Rattle.diva_duo.specs.Between.{IsDuo, IsHart}
 use Rattle.diva_duo.specs.Inner.{CanCycle}
 
-idle_most : (m : Timed) (solo : Option ℕ) → Lives m solo → m.config.limit ≤ 1024 → m.idle < 2 ^ 31
+idle_most : (m : Timed) (solo : Option ℕ) → Lives m solo → m.config.limit ≤ 1024 → m.under.idle < 2 ^ 31
 idle_most m None h high = omega arith
 idle_most m (Some start) h high = let i = h.idled in let s = h.soon in omega arith
 
@@ -28,8 +28,8 @@ ready now memory h inv few =
     let wide : h.config.width ≤ 4 = m.config.width_high in
     let most : h.config.width * inv.at ≤ 4 * inv.at = mul-le-mul_right inv.at wide in
     let c : h.state.instret ≤ h.config.width * inv.at = (let counted = m.count in omega arith) in
-    let f : h.flushes ≤ inv.at = m.flushes in
-    let s : h.silent ≤ h.flushes = m.silent in
+    let f : h.under.log.flushes ≤ inv.at = m.flushes in
+    let s : h.under.log.silent ≤ h.under.log.flushes = m.silent in
     record {
       width = wide;
       limit = (let low : 16 ≤ h.config.limit = m.config.limit_low in omega arith);
@@ -38,7 +38,7 @@ ready now memory h inv few =
       count = omega arith;
       flushes = omega arith;
       silent = omega arith;
-      idle = idle_most _ h.solo m.lives m.config.limit_high;
+      idle = idle_most _ h.under.solo m.lives m.config.limit_high;
     }
 
 pub hart_holds : (w : Which) (d : Duo) → IsDuo d → IsHart d.cycles d.memory (hart_at w d)
@@ -50,11 +50,12 @@ pub tells : (w : Which) (d : Duo) → IsDuo d → (hart_at w d).config.width ≤
 tells w d inv = (hart_holds w d inv).machine.config.width_high
 
 -- and it was flushed once in a cycle at most
-pub tells_flushes : (w : Which) (d : Duo) → IsDuo d → d.cycles ≤ 2 ^ 60 → (hart_at w d).flushes < 2 ^ 63
-tells_flushes w d inv few =
+pub tells_epoch : (w : Which) (d : Duo) → IsDuo d → d.cycles ≤ 2 ^ 60 → (hart_at w d).under.log.flushes + (hart_at w d).under.undos < 2 ^ 63
+tells_epoch w d inv few =
     let h = hart_holds w d inv in
-    let flushed : (hart_at w d).flushes ≤ h.at = h.machine.flushes in
+    let flushed : (hart_at w d).under.log.flushes ≤ h.at = h.machine.flushes in
     let within = h.within in
+    let undos = h.undos in
     omega arith
 
 new_at : (z : Config) (s : State) (n : ℕ) → IsConfig z → z.port ≡ 1 → s.instret ≡ 0 → IsHart 0 (memory_of s) (new_hart z s n)
@@ -77,6 +78,7 @@ new_at z s n ok port none =
         pace = λ none. omega arith;
       };
       port = port;
+      undos = refl;
       inside = tt;
     }
 

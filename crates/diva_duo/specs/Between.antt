@@ -16,6 +16,8 @@ pub record IsHart (now : ℕ) (memory : Bytes) (h : Hart) : Type 0 where
   pub machine : IsMachine (timed at memory h)
   -- in each cycle a store goes to memory
   pub port : h.config.port ≡ 1
+  -- no instruction is taken back
+  pub undos : h.under.undos ≡ 0
   -- the stores that wait lie inside memory
   pub inside : AreInside memory h.state.buffer
 

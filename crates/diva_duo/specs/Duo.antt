@@ -1,11 +1,10 @@
 -- The timed machine of two harts: what is under way for each, and a cycle.
-use Rattle.std.specs.Prelude.{ℕ, ◌+◌, ◌-◌, ◌==◌, List, [], ◌∷◌, ◌++◌, length, flat_map, replicate, Bool, not, ◌&&◌, Option, None, if◌then◌else◌}
+use Rattle.std.specs.Prelude.{ℕ, ◌+◌, ◌-◌, ◌==◌, List, [], ◌∷◌, ◌++◌, length, flat_map, replicate, Bool, not, ◌&&◌, if◌then◌else◌}
 use Rattle.diva_memory.specs.Bytes.{Bytes}
 use Rattle.diva_storeq.specs.declared.masked.Masked.{Masked}
 use Rattle.diva_isa.specs.State.{State, memory_of}
 use Rattle.diva_isa.specs.declared.record.Record.{Record}
-use Rattle.diva_core.specs.declared.flushes.FlushRow.{FlushRow}
-use Rattle.diva_core.specs.Timed.{Config, Timed, PendingClaim, is_empty}
+use Rattle.diva_core.specs.Timed.{Config, Timed, UnderWay, is_empty, nothing_under_way}
 use Rattle.diva_core.specs.Cycle.{phases_under}
 use Rattle.diva_core.specs.Headline.{dues}
 use Rattle.diva_commit.specs.Committing.{buffered}
@@ -15,17 +14,11 @@ use Rattle.diva_duo.specs.Harts.{Harts, first_state, may_drain, memory_drained, 
 use Rattle.diva_duo.specs.declared.action.Action.{Action}
 use Rattle.diva_duo.specs.declared.action.Action.TheVariants.{Go, Drain}
 
--- what a timed machine has, but for memory, and for the numbers of cycles, of stores that are owed, and of undos
+-- what a timed machine has, but for memory, and for the number of cycles
 pub record Hart : Type 0 where
   pub config : Config
   pub state : HartState
-  pub pending : List PendingClaim
-  pub solo : Option ℕ
-  pub idle : ℕ
-  pub rows : List FlushRow
-  pub newest : Option FlushRow
-  pub flushes : ℕ
-  pub silent : ℕ
+  pub under : UnderWay
 
 -- `first` is hart 0, `second` is hart 1
 pub record Duo : Type 0 where
@@ -34,40 +27,21 @@ pub record Duo : Type 0 where
   pub first : Hart
   pub second : Hart
 
--- a hart as a timed machine: its state is what it sees, it has counted the instructions that led there, and it owes its buffer.
--- Two harts take no instruction back
+-- a hart as a timed machine: its state is what it sees, it has counted the instructions that led there, and it owes its buffer
 abbrev pub timed : (cycles : ℕ) → Bytes → Hart → Timed
 timed cycles memory h =
     record {
       config = h.config;
+      cycles = cycles;
       arch = seen memory h.state;
       count = h.state.instret;
-      cycles = cycles;
-      pending = h.pending;
-      solo = h.solo;
       owed = length h.state.buffer;
-      idle = h.idle;
-      rows = h.rows;
-      newest = h.newest;
-      flushes = h.flushes;
-      silent = h.silent;
-      undos = 0;
+      under = h.under;
     }
 
 -- the other way round, with this buffer
 abbrev pub hart_of : Timed → List Masked → Hart
-hart_of m buffer =
-    record {
-      config = m.config;
-      state = hart_in m.arch buffer;
-      pending = m.pending;
-      solo = m.solo;
-      idle = m.idle;
-      rows = m.rows;
-      newest = m.newest;
-      flushes = m.flushes;
-      silent = m.silent;
-    }
+hart_of m buffer = record { config = m.config; state = hart_in m.arch buffer; under = m.under }
 
 -- ---- a cycle
 
@@ -136,18 +110,7 @@ actions d e =
 -- ---- the beginning
 
 abbrev pub new_hart : Config → State → (number : ℕ) → Hart
-new_hart config s number =
-    record {
-      config = config;
-      state = first_state s number;
-      pending = [];
-      solo = None;
-      idle = 0;
-      rows = [];
-      newest = None;
-      flushes = 0;
-      silent = 0;
-    }
+new_hart config s number = record { config = config; state = first_state s number; under = nothing_under_way }
 
 abbrev pub new_duo : Config → State → Duo
 new_duo config s = record { memory = memory_of s; cycles = 0; first = new_hart config s 0; second = new_hart config s 1 }

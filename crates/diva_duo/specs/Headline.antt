@@ -22,12 +22,12 @@ pub record CommitsBy (m last : Timed) : Type 0 where
 -- it was not flushed: the log is as it was, and no instruction began to run solo
 pub record WithoutFlush (m last : Timed) : Type 0 where
   pub log : SameLog m last
-  pub solo : (last.solo ≡ None) ⊎ (last.solo ≡ m.solo)
+  pub solo : (last.under.solo ≡ None) ⊎ (last.under.solo ≡ m.under.solo)
 
 -- it was flushed: the log has this row more, with the cause of this cycle, and the next instruction runs solo from now on
 pub record WithFlush (m last : Timed) (row : FlushRow) : Type 0 where
   pub added : IsRowOf m last row
-  pub solo : last.solo ≡ Some last.cycles
+  pub solo : last.under.solo ≡ Some last.cycles
 
 pub record FlushesOnce (m last : Timed) : Type 0 where
   pub row : FlushRow
@@ -65,4 +65,4 @@ AreRowsAt w d (lists ∷ rest) (row ∷ rows) =
 pub record AddsRowsAt (w : Which) (d : Duo) (lists : List (List Record × List Record)) (last : Duo) : Type 0 where
   pub added : List FlushRow
   pub each : AreRowsAt w d lists added
-  pub has : HasRows (machine_at w d) added (machine_at w last)
+  pub has : HasRows (machine_at w d).under.log added (machine_at w last).under.log

@@ -13,15 +13,15 @@ use Rattle.diva_duo.specs.Duo.{Hart}
 -- what a part of phase 2 keeps of a hart, and how far its numbers go; `few` is how many instructions it commits at most
 pub record KeepsBounds (few : ℕ) (h g : Hart) : Type 0 where
   pub config : g.config ≡ h.config
-  pub idle : g.idle ≡ h.idle
+  pub idle : g.under.idle ≡ h.under.idle
   pub count : g.state.instret ≤ h.state.instret + few
-  pub pending : length g.pending ≤ length h.pending
-  pub flushes : g.flushes ≤ h.flushes + 1
-  pub silent : g.silent ≤ h.silent + 1
+  pub pending : length g.under.pending ≤ length h.under.pending
+  pub flushes : g.under.log.flushes ≤ h.under.log.flushes + 1
+  pub silent : g.under.log.silent ≤ h.under.log.silent + 1
 
 -- nothing is pending behind an end
 abbrev pub NonePastEnd : Hart → Type 0
-NonePastEnd h = 0 < length h.pending → h.state.end ≡ 0
+NonePastEnd h = 0 < length h.under.pending → h.state.end ≡ 0
 
 -- a hart has gone on by the instructions that it counted: what it sees, and what it put into its buffer
 pub record Grown (memory : Bytes) (h g : Hart) : Type 0 where
@@ -37,9 +37,9 @@ judge_next next m = by_judgement m (next (past_front m)) (judgement_under fences
 pub record CanCycle (h : Hart) : Type 0 where
   pub width : h.config.width ≤ 4
   pub limit : 1 ≤ h.config.limit
-  pub pending : length h.pending ≤ h.config.window
+  pub pending : length h.under.pending ≤ h.config.window
   pub owed : h.state.end ≡ 0 → length h.state.buffer < h.config.stores
   pub count : h.state.instret + 4 ≤ 2 ^ 62
-  pub flushes : h.flushes < 2 ^ 62
-  pub silent : h.silent < 2 ^ 62
-  pub idle : h.idle < 2 ^ 31
+  pub flushes : h.under.log.flushes < 2 ^ 62
+  pub silent : h.under.log.silent < 2 ^ 62
+  pub idle : h.under.idle < 2 ^ 31

@@ -220,7 +220,7 @@ impl Duo {
     }
 
     /// What the core of a hart, 0 or 1, is told before the coming cycle, whose number is that of both.
-    #[tactic(auto, using(crate::proofs::Readying::tells, crate::proofs::Readying::tells_flushes))]
+    #[tactic(auto, using(crate::proofs::Readying::tells, crate::proofs::Readying::tells_epoch))]
     pub fn told(&self, h: u8) -> Told
         requires { h < 2 }
         ensures { result ≡ told_of (machine_at (which h) self.now.duo) }
@@ -249,7 +249,7 @@ impl Duo {
     /// How many flushes of a hart, 0 or 1, came.
     pub fn flushes(&self, h: u8) -> u64
         requires { h < 2 }
-        ensures { result ≡ (hart_at (which h) self.now.duo).flushes }
+        ensures { result ≡ (hart_at (which h) self.now.duo).under.log.flushes }
     {
         self.parts.hart(h).flushes()
     }
@@ -257,7 +257,7 @@ impl Duo {
     /// How many flushes of a hart, 0 or 1, came since nothing had committed for too long.
     pub fn silent(&self, h: u8) -> u64
         requires { h < 2 }
-        ensures { result ≡ (hart_at (which h) self.now.duo).silent }
+        ensures { result ≡ (hart_at (which h) self.now.duo).under.log.silent }
     {
         self.parts.hart(h).silent()
     }
@@ -265,7 +265,7 @@ impl Duo {
     /// The rows of the first flushes of a hart, 0 or 1: 1,024 at most.
     pub fn log(&self, h: u8) -> &[FlushRow]
         requires { h < 2 }
-        ensures { result.now ≡ (hart_at (which h) self.now.duo).rows }
+        ensures { result.now ≡ (hart_at (which h) self.now.duo).under.log.rows }
     {
         self.parts.hart(h).log()
     }

@@ -36,27 +36,12 @@ pub(crate) struct Hart {
 }
 
 impl Model for Hart {
-    ghost use Rattle.std.specs.Prelude.{◌≡◌, map};
-    ghost use Rattle.diva_core.specs.Entries.{pending_claim_of};
-    ghost use Rattle.diva_watchdog.specs.Solo.{solo_of};
+    ghost use Rattle.diva_hart.specs.UnderWay.{config_of, under_of};
     ghost use Rattle.diva_duo.specs.Duo.{Hart};
 
     ghost Value = { Hart };
 
-    ghost view = { λ h. record {
-      config = record { width = h.under.width; window = h.under.pending.capacity; stores = h.arch.stores; limit = h.under.watchdog.limit; port = 1 };
-      state = h.arch.state;
-      pending = map pending_claim_of h.under.pending.items;
-      solo = solo_of h.under.recover;
-      idle = h.under.watchdog.idle;
-      rows = h.under.log.rows;
-      newest = h.under.log.newest;
-      flushes = h.under.log.flushes;
-      silent = h.under.log.silent;
-    } };
-
-    // No instruction is taken back.
-    ghost invariant = { λ h. h.under.undos ≡ 0 };
+    ghost view = { λ h. record { config = config_of h.arch.stores 1 h.under; state = h.arch.state; under = under_of h.under } };
 }
 
 impl Hart {
@@ -112,21 +97,21 @@ impl Hart {
 
     /// How many flushes came.
     pub fn flushes(&self) -> u64
-        ensures { result ≡ self.now.flushes }
+        ensures { result ≡ self.now.under.log.flushes }
     {
         self.under.log.flushes()
     }
 
     /// How many of the flushes were silent.
     pub fn silent(&self) -> u64
-        ensures { result ≡ self.now.silent }
+        ensures { result ≡ self.now.under.log.silent }
     {
         self.under.log.silent()
     }
 
     /// The rows of the flushes that are kept.
     pub fn log(&self) -> &[FlushRow]
-        ensures { result.now ≡ self.now.rows }
+        ensures { result.now ≡ self.now.under.log.rows }
     {
         self.under.log.rows()
     }
@@ -142,7 +127,7 @@ impl Hart {
     pub fn told(&self, cycles: u64) -> Told
         requires width { self.now.config.width ≤ 4 }
         requires cycles { cycles < 2 ^ 63 }
-        requires flushes { self.now.flushes < 2 ^ 63 }
+        requires epoch { self.now.under.log.flushes + self.now.under.undos < 2 ^ 63 }
         ensures { result ≡ told_of (timed cycles (record { base = 0; items = [] }) self.now) }
     {
         let always_open = Port::new(1);
@@ -165,11 +150,11 @@ impl Hart {
     #[cold]
     #[tactic(auto, unfolding(diva_core::specs::Cycle::flushed))]
     fn flush(&mut self, cycles: u64, cause: Cause)
-        requires flushes { self.old.flushes < 2 ^ 63 }
-        requires silent { self.old.silent < 2 ^ 63 }
+        requires flushes { self.old.under.log.flushes < 2 ^ 63 }
+        requires silent { self.old.under.log.silent < 2 ^ 63 }
         ensures timed { (memory : Bytes) → timed cycles memory self.new ≡ flushed (timed cycles memory self.old) cause }
         ensures state { self.new.state ≡ self.old.state }
-        ensures pending { self.new.pending ≡ [] }
+        ensures pending { self.new.under.pending ≡ [] }
         ensures bounds { KeepsBounds 0 self.old self.new }
     {
         let count = self.arch.count();
@@ -201,9 +186,9 @@ impl Hart {
         requires count { self.old.state.instret < 2 ^ 62 }
         ensures timed { (cycles : ℕ) → timed cycles memory.now self.new ≡ committed (timed cycles memory.now self.old) due.now }
         ensures buffer { self.new.state.buffer ≡ self.old.state.buffer ++ buffered due.now }
-        ensures pending { self.new.pending ≡ self.old.pending }
+        ensures pending { self.new.under.pending ≡ self.old.under.pending }
         ensures bounds { KeepsBounds 1 self.old self.new }
-        ensures same { (self.new.flushes ≡ self.old.flushes) × (self.new.silent ≡ self.old.silent) }
+        ensures same { (self.new.under.log.flushes ≡ self.old.under.log.flushes) × (self.new.under.log.silent ≡ self.old.under.log.silent) }
     {
         self.arch.commit(memory, decoded, due, None);
     }
@@ -214,14 +199,14 @@ impl Hart {
     fn judge_front(&mut self, memory: &Memory, cycles: u64) -> bool
         requires none_past_end { NonePastEnd self.old }
         requires count { self.old.state.instret < 2 ^ 62 }
-        requires flushes { self.old.flushes < 2 ^ 63 }
-        requires silent { self.old.silent < 2 ^ 63 }
+        requires flushes { self.old.under.log.flushes < 2 ^ 63 }
+        requires silent { self.old.under.log.silent < 2 ^ 63 }
         ensures none_past_end { NonePastEnd self.new }
         ensures judges { (next : Timed → Timed) → judge_next next (timed cycles memory.now self.old)
             ≡ (if result then next (timed cycles memory.now self.new) else timed cycles memory.now self.new) }
         ensures grown { Grown memory.now self.old self.new }
         ensures bounds { KeepsBounds 1 self.old self.new }
-        ensures same { IsTrue result → (self.new.flushes ≡ self.old.flushes) × (self.new.silent ≡ self.old.silent) }
+        ensures same { IsTrue result → (self.new.under.log.flushes ≡ self.old.under.log.flushes) × (self.new.under.log.silent ≡ self.old.under.log.silent) }
     {
         let Some(front) = self.under.pending.front() else {
             return false;
@@ -252,8 +237,8 @@ impl Hart {
         requires width { n ≤ 4 }
         requires none_past_end { NonePastEnd self.old }
         requires count { self.old.state.instret + 4 ≤ 2 ^ 62 }
-        requires flushes { self.old.flushes < 2 ^ 63 }
-        requires silent { self.old.silent < 2 ^ 63 }
+        requires flushes { self.old.under.log.flushes < 2 ^ 63 }
+        requires silent { self.old.under.log.silent < 2 ^ 63 }
         ensures judged { timed cycles memory.now self.new ≡ judged_under fences_wait n (timed cycles memory.now self.old) }
         ensures grown { Grown memory.now self.old self.new }
         ensures bounds { KeepsBounds 4 self.old self.new }
@@ -272,8 +257,8 @@ impl Hart {
         requires goes_on { self.old.state.end ≡ 0 }
         requires owed { length self.old.state.buffer < self.old.config.stores }
         requires count { self.old.state.instret + 4 ≤ 2 ^ 62 }
-        requires flushes { self.old.flushes < 2 ^ 63 }
-        requires silent { self.old.silent < 2 ^ 63 }
+        requires flushes { self.old.under.log.flushes < 2 ^ 63 }
+        requires silent { self.old.under.log.silent < 2 ^ 63 }
         ensures commits { timed cycles memory.now self.new ≡ commits_under fences_wait (timed cycles memory.now self.old) }
         ensures grown { Grown memory.now self.old self.new }
         ensures bounds { KeepsBounds 4 self.old self.new }
@@ -293,10 +278,10 @@ impl Hart {
     /// Phase 4: the first `room` claims become pending, where phase 2 neither flushed nor ended; `flushes` came before it.
     #[tactic(auto, unfolding(diva_core::specs::Cycle::accepts))]
     fn accept(&mut self, cycles: u64, room: usize, flushes: u64, list: &[Claim])
-        requires { length self.old.pending + room ≤ self.old.config.window }
-        ensures accepts { (memory : Bytes) (before : Timed) → room_of before ≡ room → before.flushes ≡ flushes
+        requires { length self.old.under.pending + room ≤ self.old.config.window }
+        ensures accepts { (memory : Bytes) (before : Timed) → room_of before ≡ room → before.under.log.flushes ≡ flushes
             → timed cycles memory self.new ≡ accepts before list.now (timed cycles memory self.old) }
-        ensures rest { self.new ≡ record self.old { pending = self.new.pending } }
+        ensures rest { self.new ≡ record self.old { under = record self.old.under { pending = self.new.under.pending } } }
     {
         if self.arch.goes_on() && self.under.log.flushes() == flushes {
             self.under
@@ -309,9 +294,9 @@ impl Hart {
     #[tactic(auto, unfolding(diva_core::specs::Cycle::watched))]
     fn watch(&mut self, cycles: u64, count: u64)
         requires limit { 1 ≤ self.old.config.limit }
-        requires idle { self.old.idle < 2 ^ 31 }
-        requires flushes { self.old.flushes < 2 ^ 63 }
-        requires silent { self.old.silent < 2 ^ 63 }
+        requires idle { self.old.under.idle < 2 ^ 31 }
+        requires flushes { self.old.under.log.flushes < 2 ^ 63 }
+        requires silent { self.old.under.log.silent < 2 ^ 63 }
         ensures watched { (memory : Bytes) (before : Timed) → before.count ≡ count
             → timed cycles memory self.new ≡ watched before (timed cycles memory self.old) }
         ensures state { self.new.state ≡ self.old.state }

@@ -1,5 +1,4 @@
 -- What the contracts of this crate and of those above it cite.
 pub mod HartArch
-pub mod Log
 pub mod Start
 pub mod UnderWay

@@ -2,32 +2,33 @@
 use Rattle.std.specs.Prelude.{ℕ, [], map}
 use Rattle.circular_buffer.specs.Buffer.{buffer}
 use Rattle.diva_isa.specs.State.{State}
-use Rattle.diva_core.specs.Timed.{Config, Timed}
+use Rattle.diva_core.specs.Timed.{Config, Timed, new_log, UnderWay as Under}
 use Rattle.diva_core.specs.Entries.{pending_claim_of}
 use Rattle.diva_watchdog.specs.Solo.{solo_of}
 use Rattle.diva_watchdog.specs.declared.recover.Recover.TheVariants.{Running}
 use Rattle.diva_hart.specs.HartArch.{HartState}
-use Rattle.diva_hart.specs.Log.{new_log}
 use Rattle.diva_hart.specs.declared.under_way.UnderWay.{UnderWay}
+
+-- the same as a timed machine has it
+abbrev pub under_of : UnderWay → Under
+under_of u =
+    record {
+      pending = map pending_claim_of u.pending.items;
+      solo = solo_of u.recover;
+      idle = u.watchdog.idle;
+      log = u.log;
+      undos = u.undos;
+    }
+
+-- the numbers of its machine, with room for so many stores, and with this port
+abbrev pub config_of : (stores port : ℕ) → UnderWay → Config
+config_of stores port u =
+    record { width = u.width; window = u.pending.capacity; stores = stores; limit = u.watchdog.limit; port = port }
 
 -- the timed machine of a committed state and of what is under way
 abbrev pub timed_of : State → (owed stores port cycles : ℕ) → UnderWay → Timed
 timed_of s owed stores port cycles u =
-    record {
-      config = record { width = u.width; window = u.pending.capacity; stores = stores; limit = u.watchdog.limit; port = port };
-      arch = s;
-      count = s.instret;
-      cycles = cycles;
-      pending = map pending_claim_of u.pending.items;
-      solo = solo_of u.recover;
-      owed = owed;
-      idle = u.watchdog.idle;
-      rows = u.log.rows;
-      newest = u.log.newest;
-      flushes = u.log.flushes;
-      silent = u.log.silent;
-      undos = u.undos;
-    }
+    record { config = config_of stores port u; cycles = cycles; arch = s; count = s.instret; owed = owed; under = under_of u }
 
 -- nothing is, on a machine with these numbers
 abbrev pub new_under_way : Config → UnderWay

@@ -7,8 +7,8 @@
 //! - `ends`: how a drive stopped, `Drive`.
 //!
 //! `specs/Start.antt` says in which state an image starts, `specs/HartArch.antt` what state a hart sees, and what becomes of it by a
-//! record; `specs/UnderWay.antt` says which timed machine a state and what is under way make up, and `specs/Log.antt` what a log
-//! has.
+//! record; `specs/UnderWay.antt` says which timed machine a state and what is under way make up. What a log has, and what a row more makes
+//! of it, stands in `diva_core`, in `specs/Timed.antt` (`Log`) and `specs/Cycle.antt` (`logged`).
 #![tactic(auto)]
 
 mod arch;

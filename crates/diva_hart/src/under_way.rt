@@ -1,9 +1,9 @@
 // What is under way between two commits.
-ghost use Rattle.std.specs.Prelude.{◌≡◌, ◌≤◌, ◌<◌, ◌+◌, ◌-◌, ◌^◌, ◌&&◌, ◌==◌, [], length, Some, IfOk, is_none, nat_le, not, true};
+ghost use Rattle.std.specs.Prelude.{◌≡◌, ◌≤◌, ◌<◌, ◌+◌, ◌-◌, ◌^◌, ◌&&◌, ◌==◌, [], length, IfOk, is_none, nat_le, not, true};
 ghost use Rattle.circular_buffer.specs.Buffer.{buffer};
 ghost use Rattle.diva_core.specs.Timed.{room_of};
 ghost use Rattle.diva_core.specs.Told.{told_of};
-ghost use Rattle.diva_core.specs.Cycle.{is_silent, kept, number};
+ghost use Rattle.diva_core.specs.Cycle.{logged};
 ghost use Rattle.diva_watchdog.specs.Solo.{solo_of};
 ghost use Rattle.diva_watchdog.specs.Watchdog.{ticked};
 ghost use Rattle.diva_watchdog.specs.declared.recover.Recover.TheVariants.{Running, Solo};
@@ -165,12 +165,7 @@ impl UnderWay {
         ensures { self.new ≡ record self.old {
           pending = buffer [] self.old.pending.capacity;
           recover = Solo cycle;
-          log = record {
-            rows = kept self.old.log.rows (record { cycle = cycle; at = at; cause = cause });
-            newest = Some (record { cycle = cycle; at = at; cause = cause });
-            flushes = self.old.log.flushes + 1;
-            silent = self.old.log.silent + number (is_silent cause);
-          };
+          log = logged self.old.log (record { cycle = cycle; at = at; cause = cause });
         } }
     {
         self.restart(Recover::Solo(cycle));

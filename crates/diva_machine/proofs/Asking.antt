@@ -12,7 +12,7 @@ use Rattle.diva_core.specs.declared.pending.Entry.{Entry}
 use Rattle.diva_core.specs.Entries.{pending_claim_of}
 use Rattle.diva_core.specs.Older.{after, before_entry}
 use Rattle.diva_core.specs.Timed.{Timed, PendingClaim, depth}
-use Rattle.diva_core.specs.Cycle.{Commit, Flush, Judgement, Rule, Wait, by_front, by_judgement, by_solo, commits_under, committed, cycle_of, flushed, judged_under, judgement_under, past_front, stores_wait}
+use Rattle.diva_core.specs.Cycle.{Commit, Flush, Judgement, Rule, Wait, by_front, by_judgement, by_solo, commits_under, committed, cycle_of, flushed, judged_under, judgement_under, past_front, stores_wait, without_solo}
 use Rattle.diva_core.specs.History.{Meaning, IsHistory, lists_of}
 use Rattle.diva_core.specs.Headline.{dues}
 use Rattle.diva_core.specs.Machine.{IsMachine, Lives}
@@ -54,10 +54,10 @@ none_asked now [] s = refl
 none_asked now (p ∷ rest) s = none_first now s p rest (nat_le (p.cycle + last_stage) now) refl (none_asked now rest (apply s p.claim))
 
 -- nor, before a cycle's stages, of those that are past them
-pub none_before : (w : Parts) (s : State) → 1 ≤ w.timed.cycles → IsStaged (w.timed.cycles - 1) w → asked_in w.timed.cycles s (take w.passed w.timed.pending) ≡ []
+pub none_before : (w : Parts) (s : State) → 1 ≤ w.timed.cycles → IsStaged (w.timed.cycles - 1) w → asked_in w.timed.cycles s (take w.passed w.timed.under.pending) ≡ []
 none_before w s some staged =
     rw staged.passed
-    (subst (λ (cycle : ℕ). asked_in cycle s (take (passed_by (w.timed.cycles - 1) w.timed.pending) w.timed.pending) ≡ []) (omega arith) (none_asked (w.timed.cycles - 1) w.timed.pending s))
+    (subst (λ (cycle : ℕ). asked_in cycle s (take (passed_by (w.timed.cycles - 1) w.timed.under.pending) w.timed.under.pending) ≡ []) (omega arith) (none_asked (w.timed.cycles - 1) w.timed.under.pending s))
 
 -- the state after the older ones of some claims
 stands_at : State → List PendingClaim → ℕ → State
@@ -98,10 +98,10 @@ asked_next before cycle s entries pending at p waits here =
 
 -- the machine goes on, or nothing is pending
 abbrev IsOnOrEmpty : Timed → Type 0
-IsOnOrEmpty m = (goes_on m.arch ≡ true) ⊎ (m.pending ≡ [])
+IsOnOrEmpty m = (goes_on m.arch ≡ true) ⊎ (m.under.pending ≡ [])
 
 -- nothing is judged where nothing is pending
-judged_empty : (n : ℕ) (rule : Rule) (m : Timed) → m.pending ≡ [] → judged_under rule n m ≡ m
+judged_empty : (n : ℕ) (rule : Rule) (m : Timed) → m.under.pending ≡ [] → judged_under rule n m ≡ m
 judged_empty zero rule m none = refl
 judged_empty (suc n) rule m none = ap (λ (pending : List PendingClaim). by_judgement m (judged_under rule n (past_front m)) (by_front rule m pending)) none
 
@@ -109,10 +109,10 @@ past_by : (n : ℕ) (rule : Rule) (m : Timed) (on : Bool) → goes_on (past_fron
     → (goes_on (past_front m).arch ≡ true → IsOnOrEmpty (judged_under rule n (past_front m))) → IsOnOrEmpty (judged_under rule n (past_front m))
 past_by n rule m true is next = next is
 past_by n rule m false is next =
-    let none : (past_front m).pending ≡ [] = past-off m is in
-    inr (ap (λ (z : Timed). z.pending) (judged_empty n rule (past_front m) none) ∙ none)
+    let none : (past_front m).under.pending ≡ [] = past-off m is in
+    inr (ap (λ (z : Timed). z.under.pending) (judged_empty n rule (past_front m) none) ∙ none)
 
-flushed_empty : (m : Timed) (cause : Cause) → (flushed m cause).pending ≡ []
+flushed_empty : (m : Timed) (cause : Cause) → (flushed m cause).under.pending ≡ []
 unfolding flushed
 flushed_empty m cause = refl
 
@@ -127,39 +127,39 @@ judged_leaves (suc n) rule m on =
     judgement_leaves m (judged_under rule n (past_front m)) (judgement_under rule m) on
     (past_by n rule m (goes_on (past_front m).arch) refl (λ next. judged_leaves n rule (past_front m) next))
 
-committed_pending : (m : Timed) (r : Record) → (committed m r).pending ≡ m.pending
+committed_pending : (m : Timed) (r : Record) → (committed m r).under.pending ≡ m.under.pending
 unfolding committed
 committed_pending m r = refl
 
-solo_leaves : (rule : Rule) (m : Timed) (start : ℕ) (b : Bool) → goes_on m.arch ≡ true → m.pending ≡ []
-    → IsOnOrEmpty (if b then committed (record m { solo = None }) (record_of m.arch) else m)
-solo_leaves rule m start true on none = inr (committed_pending (record m { solo = None }) (record_of m.arch) ∙ none)
+solo_leaves : (rule : Rule) (m : Timed) (start : ℕ) (b : Bool) → goes_on m.arch ≡ true → m.under.pending ≡ []
+    → IsOnOrEmpty (if b then committed (without_solo m) (record_of m.arch) else m)
+solo_leaves rule m start true on none = inr (committed_pending (without_solo m) (record_of m.arch) ∙ none)
 solo_leaves rule m start false on none = inl on
 
-by_solo_leaves : (rule : Rule) (m : Timed) (solo : Option ℕ) → goes_on m.arch ≡ true → ((start : ℕ) → solo ≡ Some start → m.pending ≡ []) → IsOnOrEmpty (by_solo rule m solo)
+by_solo_leaves : (rule : Rule) (m : Timed) (solo : Option ℕ) → goes_on m.arch ≡ true → ((start : ℕ) → solo ≡ Some start → m.under.pending ≡ []) → IsOnOrEmpty (by_solo rule m solo)
 by_solo_leaves rule m None on alone = judged_leaves m.config.width rule m on
 by_solo_leaves rule m (Some start) on alone = solo_leaves rule m start (m.cycles == start + depth) on (alone start refl)
 
-commits_leave : (rule : Rule) (m : Timed) → goes_on m.arch ≡ true → ((start : ℕ) → m.solo ≡ Some start → m.pending ≡ []) → IsOnOrEmpty (commits_under rule m)
+commits_leave : (rule : Rule) (m : Timed) → goes_on m.arch ≡ true → ((start : ℕ) → m.under.solo ≡ Some start → m.under.pending ≡ []) → IsOnOrEmpty (commits_under rule m)
 unfolding commits_under
-commits_leave rule m on alone = by_solo_leaves rule m m.solo on alone
+commits_leave rule m on alone = by_solo_leaves rule m m.under.solo on alone
 
 -- nothing is pending where an instruction runs solo
-alone_by : (m : Timed) (solo : Option ℕ) → Lives m solo → (start : ℕ) → solo ≡ Some start → m.pending ≡ []
+alone_by : (m : Timed) (solo : Option ℕ) → Lives m solo → (start : ℕ) → solo ≡ Some start → m.under.pending ≡ []
 alone_by m None lives start is = absurd (none-some _ is)
 alone_by m (Some at) lives start is = lives.empty
 
-pub alone_pending : (m : Timed) → IsMachine m → (start : ℕ) → m.solo ≡ Some start → m.pending ≡ []
-alone_pending m inv = alone_by m m.solo inv.lives
+pub alone_pending : (m : Timed) → IsMachine m → (start : ℕ) → m.under.solo ≡ Some start → m.under.pending ≡ []
+alone_pending m inv = alone_by m m.under.solo inv.lives
 
 -- what is asked behind the state that is shown is asked behind the committed one
-shown_by : (cycle : ℕ) (m : Timed) → IsOnOrEmpty m → asked_in cycle (record m.arch { end = 0 }) m.pending ≡ asked_in cycle m.arch m.pending
-shown_by cycle m (inl on) = ap (λ (e : ℕ). asked_in cycle (record m.arch { end = e }) m.pending) (sym (eqb-true m.arch.end 0 on))
+shown_by : (cycle : ℕ) (m : Timed) → IsOnOrEmpty m → asked_in cycle (record m.arch { end = 0 }) m.under.pending ≡ asked_in cycle m.arch m.under.pending
+shown_by cycle m (inl on) = ap (λ (e : ℕ). asked_in cycle (record m.arch { end = e }) m.under.pending) (sym (eqb-true m.arch.end 0 on))
 shown_by cycle m (inr none) = rw none refl
 
-pub asked_shown : (cycle : ℕ) (m : Timed) → goes_on m.arch ≡ true → ((start : ℕ) → m.solo ≡ Some start → m.pending ≡ [])
-    → asked_in cycle (record (commits_under stores_wait m).arch { end = 0 }) (commits_under stores_wait m).pending
-    ≡ asked_in cycle (commits_under stores_wait m).arch (commits_under stores_wait m).pending
+pub asked_shown : (cycle : ℕ) (m : Timed) → goes_on m.arch ≡ true → ((start : ℕ) → m.under.solo ≡ Some start → m.under.pending ≡ [])
+    → asked_in cycle (record (commits_under stores_wait m).arch { end = 0 }) (commits_under stores_wait m).under.pending
+    ≡ asked_in cycle (commits_under stores_wait m).arch (commits_under stores_wait m).under.pending
 asked_shown cycle m on alone = shown_by cycle (commits_under stores_wait m) (commits_leave stores_wait m on alone)
 
 -- ---- cycle by cycle

@@ -414,7 +414,7 @@ passed_next cycles at passed next es e here order young is below early late =
 
 -- the stages begin with the first claim that is not past the last one
 pub stages_begin : (w : Parts) → 1 ≤ w.timed.cycles → IsStaged (w.timed.cycles - 1) w
-    → IsAdvanced w.timed.arch (w.timed.cycles - 1) w.passed w.entries × (w.passed ≤ passed_by w.timed.cycles w.timed.pending)
+    → IsAdvanced w.timed.arch (w.timed.cycles - 1) w.passed w.entries × (w.passed ≤ passed_by w.timed.cycles w.timed.under.pending)
 stages_begin w some s =
     let now = w.timed.cycles - 1 in
     let cycle : now + 1 ≡ w.timed.cycles = omega arith in
@@ -425,7 +425,7 @@ stages_begin w some s =
     )
 
 -- the claim at a place is still to pass through a stage
-pub still_young : (w : Parts) (at : ℕ) (e : Entry) (es : List Entry) → 1 ≤ w.timed.cycles → IsStaged (w.timed.cycles - 1) w → map pending_claim_of es ≡ w.timed.pending → w.passed ≤ at → slice_get es at ≡ Some e
+pub still_young : (w : Parts) (at : ℕ) (e : Entry) (es : List Entry) → 1 ≤ w.timed.cycles → IsStaged (w.timed.cycles - 1) w → map pending_claim_of es ≡ w.timed.under.pending → w.passed ≤ at → slice_get es at ≡ Some e
     → (e.cycle < w.timed.cycles) × (w.timed.cycles ≤ e.cycle + last_stage)
 still_young w at e es some s waits behind here =
     let now = w.timed.cycles - 1 in
@@ -445,22 +445,22 @@ get_there (x ∷ xs) zero P h found = found x refl
 get_there (x ∷ xs) (suc k) P h found = get_there xs k P (omega arith) found
 
 -- the claim at a place has passed through its stage: z is what is passed then
-pub stage_next : (w y z : Parts) (at : ℕ) → 1 ≤ w.timed.cycles → IsStaged (w.timed.cycles - 1) w → y.timed ≡ w.timed → map pending_claim_of y.entries ≡ w.timed.pending → w.passed ≤ at → at < length y.entries
+pub stage_next : (w y z : Parts) (at : ℕ) → 1 ≤ w.timed.cycles → IsStaged (w.timed.cycles - 1) w → y.timed ≡ w.timed → map pending_claim_of y.entries ≡ w.timed.under.pending → w.passed ≤ at → at < length y.entries
     → ((e : Entry) → slice_get y.entries at ≡ Some e → z.passed ≡ y.passed + number (y.timed.cycles == e.cycle + last_stage))
     → y.passed ≤ at
-    → (at ≤ passed_by w.timed.cycles w.timed.pending → y.passed ≡ at)
-    → (passed_by w.timed.cycles w.timed.pending ≤ at → y.passed ≡ passed_by w.timed.cycles w.timed.pending)
+    → (at ≤ passed_by w.timed.cycles w.timed.under.pending → y.passed ≡ at)
+    → (passed_by w.timed.cycles w.timed.under.pending ≤ at → y.passed ≡ passed_by w.timed.cycles w.timed.under.pending)
     → (z.passed ≤ at + 1)
-    × ((at + 1 ≤ passed_by w.timed.cycles w.timed.pending → z.passed ≡ at + 1)
-    × (passed_by w.timed.cycles w.timed.pending ≤ at + 1 → z.passed ≡ passed_by w.timed.cycles w.timed.pending))
+    × ((at + 1 ≤ passed_by w.timed.cycles w.timed.under.pending → z.passed ≡ at + 1)
+    × (passed_by w.timed.cycles w.timed.under.pending ≤ at + 1 → z.passed ≡ passed_by w.timed.cycles w.timed.under.pending))
 stage_next w y z at some s same waits behind within is below early late =
     let P = λ (n : ℕ). (z.passed ≤ at + 1) × ((at + 1 ≤ n → z.passed ≡ at + 1) × (n ≤ at + 1 → z.passed ≡ n)) in
     let cycles = w.timed.cycles in
     let count = ap (passed_by cycles) waits in
-    get_there y.entries at (P (passed_by cycles w.timed.pending)) within
+    get_there y.entries at (P (passed_by cycles w.timed.under.pending)) within
     (λ e here.
     let young = (still_young w at e y.entries some s waits behind here).1 in
-    let order : AreInOrder 0 cycles (map pending_claim_of y.entries) = subst (λ (xs : List PendingClaim). AreInOrder 0 cycles xs) (sym waits) (order_later 0 (cycles - 1) cycles w.timed.pending (omega arith) s.ordered) in
+    let order : AreInOrder 0 cycles (map pending_claim_of y.entries) = subst (λ (xs : List PendingClaim). AreInOrder 0 cycles xs) (sym waits) (order_later 0 (cycles - 1) cycles w.timed.under.pending (omega arith) s.ordered) in
     let next : z.passed ≡ y.passed + number (cycles == e.cycle + last_stage) = is e here ∙ ap (λ (m : Timed). y.passed + number (m.cycles == e.cycle + last_stage)) same in
     subst P count
     (passed_next cycles at y.passed z.passed y.entries e here order young next below
@@ -491,22 +491,22 @@ future_there arch entries f at is here on =
     ∙ sym is.regs
 
 -- all of them have passed through the stage of their age
-pub stages_end : (w z : Parts) (n : ℕ) → 1 ≤ w.timed.cycles → z ≡ record w { entries = z.entries; passed = z.passed; future = z.future } → map pending_claim_of z.entries ≡ w.timed.pending → IsStaged (w.timed.cycles - 1) w
+pub stages_end : (w z : Parts) (n : ℕ) → 1 ≤ w.timed.cycles → z ≡ record w { entries = z.entries; passed = z.passed; future = z.future } → map pending_claim_of z.entries ≡ w.timed.under.pending → IsStaged (w.timed.cycles - 1) w
     → length z.entries ≤ n → IsAdvanced w.timed.arch (w.timed.cycles - 1) n z.entries
-    → (passed_by w.timed.cycles w.timed.pending ≤ n → z.passed ≡ passed_by w.timed.cycles w.timed.pending)
+    → (passed_by w.timed.cycles w.timed.under.pending ≤ n → z.passed ≡ passed_by w.timed.cycles w.timed.under.pending)
     → IsFuture w.timed.arch z.entries z.future
     → IsStaged z.timed.cycles z
 stages_end w z n some is waits s whole advanced late future =
     let now = w.timed.cycles - 1 in
     let cycle : now + 1 ≡ w.timed.cycles = omega arith in
     let all : AreChecked w.timed.arch w.timed.cycles z.entries = subst (λ (c : ℕ). AreChecked w.timed.arch c z.entries) cycle (advanced_all w.timed.arch now n z.entries whole advanced) in
-    let most : passed_by w.timed.cycles w.timed.pending ≤ length z.entries = subst (λ (xs : List PendingClaim). passed_by w.timed.cycles xs ≤ length z.entries) waits (passed_length w.timed.cycles z.entries) in
+    let most : passed_by w.timed.cycles w.timed.under.pending ≤ length z.entries = subst (λ (xs : List PendingClaim). passed_by w.timed.cycles xs ≤ length z.entries) waits (passed_length w.timed.cycles z.entries) in
     let same : w.timed ≡ z.timed = sym (ap (λ (x : Parts). x.timed) is) in
     record {
-      waits = sym (ap (λ (m : Timed). m.pending) same) ∙ sym waits;
+      waits = sym (ap (λ (m : Timed). m.under.pending) same) ∙ sym waits;
       checked = subst (λ (m : Timed). AreChecked m.arch m.cycles z.entries) same all;
-      ordered = subst (λ (m : Timed). AreInOrder 0 m.cycles m.pending) same (order_later 0 now w.timed.cycles w.timed.pending (omega arith) s.ordered);
-      passed = subst (λ (m : Timed). z.passed ≡ passed_by m.cycles m.pending) same (late (omega arith));
+      ordered = subst (λ (m : Timed). AreInOrder 0 m.cycles m.under.pending) same (order_later 0 now w.timed.cycles w.timed.under.pending (omega arith) s.ordered);
+      passed = subst (λ (m : Timed). z.passed ≡ passed_by m.cycles m.under.pending) same (late (omega arith));
       future = subst (λ (m : Timed). IsFuture m.arch z.entries z.future) same future;
     }
 

@@ -36,7 +36,7 @@ asked_in cycle s (p ∷ rest) = asked_at (cycle - p.cycle) s p.claim ++ asked_in
 unfoldable pub asked_of : Timed → List Question
 asked_of m =
     let left : Timed = commits_under stores_wait (drained (begun m)) in
-    if goes_on m.arch then asked_in (m.cycles + 1) left.arch left.pending else []
+    if goes_on m.arch then asked_in (m.cycles + 1) left.arch left.under.pending else []
 
 -- what is asked in the cycles in which a machine is handed these lists
 abbrev pub asked_over : Timed → List (List Record) → List Question

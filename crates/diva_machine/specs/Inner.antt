@@ -12,7 +12,7 @@ use Rattle.diva_machine.specs.Machine.{Machine}
 use Rattle.diva_memory.specs.Bytes.{Bytes}
 use Rattle.diva_storeq.specs.declared.masked.Masked.{Masked}
 use Rattle.diva_commit.specs.Committing.{AreInside}
-use Rattle.diva_core.specs.Cycle.{Judgement, Commit, Flush, Wait, judged_under, judgement_under, stores_wait}
+use Rattle.diva_core.specs.Cycle.{Judgement, Commit, Flush, Wait, judged_under, judgement_under, stores_wait, with_pending}
 use Rattle.diva_machine.specs.declared.front.Judged.{Judged}
 use Rattle.diva_machine.specs.declared.front.Judged.TheVariants.{Committed, Ended, Flushed, Waits}
 use Rattle.diva_core.specs.declared.pending.Entry.{Entry}
@@ -56,11 +56,11 @@ pub record HasStoresInside (m : Bytes) (stores : List Masked) : Type 0 where
 pub record KeepsBounds (m last : Timed) : Type 0 where
   pub config : last.config ≡ m.config
   pub cycles : last.cycles ≡ m.cycles
-  pub idle : last.idle ≡ m.idle
+  pub idle : last.under.idle ≡ m.under.idle
   pub owed : last.owed ≤ m.config.stores
-  pub pending : length last.pending ≤ length m.pending
-  pub flushes : last.flushes ≤ m.flushes + 1
-  pub silent : last.silent ≤ m.silent + 1
+  pub pending : length last.under.pending ≤ length m.under.pending
+  pub flushes : last.under.log.flushes ≤ m.under.log.flushes + 1
+  pub silent : last.under.log.silent ≤ m.under.log.silent + 1
 
 -- what becomes of the front claim by the machine's rule, and the machine where at most n ready claims are judged by it
 abbrev pub judgement_of : Timed → Judgement
@@ -77,11 +77,11 @@ judged_by Wait goes = Waits
 
 -- claims may be accepted behind the commit phase, if there was room before it: the machine goes on, and no instruction runs solo
 abbrev pub takes_claims : Timed → Bool
-takes_claims m = goes_on m.arch && is_none m.solo
+takes_claims m = goes_on m.arch && is_none m.under.solo
 
 -- that is so exactly where the machine goes on and has not flushed, m being the one before that phase and n the one behind it
 abbrev pub Tells : (m n : Timed) → Type 0
-Tells m n = takes_claims n ≡ (goes_on n.arch && (n.flushes == m.flushes))
+Tells m n = takes_claims n ≡ (goes_on n.arch && (n.under.log.flushes == m.under.log.flushes))
 
 -- the age at which a claim passes through a stage that compares
 abbrev pub age_of : Stage → ℕ
@@ -105,7 +105,7 @@ HasPassed arch age at before after =
 abbrev pub left : Bool → Parts → Parts
 left goes w =
     record w {
-      timed = record w.timed { pending = if goes then map pending_claim_of (drop 1 w.entries) else [] };
+      timed = with_pending w.timed (if goes then map pending_claim_of (drop 1 w.entries) else []);
       entries = if goes then drop 1 w.entries else [];
       passed = if goes then w.passed - 1 else 0;
       future = if goes then without_oldest w.timed.arch.regs w.future else committed_file w.timed.arch.regs;

@@ -67,12 +67,12 @@ pub record Parts : Type 0 where
 
 -- what holds of the pending claims where the stages of the cycle `now` have run
 pub record IsStaged (now : ℕ) (w : Parts) : Type 0 where
-  pub waits : w.timed.pending ≡ map pending_claim_of w.entries
+  pub waits : w.timed.under.pending ≡ map pending_claim_of w.entries
   pub checked : AreChecked w.timed.arch now w.entries
-  pub ordered : AreInOrder 0 now w.timed.pending
-  pub passed : w.passed ≡ passed_by now w.timed.pending
+  pub ordered : AreInOrder 0 now w.timed.under.pending
+  pub passed : w.passed ≡ passed_by now w.timed.under.pending
   pub future : IsFuture w.timed.arch w.entries w.future
 
 -- and of the solo instruction
 abbrev pub IsSoloFilled : (now : ℕ) → Parts → Type 0
-IsSoloFilled now w = IsFilledSince w.timed.arch now w.timed.solo w.filled
+IsSoloFilled now w = IsFilledSince w.timed.arch now w.timed.under.solo w.filled

@@ -102,9 +102,9 @@ impl Machine {
     /// decoded form. Its verdict is the first difference from the record that is due after the older claims, in the fields
     /// that are compared by its age; where one of those claims has ended the machine nothing is said of it.
     pub fn entry(&self, at: usize) -> Entry
-        requires { at < length self.now.timed.pending }
+        requires { at < length self.now.timed.under.pending }
         ensures entry { slice_get self.now.entries at ≡ Some result }
-        ensures waits { slice_get self.now.timed.pending at ≡ Some (pending_claim_of result) }
+        ensures waits { slice_get self.now.timed.under.pending at ≡ Some (pending_claim_of result) }
         ensures checked { IsChecked
             (before_entry self.now.timed.arch self.now.entries at)
             (self.now.timed.cycles - result.cycle)
@@ -122,7 +122,7 @@ impl Machine {
 
     /// The cycle in which the instruction was started that runs solo; `None` exactly where none does.
     pub fn solo(&self) -> Option<u64>
-        ensures { result ≡ self.now.timed.solo }
+        ensures { result ≡ self.now.timed.under.solo }
     {
         match self.parts.under.recover {
             Recover::Running => None,
@@ -139,21 +139,21 @@ impl Machine {
 
     /// How many flushes came.
     pub fn flushes(&self) -> u64
-        ensures { result ≡ self.now.timed.flushes }
+        ensures { result ≡ self.now.timed.under.log.flushes }
     {
         self.parts.under.log.flushes()
     }
 
     /// How many of the flushes came since nothing had committed for too long.
     pub fn silent(&self) -> u64
-        ensures { result ≡ self.now.timed.silent }
+        ensures { result ≡ self.now.timed.under.log.silent }
     {
         self.parts.under.log.silent()
     }
 
     /// How often the last instruction was taken back.
     pub fn undos(&self) -> u64
-        ensures { result ≡ self.now.timed.undos }
+        ensures { result ≡ self.now.timed.under.undos }
     {
         self.parts.under.undos
     }
@@ -168,15 +168,15 @@ impl Machine {
 
     /// The rows of the first flushes, 1,024 at most.
     pub fn log(&self) -> &[FlushRow]
-        ensures { result.now ≡ self.now.timed.rows }
+        ensures { result.now ≡ self.now.timed.under.log.rows }
     {
         self.parts.under.log.rows()
     }
 
     /// The row of the newest flush, `None` exactly where none came.
     pub fn newest(&self) -> Option<FlushRow>
-        ensures row { result ≡ self.now.timed.newest }
-        ensures none { IsNone result ↔ (self.now.timed.flushes ≡ 0) }
+        ensures row { result ≡ self.now.timed.under.log.newest }
+        ensures none { IsNone result ↔ (self.now.timed.under.log.flushes ≡ 0) }
     {
         self.parts.under.log.newest()
     }
@@ -221,7 +221,7 @@ impl Machine {
 
     /// Recalls for a proof what is noted of the pending claims, each by its age. It does nothing.
     pub fn recall(&self)
-        ensures waits { self.now.timed.pending ≡ map pending_claim_of self.now.entries }
+        ensures waits { self.now.timed.under.pending ≡ map pending_claim_of self.now.entries }
         ensures checked { AreChecked self.now.timed.arch self.now.timed.cycles self.now.entries }
     {
         let _ = self.parts.goes_on();
@@ -263,13 +263,13 @@ impl Machine {
         ensures judges { WillJudge self.new.timed }
         ensures front { (p : PendingClaim) (rest : List PendingClaim)
             → goes_on self.old.timed.arch ≡ true
-            → self.old.timed.solo ≡ None
-            → self.old.timed.pending ≡ p ∷ rest
+            → self.old.timed.under.solo ≡ None
+            → self.old.timed.under.pending ≡ p ∷ rest
             → p.cycle + depth ≤ self.old.timed.cycles + 1
             → IsJudged self.old.timed self.new.timed p }
         ensures sixth { (start : ℕ)
             → goes_on self.old.timed.arch ≡ true
-            → self.old.timed.solo ≡ Some start
+            → self.old.timed.under.solo ≡ Some start
             → self.old.timed.cycles + 1 ≡ start + depth
             → self.new.timed.count ≡ self.old.timed.count + 1 }
     {
@@ -328,13 +328,13 @@ impl Machine {
         ensures judges { WillJudge self.new.timed }
         ensures front { (p : PendingClaim) (rest : List PendingClaim)
             → goes_on self.old.timed.arch ≡ true
-            → self.old.timed.solo ≡ None
-            → self.old.timed.pending ≡ p ∷ rest
+            → self.old.timed.under.solo ≡ None
+            → self.old.timed.under.pending ≡ p ∷ rest
             → p.cycle + depth ≤ self.old.timed.cycles + 1
             → IsJudged self.old.timed self.new.timed p }
         ensures sixth { (start : ℕ)
             → goes_on self.old.timed.arch ≡ true
-            → self.old.timed.solo ≡ Some start
+            → self.old.timed.under.solo ≡ Some start
             → self.old.timed.cycles + 1 ≡ start + depth
             → self.new.timed.count ≡ self.old.timed.count + 1 }
     {

@@ -18,7 +18,7 @@ ghost use Rattle.diva_core.specs.Future.{IsFuture, committed_file};
 ghost use Rattle.diva_core.specs.Older.{before_entry};
 ghost use Rattle.diva_core.specs.Machine.{IsMachine, IsConfig};
 ghost use Rattle.diva_core.specs.Headline.{dues, SameLog};
-ghost use Rattle.diva_core.specs.Cycle.{Commit, accepted_in, accepts, commits_under, committed, cycle_of, drained, flushed, number, port_opens, stores_wait, watched};
+ghost use Rattle.diva_core.specs.Cycle.{Commit, accepted_in, accepts, commits_under, committed, cycle_of, drained, flushed, number, port_opens, stores_wait, watched, with_pending, without_solo};
 ghost use Rattle.diva_core.specs.declared.flushes.Cause.TheVariants.{Silent};
 ghost use Rattle.diva_commit.specs.Committing.{answer, is_committed};
 ghost use Rattle.diva_hart.specs.Start.{start_of};
@@ -130,7 +130,7 @@ impl Parts {
     #[tactic(auto, unfolding(diva_core::specs::Undone::undone, diva_isa::specs::Undo::restore))]
     pub fn undo(&mut self, u: &Undo)
         requires last { CanUndo self.old.timed u.now }
-        requires undos { self.old.timed.undos < 2 ^ 63 }
+        requires undos { self.old.timed.under.undos < 2 ^ 63 }
         ensures { self.new ≡ record self.old {
           timed = undone self.old.timed u.now;
           entries = [];
@@ -146,9 +146,9 @@ impl Parts {
 
     /// The pending claim at a place, the oldest being at 0.
     pub fn entry(&self, at: usize) -> Entry
-        requires { at < length self.now.timed.pending }
+        requires { at < length self.now.timed.under.pending }
         ensures entry { slice_get self.now.entries at ≡ Some result }
-        ensures waits { slice_get self.now.timed.pending at ≡ Some (pending_claim_of result) }
+        ensures waits { slice_get self.now.timed.under.pending at ≡ Some (pending_claim_of result) }
     {
         self.under.pending.entry(at)
     }
@@ -171,7 +171,7 @@ impl Parts {
     #[inline(always)]
     fn recall_room(&self, count: usize)
         requires { count ≤ room_of self.now.timed }
-        ensures { count ≤ self.now.timed.config.window - length self.now.timed.pending }
+        ensures { count ≤ self.now.timed.config.window - length self.now.timed.under.pending }
     {
         let _ = count;
     }
@@ -201,8 +201,8 @@ impl Parts {
     #[cold]
     #[tactic(auto, unfolding(diva_core::specs::Cycle::flushed))]
     fn flush(&mut self, cause: Cause)
-        requires flushes { self.old.timed.flushes < 2 ^ 63 }
-        requires silent { self.old.timed.silent < 2 ^ 63 }
+        requires flushes { self.old.timed.under.log.flushes < 2 ^ 63 }
+        requires silent { self.old.timed.under.log.silent < 2 ^ 63 }
         ensures { self.new ≡ record self.old {
           timed = flushed self.old.timed cause;
           entries = [];
@@ -272,11 +272,11 @@ impl Parts {
         requires goes_on { GoesOn self.old.timed.arch }
         requires owed { self.old.timed.owed ≤ self.old.timed.config.stores }
         requires count { self.old.timed.count < 2 ^ 62 }
-        requires flushes { self.old.timed.flushes < 2 ^ 63 }
-        requires silent { self.old.timed.silent < 2 ^ 63 }
+        requires flushes { self.old.timed.under.log.flushes < 2 ^ 63 }
+        requires silent { self.old.timed.under.log.silent < 2 ^ 63 }
         requires last { length self.old.last < 4 }
         requires cycles { 1 ≤ self.old.timed.cycles }
-        requires running { self.old.timed.solo ≡ None }
+        requires running { self.old.timed.under.solo ≡ None }
         requires staged { IsStaged (self.old.timed.cycles - 1) self.old }
         ensures answer { result ≡ judged_by (judgement_of self.old.timed) (goes_on self.new.timed.arch) }
         ensures timed { self.new.timed ≡ judged 1 self.old.timed }
@@ -286,7 +286,7 @@ impl Parts {
             ≡ steps (self.new.timed.count - self.old.timed.count) self.old.timed.arch }
         ensures last { self.new.last
             ≡ self.old.last ++ dues (self.new.timed.count - self.old.timed.count) self.old.timed.arch }
-        ensures running { result ≡ Judged.Committed → self.new.timed.solo ≡ None }
+        ensures running { result ≡ Judged.Committed → self.new.timed.under.solo ≡ None }
         ensures same { result ≡ Judged.Committed → SameLog self.old.timed self.new.timed }
         ensures bounds { KeepsBounds self.old.timed self.new.timed }
         ensures staged { IsStaged (self.new.timed.cycles - 1) self.new }
@@ -310,11 +310,11 @@ impl Parts {
         requires goes_on { GoesOn self.old.timed.arch }
         requires owed { self.old.timed.owed ≤ self.old.timed.config.stores }
         requires count { self.old.timed.count + 4 ≤ 2 ^ 62 }
-        requires flushes { self.old.timed.flushes < 2 ^ 62 }
-        requires silent { self.old.timed.silent < 2 ^ 62 }
+        requires flushes { self.old.timed.under.log.flushes < 2 ^ 62 }
+        requires silent { self.old.timed.under.log.silent < 2 ^ 62 }
         requires last { self.old.last ≡ [] }
         requires cycles { 1 ≤ self.old.timed.cycles }
-        requires running { self.old.timed.solo ≡ None }
+        requires running { self.old.timed.under.solo ≡ None }
         requires staged { IsStaged (self.old.timed.cycles - 1) self.old }
         ensures judged { self.new.timed ≡ judged n self.old.timed }
         ensures tells { Tells self.old.timed self.new.timed }
@@ -344,18 +344,18 @@ impl Parts {
         requires goes_on { GoesOn self.old.timed.arch }
         requires owed { self.old.timed.owed ≤ self.old.timed.config.stores }
         requires count { self.old.timed.count + 4 ≤ 2 ^ 62 }
-        requires flushes { self.old.timed.flushes < 2 ^ 62 }
-        requires silent { self.old.timed.silent < 2 ^ 62 }
+        requires flushes { self.old.timed.under.log.flushes < 2 ^ 62 }
+        requires silent { self.old.timed.under.log.silent < 2 ^ 62 }
         requires last { self.old.last ≡ [] }
         requires cycles { 1 ≤ self.old.timed.cycles }
-        requires alone { (start : ℕ) → self.old.timed.solo ≡ Some start
-            → (self.old.timed.pending ≡ []) × (start < self.old.timed.cycles) }
-        requires passes { (start : ℕ) → self.old.timed.solo ≡ Some start → self.old.timed.cycles ≡ start + depth
+        requires alone { (start : ℕ) → self.old.timed.under.solo ≡ Some start
+            → (self.old.timed.under.pending ≡ []) × (start < self.old.timed.cycles) }
+        requires passes { (start : ℕ) → self.old.timed.under.solo ≡ Some start → self.old.timed.cycles ≡ start + depth
             → stores_wait self.old.timed.config.stores self.old.timed.owed (record_of self.old.timed.arch) ≡ false }
         requires staged { IsStaged (self.old.timed.cycles - 1) self.old }
         requires solo { IsSoloFilled (self.old.timed.cycles - 1) self.old }
         ensures timed { self.new.timed ≡ commits_under stores_wait self.old.timed }
-        ensures tells { self.old.timed.solo ≡ None → Tells self.old.timed self.new.timed }
+        ensures tells { self.old.timed.under.solo ≡ None → Tells self.old.timed self.new.timed }
         ensures counted { self.old.timed.count ≤ self.new.timed.count }
         ensures last { self.new.last
             ≡ dues (self.new.timed.count - self.old.timed.count) self.old.timed.arch }
@@ -398,7 +398,7 @@ impl Parts {
         requires count { self.old.timed.count < 2 ^ 62 }
         requires last { length self.old.last < 4 }
         ensures { self.new ≡ record self.old {
-          timed = committed (record self.old.timed { solo = None }) self.old.filled;
+          timed = committed (without_solo self.old.timed) self.old.filled;
           last = self.old.last ++ self.old.filled ∷ [];
           future = committed_file (apply self.old.timed.arch self.old.filled).regs;
         } }
@@ -418,7 +418,7 @@ impl Parts {
         requires stages_sound { S.sound stages.old }
         ensures stages_sound { S.sound stages.new }
         ensures led { (first : S) (before : List Question) → S.led first before stages.old
-            → S.led first (before ++ asked_in self.old.timed.cycles (record self.old.timed.arch { end = 0 }) self.old.timed.pending) stages.new }
+            → S.led first (before ++ asked_in self.old.timed.cycles (record self.old.timed.arch { end = 0 }) self.old.timed.under.pending) stages.new }
         ensures rest { self.new ≡ record self.old { entries = self.new.entries; passed = self.new.passed; future = self.new.future } }
         ensures staged { IsStaged self.new.timed.cycles self.new }
     {
@@ -435,7 +435,7 @@ impl Parts {
         requires stages_sound { S.sound stages.old }
         ensures stages_sound { S.sound stages.new }
         ensures led { (first : S) (before : List Question) → S.led first before stages.old
-            → S.led first (before ++ asked_in self.old.timed.cycles (record self.old.timed.arch { end = 0 }) self.old.timed.pending) stages.new }
+            → S.led first (before ++ asked_in self.old.timed.cycles (record self.old.timed.arch { end = 0 }) self.old.timed.under.pending) stages.new }
         ensures rest { self.new ≡ record self.old { entries = self.new.entries; passed = self.new.passed; future = self.new.future } }
         ensures staged { IsStaged self.new.timed.cycles self.new }
     {
@@ -498,11 +498,9 @@ impl Parts {
     /// is asked of the list here: so nothing of it has to be at hand till now.
     #[inline(always)]
     fn accept_within(&mut self, list: &Claims, most: usize)
-        requires room { length self.old.timed.pending + min most (length list.now) ≤ self.old.timed.config.window }
-        ensures timed { self.new.timed ≡ record self.old.timed {
-          pending = self.old.timed.pending
-              ++ map (accepted_in self.old.timed.cycles) (if takes_claims self.old.timed then take (min most (length list.now)) list.now else []);
-        } }
+        requires room { length self.old.timed.under.pending + min most (length list.now) ≤ self.old.timed.config.window }
+        ensures timed { self.new.timed ≡ with_pending self.old.timed (self.old.timed.under.pending
+            ++ map (accepted_in self.old.timed.cycles) (if takes_claims self.old.timed then take (min most (length list.now)) list.now else [])) }
         ensures rest { self.new ≡ record self.old { timed = self.new.timed; entries = self.new.entries } }
         ensures staged { IsStaged self.old.timed.cycles self.old → IsStaged self.new.timed.cycles self.new }
         ensures solo { IsSoloFilled self.old.timed.cycles self.old → IsSoloFilled self.new.timed.cycles self.new }
@@ -515,10 +513,9 @@ impl Parts {
 
     /// The same, where it is known which.
     fn accept(&mut self, accepted: &[Claim])
-        requires { length self.old.timed.pending + length accepted.now ≤ self.old.timed.config.window }
-        ensures timed { self.new.timed ≡ record self.old.timed {
-          pending = self.old.timed.pending ++ map (accepted_in self.old.timed.cycles) accepted.now;
-        } }
+        requires { length self.old.timed.under.pending + length accepted.now ≤ self.old.timed.config.window }
+        ensures timed { self.new.timed
+            ≡ with_pending self.old.timed (self.old.timed.under.pending ++ map (accepted_in self.old.timed.cycles) accepted.now) }
         ensures rest { self.new ≡ record self.old { timed = self.new.timed; entries = self.new.entries } }
         ensures staged { IsStaged self.old.timed.cycles self.old → IsStaged self.new.timed.cycles self.new }
         ensures solo { IsSoloFilled self.old.timed.cycles self.old → IsSoloFilled self.new.timed.cycles self.new }
@@ -532,9 +529,9 @@ impl Parts {
     #[tactic(auto, unfolding(diva_core::specs::Cycle::watched))]
     fn watch(&mut self, committed: bool)
         requires limit { 1 ≤ self.old.timed.config.limit }
-        requires idle { self.old.timed.idle < 2 ^ 31 }
-        requires flushes { self.old.timed.flushes < 2 ^ 63 }
-        requires silent { self.old.timed.silent < 2 ^ 63 }
+        requires idle { self.old.timed.under.idle < 2 ^ 31 }
+        requires flushes { self.old.timed.under.log.flushes < 2 ^ 63 }
+        requires silent { self.old.timed.under.log.silent < 2 ^ 63 }
         ensures timed { (before : Timed)
             → (self.old.timed.count == before.count) ≡ not committed
             → self.new.timed ≡ watched before self.old.timed }
@@ -553,8 +550,8 @@ impl Parts {
     #[cold]
     #[inline(never)]
     fn bark(&mut self)
-        requires flushes { self.old.timed.flushes < 2 ^ 63 }
-        requires silent { self.old.timed.silent < 2 ^ 63 }
+        requires flushes { self.old.timed.under.log.flushes < 2 ^ 63 }
+        requires silent { self.old.timed.under.log.silent < 2 ^ 63 }
         ensures { self.new ≡ record self.old {
           timed = flushed self.old.timed (Silent self.old.timed.config.limit);
           entries = [];

@@ -10,7 +10,7 @@ use Rattle.diva_isa.specs.Step.{record_of, step, steps}
 use Rattle.diva_isa.specs.declared.record.Record.{Record}
 use Rattle.diva_isa.specs.declared.effect.Effect.{Effect}
 use Rattle.diva_isa.specs.declared.undo.Undo.{Undo}
-use Rattle.diva_core.specs.Timed.{Timed, Config, PendingClaim, epoch_of, new_timed, room_of, depth}
+use Rattle.diva_core.specs.Timed.{Log, Timed, Config, PendingClaim, epoch_of, new_timed, room_of, depth}
 use Rattle.diva_core.specs.Cycle.{cycle_of, stores_wait}
 use Rattle.diva_core.specs.Undone.{CanUndo, undone}
 use Rattle.diva_core.specs.Told.{told_of}
@@ -35,7 +35,7 @@ use Rattle.diva_tape.proofs.Calling.{Hands, Keeps, Ready, epoch_holds, hands, ne
 use Rattle.diva_tape.proofs.Righting.{rule_right_by, scalar_right}
 
 abbrev waiting : Timed → List Record
-waiting m = map claim_of m.pending
+waiting m = map claim_of m.under.pending
 
 -- ---- one call at a machine
 
@@ -62,19 +62,19 @@ take_one (suc n) false r some = refl
 at_some : (ahead : Ahead) (m : Timed) → 0 < room_of m → m.count ≡ m.arch.instret → goes_on m.arch ≡ true → IsCalmRunning m → Ready ahead (epoch_of m) m.arch (waiting m) → At m (scalar_call ahead (told_of m) m.arch)
 at_some ahead m some counted on calm ready =
     let h : Hands (epoch_of m) m.arch (waiting m) (scalar_call ahead (told_of m) m.arch) =
-    hands ahead (told_of m) m.arch (waiting m) (let s = some in omega arith) (sym (length-map m.pending claim_of)) counted on (due_from m.arch (waiting m) calm.claims) ready in
-    let far : steps (length (waiting m)) m.arch ≡ steps (length m.pending) m.arch = ap (λ (k : ℕ). steps k m.arch) (length-map m.pending claim_of) in
+    hands ahead (told_of m) m.arch (waiting m) (let s = some in omega arith) (sym (length-map m.under.pending claim_of)) counted on (due_from m.arch (waiting m) calm.claims) ready in
+    let far : steps (length (waiting m)) m.arch ≡ steps (length m.under.pending) m.arch = ap (λ (k : ℕ). steps k m.arch) (length-map m.under.pending claim_of) in
     let all : take (room_of m) (scalar_call ahead (told_of m) m.arch).list ≡ (scalar_call ahead (told_of m) m.arch).list =
     ap (take (room_of m)) h.list ∙ take_one (room_of m) (goes_on (steps (length (waiting m)) m.arch)) (record_of (steps (length (waiting m)) m.arch)) some ∙ sym h.list in
     record {
-      list = h.list ∙ ap next_of far ∙ rule_some (room_of m) (goes_on (steps (length m.pending) m.arch)) (record_of (steps (length m.pending) m.arch) ∷ []) some;
+      list = h.list ∙ ap next_of far ∙ rule_some (room_of m) (goes_on (steps (length m.under.pending) m.arch)) (record_of (steps (length m.under.pending) m.arch) ∷ []) some;
       keeps = subst (λ (xs : List Record). Keeps (scalar_call ahead (told_of m) m.arch).core (epoch_of m) m.arch (waiting m ++ xs)) (sym all) h.keeps;
     }
 
 at_none : (ahead : Ahead) (m : Timed) → room_of m ≡ 0 → Keeps ahead (epoch_of m) m.arch (waiting m) → At m (record { list = []; core = ahead })
 at_none ahead m none k =
     record {
-      list = rule_none (room_of m) (goes_on (steps (length m.pending) m.arch)) (record_of (steps (length m.pending) m.arch) ∷ []) none;
+      list = rule_none (room_of m) (goes_on (steps (length m.under.pending) m.arch)) (record_of (steps (length m.under.pending) m.arch) ∷ []) none;
       keeps = subst (Keeps ahead (epoch_of m) m.arch) (sym (ap (λ (xs : List Record). waiting m ++ xs) (take_none (room_of m)) ∙ append-nil (waiting m))) k;
     }
 
@@ -84,7 +84,7 @@ no_claims (p ∷ xs) e = absurd (cc)
 
 kept : (ahead : Ahead) (m : Timed) → IsMachine m → goes_on m.arch ≡ true → IsCalmRunning m → room_of m ≡ 0 → Ready ahead (epoch_of m) m.arch (waiting m) → Keeps ahead (epoch_of m) m.arch (waiting m)
 kept ahead m inv on calm none (inl k) = k
-kept ahead m inv on calm none (inr f) = absurd (let some : 1 ≤ room_of m = room-some m inv calm.running on (no_claims m.pending f.1) in omega arith)
+kept ahead m inv on calm none (inr f) = absurd (let some : 1 ≤ room_of m = room-some m inv calm.running on (no_claims m.under.pending f.1) in omega arith)
 
 at : (ahead : Ahead) (m : Timed) → IsMachine m → goes_on m.arch ≡ true → IsCalmRunning m → Ready ahead (epoch_of m) m.arch (waiting m) → At m (scalar_call ahead (told_of m) m.arch)
 at ahead m inv on calm ready =
@@ -110,15 +110,15 @@ split_commits (suc k) s c (p ∷ xs) rest h =
     record { done = p ∷ r.done; parts = ap (λ (z : List PendingClaim). p ∷ z) r.parts; long = ap suc r.long }
 
 -- no instruction is taken back in a cycle
-same_epoch : (b n : Timed) → n.flushes ≡ b.flushes → n.undos ≡ b.undos → epoch_of n ≡ epoch_of b
+same_epoch : (b n : Timed) → n.under.log.flushes ≡ b.under.log.flushes → n.under.undos ≡ b.under.undos → epoch_of n ≡ epoch_of b
 same_epoch b n flushes undos = omega arith
 
 keeps_after :
     (ahead : Ahead) (b n : Timed) (list : List Record) (k : ℕ) (rest : List PendingClaim)
     → Base stores_wait b n k
-    → n.flushes ≡ b.flushes
-    → Split k b.pending rest
-    → n.pending ≡ rest ++ taken b list
+    → n.under.log.flushes ≡ b.under.log.flushes
+    → Split k b.under.pending rest
+    → n.under.pending ≡ rest ++ taken b list
     → Keeps ahead (epoch_of b) b.arch (waiting b ++ take (room_of b) list)
     → Keeps ahead (epoch_of n) n.arch (waiting n)
 keeps_after ahead b n list k rest v flushes split pending h =
@@ -137,10 +137,10 @@ keeps_after ahead b n list k rest v flushes split pending h =
     }
 
 ready_cases : (ahead : Ahead) (b n : Timed) (list : List Record) → IsMachine b → IsCalmRunning b → Keeps ahead (epoch_of b) b.arch (waiting b ++ take (room_of b) list) → Cycled stores_wait b list n → goes_on n.arch ≡ true → Ready ahead (epoch_of n) n.arch (waiting n)
-ready_cases ahead b n list inv calm h (idled r) on = inl (keeps_after ahead b n list 0 b.pending r.base r.log.flushes (record { done = []; parts = refl; long = refl }) r.pending h)
-ready_cases ahead b n list inv calm h (ran r) on = inl (keeps_after ahead b n list (suc r.k) r.rest r.base r.log.flushes (split_commits (suc r.k) b.arch (b.cycles + 1) b.pending r.rest r.claims) r.pending h)
+ready_cases ahead b n list inv calm h (idled r) on = inl (keeps_after ahead b n list 0 b.under.pending r.base (ap (λ (l : Log). l.flushes) r.log) (record { done = []; parts = refl; long = refl }) r.pending h)
+ready_cases ahead b n list inv calm h (ran r) on = inl (keeps_after ahead b n list (suc r.k) r.rest r.base (ap (λ (l : Log). l.flushes) r.log) (split_commits (suc r.k) b.arch (b.cycles + 1) b.under.pending r.rest r.claims) r.pending h)
 ready_cases ahead b n list inv calm h (barks r) on =
-    absurd (let w = calm.waits in let two = wait-least b b.pending inv.config (not-yet b inv r.was r.unjudged) in let i = r.idle in let late = r.late in omega arith)
+    absurd (let w = calm.waits in let two = wait-least b b.under.pending inv.config (not-yet b inv r.was r.unjudged) in let i = r.idle in let late = r.late in omega arith)
 ready_cases ahead b n list inv calm h (differed r) on = absurd (no-difference b n r (due_from _ _ calm.claims))
 ready_cases ahead b n list inv calm h (ended r) on = absurd (true≢false (sym on ∙ r.off))
 ready_cases ahead b n list inv calm h (finished r) on = absurd (none-some _ (sym calm.running ∙ r.since))
@@ -150,36 +150,36 @@ ready_cases ahead b n list inv calm h (waited r) on = absurd (none-some _ (sym c
 
 pub record RunsSolo (m : Timed) (ahead : Ahead) : Type 0 where
   pub start : ℕ
-  pub since : m.solo ≡ Some start
+  pub since : m.under.solo ≡ Some start
   pub other : is_epoch ahead.epoch (epoch_of m) ≡ false
 
 -- the machine is calm, and the core keeps what is pending; or an instruction runs solo
 abbrev pub Stands : Timed → Ahead → Type 0
 Stands m ahead = (IsCalm m × (goes_on m.arch ≡ true → Ready ahead (epoch_of m) m.arch (waiting m))) ⊎ RunsSolo m ahead
 
-solo_room : (m : Timed) (start : ℕ) → m.solo ≡ Some start → room_of m ≡ 0
+solo_room : (m : Timed) (start : ℕ) → m.under.solo ≡ Some start → room_of m ≡ 0
 solo_room m start some = rw some refl
 
 -- the core does nothing
-solo_call : (ahead : Ahead) (m : Timed) (start : ℕ) → m.solo ≡ Some start → scalar_call ahead (told_of m) m.arch ≡ record { list = []; core = ahead }
+solo_call : (ahead : Ahead) (m : Timed) (start : ℕ) → m.under.solo ≡ Some start → scalar_call ahead (told_of m) m.arch ≡ record { list = []; core = ahead }
 solo_call ahead m start some = waits ahead (told_of m) m.arch (solo_room m start some)
 
-solo_list : (ahead : Ahead) (m : Timed) (start : ℕ) → m.solo ≡ Some start → (scalar_call ahead (told_of m) m.arch).list ≡ scalar_list m
+solo_list : (ahead : Ahead) (m : Timed) (start : ℕ) → m.under.solo ≡ Some start → (scalar_call ahead (told_of m) m.arch).list ≡ scalar_list m
 solo_list ahead m start some =
     ap (λ (c : ScalarCall). c.list) (solo_call ahead m start some)
-    ∙ rule_none (room_of m) (goes_on (steps (length m.pending) m.arch)) (record_of (steps (length m.pending) m.arch) ∷ []) (solo_room m start some)
+    ∙ rule_none (room_of m) (goes_on (steps (length m.under.pending) m.arch)) (record_of (steps (length m.under.pending) m.arch) ∷ []) (solo_room m start some)
 
-solo_flushes : (b n : Timed) (list : List Record) (start : ℕ) → b.solo ≡ Some start → Cycled stores_wait b list n → n.flushes ≡ b.flushes
-solo_flushes b n list start some (idled r) = r.log.flushes
-solo_flushes b n list start some (ran r) = r.log.flushes
+solo_flushes : (b n : Timed) (list : List Record) (start : ℕ) → b.under.solo ≡ Some start → Cycled stores_wait b list n → n.under.log.flushes ≡ b.under.log.flushes
+solo_flushes b n list start some (idled r) = (ap (λ (l : Log). l.flushes) r.log)
+solo_flushes b n list start some (ran r) = (ap (λ (l : Log). l.flushes) r.log)
 solo_flushes b n list start some (barks r) = absurd (none-some _ (sym r.was ∙ some))
 solo_flushes b n list start some (differed r) = absurd (none-some _ (sym r.was ∙ some))
-solo_flushes b n list start some (ended r) = r.log.flushes
-solo_flushes b n list start some (finished r) = r.log.flushes
-solo_flushes b n list start some (waited r) = r.log.flushes
+solo_flushes b n list start some (ended r) = (ap (λ (l : Log). l.flushes) r.log)
+solo_flushes b n list start some (finished r) = (ap (λ (l : Log). l.flushes) r.log)
+solo_flushes b n list start some (waited r) = (ap (λ (l : Log). l.flushes) r.log)
 
 -- where it commits, the machine is calm with nothing pending, and else it runs on
-solo_after : (m : Timed) (list : List Record) (start : ℕ) → IsMachine m → goes_on m.arch ≡ true → m.solo ≡ Some start → Cycled stores_wait m list (cycle_of m list) → Fresh (cycle_of m list) ⊎ ((cycle_of m list).solo ≡ Some start)
+solo_after : (m : Timed) (list : List Record) (start : ℕ) → IsMachine m → goes_on m.arch ≡ true → m.under.solo ≡ Some start → Cycled stores_wait m list (cycle_of m list) → Fresh (cycle_of m list) ⊎ ((cycle_of m list).under.solo ≡ Some start)
 solo_after m list start inv on some (idled r) = absurd (none-some _ (sym r.was ∙ some))
 solo_after m list start inv on some (ran r) = absurd (none-some _ (sym r.was ∙ some))
 solo_after m list start inv on some (barks r) = absurd (none-some _ (sym r.was ∙ some))
@@ -233,12 +233,12 @@ follows_rule (one ∷ rest) m ahead last final inv stands h =
     let t : Turn m one.0 one.1 = turn m ahead one.0 one.1 inv h.0 stands h.1.0 in
     (t.rule, follows_rule rest (cycle_of m one.0) one.1 last final (stays m one.0 inv) t.stands h.1.1)
 
-pub stands_by : (solo : Option ℕ) (m : Timed) (ahead : Ahead) → m.solo ≡ solo → MayLead m ahead → Stands m ahead
+pub stands_by : (solo : Option ℕ) (m : Timed) (ahead : Ahead) → m.under.solo ≡ solo → MayLead m ahead → Stands m ahead
 stands_by None m ahead e may = let rest = may.rests e in inl (rest.0, λ on. inr (may.epoch, ap (map claim_of) rest.1))
 stands_by (Some start) m ahead e may = inr (record { start = start; since = e; other = may.epoch })
 
 pub scalar_history : (m last : Timed) (before after : Ahead) (history : List (List Record × Ahead)) → MayLead m before → IsHistory IsScalarCall m before history last after → FollowRule scalar_list m (lists_of history)
-scalar_history m last before after history may h = follows_rule history m before last after may.machine (stands_by m.solo m before refl may) h
+scalar_history m last before after history may h = follows_rule history m before last after may.machine (stands_by m.under.solo m before refl may) h
 
 pub scalar_history_right : (m last : Timed) (before after : Ahead) (history : List (List Record × Ahead)) → MayLead m before → IsHistory IsScalarCall m before history last after → AreRight m (lists_of history)
 scalar_history_right m last before after history may h =
@@ -249,8 +249,8 @@ pub new_leads : (z : Config) (s : State) → IsConfig z → s.instret ≡ 0 → 
 new_leads z s ok none = record { machine = new-machine z s ok none; epoch = refl; rests = λ running. (new_calm z s ok, refl) }
 
 -- where a solo instruction commits
-pub leads_again : (m : Timed) (before after : Ahead) (list : List Record) (start : ℕ) → IsMachine m → goes_on m.arch ≡ true → m.solo ≡ Some start → m.cycles + 1 ≡ start + depth → is_epoch before.epoch (epoch_of m) ≡ false → IsScalarCall before (told_of m) m.arch list after
-    → IsCalm (cycle_of m list) × ((cycle_of m list).pending ≡ []) × (is_epoch after.epoch (epoch_of (cycle_of m list)) ≡ false)
+pub leads_again : (m : Timed) (before after : Ahead) (list : List Record) (start : ℕ) → IsMachine m → goes_on m.arch ≡ true → m.under.solo ≡ Some start → m.cycles + 1 ≡ start + depth → is_epoch before.epoch (epoch_of m) ≡ false → IsScalarCall before (told_of m) m.arch list after
+    → IsCalm (cycle_of m list) × ((cycle_of m list).under.pending ≡ []) × (is_epoch after.epoch (epoch_of (cycle_of m list)) ≡ false)
 leads_again m before after list start inv on some sixth other given =
     let fresh : Fresh (cycle_of m list) = solo_fresh m list start inv on some sixth in
     let same_one : epoch_of (cycle_of m list) ≡ epoch_of m = same_epoch m (cycle_of m list) (solo_flushes m (cycle_of m list) list start some (cycled m list inv on)) (same-undos m list inv) in
@@ -260,17 +260,17 @@ leads_again m before after list start inv on some sixth other given =
 -- ---- flushes, whatever the machine is handed
 
 -- the log stays, or an instruction starts solo and the flushes rise
-flush_cases : (b n : Timed) (list : List Record) → Cycled stores_wait b list n → (n.flushes ≡ b.flushes) ⊎ ((n.flushes ≡ b.flushes + 1) × (n.solo ≡ Some (b.cycles + 1)))
-flush_cases b n list (idled r) = inl r.log.flushes
-flush_cases b n list (ran r) = inl r.log.flushes
-flush_cases b n list (barks r) = inr (r.log.flushes, r.solo)
-flush_cases b n list (differed r) = inr (r.log.flushes, r.solo)
-flush_cases b n list (ended r) = inl r.log.flushes
-flush_cases b n list (finished r) = inl r.log.flushes
-flush_cases b n list (waited r) = inl r.log.flushes
+flush_cases : (b n : Timed) (list : List Record) → Cycled stores_wait b list n → (n.under.log.flushes ≡ b.under.log.flushes) ⊎ ((n.under.log.flushes ≡ b.under.log.flushes + 1) × (n.under.solo ≡ Some (b.cycles + 1)))
+flush_cases b n list (idled r) = inl (ap (λ (l : Log). l.flushes) r.log)
+flush_cases b n list (ran r) = inl (ap (λ (l : Log). l.flushes) r.log)
+flush_cases b n list (barks r) = inr ((ap (λ (l : Log). l.flushes) r.log), r.solo)
+flush_cases b n list (differed r) = inr ((ap (λ (l : Log). l.flushes) r.log), r.solo)
+flush_cases b n list (ended r) = inl (ap (λ (l : Log). l.flushes) r.log)
+flush_cases b n list (finished r) = inl (ap (λ (l : Log). l.flushes) r.log)
+flush_cases b n list (waited r) = inl (ap (λ (l : Log). l.flushes) r.log)
 
-flush_cycle : (m : Timed) (list : List Record) → IsMachine m → ((cycle_of m list).flushes ≡ m.flushes) ⊎ (((cycle_of m list).flushes ≡ m.flushes + 1) × ((cycle_of m list).solo ≡ Some (m.cycles + 1)))
-flush_cycle m list inv = by-cases (λ (n : Timed). (n.flushes ≡ m.flushes) ⊎ ((n.flushes ≡ m.flushes + 1) × (n.solo ≡ Some (m.cycles + 1)))) m list inv (λ on c. flush_cases m (cycle_of m list) list c) (λ off. inl refl)
+flush_cycle : (m : Timed) (list : List Record) → IsMachine m → ((cycle_of m list).under.log.flushes ≡ m.under.log.flushes) ⊎ (((cycle_of m list).under.log.flushes ≡ m.under.log.flushes + 1) × ((cycle_of m list).under.solo ≡ Some (m.cycles + 1)))
+flush_cycle m list inv = by-cases (λ (n : Timed). (n.under.log.flushes ≡ m.under.log.flushes) ⊎ ((n.under.log.flushes ≡ m.under.log.flushes + 1) × (n.under.solo ≡ Some (m.cycles + 1)))) m list inv (λ on c. flush_cases m (cycle_of m list) list c) (λ off. inl refl)
 
 past_call : (before after : Ahead) (m : Timed) (list : List Record) → IsPast before m → IsScalarCall before (told_of m) m.arch list after → IsPast after m
 past_call before after m list past given =
@@ -290,7 +290,7 @@ stays_past m before after list handed inv past given =
     let rise : epoch_of m ≤ epoch_of (cycle_of m handed) = elim (flush_cycle m handed inv) [ inl e ↦ omega arith | inr f ↦ let e = f.0 in omega arith ] in
     past_more after.epoch (epoch_of m) (epoch_of (cycle_of m handed)) rise (past_call before after m list past given)
 
-pub leads_after_flush : (m : Timed) (before after : Ahead) (list handed : List Record) → IsMachine m → IsPast before m → IsScalarCall before (told_of m) m.arch list after → (cycle_of m handed).flushes ≢ m.flushes → MayLead (cycle_of m handed) after
+pub leads_after_flush : (m : Timed) (before after : Ahead) (list handed : List Record) → IsMachine m → IsPast before m → IsScalarCall before (told_of m) m.arch list after → (cycle_of m handed).under.log.flushes ≢ m.under.log.flushes → MayLead (cycle_of m handed) after
 leads_after_flush m before after list handed inv past given flush =
     elim (flush_cycle m handed inv) [
       | inl e ↦ absurd (flush e)

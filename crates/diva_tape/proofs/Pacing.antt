@@ -8,7 +8,7 @@ use Rattle.std.proofs.lemmas.Option.{none-some}
 use Rattle.diva_isa.specs.State.{State, goes_on}
 use Rattle.diva_isa.specs.Step.{record_of, step, steps}
 use Rattle.diva_isa.specs.declared.record.Record.{Record}
-use Rattle.diva_core.specs.Timed.{Timed, Config, PendingClaim, new_timed, room_of, depth}
+use Rattle.diva_core.specs.Timed.{Log, Timed, Config, PendingClaim, new_timed, room_of, depth}
 use Rattle.diva_core.specs.Cycle.{accepted_in, cycle_of, run_of, stores_wait}
 use Rattle.diva_core.specs.History.{FollowRule, IsHistory, Meaning, lists_of}
 use Rattle.diva_core.specs.Machine.{IsMachine, IsConfig}
@@ -34,11 +34,11 @@ AreSuccessive c (p ∷ rest) = (p.cycle ≡ c) × AreSuccessive (c + 1) rest
 
 -- a claim was accepted in each cycle so far, or those that are pending end the machine
 abbrev Leads : Timed → Type 0
-Leads m = (m.count + length m.pending ≡ m.cycles) ⊎ (goes_on (steps (length m.pending) m.arch) ≡ false)
+Leads m = (m.count + length m.under.pending ≡ m.cycles) ⊎ (goes_on (steps (length m.under.pending) m.arch) ≡ false)
 
 -- the claim of instruction k was accepted in cycle k
 record Queue (m : Timed) : Type 0 where
-  successive : AreSuccessive (m.count + 1) m.pending
+  successive : AreSuccessive (m.count + 1) m.under.pending
   leads : Leads m
 
 -- a machine that goes on has counted an instruction in each cycle but the first six; its port takes a store in each cycle
@@ -58,14 +58,14 @@ and_off : (b : Bool) → (b && false) ≡ false
 and_off true = refl
 and_off false = refl
 
-list_off : (b : Timed) → goes_on (steps (length b.pending) b.arch) ≡ false → scalar_list b ≡ []
+list_off : (b : Timed) → goes_on (steps (length b.under.pending) b.arch) ≡ false → scalar_list b ≡ []
 list_off b off =
-    let r : Record = record_of (steps (length b.pending) b.arch) in
+    let r : Record = record_of (steps (length b.under.pending) b.arch) in
     ap (λ (on : Bool). if nat_lt 0 (room_of b) && on then r ∷ [] else []) off ∙ ap (λ (both : Bool). if both then r ∷ [] else []) (and_off (nat_lt 0 (room_of b)))
 
-list_on : (b : Timed) → 0 < room_of b → goes_on (steps (length b.pending) b.arch) ≡ true → scalar_list b ≡ record_of (steps (length b.pending) b.arch) ∷ []
+list_on : (b : Timed) → 0 < room_of b → goes_on (steps (length b.under.pending) b.arch) ≡ true → scalar_list b ≡ record_of (steps (length b.under.pending) b.arch) ∷ []
 list_on b some on =
-    let r : Record = record_of (steps (length b.pending) b.arch) in
+    let r : Record = record_of (steps (length b.under.pending) b.arch) in
     ap (λ (on : Bool). if nat_lt 0 (room_of b) && on then r ∷ [] else []) on ∙ ap (λ (room : Bool). if room && true then r ∷ [] else []) (lt-ltb 0 (room_of b) some)
 
 take_none : (n : ℕ) → take {A = Record} n [] ≡ []
@@ -77,7 +77,7 @@ take_one zero r some = absurd (omega arith)
 take_one (suc n) r some = ap (λ (xs : List Record). r ∷ xs) (take_none n)
 
 -- six claims are pending at most, so there is room
-room_left : (b : Timed) → IsMachine b → goes_on b.arch ≡ true → Paced b → b.count + length b.pending ≡ b.cycles → 0 < room_of b
+room_left : (b : Timed) → IsMachine b → goes_on b.arch ≡ true → Paced b → b.count + length b.under.pending ≡ b.cycles → 0 < room_of b
 room_left b inv on p e =
     let width = inv.config.width_low in
     let window = inv.config.window_low in
@@ -87,25 +87,25 @@ room_left b inv on p e =
 -- ---- one cycle
 
 module _ (b n : Timed) (list : List Record) (rest : List PendingClaim) (inv : IsMachine b) (on : goes_on b.arch ≡ true) (p : Paced b) (rule : list ≡ scalar_list b) (next : n.cycles ≡ b.cycles + 1)
-    (same : n.count + length rest ≡ b.count + length b.pending) (far : steps (length rest) n.arch ≡ steps (length b.pending) b.arch)
-    (successive : AreSuccessive (n.count + 1) rest) (pending : n.pending ≡ rest ++ taken b list) where
+    (same : n.count + length rest ≡ b.count + length b.under.pending) (far : steps (length rest) n.arch ≡ steps (length b.under.pending) b.arch)
+    (successive : AreSuccessive (n.count + 1) rest) (pending : n.under.pending ≡ rest ++ taken b list) where
   -- nothing is handed over behind an end
-  queue_off : goes_on (steps (length b.pending) b.arch) ≡ false → Queue n
+  queue_off : goes_on (steps (length b.under.pending) b.arch) ≡ false → Queue n
   queue_off off =
       let none : take (room_of b) list ≡ [] = ap (take (room_of b)) (rule ∙ list_off b off) ∙ take_none (room_of b) in
-      let is : n.pending ≡ rest = pending ∙ ap (λ (xs : List Record). rest ++ map (accepted_in (b.cycles + 1)) xs) none ∙ append-nil rest in
+      let is : n.under.pending ≡ rest = pending ∙ ap (λ (xs : List Record). rest ++ map (accepted_in (b.cycles + 1)) xs) none ∙ append-nil rest in
       record {
         successive = subst (AreSuccessive (n.count + 1)) (sym is) successive;
         leads = inr (ap (λ (xs : List PendingClaim). goes_on (steps (length xs) n.arch)) is ∙ ap goes_on far ∙ off);
       }
 
-  queue_on : b.count + length b.pending ≡ b.cycles → goes_on (steps (length b.pending) b.arch) ≡ true → Queue n
+  queue_on : b.count + length b.under.pending ≡ b.cycles → goes_on (steps (length b.under.pending) b.arch) ≡ true → Queue n
   queue_on leads going =
       let some : 0 < room_of b = room_left b inv on p leads in
-      let r : Record = record_of (steps (length b.pending) b.arch) in
+      let r : Record = record_of (steps (length b.under.pending) b.arch) in
       let one : take (room_of b) list ≡ r ∷ [] = ap (take (room_of b)) (rule ∙ list_on b some going) ∙ take_one (room_of b) r some in
-      let is : n.pending ≡ rest ++ accepted_in (b.cycles + 1) r ∷ [] = pending ∙ ap (λ (xs : List Record). rest ++ map (accepted_in (b.cycles + 1)) xs) one in
-      let long : length n.pending ≡ length rest + 1 = ap length is ∙ length-append rest (accepted_in (b.cycles + 1) r ∷ []) in
+      let is : n.under.pending ≡ rest ++ accepted_in (b.cycles + 1) r ∷ [] = pending ∙ ap (λ (xs : List Record). rest ++ map (accepted_in (b.cycles + 1)) xs) one in
+      let long : length n.under.pending ≡ length rest + 1 = ap length is ∙ length-append rest (accepted_in (b.cycles + 1) r ∷ []) in
       record {
         successive = subst (AreSuccessive (n.count + 1)) (sym is) (successive_more (n.count + 1) (b.cycles + 1) rest r successive (omega arith));
         leads = inl (omega arith);
@@ -115,7 +115,7 @@ module _ (b n : Timed) (list : List Record) (rest : List PendingClaim) (inv : Is
   queue_after =
       elim p.queue.leads [
         | inr off ↦ queue_off off
-        | inl leads ↦ elim (cases_Bool (goes_on (steps (length b.pending) b.arch))) [ inl going ↦ queue_on leads going | inr off ↦ queue_off off ]
+        | inl leads ↦ elim (cases_Bool (goes_on (steps (length b.under.pending) b.arch))) [ inl going ↦ queue_on leads going | inr off ↦ queue_off off ]
       ]
 
 -- the front claim is ready where a claim commits
@@ -135,19 +135,19 @@ tail_successive s c d (p ∷ xs) rest h a = subst (AreSuccessive (d + 1)) (sym h
 
 -- a commit is of one claim, in the sixth cycle behind that in which it was accepted
 record Commits1 (b n : Timed) (rest : List PendingClaim) : Type 0 where
-  claims : Commits 1 b.arch (b.cycles + 1) b.pending rest
+  claims : Commits 1 b.arch (b.cycles + 1) b.under.pending rest
   counted : n.count ≡ b.count + 1
   stepped : n.arch ≡ steps 1 b.arch
   sixth : b.count + depth ≡ b.cycles
 
-one_only : (b n : Timed) (rest : List PendingClaim) (k : ℕ) → Paced b → Base stores_wait b n (suc k) → Commits (suc k) b.arch (b.cycles + 1) b.pending rest → Commits1 b n rest
+one_only : (b n : Timed) (rest : List PendingClaim) (k : ℕ) → Paced b → Base stores_wait b n (suc k) → Commits (suc k) b.arch (b.cycles + 1) b.under.pending rest → Commits1 b n rest
 one_only b n rest k p base claims =
     let count = p.count in
-    let ready = front_ready k b.arch (b.cycles + 1) b.count b.pending rest claims p.queue.successive in
-    let one : k ≡ 0 = one_commits k b.arch (b.cycles + 1) b.count b.pending rest claims p.queue.successive (omega arith) in
+    let ready = front_ready k b.arch (b.cycles + 1) b.count b.under.pending rest claims p.queue.successive in
+    let one : k ≡ 0 = one_commits k b.arch (b.cycles + 1) b.count b.under.pending rest claims p.queue.successive (omega arith) in
     let counted = base.counted in
     record {
-      claims = subst (λ (j : ℕ). Commits (suc j) b.arch (b.cycles + 1) b.pending rest) one claims;
+      claims = subst (λ (j : ℕ). Commits (suc j) b.arch (b.cycles + 1) b.under.pending rest) one claims;
       counted = omega arith;
       stepped = base.stepped ∙ ap (λ (j : ℕ). steps (suc j) b.arch) one;
       sixth = omega arith;
@@ -162,16 +162,16 @@ opens : (c p : ℕ) → p ≡ 1 → c % p ≡ 0
 opens c p one = rw one (omega arith)
 
 -- where nothing was judged, fewer than six cycles have run
-still_early : (b : Timed) → goes_on b.arch ≡ true → Paced b → NotYet b b.pending → b.cycles < depth
-still_early b on p late = by_pending b.pending refl
+still_early : (b : Timed) → goes_on b.arch ≡ true → Paced b → NotYet b b.under.pending → b.cycles < depth
+still_early b on p late = by_pending b.under.pending refl
   where
     no_end : (off : goes_on b.arch ≡ false) → b.cycles < depth
     no_end off = absurd (true≢false (sym on ∙ off))
 
-    by_pending : (xs : List PendingClaim) → b.pending ≡ xs → b.cycles < depth
+    by_pending : (xs : List PendingClaim) → b.under.pending ≡ xs → b.cycles < depth
     by_pending [] e =
         elim p.queue.leads [
-          | inl leads ↦ let none : length b.pending ≡ 0 = ap length e in let count = p.count in omega arith
+          | inl leads ↦ let none : length b.under.pending ≡ 0 = ap length e in let count = p.count in omega arith
           | inr off ↦ no_end (ap (λ (xs : List PendingClaim). goes_on (steps (length xs) b.arch)) (sym e) ∙ off)
         ]
     by_pending (q ∷ xs) e =
@@ -192,8 +192,8 @@ goes b n list inv on p rule calm (idled r) =
         calm = calm still;
         port = ap (λ z. z.port) r.base.config ∙ p.port;
         count = omega arith;
-        queue = queue_after b n list b.pending inv on p rule next (omega arith) (ap (steps (length b.pending)) r.base.stepped)
-            (subst (λ (c : ℕ). AreSuccessive (c + 1) b.pending) (sym as_before) p.queue.successive) r.pending;
+        queue = queue_after b n list b.under.pending inv on p rule next (omega arith) (ap (steps (length b.under.pending)) r.base.stepped)
+            (subst (λ (c : ℕ). AreSuccessive (c + 1) b.under.pending) (sym as_before) p.queue.successive) r.pending;
       },
       λ off. absurd (true≢false (sym on ∙ ap goes_on (sym r.base.stepped) ∙ off)),
     )
@@ -202,12 +202,12 @@ goes b n list inv on p rule calm (ran r) =
     let one = one_only b n r.rest r.k p r.base r.claims in
     let counted = one.counted in
     let sixth = one.sixth in
-    let fewer = length-commits 1 b.arch (b.cycles + 1) b.pending r.rest one.claims in
-    let long : 1 + length r.rest ≡ length b.pending = omega arith in
-    let far : steps (length r.rest) n.arch ≡ steps (length b.pending) b.arch =
+    let fewer = length-commits 1 b.arch (b.cycles + 1) b.under.pending r.rest one.claims in
+    let long : 1 + length r.rest ≡ length b.under.pending = omega arith in
+    let far : steps (length r.rest) n.arch ≡ steps (length b.under.pending) b.arch =
     ap (steps (length r.rest)) one.stepped ∙ sym (steps-add 1 (length r.rest) b.arch) ∙ ap (λ (j : ℕ). steps j b.arch) long in
     let successive : AreSuccessive (n.count + 1) r.rest =
-    subst (λ (c : ℕ). AreSuccessive (c + 1) r.rest) (sym counted) (tail_successive b.arch (b.cycles + 1) (b.count + 1) b.pending r.rest one.claims p.queue.successive) in (
+    subst (λ (c : ℕ). AreSuccessive (c + 1) r.rest) (sym counted) (tail_successive b.arch (b.cycles + 1) (b.count + 1) b.under.pending r.rest one.claims p.queue.successive) in (
       λ still. record {
         calm = calm still;
         port = ap (λ z. z.port) r.base.config ∙ p.port;
@@ -217,7 +217,7 @@ goes b n list inv on p rule calm (ran r) =
       λ off. absurd (true≢false (sym r.on ∙ off)),
     )
 goes b n list inv on p rule calm (barks r) =
-    absurd (let w = p.calm.waits in let two = wait-least b b.pending inv.config (not-yet b inv r.was r.unjudged) in let i = r.idle in let late = r.late in omega arith)
+    absurd (let w = p.calm.waits in let two = wait-least b b.under.pending inv.config (not-yet b inv r.was r.unjudged) in let i = r.idle in let late = r.late in omega arith)
 goes b n list inv on p rule calm (differed r) = absurd (no-difference b n r (due_from _ _ p.calm.claims))
 goes b n list inv on p rule calm (ended r) =
     let next = r.base.cycles in
@@ -271,8 +271,8 @@ pub scalar_ends : (z : Config) (s : State) (last : Timed) (after : Ahead) (histo
 scalar_ends z s last after history ok port none on h off = (paced z s last after history ok port none on h).1 off
 
 pub scalar_unflushed : (z : Config) (s : State) (last : Timed) (after : Ahead) (history : List (List Record × Ahead)) → IsConfig z → s.instret ≡ 0
-    → IsHistory IsScalarCall (new_timed z s) new_scalar history last after → last.flushes ≡ 0
+    → IsHistory IsScalarCall (new_timed z s) new_scalar history last after → last.under.log.flushes ≡ 0
 scalar_unflushed z s last after history ok none h =
     let m : Timed = new_timed z s in
-    ap (λ (n : Timed). n.flushes) (IsHistory-run IsScalarCall m new_scalar history last after h)
-    ∙ (run_calm m (lists_of history) (new-machine z s ok none) (new_calm z s ok) (scalar_history_right m last new_scalar after history (new_leads z s ok none) h)).flushes
+    ap (λ (n : Timed). n.under.log.flushes) (IsHistory-run IsScalarCall m new_scalar history last after h)
+    ∙ ap (λ (l : Log). l.flushes) (run_calm m (lists_of history) (new-machine z s ok none) (new_calm z s ok) (scalar_history_right m last new_scalar after history (new_leads z s ok none) h)).log

@@ -42,7 +42,7 @@ undone_goes_on [] m ahead goes can = goes
 undone_goes_on (u ∷ undos) m ahead goes can =
     let may : MayLead (undone m u) ahead = leads_after_undo m ahead u goes.machine can.0 goes.past in
     undone_goes_on undos (undone m u) ahead
-    (record { machine = may.machine; stands = stands_by (undone m u).solo (undone m u) ahead refl may; past = undone_past m ahead u goes.past })
+    (record { machine = may.machine; stands = stands_by (undone m u).under.solo (undone m u) ahead refl may; past = undone_past m ahead u goes.past })
     can.1
 
 leg_goes_on : (leg : Leg Ahead) (m : Timed) (ahead : Ahead) → GoesOn m ahead → IsLeg IsScalarCall m ahead leg
@@ -60,7 +60,7 @@ legs_follow (leg ∷ legs) m ahead last final goes h =
 pub scalar_legs : (m last : Timed) (before after : Ahead) (legs : List (Leg Ahead)) → MayLead m before → IsPast before m
     → AreLegs IsScalarCall m before legs last after → EachPart (OfLists (FollowRule scalar_list)) m (map part_of legs)
 scalar_legs m last before after legs may past h =
-    legs_follow legs m before last after (record { machine = may.machine; stands = stands_by m.solo m before refl may; past = past }) h
+    legs_follow legs m before last after (record { machine = may.machine; stands = stands_by m.under.solo m before refl may; past = past }) h
 
 pub scalar_legs_right : (m last : Timed) (before after : Ahead) (legs : List (Leg Ahead)) → MayLead m before → IsPast before m
     → AreLegs IsScalarCall m before legs last after → EachPart (OfLists AreRight) m (map part_of legs)

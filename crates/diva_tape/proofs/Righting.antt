@@ -29,7 +29,7 @@ handed-where t p e h = absurd (grind (arith, e, h))
 -- where there is room, the machine goes on
 room_on : (m : Timed) → 0 < room_of m → goes_on m.arch ≡ true
 room_on m h =
-    cond_both (is_none m.solo && goes_on m.arch) _ _ (λ r. 0 < r → goes_on m.arch ≡ true)
+    cond_both (is_none m.under.solo && goes_on m.arch) _ _ (λ r. 0 < r → goes_on m.arch ≡ true)
     (λ t some. (and_parts _ _ t).1)
     (λ f some. absurd (omega arith))
     h
@@ -37,8 +37,8 @@ room_on m h =
 pub lockstep_right : (m : Timed) → IsRight m (lockstep_list m)
 lockstep_right m =
     record {
-      claims = cond_both ((length m.pending == 0) && nat_lt 0 (room_of m)) _ _ (λ list. AreDue (steps (length m.pending) m.arch) (take (room_of m) list))
-          (λ t. due_at _ _ (AreDueFrom-take (room_of m) _ (record_of m.arch ∷ []) (λ on. ap record_of (sym (steps-none (length m.pending) m.arch (eqb-true _ _ (and_parts _ _ t).0))), tt)))
+      claims = cond_both ((length m.under.pending == 0) && nat_lt 0 (room_of m)) _ _ (λ list. AreDue (steps (length m.under.pending) m.arch) (take (room_of m) list))
+          (λ t. due_at _ _ (AreDueFrom-take (room_of m) _ (record_of m.arch ∷ []) (λ on. ap record_of (sym (steps-none (length m.under.pending) m.arch (eqb-true _ _ (and_parts _ _ t).0))), tt)))
           (λ f. due_at _ _ (AreDueFrom-take (room_of m) _ [] tt));
       prompt = λ d. handed-where _ (record_of m.arch) (and_parts _ _ d).0;
     }
@@ -46,14 +46,14 @@ lockstep_right m =
 -- the record behind what is pending is right, where there is room and the machine goes on behind that
 pub scalar_right : (m : Timed) → IsRight m (scalar_list m)
 scalar_right m =
-    let s : State = steps (length m.pending) m.arch in
+    let s : State = steps (length m.under.pending) m.arch in
     record {
       claims = cond_both (nat_lt 0 (room_of m) && goes_on s) _ _ (λ list. AreDue s (take (room_of m) list))
           (λ t. due_at _ _ (AreDueFrom-take (room_of m) _ (record_of s ∷ []) (λ on. refl, tt)))
           (λ f. due_at _ _ (AreDueFrom-take (room_of m) _ [] tt));
       prompt = λ d.
           let p = and_parts _ _ (and_parts _ _ d).0 in
-          let on : goes_on s ≡ true = ap goes_on (steps-none (length m.pending) m.arch (eqb-true _ _ p.0)) ∙ room_on m (ltb-true 0 (room_of m) p.1) in
+          let on : goes_on s ≡ true = ap goes_on (steps-none (length m.under.pending) m.arch (eqb-true _ _ p.0)) ∙ room_on m (ltb-true 0 (room_of m) p.1) in
           handed-where _ (record_of s) (rw (p.1, on) refl);
     }
 

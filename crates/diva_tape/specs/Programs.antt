@@ -88,7 +88,7 @@ pub record Summary : Type 0 where
 
 -- the summary of a machine
 abbrev pub summary_of : Timed → Summary
-summary_of m = record { end = m.arch.end; count = m.count; cycles = m.cycles; flushes = m.flushes; silent = m.silent; rows = m.rows }
+summary_of m = record { end = m.arch.end; count = m.count; cycles = m.cycles; flushes = m.under.log.flushes; silent = m.under.log.silent; rows = m.under.log.rows }
 
 -- the cycle in which a pending claim was accepted
 abbrev pub cycle_accepted : PendingClaim → ℕ
@@ -98,7 +98,7 @@ cycle_accepted p = p.cycle
 abbrev pub acceptances : (Timed → List Record) → ℕ → Timed → List ℕ
 acceptances rule zero m = []
 acceptances rule (suc n) m =
-    let after = cycle_of m (rule m) in filter (λ cycle. nat_lt m.cycles cycle) (map cycle_accepted after.pending) ++ acceptances rule n after
+    let after = cycle_of m (rule m) in filter (λ cycle. nat_lt m.cycles cycle) (map cycle_accepted after.under.pending) ++ acceptances rule n after
 
 -- for each instruction that commits within n cycles, the cycle in which it does
 abbrev pub commitments : (Timed → List Record) → ℕ → Timed → List ℕ

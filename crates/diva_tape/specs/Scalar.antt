@@ -39,7 +39,7 @@ pub record IsScalarCall (before : Ahead) (told : Told) (s : State) (list : List 
 -- the machine goes on behind them
 abbrev pub scalar_list : Timed → List Record
 scalar_list m =
-    let s = steps (length m.pending) m.arch in
+    let s = steps (length m.under.pending) m.arch in
     if nat_lt 0 (room_of m) && goes_on s then record_of s ∷ [] else []
 
 -- Scalar may lead from a machine on: it has not taken the machine's epoch, and an instruction runs solo, or the machine is
@@ -47,7 +47,7 @@ scalar_list m =
 pub record MayLead (m : Timed) (core : Ahead) : Type 0 where
   pub machine : IsMachine m
   pub epoch : is_epoch core.epoch (epoch_of m) ≡ false
-  pub rests : m.solo ≡ None → IsCalm m × (m.pending ≡ [])
+  pub rests : m.under.solo ≡ None → IsCalm m × (m.under.pending ≡ [])
 
 -- the epoch that Scalar has taken, if any, is the machine's or an earlier one
 abbrev pub IsPast : Ahead → Timed → Type 0

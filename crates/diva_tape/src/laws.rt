@@ -60,15 +60,15 @@ pub fn scalar_is_right_behind_undos()
 pub fn scalar_may_lead_again()
     ensures flushed { (m : Timed) (before after : Ahead) (list handed : List Record)
         → IsMachine m → IsPast before m → IsScalarCall before (told_of m) m.arch list after
-        → (cycle_of m handed).flushes ≢ m.flushes → MayLead (cycle_of m handed) after }
+        → (cycle_of m handed).under.log.flushes ≢ m.under.log.flushes → MayLead (cycle_of m handed) after }
     ensures past { (m : Timed) (before after : Ahead) (list handed : List Record)
         → IsMachine m → IsPast before m → IsScalarCall before (told_of m) m.arch list after
         → IsPast after (cycle_of m handed) }
     ensures committed { (m : Timed) (before after : Ahead) (list : List Record) (start : ℕ)
-        → IsMachine m → goes_on m.arch ≡ true → m.solo ≡ Some start → m.cycles + 1 ≡ start + depth
+        → IsMachine m → goes_on m.arch ≡ true → m.under.solo ≡ Some start → m.cycles + 1 ≡ start + depth
         → is_epoch before.epoch (epoch_of m) ≡ false → IsScalarCall before (told_of m) m.arch list after
         → let last = cycle_of m list in
-        IsCalm last × (last.pending ≡ []) × (is_epoch after.epoch (epoch_of last) ≡ false) }
+        IsCalm last × (last.under.pending ≡ []) × (is_epoch after.epoch (epoch_of last) ≡ false) }
     ensures undone { (m : Timed) (core : Ahead) (u : Undo) → IsMachine m → CanUndo m u → IsPast core m → MayLead (undone m u) core }
 {}
 
@@ -85,7 +85,7 @@ pub fn scalar_keeps_pace()
         → IsConfig config → config.port ≡ 1 → s.instret ≡ 0 → goes_on s ≡ true → IsHistory IsScalarCall (new_timed config s) new_scalar history last after
         → goes_on last.arch ≡ false → last.cycles ≡ last.count + depth }
     ensures flushes { (config : Config) (s : State) (last : Timed) (after : Ahead) (history : List (List Record × Ahead))
-        → IsConfig config → s.instret ≡ 0 → IsHistory IsScalarCall (new_timed config s) new_scalar history last after → last.flushes ≡ 0 }
+        → IsConfig config → s.instret ≡ 0 → IsHistory IsScalarCall (new_timed config s) new_scalar history last after → last.under.log.flushes ≡ 0 }
 {}
 
 /// A core that plays a tape hands over, in each of its histories, from any machine, the lists of the tape in their order,

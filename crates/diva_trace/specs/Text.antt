@@ -81,8 +81,8 @@ asked_text m (Some dump) = dump_text m dump
 -- the text of a run that ended at this machine, behind its commit lines
 abbrev pub text_of : Timed → Option Dump → List ℕ
 text_of m dump =
-    rows_text m.rows
-    ++ summary_text (end_of m.arch.end) m.count m.cycles m.flushes m.silent
+    rows_text m.under.log.rows
+    ++ summary_text (end_of m.arch.end) m.count m.cycles m.under.log.flushes m.under.log.silent
     ++ output_text m.arch.output
     ++ registers_text m.arch.regs m.arch.pc
     ++ asked_text (memory_of m.arch) dump
@@ -98,12 +98,12 @@ text_in r =
 
 -- a report says what the machine is, through a view that shows its state as one that goes on
 pub record IsReportOf (m : Timed) (r : Report) : Type 0 where
-  pub rows : r.rows.now ≡ m.rows
+  pub rows : r.rows.now ≡ m.under.log.rows
   pub end : r.end ≡ end_of m.arch.end
   pub count : r.count ≡ m.count
   pub cycles : r.cycles ≡ m.cycles
-  pub flushes : r.flushes ≡ m.flushes
-  pub silent : r.silent ≡ m.silent
+  pub flushes : r.flushes ≡ m.under.log.flushes
+  pub silent : r.silent ≡ m.under.log.silent
   pub output : r.output.now ≡ m.arch.output
   pub view : r.view.now ≡ record m.arch { end = 0 }
 
@@ -115,7 +115,7 @@ hart_text number m =
     hart_line number
     ++ end_line_of (end_of m.arch.end)
     ++ count_line m.count
-    ++ flushes_line m.flushes m.silent
+    ++ flushes_line m.under.log.flushes m.under.log.silent
     ++ output_text m.arch.output
     ++ registers_text m.arch.regs m.arch.pc
 
@@ -133,8 +133,8 @@ hart_text_in number r =
 pub record IsHartReportOf (m : Timed) (r : HartReport) : Type 0 where
   pub end : r.end ≡ end_of m.arch.end
   pub count : r.count ≡ m.count
-  pub flushes : r.flushes ≡ m.flushes
-  pub silent : r.silent ≡ m.silent
+  pub flushes : r.flushes ≡ m.under.log.flushes
+  pub silent : r.silent ≡ m.under.log.silent
   pub output : r.output.now ≡ m.arch.output
   pub regs : r.view.now.regs ≡ m.arch.regs
   pub pc : r.view.now.pc ≡ m.arch.pc
@@ -152,8 +152,8 @@ harts_text cycles first second memory dump =
 -- a line for each of them, and how the second one ended, with its output, registers and pc
 abbrev pub soak_text : (first second : Timed) → List ℕ
 soak_text first second =
-    soak_line Scalar first.count first.cycles first.flushes
-    ++ soak_line Own second.count second.cycles second.flushes
+    soak_line Scalar first.count first.cycles first.under.log.flushes
+    ++ soak_line Own second.count second.cycles second.under.log.flushes
     ++ end_line_of (end_of second.arch.end)
     ++ output_text second.arch.output
     ++ registers_text second.arch.regs second.arch.pc

@@ -12,19 +12,19 @@ use Rattle.diva_debug.proofs.session.reply_to.Goals as goal
 pub returns-clause-reply : goal.returns-clause-reply
 returns-clause-reply g c =
     c.reply_at.ensures.reply
-    ∙ ap (λ k. reply_at c.args.command.now k c.machine.result.now.timed.count c.machine.result.now.timed.arch c.machine.result.now.timed.newest) c.kept-kept.ensures
-    ∙ ap (λ (m : Machine). reply_at c.args.command.now (kept_of c.args.m.now) m.timed.count m.timed.arch m.timed.newest) c.machine.ensures.machine
+    ∙ ap (λ k. reply_at c.args.command.now k c.machine.result.now.timed.count c.machine.result.now.timed.arch c.machine.result.now.timed.under.log.newest) c.kept-kept.ensures
+    ∙ ap (λ (m : Machine). reply_at c.args.command.now (kept_of c.args.m.now) m.timed.count m.timed.arch m.timed.under.log.newest) c.machine.ensures.machine
 
 pub returns-clause-far : goal.returns-clause-far
 returns-clause-far g c pc until =
     let m = c.move_by.new.m.machine.timed in
     let on : goes_back c.args.command.now ≡ false = ap goes_back until in
-    tells_far pc (kept_of c.args.m.now) c.args.m.now.machine.timed m m.newest c.args.command.now c.reply_at.result (returns-clause-reply g c) (c.move_by.ensures.on on).moved until
+    tells_far pc (kept_of c.args.m.now) c.args.m.now.machine.timed m m.under.log.newest c.args.command.now c.reply_at.result (returns-clause-reply g c) (c.move_by.ensures.on on).moved until
 
 pub returns-clause-too_few : goal.returns-clause-too_few
 returns-clause-too_few g c k back =
     let m = c.move_by.new.m.machine.timed in
-    tells_kept k (kept_of c.args.m.now) m.count m.arch m.newest c.args.command.now c.reply_at.result (returns-clause-reply g c) back
+    tells_kept k (kept_of c.args.m.now) m.count m.arch m.under.log.newest c.args.command.now c.reply_at.result (returns-clause-reply g c) back
 
 pub returns-clause-stands : goal.returns-clause-stands
 returns-clause-stands g c =

@@ -24,7 +24,7 @@ returns-clause-cycled c =
     let before : Timed = timed c.args.cycles mem h in
     let on : h.state.end ≡ 0 = eqb-true _ _ (ap (λ (x : Hart). x.state.end == 0) (sym c.self.view_is) ∙ sym c.goes_on.ensures ∙ c.if-not-goes_on.false) in
     let count : before.count ≡ c.count-count.result = ap (λ (x : Hart). x.state.instret) (sym c.self.view_is) ∙ sym c.count-count.ensures.value in
-    let flushes : before.flushes ≡ c.flushes-flushes.result = ap (λ (x : Hart). x.flushes) (sym c.self.view_is) ∙ sym c.flushes-flushes.ensures in
+    let flushes : before.under.log.flushes ≡ c.flushes-flushes.result = ap (λ (x : Hart). x.under.log.flushes) (sym c.self.view_is) ∙ sym c.flushes-flushes.ensures in
     let room : room_of before ≡ c.room-room.result = ap (λ (x : Hart). room_of (timed c.args.cycles mem x)) (sym c.self.view_is) ∙ sym c.room-room.ensures.value in
     let is : timed c.args.cycles mem g ≡ phases_under fences_wait before before c.args.list.now =
     c.watch.ensures.watched mem before count

@@ -11,9 +11,9 @@ invariant-loop-i l = record {
   none_past_end : NonePastEnd l.self;
   grown : Grown l.memory l.fn.self l.self;
   config : l.self.config ≡ l.fn.self.config;
-  idle : l.self.idle ≡ l.fn.self.idle;
+  idle : l.self.under.idle ≡ l.fn.self.under.idle;
   count : l.self.state.instret ≤ l.fn.self.state.instret + l.i;
-  pending : length l.self.pending ≤ length l.fn.self.pending;
-  flushes : l.self.flushes ≡ l.fn.self.flushes;
-  silent : l.self.silent ≡ l.fn.self.silent;
+  pending : length l.self.under.pending ≤ length l.fn.self.under.pending;
+  flushes : l.self.under.log.flushes ≡ l.fn.self.under.log.flushes;
+  silent : l.self.under.log.silent ≡ l.fn.self.under.log.silent;
 }

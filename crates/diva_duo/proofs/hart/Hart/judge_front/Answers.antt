@@ -12,7 +12,7 @@ returns-then-saturating_sub-lt-DEPTH-clause-judges c = λ next.
     let m = timed c.args.cycles c.args.memory.now c.args.self.now in
     let items = c.self.inside.under.pending.items in
     let first : slice_get items 0 ≡ Some c.in-Some.front.now = sym c.in-Some.ensures in
-    let waits : m.pending ≡ map pending_claim_of items = ap (λ (h : Hart). h.pending) (sym c.self.view_is) in
+    let waits : m.under.pending ≡ map pending_claim_of items = ap (λ (h : Hart). h.under.pending) (sym c.self.view_is) in
     young m items c.in-Some.front.now first waits (omega arith) next
 
 pub returns-in-Some-first_difference-clause-judges : goal.returns-in-Some-first_difference-clause-judges

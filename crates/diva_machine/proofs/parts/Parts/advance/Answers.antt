@@ -21,7 +21,7 @@ pub returns-else-self-len-clause-led : goal.returns-else-self-len-clause-led
 returns-else-self-len-clause-led g c = λ first before h.
     let w = c.args.self.now in
     let whole : length w.entries ≤ w.passed = subst (λ (z : Parts). length z.entries ≤ z.passed) c.self.view_is (let len = c.len.ensures.len in let none = c.if-self-len.false in omega arith) in
-    let few : length w.timed.pending ≤ w.passed = (let e = ap (λ ps. length ps) c.requires.staged.waits in let m = length-map w.entries pending_claim_of in omega arith) in
+    let few : length w.timed.under.pending ≤ w.passed = (let e = ap (λ ps. length ps) c.requires.staged.waits in let m = length-map w.entries pending_claim_of in omega arith) in
     let shown : State = record w.timed.arch { end = 0 } in
-    let none : asked_in w.timed.cycles shown w.timed.pending ≡ [] = ap (λ ps. asked_in w.timed.cycles shown ps) (sym (take_all w.passed w.timed.pending few)) ∙ none_before w shown c.requires.cycles c.requires.staged in
+    let none : asked_in w.timed.cycles shown w.timed.under.pending ≡ [] = ap (λ ps. asked_in w.timed.cycles shown ps) (sym (take_all w.passed w.timed.under.pending few)) ∙ none_before w shown c.requires.cycles c.requires.staged in
     subst (λ (qs : List Question). g.S.Stages.led first (before ++ qs) c.args.stages.now) (sym none) (rw (append-nil before) h)

@@ -5,7 +5,7 @@ use Rattle.std.proofs.lemmas.List.{take_min}
 use Rattle.diva_isa.specs.declared.record.Record.{Record}
 use Rattle.diva_isa.specs.Step.{record_of}
 use Rattle.diva_core.specs.Timed.{Timed, depth, room_of}
-use Rattle.diva_core.specs.Cycle.{accepted_in, accepts, begun, commits_under, cycle_under, drained, watched, stores_wait}
+use Rattle.diva_core.specs.Cycle.{accepted_in, accepts, begun, commits_under, cycle_under, drained, watched, stores_wait, with_pending}
 use Rattle.diva_core.specs.Headline.{dues}
 use Rattle.diva_core.proofs.Passing.{alone_stores}
 use Rattle.diva_vote.specs.Questions.{Question}
@@ -30,7 +30,7 @@ unfolding drained
 commits-requires-clause-passes g c =
     let next = λ (z : Parts). record z { timed = drained (begun z.timed) } in
     let is : c.drain.new.self ≡ record c.args.self.now { timed = drained (begun c.args.self.now.timed); last = [] } = c.drain.ensures ∙ ap next c.self.view_is ∙ ap next c.forget_last.ensures in
-    subst (λ (z : Parts). (start : ℕ) → z.timed.solo ≡ Some start → z.timed.cycles ≡ start + depth → stores_wait z.timed.config.stores z.timed.owed (record_of z.timed.arch) ≡ false)
+    subst (λ (z : Parts). (start : ℕ) → z.timed.under.solo ≡ Some start → z.timed.cycles ≡ start + depth → stores_wait z.timed.config.stores z.timed.owed (record_of z.timed.arch) ≡ false)
     (sym is) (alone_stores c.args.self.now.timed c.requires.machine)
 
 -- the parts of the cycle, each over the one before
@@ -44,16 +44,16 @@ unfolding drained
 runs_on g c = c.commits.ensures.bounds.cycles ∙ ap (λ (m : Timed). m.cycles) (begins g c)
 
 -- phase 2 has told whether claims are accepted
-tells : (g : given.Over) (c : goal.After-watch g) → c.args.self.now.timed.solo ≡ None → Tells c.args.self.now.timed c.commits.new.self.timed
+tells : (g : given.Over) (c : goal.After-watch g) → c.args.self.now.timed.under.solo ≡ None → Tells c.args.self.now.timed c.commits.new.self.timed
 unfolding drained
 tells g c none =
-    c.commits.ensures.tells (ap (λ (m : Timed). m.solo) (begins g c) ∙ none)
-    ∙ ap (λ (m : Timed). goes_on c.commits.new.self.timed.arch && (c.commits.new.self.timed.flushes == m.flushes)) (begins g c)
+    c.commits.ensures.tells (ap (λ (m : Timed). m.under.solo) (begins g c) ∙ none)
+    ∙ ap (λ (m : Timed). goes_on c.commits.new.self.timed.arch && (c.commits.new.self.timed.under.log.flushes == m.under.log.flushes)) (begins g c)
 
 admits : (g : given.Over) (c : goal.After-watch g) → c.accept_within.new.self.timed ≡ accepts c.args.self.now.timed c.args.list.now c.commits.new.self.timed
 admits g c =
     let n : Timed = c.commits.new.self.timed in
-    let within = λ (m : Timed) (claims : List Record). record m { pending = m.pending ++ map (accepted_in m.cycles) (if takes_claims m then claims else []) } in
+    let within = λ (m : Timed) (claims : List Record). with_pending m (m.under.pending ++ map (accepted_in m.cycles) (if takes_claims m then claims else [])) in
     c.accept_within.ensures.timed
     ∙ ap (λ (z : Parts). within z.timed (take (min c.args.most (length c.args.list.now)) c.args.list.now)) c.advance.ensures.rest
     ∙ ap (λ (k : ℕ). within n (take k c.args.list.now)) c.requires.count
@@ -105,6 +105,6 @@ returns-clause-led g c = λ first before h.
     let left : c.commits.new.self.timed ≡ commits_under stores_wait (drained (begun old)) = c.commits.ensures.timed ∙ ap (commits_under stores_wait) (begins g c) in
     let shown = asked_shown (old.cycles + 1) (drained (begun old)) on (alone_pending old c.requires.machine) in
     rw on (subst (λ (qs : List Question). g.S.Stages.led first (before ++ qs) c.advance.new.stages) shown
-    (subst (λ (m : Timed). g.S.Stages.led first (before ++ asked_in (old.cycles + 1) (record m.arch { end = 0 }) m.pending) c.advance.new.stages) left
-    (subst (λ (n : ℕ). g.S.Stages.led first (before ++ asked_in n (record c.commits.new.self.timed.arch { end = 0 }) c.commits.new.self.timed.pending) c.advance.new.stages) (runs_on g c)
+    (subst (λ (m : Timed). g.S.Stages.led first (before ++ asked_in (old.cycles + 1) (record m.arch { end = 0 }) m.under.pending) c.advance.new.stages) left
+    (subst (λ (n : ℕ). g.S.Stages.led first (before ++ asked_in n (record c.commits.new.self.timed.arch { end = 0 }) c.commits.new.self.timed.under.pending) c.advance.new.stages) (runs_on g c)
     (c.advance.ensures.led first before h))))

@@ -32,7 +32,7 @@ loop-at-init g c =
       sound = c.requires.stages_sound;
       led = λ first before h.
           let shown : State = record w.timed.arch { end = 0 } in
-          let none : asked_in w.timed.cycles shown (take c.self.inside.passed w.timed.pending) ≡ [] = ap (λ (n : ℕ). asked_in w.timed.cycles shown (take n w.timed.pending)) at ∙ none_before w shown c.requires.cycles c.requires.staged in
+          let none : asked_in w.timed.cycles shown (take c.self.inside.passed w.timed.under.pending) ≡ [] = ap (λ (n : ℕ). asked_in w.timed.cycles shown (take n w.timed.under.pending)) at ∙ none_before w shown c.requires.cycles c.requires.staged in
           subst (λ (qs : List Question). g.S.Stages.led first (before ++ qs) c.args.stages.now) (sym none) (rw (append-nil before) h);
     }
 
@@ -74,10 +74,10 @@ loop-at-preserved g c =
       sound = c.pass_stage.ensures.stages_sound;
       led = λ first before h.
           let there = entry_at c.loop-at.self.entries c.loop-at.at (omega arith) in
-          let stands : slice_get w.timed.pending c.loop-at.at ≡ Some (pending_claim_of there.0) = ap (λ ps. slice_get ps c.loop-at.at) (sym inv.waits) ∙ get_mapped c.loop-at.self.entries c.loop-at.at there.0 there.1 in
+          let stands : slice_get w.timed.under.pending c.loop-at.at ≡ Some (pending_claim_of there.0) = ap (λ ps. slice_get ps c.loop-at.at) (sym inv.waits) ∙ get_mapped c.loop-at.self.entries c.loop-at.at there.0 there.1 in
           let shown : State = record w.timed.arch { end = 0 } in
-          rw (asked_next before w.timed.cycles shown c.loop-at.self.entries w.timed.pending c.loop-at.at (pending_claim_of there.0) inv.waits stands)
-          (subst (λ (m : Timed). g.S.Stages.led first ((before ++ asked_in w.timed.cycles shown (take c.loop-at.at w.timed.pending)) ++ asked_at (m.cycles - there.0.cycle) (before_entry (record m.arch { end = 0 }) c.loop-at.self.entries c.loop-at.at) there.0.claim) c.pass_stage.new.stages) same
+          rw (asked_next before w.timed.cycles shown c.loop-at.self.entries w.timed.under.pending c.loop-at.at (pending_claim_of there.0) inv.waits stands)
+          (subst (λ (m : Timed). g.S.Stages.led first ((before ++ asked_in w.timed.cycles shown (take c.loop-at.at w.timed.under.pending)) ++ asked_at (m.cycles - there.0.cycle) (before_entry (record m.arch { end = 0 }) c.loop-at.self.entries c.loop-at.at) there.0.claim) c.pass_stage.new.stages) same
           (c.pass_stage.ensures.led there.0 first _ there.1 (inv.led first before h)));
     }
 
@@ -92,5 +92,5 @@ returns-clause-led g c = λ first before h.
     let w = c.args.self.now in
     let inv = c.loop-at.invariant in
     let len : length c.self-in-loop-at.inside.under.pending.items ≡ length c.loop-at.self.entries = ap (λ (x : Parts). length x.entries) c.self-in-loop-at.view_is in
-    let few : length w.timed.pending ≤ c.loop-at.at = (let e = ap (λ ps. length ps) inv.waits in let m = length-map c.loop-at.self.entries pending_claim_of in omega arith) in
-    subst (λ ps. g.S.Stages.led first (before ++ asked_in w.timed.cycles (record w.timed.arch { end = 0 }) ps) c.loop-at.stages) (take_all c.loop-at.at w.timed.pending few) (inv.led first before h)
+    let few : length w.timed.under.pending ≤ c.loop-at.at = (let e = ap (λ ps. length ps) inv.waits in let m = length-map c.loop-at.self.entries pending_claim_of in omega arith) in
+    subst (λ ps. g.S.Stages.led first (before ++ asked_in w.timed.cycles (record w.timed.arch { end = 0 }) ps) c.loop-at.stages) (take_all c.loop-at.at w.timed.under.pending few) (inv.led first before h)
