@@ -1,49 +1,6 @@
 -- The record of the next instruction of a state, and what applying a record does. (RISC-V Unprivileged ISA, chapters
 -- RV32I 2.1 and M 2.0, and the two reads of `instret` of Zicntr. Traps, the services of ECALL and how the
 -- machine ends are what the manual leaves to choose.)
---
--- The record, kind by kind. a and b are src1 and src2, imm is the immediate as a word, op is the operation, n is the width
--- of the load or the store in bytes, number is what the n bytes from addr on are, the lowest first, and sums are modulo
--- 2 ^ 32. instret is how many instructions led to the state, so the one that reads it isn't among them. What alu, is_taken,
--- extended and half_read compute is in Alu.antt.
---
--- kind    instructions               src1  src2  addr     value                   next               trap
--- Lui     LUI                        0     0     0        imm                     pc + 4
--- Auipc   AUIPC                      0     0     0        pc + imm                pc + 4
--- Jal     JAL                        0     0     0        pc + 4                  pc + imm           InstructionMisaligned
--- Jalr    JALR                       rs1   0     0        pc + 4                  (a + imm) / 2 * 2  InstructionMisaligned
--- Branch  BEQ BNE BLT BGE BLTU BGEU  rs1   rs2   0
---           where is_taken op a b                         0                       pc + imm           InstructionMisaligned
---           elsewhere                                     0                       pc + 4
--- Load    LB LH LW LBU LHU           rs1   0     a + imm  extended op number      pc + 4             LoadMisaligned,
---                                                                                                      else LoadAccessFault
--- Store   SB SH SW                   rs1   rs2   a + imm  b % 2 ^ (8 * n)         pc + 4             StoreMisaligned,
---                                                                                                      else StoreAccessFault
--- OpImm   ADDI SLTI SLTIU XORI ORI   rs1   0     0        alu op a imm            pc + 4
---         ANDI SLLI SRLI SRAI
--- OpReg   ADD SUB SLL SLT SLTU XOR   rs1   rs2   0        alu op a b              pc + 4
---         SRL SRA OR AND MUL MULH
---         MULHSU MULHU DIV DIVU
---         REM REMU
--- Fence   FENCE                      0     0     0        0                       pc + 4
--- Ecall   ECALL                      x17   x10   0
---           where a is 1                                  b % 2 ^ 8               pc + 4             OutputFull
---           where a is 93                                 0                       pc                 halts
---           elsewhere                                     0                       pc                 CallNotServed, always
--- Ebreak  EBREAK                     0     0     0        0                       pc                 Breakpoint, always
--- Counter RDINSTRET RDINSTRETH       0     0     0        half_read op instret    pc + 4
---
--- An instruction that goes on has end 0. One that traps has value 0, next pc and end 1 + the trap's number, and keeps
--- src1, src2 and addr of its row. The call that halts has end 256 + b % 2 ^ 8.
---
--- InstructionMisaligned   the target, which is next in the row, is no multiple of 4
--- InstructionAccessFault  no word stands at pc: pc is no multiple of 4, or one of the 4 bytes is outside memory; word,
---                         src1, src2 and addr are 0
--- IllegalInstruction      the word is not one of the table; src1, src2 and addr are 0
--- LoadMisaligned          the address of a load is no multiple of n; else LoadAccessFault, one of its n bytes is outside
---                         memory. StoreMisaligned and StoreAccessFault are the same of a store
--- CallNotServed           the service that is called is neither 1 nor 93
--- OutputFull              the output holds 65,536 bytes or more
 use Rattle.std.specs.Prelude.{◌<◌, ℕ, zero, suc, ◌+◌, ◌*◌, ◌/◌, ◌%◌, ◌^◌, ◌==◌, Bool, true, false, [], ◌∷◌, ◌++◌, Option, Some, None, length, if◌then◌else◌, nat_lt, ⊤}
 use Rattle.std.specs.Int.{cast_unsigned, w32}
 use Rattle.diva_decode.specs.declared.op.Op.{Op}
@@ -66,55 +23,6 @@ use Rattle.diva_isa.specs.declared.effect.Effect.TheVariants.{Nothing, Writes, S
 -- the immediate as a word
 abbrev pub imm : Instr → ℕ
 imm i = cast_unsigned w32 i.imm
-
--- ---- what an instruction i reads, by its kind
-
--- the words that an instruction reads, 0 where it reads none; a call reads x17 and x10
-abbrev pub source1 : Kind → State → Instr → ℕ
-source1 Lui s i = 0
-source1 Auipc s i = 0
-source1 Jal s i = 0
-source1 Jalr s i = reg_of s i.rs1
-source1 Branch s i = reg_of s i.rs1
-source1 (Load width) s i = reg_of s i.rs1
-source1 (Store width) s i = reg_of s i.rs1
-source1 OpImm s i = reg_of s i.rs1
-source1 OpReg s i = reg_of s i.rs1
-source1 Fence s i = 0
-source1 Ecall s i = reg_of s 17
-source1 Ebreak s i = 0
-source1 Counter s i = 0
-
-abbrev pub source2 : Kind → State → Instr → ℕ
-source2 Lui s i = 0
-source2 Auipc s i = 0
-source2 Jal s i = 0
-source2 Jalr s i = 0
-source2 Branch s i = reg_of s i.rs2
-source2 (Load width) s i = 0
-source2 (Store width) s i = reg_of s i.rs2
-source2 OpImm s i = 0
-source2 OpReg s i = reg_of s i.rs2
-source2 Fence s i = 0
-source2 Ecall s i = reg_of s 10
-source2 Ebreak s i = 0
-source2 Counter s i = 0
-
--- the address of a load or a store, where a is rs1; 0 elsewhere
-abbrev pub address : Kind → Instr → ℕ → ℕ
-address Lui i a = 0
-address Auipc i a = 0
-address Jal i a = 0
-address Jalr i a = 0
-address Branch i a = 0
-address (Load width) i a = (a + imm i) % 2 ^ 32
-address (Store width) i a = (a + imm i) % 2 ^ 32
-address OpImm i a = 0
-address OpReg i a = 0
-address Fence i a = 0
-address Ecall i a = 0
-address Ebreak i a = 0
-address Counter i a = 0
 
 -- ---- what an instruction comes to: its value, where it leads, and how it ends
 
@@ -155,21 +63,115 @@ call s pc a b =
     if a == 1 then (if nat_lt (length s.output) output_limit then continues pc (b % 2 ^ 8) else ended pc (trap OutputFull))
     else (if a == 93 then ended pc (halt (b % 2 ^ 8)) else ended pc (trap CallNotServed))
 
--- what an instruction at pc comes to, where a and b are what it reads and addr is its address
+-- ---- what an instruction does, a row for each kind
+
+pub record Behaviour : Type 0 where
+  -- the registers that it reads, if any; the words in them are a and b
+  pub src1 : Option ℕ
+  pub src2 : Option ℕ
+  -- where it loads or stores, 0 where it does neither
+  pub addr : (a : ℕ) → ℕ
+  -- what it comes to at pc
+  pub outcome : State → (pc a b addr : ℕ) → Outcome
+  -- what a record of it, right or wrong, does besides moving pc and being counted
+  pub effect : Record → Effect
+
+-- it reads nothing and computes nothing, and the next one in order follows; a row says in what its kind differs from that
+abbrev pub does_nothing : Behaviour
+does_nothing = record { src1 = None; src2 = None; addr = λ a. 0; outcome = λ s pc a b addr. continues pc 0; effect = λ r. Nothing }
+
+-- its value goes into rd
+abbrev pub writes : ℕ → Record → Effect
+writes rd r = Writes rd r.value
+
+abbrev pub behaviour : Kind → Instr → Behaviour
+-- LUI: the immediate goes into rd
+behaviour Lui i = record does_nothing { outcome = λ s pc a b addr. continues pc (imm i); effect = writes i.rd }
+-- AUIPC: the sum of pc and the immediate goes into rd
+behaviour Auipc i = record does_nothing { outcome = λ s pc a b addr. continues pc ((pc + imm i) % 2 ^ 32); effect = writes i.rd }
+-- JAL: it goes on at the sum of pc and the immediate, and the address after its own goes into rd
+behaviour Jal i =
+    record does_nothing {
+      outcome = λ s pc a b addr. jumps_to pc ((pc + 4) % 2 ^ 32) ((pc + imm i) % 2 ^ 32);
+      effect = writes i.rd;
+    }
+-- JALR: it goes on at the sum of rs1 and the immediate, whose lowest bit it clears, and the address after its own goes into rd
+behaviour Jalr i =
+    record does_nothing {
+      src1 = Some i.rs1;
+      outcome = λ s pc a b addr. jumps_to pc ((pc + 4) % 2 ^ 32) ((a + imm i) % 2 ^ 32 / 2 * 2);
+      effect = writes i.rd;
+    }
+-- BEQ BNE BLT BGE BLTU BGEU: it compares rs1 with rs2, and if they are as its name says, it goes on at the sum of pc and the immediate
+behaviour Branch i =
+    record does_nothing {
+      src1 = Some i.rs1;
+      src2 = Some i.rs2;
+      outcome = λ s pc a b addr. if is_taken i.op a b then jumps_to pc 0 ((pc + imm i) % 2 ^ 32) else continues pc 0;
+    }
+-- LB LH LW LBU LHU: the bytes from the sum of rs1 and the immediate on go into rd, extended to a word by their sign or by zeros
+behaviour (Load width) i =
+    record does_nothing {
+      src1 = Some i.rs1;
+      addr = λ a. (a + imm i) % 2 ^ 32;
+      outcome = λ s pc a b addr. load s pc addr i.op (size width);
+      effect = writes i.rd;
+    }
+-- SB SH SW: the low bytes of rs2 go to memory, from the sum of rs1 and the immediate on
+behaviour (Store width) i =
+    record does_nothing {
+      src1 = Some i.rs1;
+      src2 = Some i.rs2;
+      addr = λ a. (a + imm i) % 2 ^ 32;
+      outcome = λ s pc a b addr. store s pc addr b (size width);
+      effect = λ r. Stores width r.addr r.value;
+    }
+-- ADDI SLTI SLTIU XORI ORI ANDI SLLI SRLI SRAI: what the operation makes of rs1 and the immediate goes into rd
+behaviour OpImm i = record does_nothing { src1 = Some i.rs1; outcome = λ s pc a b addr. continues pc (alu i.op a (imm i)); effect = writes i.rd }
+-- ADD SUB SLL SLT SLTU XOR SRL SRA OR AND MUL MULH MULHSU MULHU DIV DIVU REM REMU: what it makes of rs1 and rs2 goes into rd
+behaviour OpReg i =
+    record does_nothing {
+      src1 = Some i.rs1;
+      src2 = Some i.rs2;
+      outcome = λ s pc a b addr. continues pc (alu i.op a b);
+      effect = writes i.rd;
+    }
+-- FENCE: it does nothing, since each store is in memory before the next instruction
+behaviour Fence i = does_nothing
+-- ECALL: it asks for the service that x17 names, with x10; a record that asks for service 1 puts its value's low byte to the output
+behaviour Ecall i =
+    record does_nothing {
+      src1 = Some 17;
+      src2 = Some 10;
+      outcome = λ s pc a b addr. call s pc a b;
+      effect = λ r. if r.src1 == 1 then Puts (r.value % 2 ^ 8) else Nothing;
+    }
+-- EBREAK: it traps
+behaviour Ebreak i = record does_nothing { outcome = λ s pc a b addr. ended pc (trap Breakpoint) }
+-- RDINSTRET RDINSTRETH: the low or the high word of the number of instructions before this one goes into rd
+behaviour Counter i = record does_nothing { outcome = λ s pc a b addr. continues pc (half_read i.op s.instret); effect = writes i.rd }
+
+-- ---- the columns of these rows
+
+-- the word of a register that is read, 0 where none is
+abbrev pub word_read : State → Option ℕ → ℕ
+word_read s None = 0
+word_read s (Some n) = reg_of s n
+
+abbrev pub source1 : Kind → State → Instr → ℕ
+source1 k s i = word_read s (behaviour k i).src1
+
+abbrev pub source2 : Kind → State → Instr → ℕ
+source2 k s i = word_read s (behaviour k i).src2
+
+abbrev pub address : Kind → Instr → ℕ → ℕ
+address k i a = (behaviour k i).addr a
+
 abbrev pub outcome : Kind → State → Instr → (pc a b addr : ℕ) → Outcome
-outcome Lui s i pc a b addr = continues pc (imm i)
-outcome Auipc s i pc a b addr = continues pc ((pc + imm i) % 2 ^ 32)
-outcome Jal s i pc a b addr = jumps_to pc ((pc + 4) % 2 ^ 32) ((pc + imm i) % 2 ^ 32)
-outcome Jalr s i pc a b addr = jumps_to pc ((pc + 4) % 2 ^ 32) ((a + imm i) % 2 ^ 32 / 2 * 2)
-outcome Branch s i pc a b addr = if is_taken i.op a b then jumps_to pc 0 ((pc + imm i) % 2 ^ 32) else continues pc 0
-outcome (Load width) s i pc a b addr = load s pc addr i.op (size width)
-outcome (Store width) s i pc a b addr = store s pc addr b (size width)
-outcome OpImm s i pc a b addr = continues pc (alu i.op a (imm i))
-outcome OpReg s i pc a b addr = continues pc (alu i.op a b)
-outcome Fence s i pc a b addr = continues pc 0
-outcome Ecall s i pc a b addr = call s pc a b
-outcome Ebreak s i pc a b addr = ended pc (trap Breakpoint)
-outcome Counter s i pc a b addr = continues pc (half_read i.op s.instret)
+outcome k s i pc a b addr = (behaviour k i).outcome s pc a b addr
+
+abbrev pub effect : Kind → Instr → Record → Effect
+effect k i r = (behaviour k i).effect r
 
 -- ---- the parts of a record, by what its word says: `None` where there is no word, or one that is not of the table
 
@@ -185,7 +187,7 @@ abbrev pub address_of : Option Instr → ℕ → ℕ
 address_of None a = 0
 address_of (Some i) a = address (kind i.op) i a
 
--- where there is no word, and where it says nothing
+-- a word that says nothing traps, and so does a pc at which no word stands
 abbrev pub outcome_of : (there : Bool) → Option Instr → State → (pc a b addr : ℕ) → Outcome
 outcome_of there (Some i) s pc a b addr = outcome (kind i.op) s i pc a b addr
 outcome_of true None s pc a b addr = ended pc (trap IllegalInstruction)
@@ -209,29 +211,13 @@ abbrev pub record_fetched : State → Option ℕ → Record
 record_fetched s None = record_by s false 0 None
 record_fetched s (Some w) = record_by s true w (row_of w)
 
--- the record of a state's next instruction, which the table at the top shows kind by kind
+-- the record of a state's next instruction
 unfoldable pub record_of : State → Record
 record_of s = record_fetched s (word_of s s.pc)
 
 -- ---- what applying a record does
 
--- what r does besides moving pc and being counted, r's word being an instruction i of this kind
-abbrev pub effect : Kind → Instr → Record → Effect
-effect Lui i r = Writes i.rd r.value
-effect Auipc i r = Writes i.rd r.value
-effect Jal i r = Writes i.rd r.value
-effect Jalr i r = Writes i.rd r.value
-effect Branch i r = Nothing
-effect (Load width) i r = Writes i.rd r.value
-effect (Store width) i r = Stores width r.addr r.value
-effect OpImm i r = Writes i.rd r.value
-effect OpReg i r = Writes i.rd r.value
-effect Fence i r = Nothing
-effect Ecall i r = if r.src1 == 1 then Puts (r.value % 2 ^ 8) else Nothing
-effect Ebreak i r = Nothing
-effect Counter i r = Writes i.rd r.value
-
--- the same by what r's word says; a word that is not one of the table does nothing
+-- what r does besides moving pc and being counted, by what its word says; a word that is not one of the table does nothing
 abbrev pub effect_by : Option Instr → Record → Effect
 effect_by None r = Nothing
 effect_by (Some i) r = effect (kind i.op) i r

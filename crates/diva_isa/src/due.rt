@@ -34,7 +34,7 @@ pub struct Due {
 /// The record of the next instruction of a state, an ended one too. (RISC-V Unprivileged ISA, chapters RV32I 2.1 and M
 /// 2.0.)
 ///
-/// `specs/Step.antt` has a table of it, kind by kind.
+/// `specs/Step.antt` has a row for each kind of instruction, from which it is made.
 #[inline(always)]
 pub fn record_of<L: Look>(state: &L) -> Record
     ensures { result ≡ record_of (L.shows state.now) }

@@ -13,7 +13,7 @@
 //! - `plain`: the machine that does one instruction after another, `Plain`.
 //!
 //! The definitions that contracts cite are in `specs/`: a state in `State`; the record and what it does in `Step`, with
-//! a table of it, kind by kind; the kind of each operation in `Kind`, and what it computes in `Alu`; writing a register in `Regs`;
+//! a row for each kind of instruction; the kind of each operation in `Kind`, and what it computes in `Alu`; writing a register in `Regs`;
 //! how a state ends in `End`, and the traps by number in `Trap`; a state with a count in `Plain`; what an instruction overwrites,
 //! and putting it back, in `Undo`. `Inner` is for private contracts alone. What follows from them is in `proofs/`.
 //! (RISC-V Unprivileged ISA, chapters RV32I 2.1 and M 2.0.)

@@ -6,8 +6,8 @@ ghost use Rattle.std.specs.Prelude.{◌≡◌};
 pub const OUTPUT_LIMIT: u32 = 65_536;
 
 /// One instruction: its place and word, what it read, what it computed, and where it leads. A field that the
-/// instruction does not use is 0. (RISC-V Unprivileged ISA, chapters RV32I 2.1 and M 2.0; `specs/Step.antt` has a table
-/// of the fields, kind by kind.)
+/// instruction does not use is 0. (RISC-V Unprivileged ISA, chapters RV32I 2.1 and M 2.0; `specs/Step.antt` has a row
+/// for each kind of instruction.)
 #[derive(Clone, Copy, Debug, Default, PartialEq, Eq)]
 pub struct Record {
     /// The address where the instruction stands.
