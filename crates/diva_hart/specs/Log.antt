@@ -1,4 +1,5 @@
 -- The flushes that came.
+-- Cited by `Log::new` and the type `Log`.
 use Rattle.std.specs.Prelude.{ℕ, List, [], Option, None}
 use Rattle.diva_core.specs.declared.flushes.FlushRow.{FlushRow}
 
