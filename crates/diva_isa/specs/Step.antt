@@ -1,6 +1,7 @@
 -- The record of the next instruction of a state, and what applying a record does. (RISC-V Unprivileged ISA, chapters
 -- RV32I 2.1 and M 2.0, and the two reads of `instret` of Zicntr. Traps, the services of ECALL and how the
 -- machine ends are what the manual leaves to choose.)
+-- Cited by `record_of`, `effect_of`, `Plain::step` and `run`; by `commit` of diva_commit.
 --
 -- The record, kind by kind. a and b are src1 and src2, imm is the immediate as a word, op is the operation, n is the width
 -- of the load or the store in bytes, number is what the n bytes from addr on are, the lowest first, and sums are modulo
