@@ -124,14 +124,22 @@ static COUNTS: [(u64, u64, Reach, u64, u64); 6] = [
     (4, 1000, Reach::Ended, 3, 21),
 ];
 
-#[test]
-fn drives_to_a_count(rt: HostRuntime) -> Result<(), Fail> {
-    let alloc = rt.alloc();
+/// A machine of one claim a cycle that begins with `FIVE`.
+fn narrow(alloc: Global) -> Result<Machine, Fail>
+    ensures width { IfOk result (λ m. m.timed.config.width ≡ 1) }
+    ensures count { IfOk result (λ m. m.timed.count ≡ 0) }
+    ensures cycles { IfOk result (λ m. m.timed.cycles ≡ 0) }
+{
     let image = diva_image::read(alloc, &image_file(alloc, FIVE)?)?;
     let config = Config::new(1, 16, 4, 64).ok_or("a number out of its range")?;
+    Ok(Machine::new(alloc, &image, config)?)
+}
+
+#[test]
+fn drives_to_a_count(rt: HostRuntime) -> Result<(), Fail> {
     for &(target, budget, due, count, cycles) in &COUNTS {
         assert!(rt; budget <= 1000);
-        let mut m = Machine::new(alloc, &image, config)?;
+        let mut m = narrow(rt.alloc())?;
         let reach = drive_to(&mut m, &mut Lockstep, target, budget);
         assert_eq!(rt;
             (reach, m.count(), m.cycles()),
