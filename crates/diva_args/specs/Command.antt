@@ -1,4 +1,5 @@
 -- The commands of the program, and the command line as `clap` sees it.
+-- Cited in `Line.antt`, for `read_words`.
 use Rattle.std.specs.Prelude.{true, List, [], ◌∷◌, ◌++◌, map, Some, codes}
 use Rattle.clap.specs.Walk.{Rule, Text}
 use Rattle.clap.specs.Simple.{App, Shape, new_rule, new_shape, with_subcommand}

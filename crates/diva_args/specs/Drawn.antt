@@ -1,4 +1,5 @@
 -- What a command line asks for of the program that draws runs: it takes the words of `diva`, and has two commands more.
+-- Cited by `read_pipeline_words`.
 use Rattle.std.specs.Prelude.{ℕ, false, List, Option, Some, None, option_and_then, option_map, codes, if◌then◌else◌}
 use Rattle.std.specs.Str.{bytes_eq}
 use Rattle.clap.specs.Walk.{Row, Text}

@@ -1,4 +1,5 @@
 -- Why the words give no job.
+-- Cited by the type `ArgsFault`.
 use Rattle.clap.specs.declared.error.kind.ErrorKind.{ErrorKind}
 use Rattle.clap.specs.declared.error.kind.ErrorKind.TheVariants.{OutOfMemory}
 use Rattle.diva_args.specs.declared.fault.ArgsFault.{ArgsFault}

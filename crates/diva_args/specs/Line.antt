@@ -1,4 +1,5 @@
 -- What a command line asks for: the words as `clap` matches them, then the rules on the options' values.
+-- Cited by `read_words`.
 use Rattle.std.specs.Prelude.{ℕ, Bool, List, [], ◌∷◌, Option, Some, None, codes, if◌then◌else◌}
 use Rattle.std.specs.Prelude.{option_and_then, option_map}
 use Rattle.std.specs.Str.{bytes_eq}

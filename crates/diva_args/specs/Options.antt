@@ -1,4 +1,5 @@
 -- What contracts see of a job, and the ranges that its numbers keep.
+-- Cited by the types `RunOptions`, `Setup` and those of the other commands' options; by `CampaignCycles::new` and `LastCycle::new`.
 use Rattle.std.specs.Prelude.{ℕ, ◌+◌, ◌%◌, ◌^◌, ◌≡◌, ◌≤◌, Bool, List, Option}
 use Rattle.diva_core.specs.Timed.{Config}
 use Rattle.diva_args.specs.declared.job.CoreChoice.{CoreChoice}

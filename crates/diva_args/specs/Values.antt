@@ -1,4 +1,5 @@
 -- What the texts of a command line stand for: the rules on the values of options.
+-- Cited in `Line.antt`, for `read_words`.
 use Rattle.std.specs.Prelude.{ℕ, zero, suc, ◌+◌, ◌%◌, ◌==◌, ◌&&◌, Bool, false, nat_le, codes}
 use Rattle.std.specs.Prelude.{Option, Some, None, option_and_then, option_map, if◌then◌else◌}
 use Rattle.std.specs.List.{before_first, after_first}

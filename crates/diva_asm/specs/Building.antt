@@ -1,4 +1,5 @@
 -- Pass 2: the bytes that statements lay.
+-- Cited in `Sources.antt`, for `assemble`.
 use Rattle.std.specs.Prelude.{ℕ, ◌+◌, ◌*◌, ◌/◌, ◌%◌, ◌^◌, ◌-◌, ◌==◌, ◌&&◌, Bool, true, false, List, [], ◌∷◌, ◌++◌, length, replicate, Option, Some, None, Result, Ok, Err, ℤ, neg_ℤ, pos, if◌then◌else◌}
 use Rattle.std.specs.Int.{cast_signed, cast_unsigned, to_le_bytes, w32}
 use Rattle.std.specs.List.{flat_map}

@@ -1,4 +1,5 @@
 -- The kinds of a source's faults, by number.
+-- Cited in `Sources.antt`, for `assemble`.
 use Rattle.std.specs.Prelude.{ℕ}
 use Rattle.diva_asm.specs.declared.fault.Kind.{Kind}
 use Rattle.diva_asm.specs.declared.fault.Kind.TheVariants.{UnknownMnemonic, WrongShape, NoRegister, BadNumber, UndefinedName, RepeatedLabel, BadOffset, Misaligned, BadDirective, TooManyBytes, NoImage}

@@ -1,4 +1,5 @@
 -- Labels and where they stand.
+-- Cited in `Laying.antt`, for `assemble`.
 use Rattle.std.specs.Prelude.{ℕ, List, Option}
 use Rattle.std.specs.BTreeMap.{insert_entry}
 use Rattle.std.specs.Cmp.Lexicographic.{slice_cmp}

@@ -1,4 +1,5 @@
 -- The listing: the line of a word, and the lines of an image.
+-- Cited by `list_line`.
 use Rattle.std.specs.Prelude.{ℕ, ◌+◌, ◌*◌, ◌/◌, ◌%◌, ◌^◌, List, [], ◌∷◌, ◌++◌, length, map, codes, Option, Some, None, false}
 use Rattle.std.specs.Fmt.{decimal, signed_decimal, digits}
 use Rattle.std.specs.Int.{cast_unsigned, div_ceil, w32}

@@ -1,4 +1,5 @@
 -- Registers, numbers and places.
+-- Cited in `Statements.antt`, for `assemble`.
 use Rattle.std.specs.Prelude.{ℕ, ◌%◌, ◌^◌, ◌==◌, ◌&&◌, nat_eq, nat_lt, Bool, List, [], ◌∷◌, take, drop, codes, Option, Some, None, ℤ, pos, neg_ℤ, int_le, if◌then◌else◌}
 use Rattle.std.specs.Int.{cast_unsigned, w64}
 use Rattle.std.specs.List.{starts_with}

@@ -1,5 +1,6 @@
 -- The image of a source, or its first fault: the first line with a fault of pass 1, else the first with one of pass 2, else
 -- line 0 where the rules of an image are broken.
+-- Cited by `assemble`.
 use Rattle.std.specs.Prelude.{ℕ, ◌+◌, ◌*◌, ◌/◌, max, List, length, Option, Result}
 use Rattle.std.specs.Option.{ok_or, unwrap_or}
 use Rattle.diva_image.specs.Images.{image_from}

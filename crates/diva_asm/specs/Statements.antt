@@ -1,4 +1,5 @@
 -- The statement of a line: its mnemonic, and what its operands say.
+-- Cited in `Laying.antt`, for `assemble`.
 use Rattle.std.specs.Prelude.{ℕ, ◌==◌, ◌&&◌, not, nat_eq, Bool, true, false, List, [], ◌∷◌, length, take, drop, codes, Option, Some, None, Result, Ok, Err, pos, neg_ℤ, if◌then◌else◌}
 use Rattle.std.specs.List.{starts_with, ends_with, before_first, after_first, count_by, position_or_len}
 use Rattle.std.specs.Option.{ok_or}

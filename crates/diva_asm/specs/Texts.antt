@@ -1,4 +1,5 @@
 -- How a line is cut: blanks, names, and what stands between commas.
+-- Cited in `Statements.antt`, for `assemble`.
 use Rattle.std.specs.Prelude.{ℕ, ◌==◌, ◌&&◌, ◌||◌, ◌-◌, nat_le, not, Bool, get_or, List, [], ◌∷◌, ◌++◌, length, take, map, Option, Some, None, if◌then◌else◌}
 use Rattle.std.specs.List.{before_first, position_or_len, suffix_len, slice_split}
 use Rattle.diva_outside.specs.Text.{Text}

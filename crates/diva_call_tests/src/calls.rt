@@ -3,8 +3,8 @@ ghost use Rattle.std.specs.Prelude.{◌≡◌, ◌≤◌, IfOk};
 
 use crate::cores::{Late, Misled, Prompted};
 use diva_core::{Cause, Core, Diff, Field, FlushRow};
-use diva_machine::{Config, Drive, End, Machine, drive};
-use diva_tape::Silent;
+use diva_machine::{Config, Drive, End, Machine, Reach, drive, drive_to};
+use diva_tape::{Lockstep, Silent};
 use diva_test_programs::{FIVE, FIVE_FILE, FOUR_STORES, LOOP, Program, image_file};
 use std::alloc::Global;
 use std::process::Abort;
@@ -109,6 +109,43 @@ fn claims_that_come_when_they_are_due(rt: HostRuntime) -> Result<(), Fail> {
             (Drive::Ended, End::Halt(0), 6)
         );
         assert_eq!(rt; (m.cycles(), m.flushes()), (cycles, flushes));
+    }
+    Ok(())
+}
+
+/// A count and a budget of cycles, how a drive of `FIVE` by `Lockstep` stops, and the count and the cycles then: its three instructions
+/// commit in the cycles 7, 14 and 21. The count is looked at before the end and the budget.
+static COUNTS: [(u64, u64, Reach, u64, u64); 6] = [
+    (0, 1000, Reach::Reached, 0, 0),
+    (2, 1000, Reach::Reached, 2, 14),
+    (2, 14, Reach::Reached, 2, 14),
+    (2, 13, Reach::Budget, 1, 13),
+    (3, 1000, Reach::Reached, 3, 21),
+    (4, 1000, Reach::Ended, 3, 21),
+];
+
+/// A machine of one claim a cycle that begins with `FIVE`.
+fn narrow(alloc: Global) -> Result<Machine, Fail>
+    ensures width { IfOk result (λ m. m.timed.config.width ≡ 1) }
+    ensures count { IfOk result (λ m. m.timed.count ≡ 0) }
+    ensures cycles { IfOk result (λ m. m.timed.cycles ≡ 0) }
+{
+    let image = diva_image::read(alloc, &image_file(alloc, FIVE)?)?;
+    let config = Config::new(1, 16, 4, 64).ok_or("a number out of its range")?;
+    Ok(Machine::new(alloc, &image, config)?)
+}
+
+#[test]
+fn drives_to_a_count(rt: HostRuntime) -> Result<(), Fail> {
+    for &(target, budget, due, count, cycles) in &COUNTS {
+        assert!(rt; budget <= 1000);
+        let mut m = narrow(rt.alloc())?;
+        let reach = drive_to(&mut m, &mut Lockstep, target, budget);
+        assert_eq!(rt;
+            (reach, m.count(), m.cycles()),
+            (due, count, cycles),
+            "{target}, {budget}"
+        );
     }
     Ok(())
 }

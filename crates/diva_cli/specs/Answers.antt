@@ -1,5 +1,6 @@
 -- What the program answers, and why: its text, and how the writing of it ended, which is told by the status that goes with it
 -- where it was written whole (`Ok`), else, where the sink failed, by what of it had been put already (`Err`).
+-- Cited by `top` and `pipeline_top`.
 use Rattle.std.specs.Prelude.{◌≡◌, ℕ, List, Some, None, Result, IfOk}
 use Rattle.diva_outside.specs.Text.{Text}
 use Rattle.diva_core.specs.History.{Meaning}

@@ -1,4 +1,5 @@
 -- What the program is asked.
+-- Cited by `top`, `pipeline_top`, `top_sure` and `work`.
 use Rattle.std.specs.Prelude.{List, Option, Some, map}
 use Rattle.std.specs.Borrow.{Bor}
 use Rattle.diva_outside.specs.Files.{Contents}

@@ -1,5 +1,6 @@
 -- The text that the command `campaign` writes: what became of the runs of an image in each of which one bit of one claim is flipped, and
 -- what the run came to in which none is. The core of each run is a new lockstep, and its machine has the default numbers.
+-- Cited in `Texts.antt`, for `top`.
 use Rattle.std.specs.Prelude.{ℕ, zero, suc, ◌≡◌, ◌≤◌, ◌+◌, ◌*◌, ◌==◌, ◌&&◌, nat_lt, Bool, List, [], ◌∷◌, length, map, count_by, None, Result, IfOk}
 use Rattle.std.specs.Str.{bytes_eq}
 use Rattle.diva_outside.specs.Text.{Text}

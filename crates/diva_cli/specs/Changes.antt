@@ -1,4 +1,5 @@
 -- What became of something: of a machine, of a core, of lanes that vote, of the files' counts of faults, of a sink.
+-- Cited by `top`, `pipeline_top`, `top_sure` and `work`.
 use Rattle.std.specs.Prelude.{◌≡◌, ℕ, List, [], Option, None, Result}
 use Rattle.std.specs.Io.KnownBytes.{Appends}
 use Rattle.diva_outside.specs.Causes.{Rose}

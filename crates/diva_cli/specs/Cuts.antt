@@ -1,4 +1,5 @@
 -- Where a sink fails in a text that is written part by part.
+-- Cited in `Runs.antt`, for `top`.
 use Rattle.std.specs.Prelude.{◌≡◌, List, [], ◌∷◌, ◌++◌}
 
 -- there is a last item, and this holds of those before it

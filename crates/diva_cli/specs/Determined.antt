@@ -1,4 +1,5 @@
 -- What is determined of a run.
+-- Cited by `own_run_is_determined`.
 use Rattle.std.specs.Prelude.{◌≡◌, List}
 use Rattle.diva_isa.specs.State.{State}
 use Rattle.diva_isa.specs.declared.record.Record.{Record}

@@ -1,5 +1,6 @@
 -- The text of `log` and of `draw`, the commands of the program that draws runs: what becomes of each claim in each cycle, told from what
 -- is seen of the machine before it and behind it.
+-- Cited in `Texts.antt`, for `pipeline_top`.
 use Rattle.std.specs.Prelude.{◌≡◌, ◌⊎◌, ◌+◌, List, [], ◌∷◌, ◌++◌, ℕ, Result, Err, IfOk, IfErr}
 use Rattle.diva_outside.specs.Text.{Text}
 use Rattle.diva_isa.specs.State.{State}

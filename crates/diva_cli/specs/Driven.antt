@@ -1,4 +1,5 @@
 -- What drove a machine, by the core that the command line chose, its tape and the rows of a script.
+-- Cited in `Runs.antt`, for `top`.
 use Rattle.std.specs.Prelude.{ℕ, ◌≡◌, ◌≤◌, ◌+◌, List, [], ◌∷◌, length}
 use Rattle.diva_isa.specs.declared.record.Record.{Record}
 use Rattle.diva_core.specs.Timed.{Timed}

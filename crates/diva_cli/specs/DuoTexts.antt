@@ -1,5 +1,6 @@
 -- The text that the command `duo` writes: what a run of two harts over one memory came to, each hart under a new core of the kind
 -- that is asked for.
+-- Cited in `Texts.antt`, for `top`.
 use Rattle.std.specs.Prelude.{ℕ, zero, suc, ◌≡◌, ◌==◌, List, [], max, Bool, true, false, Option, Some, Result, IfOk, if◌then◌else◌}
 use Rattle.diva_outside.specs.Text.{Text}
 use Rattle.diva_outside.specs.declared.files.What.TheVariants.{Image}

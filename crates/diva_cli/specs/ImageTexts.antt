@@ -1,4 +1,5 @@
 -- What the commands `asm`, `dis` and `migrate` write. They ask no core.
+-- Cited in `Texts.antt`, for `top`.
 use Rattle.std.specs.Prelude.{◌≡◌, ℕ, Result, Ok, None, IfOk}
 use Rattle.std.specs.List.{concat}
 use Rattle.diva_outside.specs.Text.{Text}

@@ -1,4 +1,5 @@
 -- The lines that are written where no job is done.
+-- Cited in `Asked.antt`, for `top`.
 use Rattle.std.specs.Prelude.{ℕ, List, ◌++◌, codes}
 use Rattle.std.specs.Fmt.{decimal}
 use Rattle.diva_outside.specs.declared.files.What.{What}

@@ -1,4 +1,5 @@
 -- What each command promises, and so the whole program: how its answer was written, with its status, or why there is no whole answer.
+-- Cited by `work`.
 use Rattle.std.specs.Prelude.{ℕ, Result, Ok, Err}
 use Rattle.diva_outside.specs.Text.{Text}
 use Rattle.diva_core.specs.History.{Meaning}

@@ -1,4 +1,5 @@
 -- Commands one after the other, and the replies to them.
+-- Cited in `DebugTexts.antt`, for `top`.
 use Rattle.std.specs.Prelude.{ℕ, ◌≡◌, ◌*◌, ◌+◌, List, [], ◌∷◌, ◌++◌, length, Option, nat_le, if◌then◌else◌}
 use Rattle.diva_outside.specs.Text.{Text}
 use Rattle.diva_isa.specs.State.{State}

@@ -1,4 +1,5 @@
 -- What is promised of a run, and the text that the command `run` leaves of it.
+-- Cited in `Texts.antt`, for `top`; by `one_liar_is_outvoted` and `own_run_is_determined`.
 use Rattle.std.specs.Prelude.{◌≡◌, ◌⊎◌, ◌≤◌, ◌/◌, ◌*◌, ◌+◌, ◌++◌, ℕ, Bool, true, false, List, [], Option, Some, None, Result, Ok, Err, IfOk, IfErr}
 use Rattle.diva_outside.specs.Text.{Text}
 use Rattle.diva_outside.specs.declared.files.What.TheVariants.{Image, Script, Tape as TapeFile}

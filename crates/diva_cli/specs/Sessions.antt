@@ -1,4 +1,5 @@
 -- What is promised of a session, whatever is handed over.
+-- Cited in `DebugTexts.antt`, for `top`.
 use Rattle.std.specs.Prelude.{ℕ, ◌≡◌, ◌⊎◌, ◌≤◌, ◌+◌, List, [], length, map}
 use Rattle.diva_outside.specs.declared.files.What.TheVariants.{Script, Tape as TapeFile}
 use Rattle.diva_isa.specs.State.{State}

@@ -1,5 +1,6 @@
 -- The text that the command `soak` writes: what two runs of the image of a seed came to, the first under a new `Scalar`, the second
 -- under the core that is handed in.
+-- Cited in `Texts.antt`, for `top`; by `own_run_is_determined`.
 use Rattle.std.specs.Prelude.{◌≡◌, ◌≤◌, ◌+◌, ◌*◌, ℕ, [], None, Result, IfOk}
 use Rattle.diva_outside.specs.Text.{Text}
 use Rattle.diva_isa.specs.State.{State}

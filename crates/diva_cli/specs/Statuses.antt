@@ -1,4 +1,5 @@
 -- What each status of the program says.
+-- Cited by `top`, `pipeline_top` and `top_sure`.
 use Rattle.std.specs.Prelude.{◌≡◌, ◌⊎◌, ◌≤◌, ℕ, List, [], ◌∷◌, length, Option, Some, None, IsSome, Ok, Err}
 use Rattle.diva_outside.specs.Files.{Contents, IsMissing, IsKnown}
 use Rattle.diva_outside.specs.Text.{Text}

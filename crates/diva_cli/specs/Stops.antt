@@ -1,4 +1,5 @@
 -- Where the loading of a job's files stops: at the first one that can't be used.
+-- Cited in `Answers.antt`, for `top`.
 use Rattle.std.specs.Prelude.{◌≡◌, ◌⊎◌, ◌≤◌, ℕ, List, [], ◌∷◌, length}
 use Rattle.diva_outside.specs.Causes.{Rose}
 use Rattle.diva_outside.specs.Files.{Contents, Has, IsMissing, IsLonger}

@@ -1,4 +1,5 @@
 -- What files that never fail hold, and what becomes of a sink that keeps nothing.
+-- Cited by `top_sure`.
 use Rattle.std.specs.Prelude.{List, ℕ, Some, None}
 use Rattle.diva_outside.specs.Files.{Contents}
 use Rattle.diva_outside.specs.Named.{named_bytes, or_empty}

@@ -1,4 +1,5 @@
 -- The text that the command `tape` leaves of a run: all that was handed over, which is itself a tape.
+-- Cited in `Texts.antt`, for `top`.
 use Rattle.std.specs.Prelude.{◌≡◌, ◌≤◌, ◌++◌, ℕ, true, List, length, None, Result, Ok, IsOk, IfOk, IfErr}
 use Rattle.diva_outside.specs.Text.{Text}
 use Rattle.diva_outside.specs.declared.files.What.TheVariants.{Image, Tape as TapeFile}

@@ -1,5 +1,6 @@
 -- The text of each command, and how the writing of it ended: with a status where it was written whole (`Ok`). Where the sink
 -- failed, the text is what was to be written by that time, and the end has what of it had been put already (`Err`).
+-- Cited by `top`, `pipeline_top` and `top_sure`.
 use Rattle.std.specs.Prelude.{◌≡◌, ◌⊎◌, ℕ, List, [], Option, None, Result}
 use Rattle.diva_outside.specs.Text.{Text}
 use Rattle.diva_core.specs.History.{Meaning}

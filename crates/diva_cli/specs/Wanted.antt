@@ -1,4 +1,5 @@
 -- The files that a job wants, in the order in which they are loaded, and what is wrong with their bytes.
+-- Cited by `work`.
 use Rattle.std.specs.Prelude.{◌≡◌, ◌≤◌, ℕ, ◌+◌, ◌*◌, List, [], ◌∷◌, ◌++◌, length, Option, Some, None, Err, IsOk}
 use Rattle.diva_outside.specs.Files.{Contents, Has}
 use Rattle.diva_outside.specs.declared.files.What.{What}

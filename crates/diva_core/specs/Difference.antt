@@ -1,4 +1,5 @@
 -- The first field in which a claim differs from the due record.
+-- Cited by `first_difference`, `difference_in` and `Field::of`.
 use Rattle.std.specs.Prelude.{ℕ, ◌≡◌, ◌≢◌, ◌==◌, List, [], ◌∷◌, codes, Option, Some, None, if◌then◌else◌}
 use Rattle.diva_isa.specs.declared.record.Record.{Record}
 use Rattle.diva_core.specs.declared.differences.Field.{Field}

@@ -1,4 +1,5 @@
 -- What effects do to a state, one after the other.
+-- Cited by `byte_in` and `is_apart`; by `Ring::byte` and `word` of diva_ahead.
 use Rattle.std.specs.Prelude.{ℕ, ◌+◌, ◌||◌, nat_le, List, [], ◌∷◌, Bool, true, Option, None}
 use Rattle.diva_memory.specs.Bytes.{byte_at, low_bytes}
 use Rattle.diva_isa.specs.State.{State}

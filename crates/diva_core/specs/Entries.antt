@@ -1,4 +1,5 @@
 -- What is noted of the claims that are pending.
+-- Cited by `Pending::accept_all`, `entry` and the type `Pending`; by `Machine::entry` of diva_machine.
 use Rattle.std.specs.Prelude.{ℕ, ◌≡◌, ◌==◌, Bool, true, Some, None, IfSome}
 use Rattle.diva_decode.specs.Fields.{opcode}
 use Rattle.diva_decode.specs.Table.{row_of}

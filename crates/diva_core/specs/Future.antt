@@ -1,4 +1,5 @@
 -- The future file: the registers as the oldest of the pending claims leave them, right ones and wrong ones.
+-- Cited by `FutureFile::keep`, `leave`, `reset` and the type `FutureFile`.
 use Rattle.std.specs.Prelude.{ℕ, ◌≡◌, ◌≤◌, ◌+◌, ◌-◌, ◌==◌, List, length, Option, Some, None, if◌then◌else◌}
 use Rattle.diva_decode.specs.declared.instr.Instr.{Instr}
 use Rattle.diva_decode.specs.Table.{row_of}

@@ -1,4 +1,5 @@
 -- Turns of a machine and a core, one for each cycle.
+-- Cited by the laws of diva_tape, as `lockstep_is_right`; in `Drives.antt` of diva_machine, for `drive`.
 use Rattle.std.specs.Prelude.{◌≡◌, ◌+◌, List, [], ◌∷◌, length, map, true}
 use Rattle.diva_isa.specs.State.{State, goes_on}
 use Rattle.diva_isa.specs.declared.record.Record.{Record}

@@ -1,4 +1,5 @@
 -- Sessions: turns of a machine and a core, between which instructions are taken back.
+-- Cited by `scalar_is_right_behind_undos` of diva_tape; in `Sessions.antt` of diva_cli, for `top`.
 use Rattle.std.specs.Prelude.{◌≡◌, List, [], ◌∷◌, ◌++◌, ⊤}
 use Rattle.diva_isa.specs.declared.record.Record.{Record}
 use Rattle.diva_isa.specs.declared.undo.Undo.{Undo}

@@ -1,4 +1,5 @@
 -- What holds of a machine between two cycles.
+-- Cited by `Config::new` and `with_port`; by `Machine::cycle`, `undo`, `turn` and `drive` of diva_machine.
 use Rattle.std.specs.Prelude.{ℕ, ◌≡◌, ◌≤◌, ◌+◌, ◌-◌, ◌*◌, ◌/◌, List, [], ◌∷◌, length, Option, Some, None, ⊤}
 use Rattle.std.specs.Prelude.{Bool, ◌&&◌, nat_le, if◌then◌else◌}
 use Rattle.diva_core.specs.Timed.{Timed, Config, PendingClaim, depth, rows_kept}

@@ -1,4 +1,5 @@
 -- The state in which a pending claim stands: the committed one after the claims before it, right ones and wrong ones.
+-- Cited by `Bypass::new`; by `check` of diva_fetchchk, diva_opchk and diva_execchk; by `Machine::entry` of diva_machine.
 use Rattle.std.specs.Prelude.{ℕ, ◌+◌, List, [], ◌∷◌, length, map, take}
 use Rattle.diva_isa.specs.State.{State}
 use Rattle.diva_isa.specs.Step.{apply, effect_of}

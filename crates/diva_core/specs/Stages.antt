@@ -1,4 +1,5 @@
 -- The stages of the checker: what each compares of a pending claim with the record that is due after the older claims.
+-- Cited by `check` of diva_fetchchk, diva_opchk and diva_execchk, with `check_in`, `check_access` and `check_memory`.
 --
 -- age  stage                   fields compared
 -- 1    fetch                   pc, word

@@ -1,4 +1,5 @@
 -- The timed machine: the committed state, and what is under way.
+-- Cited by `Machine::new`, `cycle` and `drive_to` of diva_machine; by `UnderWay::room` of diva_hart; by the laws of diva_tape.
 use Rattle.std.specs.Prelude.{ℕ, ◌+◌, ◌-◌, ◌==◌, List, [], length, min, Bool, ◌&&◌, Option, None, is_none, nat_le, nat_lt, if◌then◌else◌}
 use Rattle.diva_isa.specs.State.{State, goes_on}
 use Rattle.diva_isa.specs.declared.record.Record.{Record}

@@ -1,4 +1,5 @@
 -- What a core is told before a cycle.
+-- Cited by `Machine::told` and `turn` of diva_machine; by `UnderWay::told` of diva_hart; by `Duo::told` of diva_duo.
 use Rattle.std.specs.Prelude.{ℕ, ◌+◌, ◌≤◌, length, Bool, not}
 use Rattle.diva_isa.specs.State.{goes_on}
 use Rattle.diva_core.specs.Timed.{Timed, epoch_of, room_of, is_due}

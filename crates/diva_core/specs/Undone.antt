@@ -1,4 +1,5 @@
 -- Taking the last instruction back.
+-- Cited by `Machine::undo` of diva_machine; by `scalar_may_lead_again` of diva_tape.
 use Rattle.std.specs.Prelude.{◌≢◌, ◌+◌, ◌-◌, List, [], ◌∷◌, None, ⊤}
 use Rattle.diva_isa.specs.Undo.{IsUndo, restore}
 use Rattle.diva_isa.specs.declared.undo.Undo.{Undo}

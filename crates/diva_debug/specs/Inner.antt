@@ -1,4 +1,4 @@
--- What the functions of this crate tell each other.
+-- What only private contracts of this crate cite. A reader of its promises can pass over it.
 use Rattle.std.specs.Prelude.{ℕ, ◌≡◌, ◌≤◌, ◌<◌, ◌+◌, ◌-◌, ◌*◌, min, nat_le, if◌then◌else◌}
 use Rattle.diva_isa.specs.Step.{steps}
 use Rattle.diva_core.specs.History.{Meaning}

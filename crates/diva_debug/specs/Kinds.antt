@@ -1,4 +1,5 @@
 -- The kinds of faults of a command's line, and their numbers.
+-- Cited in `Reading.antt`, for `commands`.
 use Rattle.std.specs.Prelude.{ℕ}
 use Rattle.diva_outside.specs.declared.next_words.WordFault.{WordFault}
 use Rattle.diva_outside.specs.declared.next_words.WordFault.TheVariants.{Count, Unreadable}

@@ -6,5 +6,6 @@ pub mod Moves
 pub mod Replies
 pub mod Undos
 pub mod Rewindable
-pub mod Inner
 pub mod Sessions
+-- what only private contracts cite
+pub mod Inner

@@ -1,4 +1,5 @@
 -- How far a command moves a machine along the table's steps, told from the state before it.
+-- Cited by `Session::reply`, `reply_to` and `commands`.
 use Rattle.std.specs.Prelude.{ℕ, zero, suc, ◌≡◌, ◌≢◌, ◌≤◌, ◌+◌, ◌-◌, ◌*◌, ◌==◌, ◌&&◌, min, nat_le, Bool, true, false, if◌then◌else◌}
 use Rattle.diva_isa.specs.State.{State, goes_on}
 use Rattle.diva_isa.specs.Step.{step, steps}

@@ -1,4 +1,5 @@
 -- The numbers of commands, in their ranges.
+-- Cited by `StepCount::new` and `MemRange::new`.
 use Rattle.std.specs.Prelude.{ℕ, ◌≤◌, ◌+◌, ◌^◌}
 
 -- the instructions that are stepped, or taken back, at once: 1 to 1,000,000

@@ -1,5 +1,6 @@
 -- The commands of a text, or its first fault. A line's words are read from the left, each by a rule that gives what the first
 -- word says, or the kind of its fault.
+-- Cited by `commands`.
 use Rattle.std.specs.Prelude.{ℕ, ◌-◌, ◌^◌, min, List, codes, Option, None, Result, Err, if◌then◌else◌}
 use Rattle.std.specs.Str.{bytes_eq}
 use Rattle.diva_outside.specs.Items.{items_of}

@@ -1,4 +1,5 @@
 -- The reply to a command, a line.
+-- Cited by `Session::reply` and `reply_to`.
 use Rattle.std.specs.Prelude.{ℕ, ◌==◌, ◌&&◌, not, List, ◌++◌, nat_le, codes, Option, Some, None, if◌then◌else◌}
 use Rattle.std.specs.Fmt.{decimal}
 use Rattle.diva_outside.specs.Text.{Text, hex_word}

@@ -1,4 +1,5 @@
 -- A machine that can go back.
+-- Cited by `Session::reply`, `reply_to` and the type `Rewindable`.
 use Rattle.std.specs.Prelude.{ℕ, ◌≡◌, ◌≤◌, List, length, take, drop, nat_le, if◌then◌else◌}
 use Rattle.diva_isa.specs.State.{State}
 use Rattle.diva_isa.specs.declared.undo.Undo.{Undo}

@@ -1,4 +1,5 @@
 -- What a session holds.
+-- Cited by `Session::new`, `with_back`, `reply` and `into_parts`.
 use Rattle.std.specs.Prelude.{ℕ}
 use Rattle.diva_machine.specs.Machine.{Machine}
 use Rattle.diva_debug.specs.Rewindable.{Rewindable}

@@ -1,4 +1,5 @@
 -- What is kept of the newest instructions, so that they can be taken back.
+-- Cited by the type `Undos`; in `Rewindable.antt`, for `Session::reply`.
 use Rattle.std.specs.Prelude.{ℕ, List, [], ◌∷◌, Option, Some, None, ⊤}
 use Rattle.circular_buffer.specs.Buffer.{Buffer}
 use Rattle.diva_isa.specs.State.{State}

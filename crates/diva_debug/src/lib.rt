@@ -11,8 +11,8 @@
 //! `specs/Reading.antt` has the commands of a text, with `Ranges` the ranges of their numbers and `Kinds` the kinds of faults,
 //! `specs/Moves.antt` how far a command moves a machine, and where it leads,
 //! `specs/Replies.antt` the replies, `specs/Undos.antt` when undos are those of the newest instructions, `specs/Rewindable.antt`
-//! what a machine with its undos is and how a command leads it, `specs/Sessions.antt` what a session holds, and
-//! `specs/Inner.antt` what the parts tell each other.
+//! what a machine with its undos is and how a command leads it, and `specs/Sessions.antt` what a session holds. `Inner` is for
+//! private contracts alone.
 #![tactic(auto)]
 
 mod command;

@@ -1,5 +1,6 @@
 -- The parts of an instruction's word, and the immediates that its formats put together from them.
 -- (RISC-V Unprivileged ISA, RV32I 2.1, "Base Instruction Formats" and "Immediate Encoding Variants".)
+-- Cited in `Table.antt`, for `decode` and `encode`.
 use Rattle.std.specs.Prelude.{ℕ, ◌+◌, ◌-◌, ◌*◌, ◌/◌, ◌%◌, ◌^◌, ℤ, pos, ◌-ℤ◌, if◌then◌else◌, nat_lt}
 use Rattle.std.specs.Int.{cast_unsigned, w32}
 

@@ -2,6 +2,7 @@
 -- says, the word of an instruction, and which instructions have one. (RISC-V Unprivileged ISA, chapter "RV32/64G
 -- Instruction Set Listings": RV32I 2.1 and M 2.0; chapters "Zicsr" and "Zicntr", where RDINSTRET and RDINSTRETH are
 -- CSRRS of instret and instreth with x0.)
+-- Cited by `decode`, `decode_here`, `encode` and `valid`.
 use Rattle.std.specs.Prelude.{◌≡◌, ℕ, ◌+◌, ◌-◌, ◌*◌, ◌%◌, ◌^◌, ◌<◌, ◌==◌, ◌&&◌, Bool, false, List, [], ◌∷◌, Option, Some, ℤ, pos, neg_ℤ, ◌≤ℤ◌, ◌<ℤ◌, find, option_map}
 use Rattle.std.specs.Int.{cast_unsigned, w32}
 use Rattle.diva_decode.specs.Fields.{opcode, rd, funct3, rs1, rs2, funct7, csr, imm_i, imm_s, imm_b, imm_u, imm_j, imm_bits}

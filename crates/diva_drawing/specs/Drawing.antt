@@ -1,6 +1,7 @@
 -- A run as a drawing in text: a row for each claim that became pending, and for each instruction that was started solo; a column of three
 -- bytes for each cycle of an excerpt. A row is drawn where it ends, and those that are open at the end of the run there, if they have a
 -- cell in the excerpt; the scale stands below them.
+-- Cited by `Pen::draw_cycle` and `end_drawing`.
 use Rattle.std.specs.Prelude.{ℕ, zero, suc, ◌+◌, ◌-◌, ◌%◌, ◌==◌, ◌&&◌, not, nat_lt, List, [], ◌∷◌, ◌++◌, length, map, take, drop, codes, Bool, true, false, Option, Some, None, if◌then◌else◌}
 use Rattle.std.specs.Fmt.{decimal}
 use Rattle.std.specs.List.{concat, flat_map}

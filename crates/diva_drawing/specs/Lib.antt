@@ -3,4 +3,5 @@ pub mod Snapshot
 pub mod Rows
 pub mod Log
 pub mod Drawing
+-- what only private contracts cite
 pub mod Pieces

@@ -1,4 +1,5 @@
 -- A run as a log in the Kanata format, version 4, which the Konata viewer reads. Fields are separated by tabs.
+-- Cited by `begin_log` and `Pen::log_cycle`.
 use Rattle.std.specs.Prelude.{ℕ, zero, suc, ◌+◌, ◌-◌, List, [], ◌++◌, length, drop, slice_get, codes, Bool, false, is_some, Option, Some, None, if◌then◌else◌}
 use Rattle.std.specs.Fmt.{decimal}
 use Rattle.std.specs.List.{concat, flat_map, range_with_len}

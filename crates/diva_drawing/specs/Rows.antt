@@ -1,5 +1,6 @@
 -- Rows: each claim that became pending has one, and each instruction that was started solo, in the order in which they began. What
 -- becomes of them in a cycle is told from what was seen of the machine before it and behind it.
+-- Cited by `Pen::draw_cycle`, `log_cycle` and the type `Pen`.
 use Rattle.std.specs.Prelude.{ℕ, ◌+◌, ◌-◌, ◌==◌, not, ◌||◌, length, Bool, is_some, if◌then◌else◌}
 use Rattle.diva_core.specs.Cycle.{number}
 use Rattle.diva_drawing.specs.Snapshot.{Snapshot}

@@ -1,4 +1,5 @@
 -- What is seen of a machine between two cycles, by its observers.
+-- Cited by `Pen::new`, `draw_cycle`, `log_cycle` and `Snapshot::of`.
 use Rattle.std.specs.Prelude.{ℕ, ◌≡◌, Bool, List, [], ◌∷◌, map, Option, option_map, ⊤}
 use Rattle.diva_isa.specs.State.{State, goes_on}
 use Rattle.diva_isa.specs.Step.{record_of}

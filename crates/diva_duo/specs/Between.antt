@@ -1,4 +1,5 @@
 -- What holds of two harts between two cycles, and what a cycle promises.
+-- Cited by `Duo::cycle`, `drive2` and the type `Duo`.
 use Rattle.std.specs.Prelude.{ℕ, ◌≡◌, ◌≤◌, ◌+◌, ◌/◌, ◌^◌, ◌<◌, List, [], ◌∷◌, length}
 use Rattle.diva_memory.specs.Bytes.{Bytes}
 use Rattle.diva_isa.specs.declared.record.Record.{Record}

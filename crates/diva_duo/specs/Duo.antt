@@ -1,4 +1,5 @@
 -- The timed machine of two harts: what is under way for each, and a cycle.
+-- Cited by `Duo::new`, `cycle`, `ended` and `drive2`.
 use Rattle.std.specs.Prelude.{ℕ, ◌+◌, ◌-◌, ◌==◌, List, [], ◌∷◌, ◌++◌, length, flat_map, replicate, Bool, not, ◌&&◌, if◌then◌else◌}
 use Rattle.diva_memory.specs.Bytes.{Bytes}
 use Rattle.diva_storeq.specs.declared.masked.Masked.{Masked}

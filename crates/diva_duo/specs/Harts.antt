@@ -1,6 +1,7 @@
 -- Two harts over one memory, each with a buffer of the stores that are not there yet: the store-buffer machine, action by action. It is
 -- the abstract machine of total store order (Owens, Sarkar, Sewell, "A better x86 memory model: x86-TSO", TPHOLs 2009; RISC-V's Ztso), for
 -- two harts, without atomic instructions, and with a FENCE that waits for an empty buffer whatever its fields are.
+-- Cited by `Duo::cycle`.
 use Rattle.std.specs.Prelude.{ℕ, ◌==◌, List, [], ◌∷◌, take, drop, length, Bool, not, ◌&&◌, Option, Some, None, option_and_then, if◌then◌else◌}
 use Rattle.diva_memory.specs.Bytes.{Bytes}
 use Rattle.diva_storeq.specs.Stores.{laid}

@@ -1,4 +1,5 @@
 -- What a cycle and a run of two harts promise of each hart, whatever is handed over.
+-- Cited by `Duo::cycle`.
 use Rattle.std.specs.Prelude.{◌≡◌, ◌-◌, List, [], ◌∷◌, ◌⊎◌, Some, None}
 use Rattle.diva_isa.specs.declared.record.Record.{Record}
 use Rattle.diva_core.specs.declared.flushes.FlushRow.{FlushRow}

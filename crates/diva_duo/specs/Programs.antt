@@ -1,4 +1,5 @@
 -- A program for two harts that was worked out by hand, what is handed over as it runs, and what is looked at of the run.
+-- Cited by `neither_hart_sees_the_other_store`.
 use Rattle.std.specs.Prelude.{ℕ, zero, suc, ◌+◌, ◌-◌, ◌*◌, List, [], ◌∷◌, ◌++◌, length, flat_map, replicate, nat_lt, if◌then◌else◌}
 use Rattle.std.specs.Int.{to_le_bytes, w32}
 use Rattle.diva_isa.specs.State.{State, reg_of}

@@ -1,4 +1,5 @@
 -- The rule of two harts: for what an equal claim waits.
+-- Cited in `Duo.antt`, for `Duo::cycle`.
 use Rattle.std.specs.Prelude.{ℕ, ◌==◌, Bool, true, false, not, ◌&&◌, ◌||◌, Option, Some, None}
 use Rattle.diva_decode.specs.declared.instr.Instr.{Instr}
 use Rattle.diva_decode.specs.Table.{row_of}

@@ -1,4 +1,5 @@
 -- What contracts see of a duo.
+-- Cited by the type `Duo`.
 use Rattle.std.specs.Prelude.{List}
 use Rattle.diva_duo.specs.Duo.{Duo}
 use Rattle.diva_duo.specs.declared.action.Action.{Action}

@@ -1,4 +1,5 @@
 -- Turns of two harts and their cores, one for each cycle.
+-- Cited by `drive2`.
 use Rattle.std.specs.Prelude.{◌≡◌, ◌+◌, ◌==◌, List, [], ◌∷◌, ◌++◌, length, map, Bool, true, false, Some}
 use Rattle.diva_isa.specs.declared.record.Record.{Record}
 use Rattle.diva_core.specs.Told.{told_of}

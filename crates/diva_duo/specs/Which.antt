@@ -1,4 +1,5 @@
 -- One of two harts.
+-- Cited by `Duo::cycle`, `told`, `view` and the other observers of `Duo`.
 use Rattle.std.specs.Prelude.{ℕ, ◌==◌, if◌then◌else◌}
 use Rattle.diva_core.specs.Timed.{Timed}
 use Rattle.diva_duo.specs.Duo.{Duo, Hart, timed}

@@ -1,4 +1,5 @@
 -- The flips of a campaign: rows each of which inverts one bit of a claim.
+-- Cited by `flip_at`.
 use Rattle.std.specs.Prelude.{ℕ, ◌+◌, ◌/◌, ◌%◌, List, map}
 use Rattle.std.specs.List.{flat_map, range_with_len, slice_index_or}
 use Rattle.diva_core.specs.Difference.{all_fields}

@@ -3,8 +3,8 @@ pub mod Kinds
 pub mod Lists
 pub mod Reading
 pub mod Rows
-pub mod Schedules
 pub mod Spoiled
 pub mod Touched
 -- what only private contracts cite
 pub mod Inner
+pub mod Schedules

@@ -1,4 +1,5 @@
 -- What a script makes of the list that a core hands over.
+-- Cited by `no_rows_change_nothing`; in `Spoiled.antt`, for what `Faulty` gives.
 use Rattle.std.specs.Prelude.{ℕ, ◌+◌, ◌^◌, ◌==◌, ◌&&◌, nat_le, nat_lt, bit_xor, Bool, false, List, [], ◌∷◌, ◌++◌, length, take, drop, fold, slice_get, Option, Some, None, if◌then◌else◌}
 use Rattle.std.specs.List.{list_any}
 use Rattle.diva_isa.specs.declared.record.Record.{Record}

@@ -1,5 +1,6 @@
 -- The rows of a script, or its first fault. A line's words are read from the left, each by a rule that gives what the first word
 -- says, or the kind of its fault.
+-- Cited by `Script::read`.
 use Rattle.std.specs.Prelude.{ℕ, nat_lt, List, [], ◌∷◌, codes, find, Option, Some, None, Result, Ok, Err, if◌then◌else◌}
 use Rattle.std.specs.Option.{ok_or}
 use Rattle.std.specs.Str.{bytes_eq}

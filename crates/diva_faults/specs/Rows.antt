@@ -1,4 +1,5 @@
 -- The rows of a script.
+-- Cited by `flip_at`, `Script::rows` and `of_row`.
 use Rattle.std.specs.Prelude.{ℕ, ⊤}
 use Rattle.diva_outside.specs.NextWords.{IsInRange}
 use Rattle.diva_faults.specs.declared.rows.Change.{Change}

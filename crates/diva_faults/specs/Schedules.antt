@@ -1,4 +1,5 @@
 -- The rows of a script in the order of their cycles, and what makes looking them up cheap.
+-- Only private contracts of this crate cite this: a reader of its promises can pass over it.
 use Rattle.std.specs.Prelude.{◌≡◌, ℕ, List}
 use Rattle.diva_isa.specs.declared.record.Record.{Record}
 use Rattle.diva_faults.specs.declared.rows.Row.{Row}

@@ -1,4 +1,5 @@
 -- What a core means whose lists a script spoils.
+-- Cited by `Faulty::new` and what `Faulty` gives.
 use Rattle.std.specs.Prelude.{◌≡◌, ℕ, List}
 use Rattle.diva_isa.specs.State.{State}
 use Rattle.diva_isa.specs.declared.record.Record.{Record}

@@ -1,4 +1,5 @@
 -- The cycles that the rows of a script touch: a hush those whose lists it empties, another row the one that it names.
+-- Cited by `Script::first_cycle` and `end_cycle`.
 use Rattle.std.specs.Prelude.{ℕ, ◌+◌, ◌-◌, ◌^◌, max, min, List, fold}
 use Rattle.diva_faults.specs.declared.rows.Row.{Row}
 use Rattle.diva_faults.specs.declared.rows.Row.TheVariants.{Lane, Hush}

@@ -8,9 +8,9 @@
 //! - `schedule`: the rows of a script by cycle. `lists`: what a row makes of a list.
 //!
 //! `specs/Reading.antt` has the script of a text, with `Kinds` the kinds of its faults, `specs/Rows.antt` the ranges of a
-//! row's numbers, `specs/Lists.antt` what a script makes of a list, `specs/Schedules.antt` when some rows make of it what others do,
-//! `specs/Touched.antt` which cycles the rows touch, `specs/Spoiled.antt` what a core under a script means, `specs/Flips.antt` the
-//! rows of a campaign. `Inner` is for private contracts alone.
+//! row's numbers, `specs/Lists.antt` what a script makes of a list, `specs/Touched.antt` which cycles the rows touch,
+//! `specs/Spoiled.antt` what a core under a script means, `specs/Flips.antt` the rows of a campaign. `Inner`, and `Schedules` of rows
+//! by cycle, are for private contracts alone.
 #![tactic(auto)]
 
 mod fault;

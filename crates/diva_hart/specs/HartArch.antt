@@ -1,4 +1,5 @@
 -- What a hart has for itself of the committed state: all of it but memory.
+-- Cited by `HartArch::new`, `drain`, `commit`, `restore` and `view`.
 use Rattle.std.specs.Prelude.{ℕ, List, [], ◌++◌, replicate}
 use Rattle.diva_memory.specs.Bytes.{Bytes}
 use Rattle.diva_storeq.specs.declared.masked.Masked.{Masked}

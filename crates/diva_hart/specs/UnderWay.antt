@@ -1,4 +1,5 @@
 -- What is under way: the pending claims, the instruction that runs solo, the watchdog, the log, and the number of undos.
+-- Cited by `UnderWay::new`, `room`, `told` and `told_where`.
 use Rattle.std.specs.Prelude.{ℕ, [], map}
 use Rattle.circular_buffer.specs.Buffer.{buffer}
 use Rattle.diva_isa.specs.State.{State}

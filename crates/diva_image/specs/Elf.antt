@@ -1,5 +1,6 @@
 -- The image of an executable: an ELF file of 32 bits, with its numbers lowest byte first, for RISC-V. Its program headers
 -- say what it loads. Fields have the names of the ELF specification.
+-- Cited in `ImageLayout.antt`, for `read_elf`.
 use Rattle.std.specs.Prelude.{ℕ, zero, suc, ◌+◌, ◌-◌, ◌*◌, ◌/◌, ◌^◌, ◌==◌, ◌&&◌, ◌||◌, not, nat_lt, nat_le, Bool, List, [], ◌∷◌, ◌++◌, length, take, drop, replicate, slice_index, Option, Some, None, if◌then◌else◌}
 use Rattle.std.specs.Option.{option_or}
 use Rattle.byteorder.specs.Endian.{little_number}

@@ -1,4 +1,5 @@
 -- The header of an image's file, which both versions begin with, and its first fault.
+-- Cited in `Images.antt`, for `read`.
 use Rattle.std.specs.Prelude.{ℕ, ◌+◌, ◌%◌, ◌^◌, ◌==◌, ◌&&◌, ◌||◌, not, nat_lt, nat_le, nat_eq, Bool, List, length, drop, ◌++◌, codes, Option, Some, None, if◌then◌else◌}
 use Rattle.std.specs.List.{starts_with}
 use Rattle.std.specs.Option.{option_or}

@@ -1,4 +1,5 @@
 -- An image of the code as the definitions have it, and what its reading gives.
+-- Cited by `Image::new`, `read`, `read_elf`, `write` and `write2`.
 use Rattle.std.specs.Prelude.{◌≡◌, List, ℕ, Result, Ok, Err, None}
 use Rattle.diva_image.specs.declared.image.Image.{Image}
 use Rattle.diva_image.specs.declared.fault.ImageFault.{ImageFault}

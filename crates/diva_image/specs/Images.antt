@@ -1,4 +1,5 @@
 -- The image that bytes are, the first fault of bytes that are not an image, and the bytes of an image in version 1.
+-- Cited by `Image::new` and `write`; in `ImageLayout.antt`, for `read`.
 use Rattle.std.specs.Prelude.{ℕ, ◌+◌, nat_lt, List, length, drop, ◌++◌, Option, Some, None, is_none, if◌then◌else◌}
 use Rattle.std.specs.Option.{option_or}
 use Rattle.diva_image.specs.Layout.{Layout}

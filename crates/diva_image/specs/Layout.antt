@@ -1,4 +1,5 @@
 -- An image: where its memory lies, where it is entered, and the bytes that it begins with.
+-- Cited by `soak_image` of diva_soak; in `Images.antt`, for `read`.
 use Rattle.std.specs.Prelude.{◌≡◌, ℕ, ◌-◌, ◌^◌, List, ◌++◌, length, replicate}
 
 -- the most bytes that memory may have

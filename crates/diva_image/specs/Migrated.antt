@@ -1,4 +1,5 @@
 -- The bytes of an image in version 2. There is one spelling of each image: its segments are those that hold what is not 0.
+-- Cited by `write2`.
 use Rattle.std.specs.Prelude.{◌≡◌, ℕ, zero, suc, ◌+◌, ◌-◌, ◌/◌, ◌==◌, Bool, List, [], ◌∷◌, ◌++◌, length, take, drop, None, if◌then◌else◌}
 use Rattle.std.specs.List.{flat_map, list_all}
 use Rattle.std.specs.Int.{to_le_bytes, w32}

@@ -1,4 +1,5 @@
 -- What a command takes for an image: an image's file, or an executable, behind whose loads memory has room.
+-- Cited by `read_program`.
 use Rattle.std.specs.Prelude.{◌≡◌, ℕ, Bool, List, ◌∷◌, codes, nat_eq, Option, Result, Ok, Err, None, if◌then◌else◌}
 use Rattle.std.specs.List.{starts_with}
 use Rattle.diva_image.specs.declared.image.Image.{Image}

@@ -1,5 +1,6 @@
 -- A file of version 2: behind the header stands a table of segments, an address and a number of bytes for each, and then
 -- their bytes, one segment's behind the other's.
+-- Cited in `Images.antt`, for `read`.
 use Rattle.std.specs.Prelude.{ℕ, zero, suc, ◌+◌, ◌-◌, ◌*◌, ◌&&◌, nat_lt, nat_le, Bool, List, [], ◌∷◌, ◌++◌, length, take, drop, replicate, Option, None, if◌then◌else◌}
 use Rattle.std.specs.List.{sum_by}
 use Rattle.std.specs.Option.{option_or}

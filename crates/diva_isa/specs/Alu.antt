@@ -1,5 +1,6 @@
 -- What the operations compute, of words: numbers below 2 ^ 32. (RISC-V Unprivileged ISA, RV32I 2.1, "Integer
 -- Computational Instructions", "Control Transfer Instructions" and "Load and Store Instructions", and chapter M 2.0.)
+-- Cited by `alu`, `branch_taken` and `load_value`.
 use Rattle.std.specs.Prelude.{ℕ, ◌+◌, ◌-◌, ◌*◌, ◌/◌, ◌%◌, ◌^◌, ◌==◌, Bool, false, not, ℤ, pos, ◌*ℤ◌, if◌then◌else◌, nat_lt, nat_le, int_lt, int_le, int_div, int_rem, bit_and, bit_or, bit_xor}
 use Rattle.std.specs.Int.{cast_unsigned, cast_signed, int_shr, w8, w16, w32, w64}
 use Rattle.diva_decode.specs.declared.op.Op.{Op}

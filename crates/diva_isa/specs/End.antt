@@ -1,4 +1,5 @@
 -- How a state ends, as a word and as a number.
+-- Cited by `End::of` and `number`; by `Machine::ended` of diva_machine.
 use Rattle.std.specs.Prelude.{ℕ, ◌+◌, ◌-◌, ◌%◌, ◌^◌, ◌<◌, ◌≤◌, ◌==◌, nat_lt, if◌then◌else◌}
 use Rattle.diva_isa.specs.Trap.{trap_number}
 use Rattle.diva_isa.specs.declared.end.End.{End}

@@ -1,4 +1,5 @@
 -- The kind of each operation: what its record has in common with others.
+-- Cited by `kind_of`, `access` and `execute`.
 use Rattle.std.specs.Prelude.{ℕ, Bool, true, false, Option, Some, None}
 use Rattle.diva_decode.specs.declared.instr.Instr.{Instr}
 use Rattle.diva_decode.specs.declared.op.Op.{Op}

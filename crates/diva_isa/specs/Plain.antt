@@ -1,4 +1,5 @@
 -- A state with the number of instructions that led to it.
+-- Cited by `Plain::run` and the type `Plain`.
 use Rattle.std.specs.Prelude.{ℕ, zero, suc, ◌+◌, if◌then◌else◌}
 use Rattle.diva_isa.specs.State.{State, goes_on}
 use Rattle.diva_isa.specs.Step.{steps}

@@ -1,4 +1,5 @@
 -- Writing a register.
+-- Cited by `Regs::set`.
 use Rattle.std.specs.Prelude.{ℕ, ◌==◌, List, slice_set, if◌then◌else◌}
 
 -- the registers with v in one; the first stays

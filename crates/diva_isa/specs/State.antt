@@ -1,4 +1,5 @@
 -- A state of the machine, and what is read from it.
+-- Cited by the trait `Look`, and so by all that reads a state: `record_of`, `Plain::step`; by `View::reg` of diva_core.
 use Rattle.std.specs.Prelude.{◌≡◌, ℕ, ◌==◌, Bool, List, Option, slice_index}
 use Rattle.diva_memory.specs.Bytes.{Bytes, byte_at, number_at, word_at}
 

@@ -1,6 +1,7 @@
 -- The record of the next instruction of a state, and what applying a record does. (RISC-V Unprivileged ISA, chapters
 -- RV32I 2.1 and M 2.0, and the two reads of `instret` of Zicntr. Traps, the services of ECALL and how the
 -- machine ends are what the manual leaves to choose.)
+-- Cited by `record_of`, `effect_of`, `Plain::step` and `run`; by `commit` of diva_commit.
 use Rattle.std.specs.Prelude.{◌<◌, ℕ, zero, suc, ◌+◌, ◌*◌, ◌/◌, ◌%◌, ◌^◌, ◌==◌, Bool, true, false, [], ◌∷◌, ◌++◌, Option, Some, None, length, if◌then◌else◌, nat_lt, ⊤}
 use Rattle.std.specs.Int.{cast_unsigned, w32}
 use Rattle.diva_decode.specs.declared.op.Op.{Op}

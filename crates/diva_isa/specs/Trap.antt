@@ -1,4 +1,5 @@
 -- The traps by number.
+-- Cited by `Trap::number`.
 use Rattle.std.specs.Prelude.{ℕ}
 use Rattle.diva_isa.specs.declared.trap.Trap.{Trap}
 use Rattle.diva_isa.specs.declared.trap.Trap.TheVariants.{InstructionMisaligned, InstructionAccessFault, IllegalInstruction, Breakpoint, LoadMisaligned, LoadAccessFault, StoreMisaligned, StoreAccessFault, CallNotServed, OutputFull}

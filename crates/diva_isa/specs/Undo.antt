@@ -1,4 +1,5 @@
 -- Taking an instruction back: what it overwrites, and putting that back.
+-- Cited by `undo_of`; by `HartArch::restore` of diva_hart.
 use Rattle.std.specs.Prelude.{◌≡◌, ◌-◌, ◌==◌, length, take, unwrap_or, if◌then◌else◌}
 use Rattle.diva_memory.specs.Bytes.{put_all, low_bytes}
 use Rattle.diva_isa.specs.State.{State, memory_of, number_of, reg_of}

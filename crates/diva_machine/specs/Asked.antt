@@ -1,4 +1,5 @@
 -- What is asked of the lanes of a machine that is voted on: of each claim, once at each stage that compares.
+-- Cited by `Machine::cycle_voted`, `turn_voted` and `drive_voted`.
 use Rattle.std.specs.Prelude.{ℕ, zero, suc, ◌+◌, ◌-◌, List, [], ◌∷◌, ◌++◌, map, if◌then◌else◌}
 use Rattle.diva_isa.specs.State.{State, goes_on}
 use Rattle.diva_isa.specs.Step.{apply}

@@ -1,4 +1,5 @@
 -- What a drive leaves of a machine and a core, whatever is handed over.
+-- Cited by `drive`, `drive_to` and `drive_voted`.
 use Rattle.std.specs.Prelude.{◌≡◌}
 use Rattle.diva_core.specs.History.{Meaning, Turns, lists_of}
 use Rattle.diva_core.specs.Headline.{AddsRows, AreCommitted, last_committed}

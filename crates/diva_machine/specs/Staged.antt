@@ -1,4 +1,5 @@
 -- What the checker's stages have noted so far of each pending claim, and of the solo instruction.
+-- Cited by `Machine::entry`, `cycle` and the type `Machine`.
 use Rattle.std.specs.Prelude.{ℕ, zero, suc, ◌≡◌, ◌+◌, ◌-◌, ◌≤◌, nat_le, false, List, [], ◌∷◌, map, Option, Some, None, slice_get, ⊤, if◌then◌else◌}
 use Rattle.diva_decode.specs.declared.instr.Instr.{Instr}
 use Rattle.diva_decode.specs.Table.{row_of}

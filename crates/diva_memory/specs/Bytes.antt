@@ -1,4 +1,5 @@
 -- Memory as a list of bytes from an address on: what is inside, what is read, and what a write changes.
+-- Cited by `Memory::inside`, `byte`, `half`, `word`, `put` and `put_all`.
 use Rattle.std.specs.Prelude.{ℕ, zero, suc, ◌≡◌, ◌<◌, ◌≤◌, ◌+◌, ◌-◌, ◌*◌, ◌/◌, ◌%◌, ◌^◌, ◌==◌, ◌&&◌, nat_le, Bool, List, [], ◌∷◌, length, take, slice_get, slice_set, Option, Some, None, option_and_then, option_map, if◌then◌else◌}
 use Rattle.std.specs.Int.{to_le_bytes, w32}
 

@@ -1,4 +1,5 @@
 -- Intervals of addresses, and what lies in them.
+-- Cited by `Interval::empty`, `widen` and `is_apart`.
 use Rattle.std.specs.Prelude.{ℕ, ◌≤◌, ◌+◌, ◌⊎◌}
 use Rattle.diva_memory.specs.declared.interval.Interval.{Interval}
 

@@ -1,4 +1,5 @@
 -- Where the stores are that a list has among its items.
+-- Cited by `Span::extend`, `drop_oldest` and `is_apart`.
 use Rattle.std.specs.Prelude.{ℕ, ◌≡◌, ◌<◌, List, slice_get, Some}
 use Rattle.diva_memory.specs.Interval.{LiesIn}
 use Rattle.diva_memory.specs.declared.span.Span.{Span}

@@ -1,4 +1,5 @@
 -- Step 3, finish: what runs has one cycle less to run.
+-- Cited in `Ooo.antt`, for what `Ooo` gives.
 use Rattle.std.specs.Prelude.{ℕ, ◌-◌, ◌==◌, nat_le, List, [], ◌∷◌, ◌++◌, Bool, true, false, if◌then◌else◌}
 use Rattle.diva_isa.specs.declared.record.Record.{Record}
 use Rattle.diva_ooo.specs.WindowEntry.{WindowEntry}

@@ -1,4 +1,5 @@
 -- Step 5, issue: waiting entries begin to run.
+-- Cited in `Ooo.antt`, for what `Ooo` gives.
 use Rattle.std.specs.Prelude.{ℕ, ◌+◌, ◌==◌, ◌&&◌, ◌||◌, nat_lt, not, List, [], ◌∷◌, ◌++◌, length, map, Bool, true, false, if◌then◌else◌}
 use Rattle.std.specs.List.{list_all}
 use Rattle.diva_isa.specs.State.{State}

@@ -1,5 +1,6 @@
 -- One call of the sample out-of-order core, a definition for each of its six steps; `Finish` and `Issue` have the third and the
 -- fifth.
+-- Cited by `Ooo::new`, what `Ooo` gives, and `no_more_than_room`.
 use Rattle.std.specs.Prelude.{ℕ, zero, suc, ◌≡◌, ◌==◌, ◌&&◌, nat_lt, not, List, [], ◌∷◌, ◌++◌, length, Bool, true, false, Option, is_none, if◌then◌else◌}
 use Rattle.std.specs.Option.{option_and_then}
 use Rattle.diva_decode.specs.Table.{row_of}

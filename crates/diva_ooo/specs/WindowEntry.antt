@@ -1,4 +1,5 @@
 -- An instruction under way.
+-- Cited in `Ooo.antt`, for what `Ooo` gives.
 use Rattle.std.specs.Prelude.{ℕ, Option}
 use Rattle.std.specs.Option.{option_and_then}
 use Rattle.diva_decode.specs.Table.{row_of}

@@ -1,4 +1,5 @@
 -- Counts of faults.
+-- Cited by `Files::load`; by `top` of diva_cli.
 use Rattle.std.specs.Prelude.{ℕ, ◌+◌, ◌-◌, ◌^◌, ◌≤◌, min}
 
 -- one more, or the same at a counter's last value

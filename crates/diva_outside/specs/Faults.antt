@@ -1,4 +1,5 @@
 -- How often the files of each kind have failed.
+-- Cited by `DiskFiles::new` and `MemFiles::new`.
 use Rattle.std.specs.Prelude.{◌≡◌, ℕ, Result, Ok, Err}
 use Rattle.diva_outside.specs.Causes.{raised}
 use Rattle.diva_outside.specs.declared.files.What.{What}

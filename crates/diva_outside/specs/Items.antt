@@ -1,4 +1,5 @@
 -- Texts whose lines are items: one for each line that has words.
+-- Cited by `read_items`.
 use Rattle.std.specs.Prelude.{ℕ, List, [], ◌∷◌, ◌++◌, length, Option, Some, None, Result, Ok, Err}
 use Rattle.diva_outside.specs.Lines.{LineFault, fold_lines}
 use Rattle.diva_outside.specs.Steps.{and_then}

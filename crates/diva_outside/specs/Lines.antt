@@ -1,4 +1,5 @@
 -- The lines of a text, and how a text is read line by line.
+-- Cited by `lines` and `fold_lines`.
 use Rattle.std.specs.Prelude.{ℕ, ◌+◌, ◌==◌, Bool, List, [], ◌∷◌, Result, Ok, Err, if◌then◌else◌}
 use Rattle.std.specs.List.{onto_first}
 use Rattle.diva_outside.specs.Text.{Text}

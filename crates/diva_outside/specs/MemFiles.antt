@@ -1,4 +1,5 @@
 -- Files in memory, where loads fail as a test asks for it.
+-- Cited by the type `MemFiles`.
 use Rattle.std.specs.Prelude.{ℕ, List, Some, Result, Bool, ◌==◌, ◌&&◌, is_some, if◌then◌else◌}
 use Rattle.std.specs.List.{list_any}
 use Rattle.diva_outside.specs.Causes.{raised}

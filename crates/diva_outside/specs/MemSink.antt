@@ -1,4 +1,5 @@
 -- A sink in memory, where puts fail as a test asks for it.
+-- Cited by the type `MemSink`.
 use Rattle.std.specs.Prelude.{ℕ, ◌-◌, List, [], ◌∷◌, ◌++◌, length, take, min, ◌||◌, ◌==◌, nat_lt, Bool, Option, Some, None, is_some, unwrap_or, if◌then◌else◌}
 use Rattle.diva_outside.specs.Causes.{raised}
 use Rattle.diva_outside.specs.declared.mem_sink.Fail.{Fail}

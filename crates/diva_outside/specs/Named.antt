@@ -1,4 +1,5 @@
 -- Files in memory: names with their bytes.
+-- Cited by the type `SureFiles`.
 use Rattle.std.specs.Prelude.{ℕ, List, [], ◌∷◌, length, Option, Some, None, Result, Ok, Err, Bool, if◌then◌else◌, nat_eq, nat_lt}
 use Rattle.std.specs.Cmp.Lexicographic.{pointwise}
 use Rattle.diva_outside.specs.declared.files.LoadFault.{LoadFault}

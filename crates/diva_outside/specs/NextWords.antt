@@ -1,4 +1,5 @@
 -- The next words of a line, each as what is due there.
+-- Cited by `LineWords::number`, `hex` and `end`.
 use Rattle.std.specs.Prelude.{ℕ, ◌≤◌, ◌&&◌, nat_le, List, [], ◌∷◌, Option, Some, None, option_and_then, Result, Ok, Err, if◌then◌else◌}
 use Rattle.std.specs.Option.{ok_or}
 use Rattle.diva_outside.specs.Numbers.{decimal_of, hex_of}

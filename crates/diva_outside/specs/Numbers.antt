@@ -1,4 +1,5 @@
 -- The numbers that words spell.
+-- Cited by `decimal` and `hex`.
 use Rattle.std.specs.Prelude.{ℕ, ◌&&◌, nat_le, List, length, Option, Some, None, if◌then◌else◌}
 use Rattle.std.specs.Char.{is_digit}
 use Rattle.std.specs.List.{list_all}

@@ -1,4 +1,5 @@
 -- What is known of the bytes that a sink took.
+-- Cited by `Sink::put`, `put_line` and `put_lines`; by `write_run` of diva_trace.
 use Rattle.std.specs.Prelude.{◌≡◌, ◌++◌, ◌≤◌, ℕ, List, Option, Result, OnOk, OnErr}
 use Rattle.std.specs.Io.KnownBytes.{Appends}
 use Rattle.diva_outside.specs.Causes.{Rose}

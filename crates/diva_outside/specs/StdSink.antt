@@ -1,4 +1,5 @@
 -- A sink over a writer.
+-- Cited by the type `StdSink`.
 use Rattle.std.specs.Prelude.{◌≡◌, ℕ, List, Option, Result, Ok, Err}
 use Rattle.diva_outside.specs.Causes.{raised}
 

@@ -1,4 +1,5 @@
 -- Steps, each of which may find a fault.
+-- Cited in `Items.antt`, for `read_items`.
 use Rattle.std.specs.Prelude.{Result, Ok, Err}
 
 -- what the next step makes of it, where this one found no fault

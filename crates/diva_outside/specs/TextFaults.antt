@@ -1,4 +1,5 @@
 -- What the reading of a text gives, and what that of one of its lines gives. Where memory ran out, nothing is said of either.
+-- Cited by `LineReader::line`, `fold_lines` and `read_items`.
 use Rattle.std.specs.Prelude.{◌≡◌, ⊤, Result, Ok, Err}
 use Rattle.diva_outside.specs.Lines.{LineFault}
 use Rattle.diva_outside.specs.declared.text_fault.LineStop.{LineStop}

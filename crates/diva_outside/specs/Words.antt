@@ -1,4 +1,5 @@
 -- The words of a line.
+-- Cited by `words` and `without_comment`.
 use Rattle.std.specs.Prelude.{ℕ, ◌==◌, ◌||◌, not, Bool, List, length, drop, filter}
 use Rattle.std.specs.List.{before_first, position_or_len, slice_split}
 use Rattle.diva_outside.specs.Text.{Text}

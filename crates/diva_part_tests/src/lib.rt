@@ -3,6 +3,7 @@
 //! - `words`: words both ways, of `diva_decode`: those that an assembler made, which `words/encodings` has, FENCE, and some outside
 //!   the table.
 //! - `numbers`: the first ten numbers of the generator, of `diva_seed`.
+//! - `memory`: what is inside memory and read at its ends, and which bytes are apart from stores, of `diva_memory`.
 //! - `queue`: a half word and a byte over a word, of `diva_storeq`.
 //! - `plain`: three instructions on the plain machine of `diva_isa`. `counts`: reads of a count of two words there.
 //! - `vectors`: what arithmetic, branches and loads of `diva_isa` came to in an emulator that is not of this repository: operations
@@ -19,6 +20,8 @@
 mod commits;
 #[cfg(test)]
 mod counts;
+#[cfg(test)]
+mod memory;
 #[cfg(test)]
 mod numbers;
 #[cfg(test)]

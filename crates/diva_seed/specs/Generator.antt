@@ -1,4 +1,5 @@
 -- A linear congruential generator of 32 bits.
+-- Cited by `next_number`.
 use Rattle.std.specs.Prelude.{ℕ, ◌+◌, ◌*◌, ◌%◌, ◌^◌}
 
 -- the number that follows x

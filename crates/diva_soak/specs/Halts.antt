@@ -1,4 +1,5 @@
 -- A state whose instructions end with status 0.
+-- Cited by `soak_halts`.
 use Rattle.std.specs.Prelude.{◌≡◌, ◌≤◌, ℕ}
 use Rattle.diva_isa.specs.State.{State}
 use Rattle.diva_isa.specs.End.{halt}

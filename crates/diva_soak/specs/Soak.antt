@@ -1,4 +1,5 @@
 -- A large valid image from a number, its seed: instructions that are drawn one after the other, and a halt behind them.
+-- Cited by `soak_image` and `soak_halts`.
 use Rattle.std.specs.Prelude.{ℕ, zero, suc, ◌+◌, ◌-◌, ◌*◌, ◌%◌, List, [], ◌∷◌, ◌++◌, flat_map, get_or, replicate, ℤ, pos}
 use Rattle.std.specs.Int.{to_le_bytes, w32}
 use Rattle.diva_decode.specs.Fields.{field}

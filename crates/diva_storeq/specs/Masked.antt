@@ -1,4 +1,5 @@
 -- What an entry of the queue writes to its word.
+-- Cited by `StoreQueue::entry`, `drain` and the type `StoreQueue`.
 use Rattle.std.specs.Prelude.{◌≡◌, ◌<◌, ℕ, ◌+◌, ◌-◌, ◌%◌, ◌^◌, ◌==◌, ◌&&◌, nat_le, nat_lt, Option, Some, None, if◌then◌else◌}
 use Rattle.std.specs.Int.{bit_at}
 use Rattle.diva_memory.specs.Bytes.{Bytes, IsInside, put, word_byte}

@@ -1,4 +1,5 @@
 -- Stores that are not in memory yet, laid over it.
+-- Cited by `StoreQueue::push`, `drain`, `byte`, `half` and `word`.
 use Rattle.std.specs.Prelude.{ℕ, ◌+◌, ◌-◌, ◌*◌, ◌%◌, ◌^◌, List, [], ◌∷◌}
 use Rattle.diva_memory.specs.Bytes.{Bytes, low_bytes, put_all}
 use Rattle.diva_storeq.specs.declared.masked.Masked.{Masked}

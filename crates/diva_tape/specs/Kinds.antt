@@ -1,4 +1,5 @@
 -- The kinds of faults of a tape's line, and their numbers.
+-- Cited in `Tapes.antt`, for `Tape::read`.
 use Rattle.std.specs.Prelude.{ℕ}
 use Rattle.diva_tape.specs.declared.fault.Kind.{Kind}
 use Rattle.diva_tape.specs.declared.fault.Kind.TheVariants.{Word, NumberCount, ClaimCount}

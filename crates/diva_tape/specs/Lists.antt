@@ -1,4 +1,5 @@
 -- What the simple cores hand over.
+-- Cited by what `Lockstep`, `Flood` and `Echo` give.
 use Rattle.std.specs.Prelude.{◌≡◌, ◌==◌, ◌&&◌, nat_lt, List, [], ◌∷◌, replicate, if◌then◌else◌}
 use Rattle.diva_isa.specs.State.{State}
 use Rattle.diva_isa.specs.Step.{record_of}

@@ -1,4 +1,5 @@
 -- What the core `Noise` hands over, seen as the number that its generator gave last.
+-- Cited by what `Noise` gives, and `noise_goes_by_its_calls`.
 use Rattle.std.specs.Prelude.{◌≡◌, ℕ, zero, suc, List, [], ◌∷◌}
 use Rattle.diva_isa.specs.declared.record.Record.{Record}
 use Rattle.diva_core.specs.History.{Meaning}

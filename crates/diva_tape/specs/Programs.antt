@@ -1,4 +1,5 @@
 -- Programs that were worked out by hand, what is handed over as they run, and what is looked at of a run.
+-- Cited by the worked runs alone, as `three_instructions_in_lockstep`.
 use Rattle.std.specs.Prelude.{ℕ, zero, suc, ◌+◌, ◌-◌, ◌==◌, ◌&&◌, List, [], ◌∷◌, ◌++◌, length, map, filter, flat_map, replicate, get_or, bit_xor, nat_lt, nat_le, if◌then◌else◌}
 use Rattle.std.specs.Int.{to_le_bytes, w32}
 use Rattle.diva_isa.specs.State.{State, reg_of}

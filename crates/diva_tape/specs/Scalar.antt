@@ -1,4 +1,5 @@
 -- What the core `Scalar` hands over, and what it keeps.
+-- Cited by `Scalar::new`, what `Scalar` gives, and the laws of it, as `scalar_is_right`.
 use Rattle.std.specs.Prelude.{◌≡◌, ◌≤◌, ◌==◌, nat_lt, ◌&&◌, false, List, [], ◌∷◌, length, None, IfSome, if◌then◌else◌}
 use Rattle.diva_isa.specs.State.{State, goes_on}
 use Rattle.diva_isa.specs.Step.{record_of, steps}

@@ -1,4 +1,5 @@
 -- What a core hands over that plays a tape, seen as the lists that are yet to come.
+-- Cited by what `TapeCore` gives, and `tape_core_plays`.
 use Rattle.std.specs.Prelude.{◌≡◌, ℕ, List, [], ◌∷◌, ◌++◌, take, replicate}
 use Rattle.diva_isa.specs.declared.record.Record.{Record}
 use Rattle.diva_core.specs.History.{Meaning}

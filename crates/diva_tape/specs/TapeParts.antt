@@ -1,4 +1,5 @@
 -- How a tape keeps its lists: all claims one after another, and how many each list has.
+-- Cited by the types `Tape` and `TapeCore`.
 use Rattle.std.specs.Prelude.{◌≡◌, ◌≤◌, ℕ, List, [], ◌∷◌, length, take, drop, sum}
 use Rattle.std.specs.List.{All}
 use Rattle.diva_isa.specs.declared.record.Record.{Record}

@@ -1,4 +1,5 @@
 -- The text that is written of the lists that a core hands over, which is a tape of them.
+-- Cited by `tape_piece`.
 use Rattle.std.specs.Prelude.{◌≤◌, ◌<◌, ◌^◌, ℕ, Bool, true, false, List, [], ◌∷◌, ◌++◌, length, map, codes, if◌then◌else◌}
 use Rattle.std.specs.List.{All, AllByRecursion, flat_map, join_with_byte}
 use Rattle.diva_isa.specs.declared.record.Record.{Record}

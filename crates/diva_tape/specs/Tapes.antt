@@ -1,4 +1,5 @@
 -- The lists of a tape, or its first fault.
+-- Cited by `Tape::read` and `tape_piece`.
 use Rattle.std.specs.Prelude.{ℕ, ◌==◌, nat_le, Bool, List, [], ◌∷◌, ◌++◌, length, Option, Some, None, option_map, option_and_then, Result, Ok, Err, if◌then◌else◌}
 use Rattle.std.specs.List.{before_first, slice_split}
 use Rattle.std.specs.Option.{ok_or}

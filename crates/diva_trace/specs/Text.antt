@@ -1,4 +1,5 @@
 -- The text of a run: its parts, and the whole.
+-- Cited by `write_run`, `write_commits`, `write_hart`, `write_tally` and the writers of their parts.
 use Rattle.std.specs.Prelude.{◌≡◌, ℕ, ◌+◌, ◌-◌, ◌*◌, List, [], ◌∷◌, ◌++◌, length, map, min, take, drop, Option, Some, None}
 use Rattle.std.specs.Int.{div_ceil}
 use Rattle.std.specs.List.{concat, range_with_len}

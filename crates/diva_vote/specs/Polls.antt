@@ -1,4 +1,5 @@
 -- Three lanes that are asked the same questions, and what they answer.
+-- Cited by `judge_by_vote` and `recall_two_honest`; by `Machine::cycle_voted` of diva_machine.
 use Rattle.std.specs.Prelude.{◌≡◌, List, [], ◌∷◌, map, Option}
 use Rattle.std.specs.List.{All}
 use Rattle.diva_core.specs.declared.differences.Diff.{Diff}

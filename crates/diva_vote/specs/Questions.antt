@@ -1,4 +1,5 @@
 -- What lanes are asked, and which answer is right.
+-- Cited by `Lane::judge`, `judge_by_vote`, and what `Honest` says.
 use Rattle.std.specs.Prelude.{ℕ, Bool, List, [], Option}
 use Rattle.diva_isa.specs.State.{State}
 use Rattle.diva_isa.specs.declared.record.Record.{Record}

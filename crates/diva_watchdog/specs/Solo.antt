@@ -1,4 +1,5 @@
 -- Since when an instruction runs solo.
+-- Cited by `UnderWay::tick` of diva_hart.
 use Rattle.std.specs.Prelude.{ℕ, Option, Some, None}
 use Rattle.diva_watchdog.specs.declared.recover.Recover.{Recover}
 use Rattle.diva_watchdog.specs.declared.recover.Recover.TheVariants.{Running, Solo}

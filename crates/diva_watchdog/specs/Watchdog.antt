@@ -1,4 +1,5 @@
 -- For how long nothing has committed, and for how long that may go on.
+-- Cited by `Watchdog::tick`, `wait`, `rest` and the type `Watchdog`.
 use Rattle.std.specs.Prelude.{ℕ, ◌+◌, ◌-◌, ◌^◌, ◌&&◌, min, nat_le, not, Bool, if◌then◌else◌}
 
 -- the limit, and the cycles without a commit
