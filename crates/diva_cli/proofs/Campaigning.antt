@@ -36,7 +36,8 @@ use Rattle.diva_cli.specs.Tasks.{DrivesFor}
 use Rattle.diva_cli.specs.Wanted.{FileBytes}
 use Rattle.diva_trace.specs.Text.{campaign_text}
 use Rattle.diva_cli.proofs.Counting.{all_same, same_by_state}
-use Rattle.diva_cli.proofs.Running.{ends_with, run_from_start}
+use Rattle.diva_cli.proofs.Running.{ends_with}
+use Rattle.diva_cli.proofs.Sessions.{run_from_start}
 use Rattle.diva_cli.proofs.Soaking.{sizes_fit}
 
 -- ---- under a rule
@@ -130,7 +131,7 @@ module _ {C : Type 0} (gives : Meaning C) (options : CampaignOptions) (start : S
       let led = ruled_by script in
       record {
         run = run_from_start gives (campaign_setup options) options.cycles [] script start core (run_under script options.cycles start) core sizes_fit none
-            (record { lists = led.lists; ran = led.ran; each = led.each; most = led.few; handed = record { follows = led.follows; same = refl } });
+            led.lists led.ran (let e = led.each in omega arith) led.few (record { follows = (led.follows, tt); same = refl });
         whole = whole_run script;
       }
 

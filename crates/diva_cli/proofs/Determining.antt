@@ -5,12 +5,13 @@ use Rattle.std.proofs.lemmas.List.{length-map}
 use Rattle.diva_outside.specs.Text.{Text}
 use Rattle.diva_outside.specs.declared.files.What.TheVariants.{Script}
 use Rattle.diva_isa.specs.End.{end_of}
-use Rattle.diva_isa.specs.State.{goes_on}
+use Rattle.diva_isa.specs.State.{State, goes_on}
 use Rattle.diva_isa.specs.declared.record.Record.{Record}
 use Rattle.diva_core.specs.Timed.{Timed, default_config, depth, new_timed}
 use Rattle.diva_core.specs.Cycle.{cycle_of}
 use Rattle.diva_core.specs.Told.{told_of}
 use Rattle.diva_core.specs.History.{Meaning, IsHistory}
+use Rattle.diva_core.specs.Legs.{Handed}
 use Rattle.diva_faults.specs.declared.rows.Row.{Row}
 use Rattle.diva_faults.specs.Spoiled.{spoiled}
 use Rattle.diva_faults.specs.Lists.{scripted}
@@ -18,16 +19,19 @@ use Rattle.diva_trace.specs.Lines.{end_line_of, soak_line}
 use Rattle.diva_trace.specs.Text.{output_text, registers_text, soak_text, text_of}
 use Rattle.diva_trace.specs.declared.report.SoakCore.{SoakCore}
 use Rattle.diva_trace.specs.declared.report.SoakCore.TheVariants as soak_core
-use Rattle.diva_args.specs.Options.{RunOptions, SoakOptions}
+use Rattle.diva_args.specs.Options.{RunOptions, Setup, SoakOptions}
 use Rattle.diva_args.specs.declared.job.CoreChoice.{CoreChoice}
 use Rattle.diva_args.specs.declared.job.CoreChoice.TheVariants.{Own}
 use Rattle.diva_cli.specs.Wanted.{FileBytes}
 use Rattle.diva_cli.specs.Determined.{IsDetermined}
 use Rattle.diva_cli.specs.Changes.{change}
-use Rattle.diva_cli.specs.Driven.{AreHanded, ByTurns}
-use Rattle.diva_cli.specs.Runs.{AreRows, HasRun, asked_trace, shown_dump, start_in}
-use Rattle.diva_cli.specs.SoakTexts.{HasSoaked, soak_cycles, soak_start}
+use Rattle.diva_cli.specs.Driven.{AreHanded, ByLegs}
+use Rattle.diva_cli.specs.Runs.{HasRun, IsReadOff, IsRunFrom, asked_trace, shown_dump}
+use Rattle.diva_cli.specs.Sessions.{AreRows, start_in}
+use Rattle.diva_cli.specs.SoakTexts.{HasSoaked, soak_cycles, soak_setup, soak_start}
+use Rattle.diva_cli.proofs.Handing.{one_leg_turns}
 use Rattle.diva_cli.proofs.Running.{shown_whole}
+use Rattle.diva_cli.proofs.Sessions.{read_off}
 
 module _ {C : Type 0} (gives : Meaning C) (determined : IsDetermined gives) where
   -- the turns of two histories that were not broken off
@@ -60,10 +64,6 @@ rows_same : (name : Option (List ℕ)) (bytes : List ℕ) (rows rows' : List Row
 rows_same None bytes rows rows' i j = i ∙ sym j
 rows_same (Some name) bytes rows rows' i j = let e = sym i ∙ j in cc
 
-own_turns : {C : Type 0} (gives : Meaning C) (choice : CoreChoice) (tape : List (List Record)) (rows : List Row) (m : Timed) (core : C) (lists : List (List Record)) (last : Timed) (after : C)
-    → choice ≡ Own → AreHanded gives choice tape rows (change m last) (change core after) lists → ByTurns (spoiled rows gives) (change m last) (change core after) lists
-own_turns gives choice tape rows m core lists last after own h = subst (λ (x : CoreChoice). AreHanded gives x tape rows (change m last) (change core after) lists) own h
-
 -- the turns of a run
 record Ran {C : Type 0} (gives : Meaning C) (n : ℕ) (m : Timed) (core : C) (last : Timed) (after : C) : Type 0 where
   history : List (List Record × C)
@@ -71,18 +71,29 @@ record Ran {C : Type 0} (gives : Meaning C) (n : ℕ) (m : Timed) (core : C) (la
   most : length history ≤ n
   all : goes_on last.arch ≡ true → length history ≡ n
 
+-- those of a run by the core that is handed in
+own_turns : {C : Type 0} (gives : Meaning C) (setup : Setup) (cycles : ℕ) (tape : List (List Record)) (rows : List Row) (start : State) (core : C) (last : Timed) (after : C)
+    → setup.core ≡ Own → (run : IsRunFrom gives setup cycles tape rows start (change core after) last) → (goes_on last.arch ≡ true → last.cycles ≡ cycles)
+    → Ran (spoiled rows gives) cycles (new_timed setup.config start) core last after
+own_turns gives setup cycles tape rows start core last after own run whole =
+    let first : Timed = new_timed setup.config start in
+    let handed : ByLegs (spoiled rows gives) (change first last) (change core after) (Handed run.lists ∷ []) =
+    subst (λ (x : CoreChoice). AreHanded gives x tape rows (change first last) (change core after) (Handed run.lists ∷ [])) own
+    (subst (AreHanded gives setup.core tape rows (change first last) (change core after)) run.one run.session.driven.handed) in
+    let turns = one_leg_turns (spoiled rows gives) first last core after run.lists handed.legs handed.good handed.in_order in
+    let off : IsReadOff cycles first run.lists last = read_off gives setup cycles tape rows start (change core after) last run in
+    let long : length run.lists ≡ length turns.history = ap length turns.in_order ∙ length-map turns.history (λ turn. turn.0) in
+    let most = off.most in
+    let each = off.each in
+    record { history = turns.history; good = turns.good; most = omega arith; all = λ on. (let e = whole on in omega arith) }
+
 ran : {C : Type 0} (gives : Meaning C) (options : RunOptions) (bytes : FileBytes) (core after : C) (ended : Result ℕ Text) (text : Text) (rows : List Row)
     → options.setup.core ≡ Own → (h : HasRun gives options bytes (change core after) ended text) → (options.trace ≡ true → IsOk ended) → h.of_files.script ≡ rows
     → Ran (spoiled rows gives) options.cycles (new_timed options.setup.config (start_in options.setup bytes)) core h.last after
 ran gives options bytes core after ended text rows own h asked is =
-    let shown = shown_whole gives options bytes core after ended text h asked in
-    let driven = h.of_files.run.driven in
-    let turns = own_turns gives options.setup.core h.of_files.tape h.of_files.script (new_timed options.setup.config (start_in options.setup bytes)) core driven.lists h.last after own driven.handed in
-    let long : length driven.lists ≡ length turns.history = ap length turns.in_order ∙ length-map turns.history (λ turn. turn.0) in
-    let most = driven.most in
-    let each = driven.each in
     subst (λ (r : List Row). Ran (spoiled r gives) options.cycles (new_timed options.setup.config (start_in options.setup bytes)) core h.last after) is
-    (record { history = turns.history; good = turns.good; most = omega arith; all = λ on. (let e = shown.0.all on in omega arith) })
+    (own_turns gives options.setup options.cycles h.of_files.tape h.of_files.script (start_in options.setup bytes) core h.last after own h.of_files.holds
+    (shown_whole gives options bytes core after ended text h asked).0.all)
 
 pub text_same : {C : Type 0} (gives : Meaning C) → IsDetermined gives → (options : RunOptions) (bytes : FileBytes) (core after last : C) (ended other : Result ℕ Text) (text same : Text)
     → options.setup.core ≡ Own → HasRun gives options bytes (change core after) ended text → HasRun gives options bytes (change core last) other same
@@ -103,12 +114,8 @@ soak_ran : {C : Type 0} (gives : Meaning C) (options : SoakOptions) (core after 
     → (h : HasSoaked gives options (change core after) ended text)
     → Ran (spoiled [] gives) (soak_cycles options.instructions) (new_timed default_config (soak_start options)) core h.second after
 soak_ran gives options core after ended text h =
-    let driven = h.under_own.driven in
-    let turns : ByTurns (spoiled [] gives) (change (new_timed default_config (soak_start options)) h.second) (change core after) driven.lists = driven.handed in
-    let long : length driven.lists ≡ length turns.history = ap length turns.in_order ∙ length-map turns.history (λ turn. turn.0) in
-    let most = driven.most in
     let off : goes_on h.second.arch ≡ false = ap (λ end. end == 0) h.halts.1 in
-    record { history = turns.history; good = turns.good; most = omega arith; all = λ on. absurd (true≢false (sym on ∙ off)) }
+    own_turns gives (soak_setup Own) (soak_cycles options.instructions) [] [] (soak_start options) core h.second after refl h.under_own (λ on. absurd (true≢false (sym on ∙ off)))
 
 line_same : (core : SoakCore) (n n' y y' f f' : ℕ) → n ≡ n' → y ≡ y' → f ≡ f' → soak_line core n y f ≡ soak_line core n' y' f'
 line_same core n n' y y' f f' a b c = cc

@@ -31,11 +31,12 @@ use Rattle.diva_cli.specs.Changes.{HasFailed, SinkChange, Takes, TakesPast, chan
 use Rattle.diva_cli.specs.Cuts.{BeforeLast}
 use Rattle.diva_cli.specs.DrawTexts.{HasDrawing, IsDrawnPart, IsDrawnWhole, begin_text, cycle_text, cycles_drawn, drawn_text, end_text, front_text, pen_after, pen_at, pen_behind}
 use Rattle.diva_cli.specs.Parts.{IsReady, WritesPart, WritesWhole}
-use Rattle.diva_cli.specs.Runs.{IsRunOfFiles, IsWhole, end_status, start_in}
-use Rattle.diva_cli.specs.Tasks.{IsCutDrawing, IsDrawn, IsDrawnIn, Performs, PerformsBy}
+use Rattle.diva_cli.specs.Runs.{IsRunOfFiles, IsWhole, end_status}
+use Rattle.diva_cli.specs.Sessions.{start_in}
+use Rattle.diva_cli.specs.Tasks.{IsCutDrawing, IsDrawn, IsDrawnIn, IsOnePart, Performs, PlaysBy}
 use Rattle.diva_cli.specs.Wanted.{FileBytes}
 use Rattle.diva_cli.proofs.Cycling.{lists_more, no_turn}
-use Rattle.diva_cli.proofs.Running.{ends_with, of_files_lists, run_of_files, run_whole}
+use Rattle.diva_cli.proofs.Running.{ends_with, run_of_files, run_whole}
 
 -- ---- one cycle more
 
@@ -329,11 +330,14 @@ module _ {C S : Type 0} (gives : Meaning C) (options : DrawOptions) (bytes : Fil
     (format : Format) (cycles : ℕ) (sink : SinkChange S) (result : Result (Unit {0}) SinkFailed)
     (f : format ≡ options.format) (y : cycles ≡ options.run.cycles) (fits : IsConfig options.run.setup.config)
     (is : IsReady options.run.setup bytes ready) (lanes : LanesAsked)
-    (p : PerformsBy gives ready.core ready.script (change ready.machine.timed last) (change core after)
-    (λ lists. IsDrawn format cycles (change ready.machine.timed last) lists sink result
-    × lanes options.run.liar (asked_over ready.machine.timed lists))) where
-  abbrev d : IsDrawn options.format cycles (change ready.machine.timed last) p.lists sink result
-  d = subst (λ (x : Format). IsDrawn x cycles (change ready.machine.timed last) p.lists sink result) f p.done.0
+    (p : PlaysBy gives ready.core ready.script (change ready.machine.timed last) (change core after)
+    (IsOnePart (λ lists. IsDrawn format cycles (change ready.machine.timed last) lists sink result
+    × lanes options.run.liar (asked_over ready.machine.timed lists)))) where
+  abbrev lists : List (List Record)
+  lists = p.done.lists
+
+  abbrev d : IsDrawn options.format cycles (change ready.machine.timed last) lists sink result
+  d = subst (λ (x : Format). IsDrawn x cycles (change ready.machine.timed last) lists sink result) f p.done.done.0
 
   abbrev start : State
   start = start_in options.run.setup bytes
@@ -342,59 +346,55 @@ module _ {C S : Type 0} (gives : Meaning C) (options : DrawOptions) (bytes : Fil
   begun = new_timed options.run.setup.config start
 
   abbrev of_files : IsRunOfFiles gives options.run.setup options.run.cycles bytes (change core after) last
-  of_files = run_of_files gives options.run.setup options.run.cycles bytes ready core last after fits is p.lists p.ran p.each p.handed (let m = d.most in omega arith)
+  of_files = run_of_files gives options.run.setup options.run.cycles bytes ready core last after fits is _ p (let m = d.most in omega arith)
 
-  all_lists : of_files.run.driven.lists ≡ p.lists
-  all_lists = of_files_lists gives options.run.setup options.run.cycles bytes ready core last after fits is p.lists p.ran p.each p.handed (let m = d.most in omega arith)
-
-  asks : AsksInRun options.run.setup options.run.liar bytes of_files.run.driven.lists lanes
+  asks : AsksInRun options.run.setup options.run.liar bytes lists lanes
   asks =
-      subst (λ (m : Timed). lanes options.run.liar (asked_over m of_files.run.driven.lists)) is.begun
-      (subst (λ (ls : List (List Record)). lanes options.run.liar (asked_over ready.machine.timed ls)) (sym all_lists) p.done.1)
+      subst (λ (m : Timed). lanes options.run.liar (asked_over m lists)) is.begun p.done.done.1
 
   saw : IsSnapshot begun d.first
   saw = subst (λ (m : Timed). IsSnapshot m d.first) is.begun d.saw
 
-  are : AreSnapshots begun of_files.run.driven.lists d.seen
-  are = subst (λ (ls : List (List Record)). AreSnapshots begun ls d.seen) (sym all_lists) (subst (λ (m : Timed). AreSnapshots m p.lists d.seen) is.begun d.are)
+  are : AreSnapshots begun lists d.seen
+  are = subst (λ (m : Timed). AreSnapshots m lists d.seen) is.begun d.are
 
-  whole_if : (goes_on last.arch ≡ true → length p.lists ≡ cycles) → IsWhole options.run.setup options.run.cycles start last
-  whole_if all = run_whole gives options.run.setup options.run.cycles bytes ready core last after fits is p.lists p.ran p.each p.handed (λ on. all on ∙ y)
+  whole_if : (goes_on last.arch ≡ true → length lists ≡ cycles) → IsWhole options.run.setup options.run.cycles start last
+  whole_if all = run_whole gives options.run.setup options.run.cycles bytes ready core last after fits is _ p (λ on. all on ∙ y)
 
   abbrev whole_text : List ℕ
-  whole_text = drawn_text options.format d.first of_files.run.driven.lists d.seen
+  whole_text = drawn_text options.format d.first lists d.seen
 
   abbrev part_text : List ℕ
-  part_text = front_text options.format d.first of_files.run.driven.lists d.seen
+  part_text = front_text options.format d.first lists d.seen
 
   means : (ended : Result ℕ (List ℕ)) (text : List ℕ)
-      → IsDrawnWhole options start last d.first of_files.run.driven.lists d.seen ended text ⊎ IsDrawnPart options d.first of_files.run.driven.lists d.seen ended text
+      → IsDrawnWhole options start last d.first lists d.seen ended text ⊎ IsDrawnPart options d.first lists d.seen ended text
       → HasDrawing gives options bytes (change core after) ended text
   means ended text written = record { last = last; of_files = of_files; first = d.first; saw = saw; seen = d.seen; are = are; written = written }
 
   pub wrote_drawing : result ≡ Ok tt → (status : ℕ) → status ≡ end_status (end_of last.arch.end) → WritesWhole gives (Draw options) bytes (asking core after lanes) sink status
   unfolding means
   wrote_drawing ok status says =
-      let w = subst (λ (r : Result (Unit {0}) SinkFailed). OnOk r ((goes_on last.arch ≡ true → length p.lists ≡ cycles) × Takes sink (drawn_text options.format d.first p.lists d.seen))) ok d.whole in
+      let w = subst (λ (r : Result (Unit {0}) SinkFailed). OnOk r ((goes_on last.arch ≡ true → length lists ≡ cycles) × Takes sink (drawn_text options.format d.first lists d.seen))) ok d.whole in
       record {
         text = whole_text;
         means = means (Ok status) whole_text (inl (record { whole = whole_if w.0; says = ends_with options.run.setup options.run.cycles start last status (whole_if w.0) says; lines = refl; cut = tt }));
         lanes = asks;
-        written = subst (λ (ls : List (List Record)). Takes sink (drawn_text options.format d.first ls d.seen)) (sym all_lists) w.1;
+        written = w.1;
       }
 
   pub cut_drawing : (e : SinkFailed) → result ≡ Err e → WritesPart gives (Draw options) bytes (asking core after lanes) sink
   unfolding means
   cut_drawing e err =
-      let c = subst (λ (r : Result (Unit {0}) SinkFailed). OnErr r (HasFailed sink × IsCutDrawing options.format cycles last d.first p.lists d.seen sink)) err d.cut in
+      let c = subst (λ (r : Result (Unit {0}) SinkFailed). OnErr r (HasFailed sink × IsCutDrawing options.format cycles last d.first lists d.seen sink)) err d.cut in
       elim c.1 [
         | inl b ↦ record {
           rose = c.0;
           put = [];
           text = part_text;
-          means = means (Err []) part_text (inr (record { lines = refl; cut = inl (all_lists ∙ b.0, refl) }));
+          means = means (Err []) part_text (inr (record { lines = refl; cut = inl (b.0, refl) }));
           lanes = asks;
-          written = subst (λ (ls : List (List Record)). TakesPast sink [] (front_text options.format d.first ls d.seen)) (sym (all_lists ∙ b.0)) (rw append-nil (past_nothing _ _ _ b.1));
+          written = subst (λ (ls : List (List Record)). TakesPast sink [] (front_text options.format d.first ls d.seen)) (sym (b.0)) (rw append-nil (past_nothing _ _ _ b.1));
         }
         | inr b ↦ elim b [
           | inl q ↦ record {
@@ -402,9 +402,9 @@ module _ {C S : Type 0} (gives : Meaning C) (options : DrawOptions) (bytes : Fil
             put = front_text options.format d.first q.earlier d.seen;
             text = part_text;
             means = means (Err (front_text options.format d.first q.earlier d.seen)) part_text
-                (inr (record { lines = refl; cut = inr (record { earlier = q.earlier; last = q.last; in_order = all_lists ∙ q.in_order; holds = refl }) }));
+                (inr (record { lines = refl; cut = inr (record { earlier = q.earlier; last = q.last; in_order = q.in_order; holds = refl }) }));
             lanes = asks;
-            written = subst (λ (ls : List (List Record)). TakesPast sink (front_text options.format d.first q.earlier d.seen) (front_text options.format d.first ls d.seen)) (sym all_lists) q.holds;
+            written = q.holds;
           }
           | inr q ↦ record {
             rose = c.0;
@@ -412,7 +412,7 @@ module _ {C S : Type 0} (gives : Meaning C) (options : DrawOptions) (bytes : Fil
             text = whole_text;
             means = means (Err part_text) whole_text (inl (record { whole = whole_if q.0; says = tt; lines = refl; cut = refl }));
             lanes = asks;
-            written = subst (λ (ls : List (List Record)). TakesPast sink (front_text options.format d.first ls d.seen) (drawn_text options.format d.first ls d.seen)) (sym all_lists) q.1;
+            written = q.1;
           }
         ]
       ]

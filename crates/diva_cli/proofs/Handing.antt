@@ -1,36 +1,31 @@
--- Turns of a core under a script, and turns as lists that are handed to a machine.
+-- Legs of a core under a script, and legs as parts that are handed to a machine.
 use Rattle.diva_machine.specs.Asked.{asked_over}
 use Rattle.diva_vote.specs.Questions.{Question}
-use Rattle.std.proofs.Common.{◌≡◌, ◌↔◌, ℕ, ◌+◌, ◌≤◌, ◌==◌, true, false, List, [], ◌∷◌, Option, Ok, refl, sym, ◌∙◌, ap, subst, arith, length, replicate, suc}
+use Rattle.std.proofs.Common.{◌≡◌, ◌↔◌, ℕ, ◌+◌, ◌≤◌, ◌==◌, true, false, List, [], ◌∷◌, Option, Ok, refl, sym, ◌∙◌, ap, subst, arith, length, length-append, map}
 use Rattle.std.proofs.lemmas.Bool.{true≢false}
 use Rattle.std.proofs.lemmas.Bool.Decides.{nat_tests}
-use Rattle.diva_isa.specs.State.{State, goes_on}
+use Rattle.diva_isa.specs.State.{goes_on}
 use Rattle.diva_isa.specs.declared.record.Record.{Record}
-use Rattle.diva_core.specs.Told.{Told, told_of}
+use Rattle.diva_core.specs.Told.{told_of}
 use Rattle.diva_core.specs.Timed.{Timed}
-use Rattle.diva_core.specs.Cycle.{cycle_of}
-use Rattle.diva_core.specs.History.{Meaning, IsHistory, Turns, lists_of, FollowRule}
-use Rattle.diva_core.specs.Machine.{IsMachine}
-use Rattle.diva_core.proofs.Keeping.{stays}
-use Rattle.diva_core.proofs.Outcomes.{cycle-cycles}
-use Rattle.diva_core.proofs.Turning.{IsHistory-run, IsHistory-rule, length-lists_of}
+use Rattle.diva_core.specs.Cycle.{run_of}
+use Rattle.diva_core.specs.History.{Meaning, IsHistory, Turns, lists_of}
+use Rattle.diva_core.specs.Legs.{AreLegs, Handed, Leg, Part, TakenBack, Turned, WentBack, handed_in, part_of}
+use Rattle.diva_core.proofs.Legging.{AreLegs-rule, AreLegs-run, IsHistory-core, IsLeg-history}
+use Rattle.diva_core.proofs.Turning.{IsHistory-run, length-lists_of}
 use Rattle.diva_faults.specs.declared.faulty.Faulty.{Faulty}
 use Rattle.diva_faults.specs.declared.rows.Row.{Row}
 use Rattle.diva_faults.specs.Lists.{scripted}
 use Rattle.diva_faults.specs.Spoiled.{spoiled, spoiled_call, inside, lent_name, rows_in}
-use Rattle.diva_faults.proofs.Spoiling.{Turns-none, Turns-spoiled}
+use Rattle.diva_faults.proofs.Legging.{legs_none, legs_spoiled}
 use Rattle.diva_hart.specs.declared.ends.Drive.{Drive}
 use Rattle.diva_hart.specs.declared.ends.Drive.TheVariants.{Ended, Budget}
-use Rattle.diva_tape.specs.Lists.{lockstep_call, lockstep_list, silent_list, zeros, flood_list, echo_call, echo_list}
-use Rattle.diva_tape.specs.Noise.{noise_call}
-use Rattle.diva_ahead.specs.Ahead.{Ahead}
-use Rattle.diva_tape.specs.Scalar.{IsScalarCall}
-use Rattle.diva_tape.specs.TapeCalls.{tape_call}
 use Rattle.diva_cli.specs.declared.driving.CoreInUse.{CoreInUse}
-use Rattle.diva_cli.specs.declared.driving.CoreInUse.TheVariants.{Own, Lockstep, Scalar, Silent, Flood, Echo, Noise, Tape}
-use Rattle.diva_cli.specs.Changes.{Change, change, sink_change}
-use Rattle.diva_cli.specs.Driven.{scripted_lists, scripted_rule}
-use Rattle.diva_cli.specs.Tasks.{AreHandedBy, DrivesFor, IsQuiet, Performs, PerformsBy}
+use Rattle.diva_cli.specs.declared.driving.CoreInUse.TheVariants.{Own}
+use Rattle.diva_cli.specs.Changes.{change, sink_change}
+use Rattle.diva_cli.specs.Driven.{ByLegs, ByOther, ByRule, scripted_rule}
+use Rattle.diva_cli.specs.Runs.{ByTurns, LegsAreTurns}
+use Rattle.diva_cli.specs.Tasks.{AreHandedBy, DrivesFor, IsOnePart, IsQuiet, Performs, Plays, PlaysBy}
 
 -- ---- under a script
 
@@ -42,27 +37,79 @@ pub no_rows : (rows script : List Row) → rows ≡ script → true ≡ (length 
 no_rows [] script same none = sym same
 no_rows (row ∷ rows) script same none = absurd (let n = is_zero (length (row ∷ rows)) none in omega arith)
 
--- turns of a core are its turns under a script that has no rows
-pub performs_none :
-    {D : Type 0} (gives : Meaning D) (script : List Row) (m : Timed) (core : D) (last : Timed) (after : D) (this : List (List Record) → Type 0)
+-- legs of a core are its legs under a script that has no rows
+pub plays_none :
+    {D : Type 0} (gives : Meaning D) (script : List Row) (m : Timed) (core : D) (last : Timed) (after : D) (this : List Part → Type 0)
     → script ≡ []
-    → Performs gives (change m last) (change core after) this
-    → Performs (spoiled script gives) (change m last) (change core after) this
-performs_none gives script m core last after this none p =
-    let t = Turns-none gives m core last after p.turns in
-    rw none (record { turns = t.turns; done = subst this (sym t.same) p.done })
+    → Plays gives (change m last) (change core after) this
+    → Plays (spoiled script gives) (change m last) (change core after) this
+plays_none gives script m core last after this none p =
+    let l = legs_none gives m core p.legs last after p.good in
+    rw none (record {
+      legs = l.legs;
+      good = l.good;
+      each = subst (λ (parts : List Part). last.cycles ≡ m.cycles + length (handed_in parts)) (sym l.same) p.each;
+      done = subst this (sym l.same) p.done;
+    })
 
--- turns of a core over the one that was lent to it
-pub performs_faulty :
-    {D : Type 0} (gives : Meaning D) (script : List Row) (m : Timed) (core : D) (f : Faulty D) (last : Timed) (final : Faulty D) (after : D) (this : List (List Record) → Type 0)
+-- legs of a core over the one that was lent to it
+pub plays_faulty :
+    {D : Type 0} (gives : Meaning D) (script : List Row) (m : Timed) (core : D) (f : Faulty D) (last : Timed) (final : Faulty D) (after : D) (this : List Part → Type 0)
     → inside f ≡ core
     → rows_in f ≡ script
     → (lent_name f ≡ lent_name final → after ≡ inside final)
-    → Performs (spoiled_call gives) (change m last) (change f final) this
-    → Performs (spoiled script gives) (change m last) (change core after) this
-performs_faulty gives script m core f last final after this lent rows ends p =
-    let t = Turns-spoiled gives script m core f last final after lent rows ends p.turns in
-    record { turns = t.turns; done = subst this (sym t.same) p.done }
+    → Plays (spoiled_call gives) (change m last) (change f final) this
+    → Plays (spoiled script gives) (change m last) (change core after) this
+plays_faulty gives script m core f last final after this lent rows ends p =
+    let l = legs_spoiled gives script m core f p.legs last final after lent rows ends p.good in
+    record {
+      legs = l.legs;
+      good = l.good;
+      each = subst (λ (parts : List Part). last.cycles ≡ m.cycles + length (handed_in parts)) (sym l.same) p.each;
+      done = subst this (sym l.same) p.done;
+    }
+
+-- ---- turns are legs of one part
+
+one_leg_good : {D : Type 0} (gives : Meaning D) (m last : Timed) (core after : D) (t : Turns gives m core last after)
+    → AreLegs gives m core (Turned t.history ∷ []) last after
+one_leg_good gives m last core after t =
+    (IsLeg-history gives m core t.history last after t.good, (IsHistory-run gives m core t.history last after t.good, IsHistory-core gives m core t.history last after t.good))
+
+pub one_leg : {D : Type 0} (gives : Meaning D) (m last : Timed) (core after : D) (t : Turns gives m core last after)
+    → ByLegs gives (change m last) (change core after) (Handed (lists_of t.history) ∷ [])
+one_leg gives m last core after t = record { legs = Turned t.history ∷ []; good = one_leg_good gives m last core after t; in_order = refl }
+
+pub plays_turns :
+    {D : Type 0} (gives : Meaning D) (m : Timed) (core : D) (last : Timed) (after : D) (this : List (List Record) → Type 0)
+    → Performs gives (change m last) (change core after) this
+    → Plays gives (change m last) (change core after) (IsOnePart this)
+plays_turns gives m core last after this p =
+    record {
+      legs = Turned p.turns.history ∷ [];
+      good = one_leg_good gives m last core after p.turns;
+      each = (let e = p.turns.each in let l = length-lists_of p.turns.history in let a = length-append (lists_of p.turns.history) [] in omega arith);
+      done = record { lists = lists_of p.turns.history; one = refl; done = p.done };
+    }
+
+-- legs of one part are turns
+pub one_leg_turns : {C : Type 0} (gives : Meaning C) (m last : Timed) (core after : C) (lists : List (List Record)) (legs : List (Leg C))
+    → AreLegs gives m core legs last after → Handed lists ∷ [] ≡ map part_of legs → ByTurns gives (change m last) (change core after) lists
+one_leg_turns gives m last core after lists [] good same = absurd (cc)
+one_leg_turns gives m last core after lists (WentBack undos ∷ legs) good same = absurd (let e : Handed lists ∷ [] ≡ TakenBack undos ∷ map part_of legs = same in cc)
+one_leg_turns gives m last core after lists (Turned history ∷ leg ∷ legs) good same =
+    absurd (let e : Handed lists ∷ [] ≡ Handed (lists_of history) ∷ part_of leg ∷ map part_of legs = same in cc)
+one_leg_turns gives m last core after lists (Turned history ∷ []) good same =
+    record {
+      history = history;
+      good = subst (λ (n : Timed). IsHistory gives m core history n after) (sym good.1.0)
+          (subst (λ c. IsHistory gives m core history (run_of m (lists_of history)) c) (sym good.1.1) good.0);
+      in_order = (let e : Handed lists ∷ [] ≡ Handed (lists_of history) ∷ [] = same in cc);
+    }
+
+pub legs_are_turns : {C : Type 0} (gives : Meaning C) → LegsAreTurns gives
+legs_are_turns gives script machine core lists by =
+    one_leg_turns (spoiled script gives) machine.before machine.after core.before core.after lists by.legs by.good by.in_order
 
 -- ---- a drive of which nothing is written
 
@@ -100,96 +147,40 @@ performs_quiet gives budget m core last after contents faults s this d =
 
 -- ---- a line for each core
 
-module _ {C D : Type 0} (gives : Meaning C) (its : Meaning D) (script : List Row) (m last : Timed) (core : C) (first final : D) (this : List (List Record) → Type 0) (p : Performs (spoiled script its) (change m last) (change first final) this) where
-  by : (used : CoreInUse) (after : C) → AreHandedBy gives used script (change m last) (change core after) (lists_of p.turns.history) → PerformsBy gives used script (change m last) (change core after) this
-  by used after handed =
+module _ {C D : Type 0} (gives : Meaning C) (its : Meaning D) (script : List Row) (m last : Timed) (core : C) (first final : D) (this : List Part → Type 0) (p : Plays (spoiled script its) (change m last) (change first final) this) where
+  plays_by : (used : CoreInUse) (after : C) → AreHandedBy gives used script (change m last) (change core after) (map part_of p.legs) → PlaysBy gives used script (change m last) (change core after) this
+  plays_by used after handed =
       record {
-        lists = lists_of p.turns.history;
-        ran = IsHistory-run (spoiled script its) m first p.turns.history last final p.turns.good;
-        each = (let e = p.turns.each in let l = length-lists_of p.turns.history in omega arith);
+        parts = map part_of p.legs;
+        ran = AreLegs-run (spoiled script its) m first p.legs last final p.good;
+        each = p.each;
         handed = handed;
         done = p.done;
       }
 
   -- a core whose lists follow a rule
-  by_rule : (rule : Timed → List Record)
+  pub plays_rule : (used : CoreInUse) (rule : Timed → List Record)
+      → (ByRule (scripted_rule script rule) m (change core core) (map part_of p.legs) → AreHandedBy gives used script (change m last) (change core core) (map part_of p.legs))
       → ((n : Timed) (before : D) (list : List Record) (after : D) → its before (told_of n) n.arch list after → list ≡ rule n)
-      → FollowRule (scripted_rule script rule) m (lists_of p.turns.history)
-  by_rule rule is_rule =
-      IsHistory-rule (spoiled script its) (scripted_rule script rule)
-      (λ n before list after h. h.laid ∙ ap (scripted script (n.cycles + 1)) (is_rule n before h.inner after h.given))
-      m first p.turns.history last final p.turns.good
+      → PlaysBy gives used script (change m last) (change core core) this
+  plays_rule used rule line is_rule =
+      plays_by used core
+      (line (record {
+        follows = AreLegs-rule (spoiled script its) (scripted_rule script rule)
+            (λ n before list after h. h.laid ∙ ap (scripted script (n.cycles + 1)) (is_rule n before h.inner after h.given))
+            m first p.legs last final p.good;
+        same = refl;
+      }))
 
-  pub by_lockstep :
-      ((before : D) (told : Told) (s : State) (list : List Record) (after : D) → its before told s list after → list ≡ lockstep_call told s)
-      → PerformsBy gives Lockstep script (change m last) (change core core) this
-  by_lockstep is_rule =
-      by Lockstep core (record { follows = by_rule lockstep_list (λ n before list after h. is_rule before (told_of n) n.arch list after h); same = refl })
+  -- another core
+  pub plays_other : (used : CoreInUse)
+      → (ByOther its first script (change m last) (change core core) (map part_of p.legs) → AreHandedBy gives used script (change m last) (change core core) (map part_of p.legs))
+      → PlaysBy gives used script (change m last) (change core core) this
+  plays_other used line = plays_by used core (line (record { final = final; by = record { legs = p.legs; good = p.good; in_order = refl }; same = refl }))
 
-  pub by_silent :
-      ((before : D) (told : Told) (s : State) (list : List Record) (after : D) → its before told s list after → list ≡ [])
-      → PerformsBy gives Silent script (change m last) (change core core) this
-  by_silent is_rule =
-      by Silent core (record { follows = by_rule silent_list (λ n before list after h. is_rule before (told_of n) n.arch list after h); same = refl })
-
-  pub by_flood :
-      ((before : D) (told : Told) (s : State) (list : List Record) (after : D) → its before told s list after → list ≡ replicate 8 zeros)
-      → PerformsBy gives Flood script (change m last) (change core core) this
-  by_flood is_rule =
-      by Flood core (record { follows = by_rule flood_list (λ n before list after h. is_rule before (told_of n) n.arch list after h); same = refl })
-
-  pub by_echo :
-      ((before : D) (told : Told) (s : State) (list : List Record) (after : D) → its before told s list after → list ≡ echo_call told s)
-      → PerformsBy gives Echo script (change m last) (change core core) this
-  by_echo is_rule =
-      by Echo core (record { follows = by_rule echo_list (λ n before list after h. is_rule before (told_of n) n.arch list after h); same = refl })
-
-pub by_own :
-    {C : Type 0} (gives : Meaning C) (script : List Row) (m last : Timed) (core after : C) (this : List (List Record) → Type 0)
-    → Performs (spoiled script gives) (change m last) (change core after) this
-    → PerformsBy gives Own script (change m last) (change core after) this
-by_own gives script m last core after this p =
-    by gives gives script m last core core after this p Own after (record { history = p.turns.history; good = p.turns.good; in_order = refl })
-
-module _ {C : Type 0} (gives : Meaning C) (script : List Row) (m last : Timed) (core : C) (this : List (List Record) → Type 0) where
-  pub by_scalar : (first final : Ahead) → Performs (spoiled script IsScalarCall) (change m last) (change first final) this → PerformsBy gives (Scalar first) script (change m last) (change core core) this
-  by_scalar first final p =
-      by gives IsScalarCall script m last core first final this p (Scalar first) core
-      (record { final = final; turns = record { history = p.turns.history; good = p.turns.good; in_order = refl }; same = refl })
-
-  pub by_noise : (first final : ℕ) → Performs (spoiled script noise_call) (change m last) (change first final) this → PerformsBy gives (Noise first) script (change m last) (change core core) this
-  by_noise first final p =
-      by gives noise_call script m last core first final this p (Noise first) core
-      (record { final = final; turns = record { history = p.turns.history; good = p.turns.good; in_order = refl }; same = refl })
-
-  pub by_tape : (first final : List (List Record)) → Performs (spoiled script tape_call) (change m last) (change first final) this → PerformsBy gives (Tape first) script (change m last) (change core core) this
-  by_tape first final p =
-      by gives tape_call script m last core first final this p (Tape first) core
-      (record { final = final; turns = record { history = p.turns.history; good = p.turns.good; in_order = refl }; same = refl })
-
--- the lists of a core that goes by its calls alone, as a script changes them
-pub calls_made :
-    {D : Type 0} (its : Meaning D) (calls : ℕ → D → List (List Record))
-    → ((before : D) → calls 0 before ≡ [])
-    → ((before after : D) (told : Told) (s : State) (list : List Record) (n : ℕ) → its before told s list after → list ∷ calls n after ≡ calls (suc n) before)
-    → (script : List Row) (m : Timed) (before : D) (history : List (List Record × D)) (last : Timed) (after : D)
-    → IsMachine m
-    → IsHistory (spoiled script its) m before history last after
-    → lists_of history ≡ scripted_lists script (m.cycles + 1) (calls (length (lists_of history)) before)
-calls_made its calls none more script m before [] last after inv h = ap (scripted_lists script (m.cycles + 1)) (sym (none before))
-calls_made its calls none more script m before (turn ∷ history) last after inv h =
-    let one = h.1.0 in
-    let rest = calls_made its calls none more script (cycle_of m turn.0) turn.1 history last after (stays m turn.0 inv) h.1.1 in
-    let next : (cycle_of m turn.0).cycles ≡ m.cycles + 1 = cycle-cycles m turn.0 inv h.0 in
-    ap (λ (list : List Record). list ∷ lists_of history) one.laid
-    ∙ ap (λ (lists : List (List Record)). scripted script (m.cycles + 1) one.inner ∷ lists)
-    (rest ∙ ap (λ n. scripted_lists script (n + 1) (calls (length (lists_of history)) turn.1)) next)
-    ∙ ap (scripted_lists script (m.cycles + 1)) (more before turn.1 (told_of m) m.arch one.inner (length (lists_of history)) one.given)
-
--- what holds of the lists can be said with less
-pub performs_so :
-    {C : Type 0} (gives : Meaning C) (used : CoreInUse) (script : List Row) (machine : Change Timed) (core : Change C) (this that : List (List Record) → Type 0)
-    → ((lists : List (List Record)) → this lists → that lists)
-    → PerformsBy gives used script machine core this → PerformsBy gives used script machine core that
-performs_so gives used script machine core this that so p =
-    record { lists = p.lists; ran = p.ran; each = p.each; handed = p.handed; done = so p.lists p.done }
+pub plays_own :
+    {C : Type 0} (gives : Meaning C) (script : List Row) (m last : Timed) (core after : C) (this : List Part → Type 0)
+    → Plays (spoiled script gives) (change m last) (change core after) this
+    → PlaysBy gives Own script (change m last) (change core after) this
+plays_own gives script m last core after this p =
+    plays_by gives gives script m last core core after this p Own after (record { legs = p.legs; good = p.good; in_order = refl })

@@ -1,5 +1,5 @@
 -- A tape of all that was handed over drives the machine to the same end.
-use Rattle.std.proofs.Common.{◌≡◌, ℕ, zero, suc, ◌+◌, ◌≤◌, Bool, true, false, List, [], ◌∷◌, ◌++◌, length, Option, Some, Result, Ok, Err, IsOk, OnOk, OnErr, refl, sym, ◌∙◌, ap, subst, arith, None}
+use Rattle.std.proofs.Common.{◌≡◌, ℕ, zero, suc, ◌+◌, ◌≤◌, Bool, true, false, List, [], ◌∷◌, ◌++◌, length, Option, Some, Result, Ok, Err, IsOk, OnOk, OnErr, refl, sym, ◌∙◌, ap, append-nil, subst, arith, None}
 use Rattle.std.specs.List.{All}
 use Rattle.diva_isa.specs.End.{end_of}
 use Rattle.diva_isa.specs.State.{State, goes_on}
@@ -7,6 +7,7 @@ use Rattle.diva_isa.specs.declared.record.Record.{Record}
 use Rattle.diva_core.specs.Timed.{Timed, Config, new_timed}
 use Rattle.diva_core.specs.Cycle.{cycle_of, run_of}
 use Rattle.diva_core.specs.History.{Meaning}
+use Rattle.diva_core.specs.Legs.{Handed}
 use Rattle.diva_core.specs.Machine.{IsConfig}
 use Rattle.diva_core.proofs.Reaching.{run-off}
 use Rattle.diva_faults.specs.declared.rows.Row.{Row}
@@ -22,19 +23,20 @@ use Rattle.diva_outside.specs.declared.files.What.TheVariants.{Image, Script, Ta
 use Rattle.diva_outside.specs.declared.sink.SinkFailed.{SinkFailed}
 use Rattle.diva_args.specs.Options.{RunOptions, TapeOptions}
 use Rattle.diva_args.specs.declared.job.CoreChoice.{CoreChoice}
-use Rattle.diva_args.specs.declared.job.CoreChoice.TheVariants.{Tape as OfTape}
 use Rattle.diva_args.specs.declared.job.Job.TheVariants.{Tape}
 use Rattle.diva_trace.specs.Text.{text_of}
 use Rattle.diva_cli.specs.declared.loading.Ready.{Ready}
 use Rattle.diva_cli.specs.Changes.{LanesAsked, asking, PutsTo, SinkChange, TakesPast, change}
 use Rattle.diva_cli.specs.Wanted.{FileBytes, tape_name}
 use Rattle.diva_cli.specs.Cuts.{BeforeLast}
-use Rattle.diva_cli.specs.Driven.{IsDriven, scripted_lists}
-use Rattle.diva_cli.specs.Runs.{IsRunOfFiles, IsWhole, HasRun, AreRows, AreLists, end_status, asked_trace, shown_dump, start_in}
-use Rattle.diva_cli.specs.TapeTexts.{IsHandedFor, IsReplay, IsTapeOf}
-use Rattle.diva_cli.specs.Tasks.{IsWritten, PerformsBy, cycles_text, tape_line}
+use Rattle.diva_cli.specs.Driven.{AreHanded, ByCalls, scripted_lists}
+use Rattle.diva_cli.specs.Runs.{IsReadOff, IsRunOfFiles, IsWhole, HasRun, end_status, asked_trace, shown_dump}
+use Rattle.diva_cli.specs.Sessions.{AreRows, AreLists, start_in}
+use Rattle.diva_cli.specs.TapeTexts.{IsHandedFor, IsReplay}
+use Rattle.diva_cli.specs.Tasks.{IsOnePart, IsWritten, PlaysBy, cycles_text, tape_line}
 use Rattle.diva_cli.specs.Parts.{IsReady, WritesWhole, WritesPart}
-use Rattle.diva_cli.proofs.Running.{ends_with, run_of_files, of_files_lists, run_whole, each_new, shown_whole}
+use Rattle.diva_cli.proofs.Running.{ends_with, run_each, run_from_new, run_of_files, run_whole, shown_whole}
+use Rattle.diva_cli.proofs.Sessions.{read_off}
 
 -- ---- lists of a tape, and then empty ones
 
@@ -119,19 +121,35 @@ module _ (options : TapeOptions) (bytes : FileBytes) (lists : List (List Record)
     same_first : new_timed replay.setup.config (start_in replay.setup its_bytes) ≡ first
     same_first = ap (λ (z : Config). new_timed z (start_in replay.setup its_bytes)) is.config ∙ ap (new_timed options.setup.config) same_start
 
-    driven : IsDriven gives (OfTape is.name) lists [] options.cycles (change first run.last) (change core after)
-    driven =
-        subst (λ (c : CoreChoice). IsDriven gives c lists [] options.cycles (change first run.last) (change core after)) is.core
-        (subst (λ (t : List (List Record)). IsDriven gives replay.setup.core t [] options.cycles (change first run.last) (change core after)) same_lists
-        (subst (λ (rows : List Row). IsDriven gives replay.setup.core run.of_files.tape rows options.cycles (change first run.last) (change core after)) none
-        (subst (λ (n : ℕ). IsDriven gives replay.setup.core run.of_files.tape run.of_files.script n (change first run.last) (change core after)) is.cycles
-        (subst (λ (m : Timed). IsDriven gives replay.setup.core run.of_files.tape run.of_files.script replay.cycles (change m run.last) (change core after)) same_first run.of_files.run.driven))))
+    abbrev others : List (List Record)
+    others = run.of_files.holds.lists
 
-    handed : IsHandedFor options.cycles first driven.lists
+    abbrev begun : Timed
+    begun = new_timed replay.setup.config (start_in replay.setup its_bytes)
+
+    off : IsReadOff replay.cycles begun others run.last
+    off = read_off gives replay.setup replay.cycles run.of_files.tape run.of_files.script (start_in replay.setup its_bytes) (change core after) run.last run.of_files.holds
+
+    ran_others : run.last ≡ run_of first others
+    ran_others = off.ran ∙ ap (λ (m : Timed). run_of m others) same_first
+
+    by_tape : ByCalls played run.of_files.tape run.of_files.script begun (change core after) (Handed others ∷ [])
+    by_tape =
+        subst (λ (c : CoreChoice). AreHanded gives c run.of_files.tape run.of_files.script (change begun run.last) (change core after) (Handed others ∷ [])) is.core
+        (subst (AreHanded gives replay.setup.core run.of_files.tape run.of_files.script (change begun run.last) (change core after)) run.of_files.holds.one run.of_files.holds.session.driven.handed)
+
+    are_played : others ≡ played (length others) lists
+    are_played =
+        subst (λ (l : List (List Record)). l ≡ scripted_lists run.of_files.script (begun.cycles + 1) (played (length l) run.of_files.tape)) (append-nil others) by_tape.in_order
+        ∙ ap (λ (rows : List Row). scripted_lists rows (begun.cycles + 1) (played (length others) run.of_files.tape)) none
+        ∙ lists-unscripted (begun.cycles + 1) (played (length others) run.of_files.tape)
+        ∙ ap (played (length others)) same_lists
+
+    handed : IsHandedFor options.cycles first others
     handed =
         record {
-          most = driven.most;
-          whole = λ on. (let e = whole_run.0.all (ap (λ (m : Timed). goes_on m.arch) driven.ran ∙ on) in let f = driven.each in let g = is.cycles in omega arith);
+          most = (let m = off.most in let g = is.cycles in omega arith);
+          whole = λ on. (let e = whole_run.0.all (ap (λ (m : Timed). goes_on m.arch) ran_others ∙ on) in let f = off.each in let g = is.cycles in omega arith);
         }
 
     pub same_text : shown ≡ asked_trace replay.trace (start_in options.setup bytes) last.count ++ text_of last (shown_dump replay.dump)
@@ -139,7 +157,7 @@ module _ (options : TapeOptions) (bytes : FileBytes) (lists : List (List Record)
         whole_run.1
         ∙ ap (λ (s : State). asked_trace replay.trace s run.last.count ++ text_of run.last (shown_dump replay.dump)) same_start
         ∙ ap (λ (m : Timed). asked_trace replay.trace (start_in options.setup bytes) m.count ++ text_of m (shown_dump replay.dump))
-        (driven.ran ∙ same_machine driven.lists (driven.handed.in_order ∙ lists-unscripted (first.cycles + 1) (played (length driven.lists) lists)) handed)
+        (ran_others ∙ same_machine others are_played handed)
 
 -- ---- what is written of a run by `tape`
 
@@ -150,67 +168,70 @@ tape_lines m (list ∷ lists) = ap (λ (t : List ℕ). list_text list ++ t) (tap
 module _ {C S : Type 0} (gives : Meaning C) (options : TapeOptions) (bytes : FileBytes) (ready : Ready) (core : C) (last : Timed) (after : C)
     (cycles : ℕ) (sink : SinkChange S) (result : Result (Unit {0}) SinkFailed)
     (y : cycles ≡ options.cycles) (fits : IsConfig options.setup.config)
-    (is : IsReady options.setup bytes ready) (lanes : LanesAsked) (unasked : lanes None [])
-    (p : PerformsBy gives ready.core ready.script (change ready.machine.timed last) (change core after)
-    (λ lists. IsWritten tape_line IsList cycles (change ready.machine.timed last) lists sink result)) where
-  few : length p.lists ≤ options.cycles
-  few = let m = p.done.most in omega arith
+    (is : IsReady options.setup bytes ready) (lanes : LanesAsked) (unasked : lanes None []) (that : List (List Record) → Type 0)
+    (p : PlaysBy gives ready.core ready.script (change ready.machine.timed last) (change core after)
+    (IsOnePart (λ lists. IsWritten tape_line IsList cycles (change ready.machine.timed last) lists sink result × that lists))) where
+  abbrev lists : List (List Record)
+  lists = p.done.lists
+
+  abbrev done : IsWritten tape_line IsList cycles (change ready.machine.timed last) lists sink result
+  done = p.done.done.0
+
+  few : length lists ≤ options.cycles
+  few = let m = done.most in omega arith
 
   abbrev of_files : IsRunOfFiles gives options.setup options.cycles bytes (change core after) last
-  of_files = run_of_files gives options.setup options.cycles bytes ready core last after fits is p.lists p.ran p.each p.handed few
+  of_files = run_of_files gives options.setup options.cycles bytes ready core last after fits is _ p few
 
-  all_lists : of_files.run.driven.lists ≡ p.lists
-  all_lists = of_files_lists gives options.setup options.cycles bytes ready core last after fits is p.lists p.ran p.each p.handed few
-
-  puts : PutsTo sink (tape_text p.lists) result
-  puts = subst (λ (t : List ℕ). PutsTo sink t result) (tape_lines ready.machine.timed p.lists) p.done.put
+  puts : PutsTo sink (tape_text lists) result
+  puts = subst (λ (t : List ℕ). PutsTo sink t result) (tape_lines ready.machine.timed lists) done.put
 
   pub wrote_tape : (status : ℕ) → status ≡ end_status (end_of last.arch.end) → result ≡ Ok tt → WritesWhole gives (Tape options) bytes (asking core after lanes) sink status
   wrote_tape status says ok =
-      let all : goes_on last.arch ≡ true → length p.lists ≡ cycles = subst (λ (r : Result (Unit {0}) SinkFailed). OnOk r (goes_on last.arch ≡ true → length p.lists ≡ cycles)) ok p.done.whole in
-      let are : All IsList p.lists = subst (λ (r : Result (Unit {0}) SinkFailed). OnOk r (All IsList p.lists)) ok p.done.said in
-      let whole = run_whole gives options.setup options.cycles bytes ready core last after fits is p.lists p.ran p.each p.handed (λ on. all on ∙ y) in
-      let reads = tape_read_back p.lists are in
-      let ran_new : last ≡ run_of (new_timed options.setup.config (start_in options.setup bytes)) p.lists = p.ran ∙ ap (λ (m : Timed). run_of m p.lists) is.begun in
-      let each : last.cycles ≡ length p.lists = each_new gives options.setup options.cycles bytes ready core last after fits is p.lists p.ran p.each p.handed in
+      let all : goes_on last.arch ≡ true → length lists ≡ cycles = subst (λ (r : Result (Unit {0}) SinkFailed). OnOk r (goes_on last.arch ≡ true → length lists ≡ cycles)) ok done.whole in
+      let are : All IsList lists = subst (λ (r : Result (Unit {0}) SinkFailed). OnOk r (All IsList lists)) ok done.said in
+      let whole = run_whole gives options.setup options.cycles bytes ready core last after fits is _ p (λ on. all on ∙ y) in
+      let reads = tape_read_back lists are in
+      let ran_new : last ≡ run_of (new_timed options.setup.config (start_in options.setup bytes)) lists = run_from_new gives options.setup options.cycles bytes ready core last after fits is _ p in
+      let each : last.cycles ≡ length lists = run_each gives options.setup options.cycles bytes ready core last after fits is _ p in
       record {
-        text = tape_text p.lists;
+        text = tape_text lists;
         means = record {
           last = last;
           of_files = of_files;
-          lines = ap tape_text (sym all_lists);
-          whole = subst (λ (lists : List (List Record)). IsTapeOf gives options bytes lists last (tape_text p.lists) status) (sym all_lists) (record {
+          lines = refl;
+          whole = record {
             whole = whole;
             ended = ends_with options.setup options.cycles (start_in options.setup bytes) last status whole says;
             reads = reads;
-            again = same_machine options bytes p.lists last ran_new each few whole;
+            again = same_machine options bytes lists last ran_new each few whole;
             replays = λ replay its_bytes r core' after' status' shown run asked.
-                same_text options bytes p.lists last ran_new each few whole gives (tape_text p.lists) reads replay its_bytes r core' after' status' shown run asked;
-          });
+                same_text options bytes lists last ran_new each few whole gives (tape_text lists) reads replay its_bytes r core' after' status' shown run asked;
+          };
           cut = tt;
         };
         lanes = unasked;
-        written = (let q = subst (λ (r : Result (Unit {0}) SinkFailed). PutsTo sink (tape_text p.lists) r) ok puts in record { appended = q.ok; uncounted = q.uncounted });
+        written = (let q = subst (λ (r : Result (Unit {0}) SinkFailed). PutsTo sink (tape_text lists) r) ok puts in record { appended = q.ok; uncounted = q.uncounted });
       }
 
   pub cut_tape : (e : SinkFailed) → result ≡ Err e → WritesPart gives (Tape options) bytes (asking core after lanes) sink
   cut_tape e err =
-      let q = subst (λ (r : Result (Unit {0}) SinkFailed). PutsTo sink (tape_text p.lists) r) err puts in
-      let b : BeforeLast p.lists (λ earlier. TakesPast sink (cycles_text tape_line ready.machine.timed earlier) (cycles_text tape_line ready.machine.timed p.lists)) =
-      subst (λ (r : Result (Unit {0}) SinkFailed). OnErr r (BeforeLast p.lists (λ earlier. TakesPast sink (cycles_text tape_line ready.machine.timed earlier) (cycles_text tape_line ready.machine.timed p.lists))))
-      err p.done.cut in
+      let q = subst (λ (r : Result (Unit {0}) SinkFailed). PutsTo sink (tape_text lists) r) err puts in
+      let b : BeforeLast lists (λ earlier. TakesPast sink (cycles_text tape_line ready.machine.timed earlier) (cycles_text tape_line ready.machine.timed lists)) =
+      subst (λ (r : Result (Unit {0}) SinkFailed). OnErr r (BeforeLast lists (λ earlier. TakesPast sink (cycles_text tape_line ready.machine.timed earlier) (cycles_text tape_line ready.machine.timed lists))))
+      err done.cut in
       record {
         rose = q.failed;
         put = tape_text b.earlier;
-        text = tape_text p.lists;
+        text = tape_text lists;
         means = record {
           last = last;
           of_files = of_files;
-          lines = ap tape_text (sym all_lists);
+          lines = refl;
           whole = tt;
-          cut = record { earlier = b.earlier; last = b.last; in_order = all_lists ∙ b.in_order; holds = refl };
+          cut = record { earlier = b.earlier; last = b.last; in_order = b.in_order; holds = refl };
         };
         lanes = unasked;
-        written = subst (λ (x : List ℕ). TakesPast sink x (tape_text p.lists)) (tape_lines ready.machine.timed b.earlier)
-            (subst (λ (x : List ℕ). TakesPast sink (cycles_text tape_line ready.machine.timed b.earlier) x) (tape_lines ready.machine.timed p.lists) b.holds);
+        written = subst (λ (x : List ℕ). TakesPast sink x (tape_text lists)) (tape_lines ready.machine.timed b.earlier)
+            (subst (λ (x : List ℕ). TakesPast sink (cycles_text tape_line ready.machine.timed b.earlier) x) (tape_lines ready.machine.timed lists) b.holds);
       }

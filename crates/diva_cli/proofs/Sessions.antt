@@ -1,37 +1,38 @@
--- Legs of a core under a script, parts as what is handed to a machine, and what holds of a session.
-use Rattle.std.proofs.Common.{◌≡◌, ◌⊎◌, ℕ, suc, ◌+◌, ◌≤◌, List, [], ◌∷◌, ◌++◌, length, map, Result, Ok, Err, OnOk, OnErr, IfOk, IfErr, refl, sym, ◌∙◌, ap, subst, inl, inr, replicate}
+-- Parts as what is handed to a machine, and what holds of a session, of which a run is one.
+use Rattle.std.proofs.Common.{◌≡◌, ◌⊎◌, ℕ, suc, ◌+◌, ◌*◌, ◌≤◌, ◌/◌, List, [], ◌∷◌, ◌++◌, length, map, Result, Ok, Err, OnOk, OnErr, IfOk, IfErr, refl, sym, ◌∙◌, ap, append-nil, arith, subst, inl, inr}
+use Rattle.std.proofs.Math.Nat.{div-mul-le_self}
 use Rattle.diva_isa.specs.State.{State}
+use Rattle.diva_isa.specs.Step.{steps}
 use Rattle.diva_isa.specs.declared.record.Record.{Record}
 use Rattle.diva_core.specs.Cycle.{cycle_of, run_of}
 use Rattle.diva_core.specs.History.{Meaning, FollowRule, IsHistory, lists_of}
 use Rattle.diva_core.specs.Headline.{AddsRows, AreCommitted, HasPace, KeepsPace}
-use Rattle.diva_core.specs.Legs.{AreLegs, EachPart, Handed, Leg, OfLists, Part, TakenBack, Turned, WentBack, core_behind, handed_in, part_of, run_parts}
+use Rattle.diva_core.specs.Legs.{AreLegs, EachPart, Handed, Leg, OfLists, Part, TakenBack, Turned, WentBack, core_behind, handed_in, part_of, run_part, run_parts}
 use Rattle.diva_core.specs.Machine.{IsConfig, IsMachine}
 use Rattle.diva_core.specs.Right.{AreRight}
-use Rattle.diva_core.specs.Timed.{Log, Timed, new_timed}
+use Rattle.diva_core.specs.Timed.{Log, Timed, depth, new_timed}
 use Rattle.diva_core.specs.Told.{Told, told_of}
 use Rattle.diva_core.specs.Undone.{undone_all}
 use Rattle.diva_core.proofs.Adding.{run-adds}
 use Rattle.diva_core.proofs.Keeping.{stays}
-use Rattle.diva_core.proofs.Legging.{AreLegs-rule, AreLegs-run, IsGood, each_part, each_then, parts_calm, parts_stay, undone_all_cycles, undone_all_stays}
+use Rattle.diva_core.proofs.Legging.{IsGood, each_part, each_then, parts_calm, parts_stay, undone_all_cycles, undone_all_stays}
 use Rattle.diva_core.proofs.Listing.{new_calm}
 use Rattle.diva_core.proofs.Outcomes.{cycle-cycles}
 use Rattle.diva_core.proofs.Pacing.{are_committed}
 use Rattle.diva_core.proofs.Progressing.{has_pace, run-stays}
 use Rattle.diva_core.proofs.Reaching.{run-pace}
-use Rattle.diva_core.proofs.Starting.{new-machine}
-use Rattle.diva_faults.specs.declared.faulty.Faulty.{Faulty}
+use Rattle.diva_core.proofs.Starting.{headline, new-machine}
 use Rattle.diva_faults.specs.declared.rows.Row.{Row}
 use Rattle.diva_faults.specs.Lists.{scripted}
-use Rattle.diva_faults.specs.Spoiled.{spoiled, spoiled_call, inside, lent_name, rows_in}
-use Rattle.diva_faults.proofs.Legging.{LegsWith, legs_none, legs_spoiled, legs_unspoiled}
+use Rattle.diva_faults.specs.Spoiled.{spoiled}
+use Rattle.diva_faults.proofs.Legging.{LegsWith, legs_unspoiled}
 use Rattle.diva_faults.proofs.Spoiling.{scripted-none}
-use Rattle.diva_ahead.specs.Ahead.{Ahead}
-use Rattle.diva_tape.specs.Lists.{lockstep_call, lockstep_list, silent_list, zeros, flood_list, echo_call, echo_list}
-use Rattle.diva_tape.specs.Noise.{noise_call, noise_lists}
+use Rattle.diva_tape.specs.Lists.{lockstep_list}
+use Rattle.diva_tape.specs.Noise.{noise_call, noise_claim, noise_lists}
 use Rattle.diva_tape.specs.Scalar.{IsPast, IsScalarCall, MayLead, new_scalar, scalar_list}
-use Rattle.diva_tape.specs.TapeCalls.{played, tape_call}
+use Rattle.diva_tape.specs.TapeCalls.{next_list, played, tape_call}
 use Rattle.diva_tape.proofs.Following.{new_leads}
+use Rattle.diva_tape.proofs.Playing.{played-next}
 use Rattle.diva_tape.proofs.Returning.{scalar_legs, scalar_legs_right}
 use Rattle.diva_tape.proofs.Righting.{rule_right}
 use Rattle.diva_args.specs.Options.{DebugOptions, Setup}
@@ -43,123 +44,19 @@ use Rattle.diva_debug.specs.declared.command.Command.{Command}
 use Rattle.diva_debug.specs.declared.command.Command.TheVariants.{Step, Until, Reg, Mem, Why, Back}
 use Rattle.diva_outside.specs.declared.sink.SinkFailed.{SinkFailed}
 use Rattle.diva_cli.specs.declared.driving.CoreInUse.{CoreInUse}
-use Rattle.diva_cli.specs.declared.driving.CoreInUse.TheVariants.{Own, Lockstep, Scalar, Silent, Flood, Echo, Noise, Tape}
+use Rattle.diva_cli.specs.declared.loading.Ready.{Ready}
 use Rattle.diva_cli.specs.declared.loading.SessionReady.{SessionReady}
 use Rattle.diva_cli.specs.Changes.{PutsTo, SinkChange, change, asking}
 use Rattle.diva_cli.specs.Cuts.{BeforeLast}
 use Rattle.diva_cli.specs.DebugTexts.{HasReplies}
-use Rattle.diva_cli.specs.Driven.{ByCalls, scripted_lists, scripted_rule}
-use Rattle.diva_cli.specs.Parts.{IsSession, WritesPart, WritesWhole, core_for, no_lanes}
+use Rattle.diva_cli.specs.Driven.{AreHanded, ByCalls, ByOther, IsDriven, scripted_lists, scripted_rule}
+use Rattle.diva_cli.specs.Parts.{IsReady, IsSession, WritesPart, WritesWhole, core_for, no_lanes}
 use Rattle.diva_cli.specs.Replies.{AreLed, IsMoved, IsTakenBack, LeadsBy, at_start, cycles_of, newest_after, next_standing, replies_of}
-use Rattle.diva_cli.specs.Runs.{IsUnflushed, start_in}
-use Rattle.diva_cli.specs.Sessions.{AreHandedInParts, ByOtherLegs, IsDrivenInParts, IsSessionFrom, IsSessionOfFiles}
-use Rattle.diva_cli.specs.Tasks.{AreHandedInPartsBy, IsReplied, Plays, PlaysBy}
+use Rattle.diva_cli.specs.Runs.{IsRunFrom, RunsAreReadOff}
+use Rattle.diva_cli.specs.Sessions.{IsSessionFrom, IsSessionOfFiles, IsUnflushed, start_in}
+use Rattle.diva_cli.specs.Tasks.{AreHandedBy, IsReplied, PlaysBy}
 use Rattle.diva_cli.specs.Wanted.{FileBytes}
 use Rattle.diva_cli.proofs.Commanding.{CutAt}
-use Rattle.diva_cli.proofs.Running.{follow_same, noise_goes_on, tape_goes_on}
-
--- ---- under a script
-
--- legs of a core are its legs under a script that has no rows
-pub plays_none :
-    {D : Type 0} (gives : Meaning D) (script : List Row) (m : Timed) (core : D) (last : Timed) (after : D) (this : List Part → Type 0)
-    → script ≡ []
-    → Plays gives (change m last) (change core after) this
-    → Plays (spoiled script gives) (change m last) (change core after) this
-plays_none gives script m core last after this none p =
-    let l = legs_none gives m core p.legs last after p.good in
-    rw none (record {
-      legs = l.legs;
-      good = l.good;
-      each = subst (λ (parts : List Part). last.cycles ≡ m.cycles + length (handed_in parts)) (sym l.same) p.each;
-      done = subst this (sym l.same) p.done;
-    })
-
--- legs of a core over the one that was lent to it
-pub plays_faulty :
-    {D : Type 0} (gives : Meaning D) (script : List Row) (m : Timed) (core : D) (f : Faulty D) (last : Timed) (final : Faulty D) (after : D) (this : List Part → Type 0)
-    → inside f ≡ core
-    → rows_in f ≡ script
-    → (lent_name f ≡ lent_name final → after ≡ inside final)
-    → Plays (spoiled_call gives) (change m last) (change f final) this
-    → Plays (spoiled script gives) (change m last) (change core after) this
-plays_faulty gives script m core f last final after this lent rows ends p =
-    let l = legs_spoiled gives script m core f p.legs last final after lent rows ends p.good in
-    record {
-      legs = l.legs;
-      good = l.good;
-      each = subst (λ (parts : List Part). last.cycles ≡ m.cycles + length (handed_in parts)) (sym l.same) p.each;
-      done = subst this (sym l.same) p.done;
-    }
-
--- ---- a line for each core
-
-module _ {C D : Type 0} (gives : Meaning C) (its : Meaning D) (script : List Row) (m last : Timed) (core : C) (first final : D) (this : List Part → Type 0) (p : Plays (spoiled script its) (change m last) (change first final) this) where
-  plays_by : (used : CoreInUse) (after : C) → AreHandedInPartsBy gives used script (change m last) (change core after) (map part_of p.legs) → PlaysBy gives used script (change m last) (change core after) this
-  plays_by used after handed =
-      record {
-        parts = map part_of p.legs;
-        ran = AreLegs-run (spoiled script its) m first p.legs last final p.good;
-        each = p.each;
-        handed = handed;
-        done = p.done;
-      }
-
-  -- a core whose lists follow a rule
-  plays_rule : (rule : Timed → List Record)
-      → ((n : Timed) (before : D) (list : List Record) (after : D) → its before (told_of n) n.arch list after → list ≡ rule n)
-      → EachPart (OfLists (FollowRule (scripted_rule script rule))) m (map part_of p.legs)
-  plays_rule rule is_rule =
-      AreLegs-rule (spoiled script its) (scripted_rule script rule)
-      (λ n before list after h. h.laid ∙ ap (scripted script (n.cycles + 1)) (is_rule n before h.inner after h.given))
-      m first p.legs last final p.good
-
-  pub plays_lockstep :
-      ((before : D) (told : Told) (s : State) (list : List Record) (after : D) → its before told s list after → list ≡ lockstep_call told s)
-      → PlaysBy gives Lockstep script (change m last) (change core core) this
-  plays_lockstep is_rule =
-      plays_by Lockstep core (record { follows = plays_rule lockstep_list (λ n before list after h. is_rule before (told_of n) n.arch list after h); same = refl })
-
-  pub plays_silent :
-      ((before : D) (told : Told) (s : State) (list : List Record) (after : D) → its before told s list after → list ≡ [])
-      → PlaysBy gives Silent script (change m last) (change core core) this
-  plays_silent is_rule =
-      plays_by Silent core (record { follows = plays_rule silent_list (λ n before list after h. is_rule before (told_of n) n.arch list after h); same = refl })
-
-  pub plays_flood :
-      ((before : D) (told : Told) (s : State) (list : List Record) (after : D) → its before told s list after → list ≡ replicate 8 zeros)
-      → PlaysBy gives Flood script (change m last) (change core core) this
-  plays_flood is_rule =
-      plays_by Flood core (record { follows = plays_rule flood_list (λ n before list after h. is_rule before (told_of n) n.arch list after h); same = refl })
-
-  pub plays_echo :
-      ((before : D) (told : Told) (s : State) (list : List Record) (after : D) → its before told s list after → list ≡ echo_call told s)
-      → PlaysBy gives Echo script (change m last) (change core core) this
-  plays_echo is_rule =
-      plays_by Echo core (record { follows = plays_rule echo_list (λ n before list after h. is_rule before (told_of n) n.arch list after h); same = refl })
-
-pub plays_own :
-    {C : Type 0} (gives : Meaning C) (script : List Row) (m last : Timed) (core after : C) (this : List Part → Type 0)
-    → Plays (spoiled script gives) (change m last) (change core after) this
-    → PlaysBy gives Own script (change m last) (change core after) this
-plays_own gives script m last core after this p =
-    plays_by gives gives script m last core core after this p Own after (record { legs = p.legs; good = p.good; in_order = refl })
-
-module _ {C : Type 0} (gives : Meaning C) (script : List Row) (m last : Timed) (core : C) (this : List Part → Type 0) where
-  pub plays_scalar : (first final : Ahead) → Plays (spoiled script IsScalarCall) (change m last) (change first final) this → PlaysBy gives (Scalar first) script (change m last) (change core core) this
-  plays_scalar first final p =
-      plays_by gives IsScalarCall script m last core first final this p (Scalar first) core
-      (record { final = final; by = record { legs = p.legs; good = p.good; in_order = refl }; same = refl })
-
-  pub plays_noise : (first final : ℕ) → Plays (spoiled script noise_call) (change m last) (change first final) this → PlaysBy gives (Noise first) script (change m last) (change core core) this
-  plays_noise first final p =
-      plays_by gives noise_call script m last core first final this p (Noise first) core
-      (record { final = final; by = record { legs = p.legs; good = p.good; in_order = refl }; same = refl })
-
-  pub plays_tape : (first final : List (List Record)) → Plays (spoiled script tape_call) (change m last) (change first final) this → PlaysBy gives (Tape first) script (change m last) (change core core) this
-  plays_tape first final p =
-      plays_by gives tape_call script m last core first final this p (Tape first) core
-      (record { final = final; by = record { legs = p.legs; good = p.good; in_order = refl }; same = refl })
 
 -- ---- a core that goes by its calls alone
 
@@ -197,23 +94,36 @@ module _ {D : Type 0} (its : Meaning D) (calls : ℕ → D → List (List Record
       legs_calls legs (undone_all m undos) before last after (undone_all_stays m undos inv h.0) h.1
       ∙ ap (λ n. scripted_lists script (n + 1) (calls (length (handed_in (map part_of legs))) before)) (undone_all_cycles m undos)
 
-  by_calls_in_parts : {C : Type 0} (first : D) (m : Timed) (core : C) (parts : List Part) (last : Timed) (after : C)
+  by_calls : {C : Type 0} (first : D) (m : Timed) (core : C) (parts : List Part) (last : Timed) (after : C)
       → IsMachine m
-      → ByOtherLegs its first script (change m last) (change core after) parts
-      → ByCalls calls first script m (change core after) (handed_in parts)
-  by_calls_in_parts first m core parts last after inv by =
+      → ByOther its first script (change m last) (change core after) parts
+      → ByCalls calls first script m (change core after) parts
+  by_calls first m core parts last after inv by =
       record {
         in_order = subst (λ (ps : List Part). handed_in ps ≡ scripted_lists script (m.cycles + 1) (calls (length (handed_in ps)) first)) (sym by.by.in_order)
             (legs_calls by.by.legs m first last by.final inv by.by.good);
         same = by.same;
       }
 
+noise_goes_on : (before after : ℕ) (told : Told) (s : State) (list : List Record) (n : ℕ) → noise_call before told s list after → list ∷ noise_lists n after ≡ noise_lists (suc n) before
+noise_goes_on before after told s list n h =
+    ap (λ (l : List Record). l ∷ noise_lists n after) h.lists ∙ ap (λ x. (noise_claim before ∷ []) ∷ noise_lists n x) h.keeps
+
+tape_goes_on : (before after : List (List Record)) (told : Told) (s : State) (list : List Record) (n : ℕ) → tape_call before told s list after → list ∷ played n after ≡ played (suc n) before
+tape_goes_on before after told s list n h =
+    ap (λ (l : List Record). l ∷ played n after) h.next ∙ ap (λ (t : List (List Record)). next_list before ∷ played n t) h.later ∙ played-next n before
+
 -- ---- a core that is always right
 
+-- lists that follow a rule follow another that gives the same
+follow_same : (rule other : Timed → List Record) → ((m : Timed) → rule m ≡ other m) → (m : Timed) (lists : List (List Record)) → FollowRule rule m lists → FollowRule other m lists
+follow_same rule other same m [] h = tt
+follow_same rule other same m (list ∷ rest) h = (h.0 ∙ same m, follow_same rule other same (cycle_of m list) rest h.1)
+
 module _ {C : Type 0} (script : List Row) (m : Timed) (core : C) (parts : List Part) (last : Timed) (after : C)
-    (leads : MayLead m new_scalar) (past : IsPast new_scalar m) (none : script ≡ []) (by : ByOtherLegs IsScalarCall new_scalar script (change m last) (change core after) parts) where
-  unscripted : ByOtherLegs IsScalarCall new_scalar [] (change m last) (change core after) parts
-  unscripted = subst (λ (rows : List Row). ByOtherLegs IsScalarCall new_scalar rows (change m last) (change core after) parts) none by
+    (leads : MayLead m new_scalar) (past : IsPast new_scalar m) (none : script ≡ []) (by : ByOther IsScalarCall new_scalar script (change m last) (change core after) parts) where
+  unscripted : ByOther IsScalarCall new_scalar [] (change m last) (change core after) parts
+  unscripted = subst (λ (rows : List Row). ByOther IsScalarCall new_scalar rows (change m last) (change core after) parts) none by
 
   alone : LegsWith IsScalarCall m new_scalar last unscripted.final (map part_of unscripted.by.legs)
   alone = legs_unspoiled IsScalarCall m new_scalar unscripted.by.legs last unscripted.final unscripted.by.good
@@ -231,33 +141,33 @@ module _ {C : Type 0} (script : List Row) (m : Timed) (core : C) (parts : List P
 right_in_parts :
     {C : Type 0} (gives : Meaning C) (asked : CoreChoice) (tape : List (List Record)) (script : List Row) (m : Timed) (core : C) (parts : List Part) (last : Timed) (after : C)
     → MayLead m new_scalar → IsPast new_scalar m
-    → (asked ≡ choice.Lockstep) ⊎ (asked ≡ choice.Scalar) → script ≡ [] → AreHandedInParts gives asked tape script (change m last) (change core after) parts → EachPart (OfLists AreRight) m parts
+    → (asked ≡ choice.Lockstep) ⊎ (asked ≡ choice.Scalar) → script ≡ [] → AreHanded gives asked tape script (change m last) (change core after) parts → EachPart (OfLists AreRight) m parts
 right_in_parts gives asked tape script m core parts last after leads past (inl is) none handed =
-    let one : AreHandedInParts gives choice.Lockstep tape script (change m last) (change core after) parts = subst (λ (c : CoreChoice). AreHandedInParts gives c tape script (change m last) (change core after) parts) is handed in
-    let two : AreHandedInParts gives choice.Lockstep tape [] (change m last) (change core after) parts = subst (λ (rows : List Row). AreHandedInParts gives choice.Lockstep tape rows (change m last) (change core after) parts) none one in
+    let one : AreHanded gives choice.Lockstep tape script (change m last) (change core after) parts = subst (λ (c : CoreChoice). AreHanded gives c tape script (change m last) (change core after) parts) is handed in
+    let two : AreHanded gives choice.Lockstep tape [] (change m last) (change core after) parts = subst (λ (rows : List Row). AreHanded gives choice.Lockstep tape rows (change m last) (change core after) parts) none one in
     each_then (FollowRule (scripted_rule [] lockstep_list)) AreRight
     (λ n lists h. rule_right n lists (follow_same (scripted_rule [] lockstep_list) lockstep_list (λ k. scripted-none (k.cycles + 1) (lockstep_list k)) n lists h))
     m parts two.follows
 right_in_parts gives asked tape script m core parts last after leads past (inr is) none handed =
-    let one : AreHandedInParts gives choice.Scalar tape script (change m last) (change core after) parts = subst (λ (c : CoreChoice). AreHandedInParts gives c tape script (change m last) (change core after) parts) is handed in
+    let one : AreHanded gives choice.Scalar tape script (change m last) (change core after) parts = subst (λ (c : CoreChoice). AreHanded gives c tape script (change m last) (change core after) parts) is handed in
     scalar_parts_right script m core parts last after leads past none one.other
 
 -- ---- where the lists come from, told by the choice of the core
 
-handed_in_parts_for :
+pub handed_for :
     {C : Type 0} (gives : Meaning C) (asked : CoreChoice) (tape : List (List Record)) (script : List Row) (m : Timed) (core : C) (parts : List Part) (last : Timed) (after : C)
     → MayLead m new_scalar → IsPast new_scalar m
-    → AreHandedInPartsBy gives (core_for asked tape) script (change m last) (change core after) parts → AreHandedInParts gives asked tape script (change m last) (change core after) parts
-handed_in_parts_for gives choice.Own tape script m core parts last after leads past h = h
-handed_in_parts_for gives choice.Lockstep tape script m core parts last after leads past h = h
-handed_in_parts_for gives choice.Scalar tape script m core parts last after leads past h = record { other = h; alone = λ none. scalar_parts script m core parts last after leads past none h }
-handed_in_parts_for gives choice.Silent tape script m core parts last after leads past h = h
-handed_in_parts_for gives choice.Flood tape script m core parts last after leads past h = h
-handed_in_parts_for gives choice.Echo tape script m core parts last after leads past h = h
-handed_in_parts_for gives choice.Noise tape script m core parts last after leads past h =
-    by_calls_in_parts noise_call noise_lists (λ before. refl) noise_goes_on script 0 m core parts last after leads.machine h
-handed_in_parts_for gives (choice.Tape name) tape script m core parts last after leads past h =
-    by_calls_in_parts tape_call played (λ before. refl) tape_goes_on script tape m core parts last after leads.machine h
+    → AreHandedBy gives (core_for asked tape) script (change m last) (change core after) parts → AreHanded gives asked tape script (change m last) (change core after) parts
+handed_for gives choice.Own tape script m core parts last after leads past h = h
+handed_for gives choice.Lockstep tape script m core parts last after leads past h = h
+handed_for gives choice.Scalar tape script m core parts last after leads past h = record { other = h; alone = λ none. scalar_parts script m core parts last after leads past none h }
+handed_for gives choice.Silent tape script m core parts last after leads past h = h
+handed_for gives choice.Flood tape script m core parts last after leads past h = h
+handed_for gives choice.Echo tape script m core parts last after leads past h = h
+handed_for gives choice.Noise tape script m core parts last after leads past h =
+    by_calls noise_call noise_lists (λ before. refl) noise_goes_on script 0 m core parts last after leads.machine h
+handed_for gives (choice.Tape name) tape script m core parts last after leads past h =
+    by_calls tape_call played (λ before. refl) tape_goes_on script tape m core parts last after leads.machine h
 
 -- ---- a session from a state
 
@@ -282,14 +192,24 @@ led_good start [] w m parts r = subst (EachPart IsGood m) (sym r.0) tt
 led_good start (c ∷ done) w m [] r = absurd r
 led_good start (c ∷ done) w m (part ∷ parts) r = (leads_good c w m part r.1.0, led_good start done (next_standing start c w) _ parts r.1.1)
 
-session_from_start :
+-- behind the commands, too, the state is the table's after the counted instructions
+led_stepped : (start : State) (done : List Command) (w : Standing) (m : Timed) (parts : List Part) → AreLed start done w m parts
+    → (run_parts m parts).arch ≡ steps (run_parts m parts).count start
+led_stepped start [] w m parts r =
+    subst (λ (ps : List Part). (run_parts m ps).arch ≡ steps (run_parts m ps).count start) (sym r.0)
+    (r.1.stepped ∙ ap (λ n. steps n start) (sym r.1.counted))
+led_stepped start (c ∷ done) w m [] r = absurd r
+led_stepped start (c ∷ done) w m (part ∷ parts) r = led_stepped start done (next_standing start c w) (run_part m part) parts r.1.1
+
+pub session_from_start :
     {C : Type 0} (gives : Meaning C) (setup : Setup) (cycles : ℕ) (tape : List (List Record)) (script : List Row) (start : State) (core : C) (last : Timed) (after : C)
     → IsConfig setup.config
     → start.instret ≡ 0
-    → (d : IsDrivenInParts gives setup.core tape script cycles (change (new_timed setup.config start) last) (change core after))
+    → (d : IsDriven gives setup.core tape script cycles (change (new_timed setup.config start) last) (change core after))
     → EachPart IsGood (new_timed setup.config start) d.parts
+    → last.arch ≡ steps last.count start
     → IsSessionFrom gives setup cycles tape script start (change core after) last
-session_from_start gives setup cycles tape script start core last after ok zero d good =
+session_from_start gives setup cycles tape script start core last after ok zero d good stepped =
     let first : Timed = new_timed setup.config start in
     let inv : IsMachine first = new-machine setup.config start ok zero in
     let unflushed : EachPart (OfLists AreRight) first d.parts → IsUnflushed last = λ right.
@@ -297,6 +217,7 @@ session_from_start gives setup cycles tape script start core last after ok zero 
     subst IsUnflushed (sym d.ran) (record { flushes = ap (λ (l : Log). l.flushes) c.log; silent = ap (λ (l : Log). l.silent) c.log }) in
     record {
       driven = d;
+      stepped = stepped;
       committed = each_part AreCommitted are_committed first d.parts inv good;
       rows = each_part (λ m lists. AddsRows m lists (run_of m lists)) (λ m lists is. run-adds lists m is) first d.parts inv good;
       keeps_pace = each_part (λ m lists. KeepsPace m (run_of m lists)) (λ m lists is. run-pace m lists is) first d.parts inv good;
@@ -304,6 +225,70 @@ session_from_start gives setup cycles tape script start core last after ok zero 
       calm = unflushed;
       unflushed = λ is none. unflushed (right_in_parts gives setup.core tape script first core d.parts last after (new_leads setup.config start ok zero) tt is none d.handed);
     }
+
+-- ---- a run from a state: a session of one part
+
+module _ {C : Type 0} (gives : Meaning C) (setup : Setup) (cycles : ℕ) (tape : List (List Record)) (script : List Row) (start : State) (core : C) (last : Timed) (after : C)
+    (ok : IsConfig setup.config) (zero : start.instret ≡ 0) (lists : List (List Record)) (ran : last ≡ run_of (new_timed setup.config start) lists)
+    (each : last.cycles ≡ length lists) (most : length lists ≤ cycles)
+    (handed : AreHanded gives setup.core tape script (change (new_timed setup.config start) last) (change core after) (Handed lists ∷ [])) where
+  pub as_long : length (lists ++ []) ≡ length lists
+  as_long = ap length (append-nil lists)
+
+  abbrev pub one_part_session : IsSessionFrom gives setup cycles tape script start (change core after) last
+  one_part_session =
+      session_from_start gives setup cycles tape script start core last after ok zero
+      (record { parts = Handed lists ∷ []; ran = ran; each = (let l = as_long in let e = each in omega arith); most = (let l = as_long in let w = most in omega arith); handed = handed })
+      (tt, tt) (subst (λ (m : Timed). m.arch ≡ steps m.count start) (sym ran) (headline setup.config start lists ok zero))
+
+  pub only_part : one_part_session.driven.parts ≡ Handed lists ∷ []
+  unfolding session_from_start
+  only_part = refl
+
+  abbrev pub run_from_start : IsRunFrom gives setup cycles tape script start (change core after) last
+  run_from_start = record { session = one_part_session; lists = lists; one = only_part }
+
+-- what a session says of its parts, said of the lists of a run
+pub read_off : {C : Type 0} (gives : Meaning C) → RunsAreReadOff gives
+read_off gives setup cycles tape script start core last run =
+    let first : Timed = new_timed setup.config start in
+    let s = run.session in
+    let lists : List (List Record) = run.lists in
+    let ran : last ≡ run_of first lists = s.driven.ran ∙ ap (run_parts first) run.one in
+    let long : length (handed_in s.driven.parts) ≡ length lists = ap (λ (parts : List Part). length (handed_in parts)) run.one ∙ ap length (append-nil lists) in
+    let pace : KeepsPace first (run_of first lists) = (subst (EachPart (OfLists (λ m lists. KeepsPace m (run_of m lists))) first) run.one s.keeps_pace).0 in
+    let few : last.cycles / (setup.config.limit + depth) * (setup.config.limit + depth) ≤ last.cycles = div-mul-le_self last.cycles (setup.config.limit + depth) in
+    let many = subst (KeepsPace first) (sym ran) pace (last.cycles / (setup.config.limit + depth)) (omega arith) in
+    let added : AddsRows first lists (run_of first lists) = (subst (EachPart (OfLists (λ m lists. AddsRows m lists (run_of m lists))) first) run.one s.rows).0 in
+    record {
+      ran = ran;
+      each = (let e = s.driven.each in omega arith);
+      most = (let e = s.driven.most in omega arith);
+      committed = (subst (EachPart (OfLists AreCommitted) first) run.one s.committed).0;
+      rows = subst (AddsRows first lists) (sym ran) added;
+      paced = (omega arith);
+      calm = λ right. s.calm (subst (EachPart (OfLists AreRight) first) (sym run.one) (right, tt));
+    }
+
+-- ---- over files, by the core in use
+
+module _ {C : Type 0} (gives : Meaning C) (setup : Setup) (bytes : FileBytes) (ready : Ready) (core : C) (last : Timed) (after : C)
+    (fits : IsConfig setup.config) (is : IsReady setup bytes ready) (this : List Part → Type 0)
+    (p : PlaysBy gives ready.core ready.script (change ready.machine.timed last) (change core after) this) where
+  abbrev new_in : Timed
+  new_in = new_timed setup.config (start_in setup bytes)
+
+  pub ran_new : last ≡ run_parts new_in p.parts
+  ran_new = p.ran ∙ ap (λ (m : Timed). run_parts m p.parts) is.begun
+
+  pub each_new : last.cycles ≡ length (handed_in p.parts)
+  each_new = let e = ap (λ (m : Timed). m.cycles) is.begun in let k = p.each in omega arith
+
+  pub handed_new : AreHanded gives setup.core is.core.tape ready.script (change new_in last) (change core after) p.parts
+  handed_new =
+      handed_for gives setup.core is.core.tape ready.script new_in core p.parts last after (new_leads setup.config (start_in setup bytes) fits refl) tt
+      (subst (λ (m : Timed). AreHandedBy gives (core_for setup.core is.core.tape) ready.script (change m last) (change core after) p.parts) is.begun
+      (subst (λ (used : CoreInUse). AreHandedBy gives used ready.script (change ready.machine.timed last) (change core after) p.parts) is.core.is p.handed))
 
 -- ---- the replies of a session
 
@@ -331,17 +316,18 @@ module _ {C S : Type 0} (gives : Meaning C) (options : DebugOptions) (bytes : Fi
   led : AreLed start p.done.done at_start first p.parts
   led = subst (λ (m : Timed). AreLed m.arch p.done.done at_start m p.parts) is.ready.begun p.done.led
 
-  abbrev driven : IsDrivenInParts gives options.setup.core is.ready.core.tape session.ready.script cycles (change first last) (change core after)
+  abbrev driven : IsDriven gives options.setup.core is.ready.core.tape session.ready.script cycles (change first last) (change core after)
   driven =
       record {
         parts = p.parts;
-        ran = p.ran ∙ ap (λ (m : Timed). run_parts m p.parts) is.ready.begun;
-        each = p.each ∙ ap (λ (m : Timed). m.cycles + length (handed_in p.parts)) is.ready.begun;
+        ran = ran_new gives options.setup bytes session.ready core last after fits is.ready _ p;
+        each = (let e = each_new gives options.setup bytes session.ready core last after fits is.ready _ p in omega arith);
         most = subst (λ (m : Timed). length (handed_in p.parts) ≤ cycles_of (length p.done.done) m.config.limit) is.ready.begun p.done.most;
-        handed = handed_in_parts_for gives options.setup.core is.ready.core.tape session.ready.script first core p.parts last after (new_leads options.setup.config start fits refl) tt
-            (subst (λ (m : Timed). AreHandedInPartsBy gives (core_for options.setup.core is.ready.core.tape) session.ready.script (change m last) (change core after) p.parts) is.ready.begun
-            (subst (λ (used : CoreInUse). AreHandedInPartsBy gives used session.ready.script (change session.ready.machine.timed last) (change core after) p.parts) is.ready.core.is p.handed));
+        handed = handed_new gives options.setup bytes session.ready core last after fits is.ready _ p;
       }
+
+  stepped : last.arch ≡ steps last.count start
+  stepped = subst (λ (m : Timed). m.arch ≡ steps m.count start) (sym driven.ran) (led_stepped start p.done.done at_start first p.parts led)
 
   abbrev of_files : IsSessionOfFiles gives options.setup cycles bytes (change core after) last
   of_files =
@@ -350,7 +336,7 @@ module _ {C S : Type 0} (gives : Meaning C) (options : DebugOptions) (bytes : Fi
         rows = is.ready.rows;
         tape = is.ready.core.tape;
         lists = is.ready.core.lists;
-        session = session_from_start gives options.setup cycles is.ready.core.tape session.ready.script start core last after fits refl driven (led_good start p.done.done at_start first p.parts led);
+        holds = session_from_start gives options.setup cycles is.ready.core.tape session.ready.script start core last after fits refl driven (led_good start p.done.done at_start first p.parts led) stepped;
       }
 
   abbrev text : List ℕ

@@ -1,5 +1,5 @@
 -- What the two runs of `soak` come to, and what is written of them.
-use Rattle.std.proofs.Common.{◌≡◌, ◌↔◌, ◌≤◌, ◌+◌, ◌==◌, ℕ, true, false, List, [], length, Result, IfOk, Ok, Err, refl, ap, sym, ◌∙◌, subst, arith}
+use Rattle.std.proofs.Common.{◌≡◌, ◌↔◌, ◌≤◌, ◌+◌, ◌==◌, ℕ, true, false, List, [], ◌∷◌, length, Result, IfOk, Ok, Err, refl, ap, sym, ◌∙◌, subst, arith}
 use Rattle.diva_outside.proofs.Sinks.{past_nothing}
 use Rattle.diva_outside.specs.declared.sink.SinkFailed.{SinkFailed}
 use Rattle.diva_isa.specs.State.{State, goes_on}
@@ -10,6 +10,7 @@ use Rattle.diva_image.specs.Layout.{most_size}
 use Rattle.diva_core.specs.Timed.{Timed, default_config, new_timed}
 use Rattle.diva_core.specs.Cycle.{run_of}
 use Rattle.diva_core.specs.History.{Meaning, Turns, lists_of}
+use Rattle.diva_core.specs.Legs.{Handed}
 use Rattle.diva_core.specs.Machine.{IsConfig}
 use Rattle.diva_core.proofs.Ending.{same_end}
 use Rattle.diva_core.proofs.Turning.{IsHistory-run, length-lists_of}
@@ -32,10 +33,10 @@ use Rattle.diva_args.specs.declared.job.Job.TheVariants.{Soak}
 use Rattle.diva_cli.specs.Changes.{PutsTo, SinkChange, change, asking}
 use Rattle.diva_cli.specs.Wanted.{FileBytes}
 use Rattle.diva_cli.specs.SoakTexts.{HasSoaked, IsSoakRun, soak_cycles, soak_setup, soak_start}
-use Rattle.diva_cli.specs.Driven.{AreHanded, ByTurns}
+use Rattle.diva_cli.specs.Driven.{AreHanded, ByLegs}
 use Rattle.diva_cli.specs.Parts.{Soaks, WritesPart, WritesWhole, no_lanes}
-use Rattle.diva_cli.proofs.Handing.{drives_for}
-use Rattle.diva_cli.proofs.Running.{handed_for, run_from_start}
+use Rattle.diva_cli.proofs.Handing.{drives_for, one_leg}
+use Rattle.diva_cli.proofs.Sessions.{handed_for, run_from_start}
 
 pub sizes_fit : IsConfig default_config
 sizes_fit = record {
@@ -117,26 +118,22 @@ module _ {D : Type 0} (gives : Meaning D) (options : SoakOptions) (core : D) (la
 soak_run :
     {C D : Type 0} (gives : Meaning C) (its : Meaning D) (options : SoakOptions) (choice : CoreChoice) (core after : C) (first : D) (last : Timed) (final : D)
     (few : options.instructions ≤ longest_soak) (s : Soaks its options (change first final) last)
-    → AreHanded gives choice [] [] (change (soak_new options) last) (change core after) (lists its options first last final few s)
+    → AreHanded gives choice [] [] (change (soak_new options) last) (change core after) (Handed (lists its options first last final few s) ∷ [])
     → IsSoakRun gives options choice (change core after) last
 soak_run gives its options choice core after first last final few s handed =
     run_from_start gives (soak_setup choice) (soak_cycles options.instructions) [] [] (soak_start options) core last after sizes_fit refl
-    (record {
-      lists = lists its options first last final few s;
-      ran = led its options first last final few s;
-      each = (let e = each its options first last final few s in omega arith);
-      most = within its options first last final few s;
-      handed = handed;
-    })
+    (lists its options first last final few s) (led its options first last final few s) (each its options first last final few s) (within its options first last final few s)
+    handed
 
 -- its turns are those of the core under a script that has no rows
 soak_turns :
     {D : Type 0} (its : Meaning D) (options : SoakOptions) (first : D) (last : Timed) (final : D)
     (few : options.instructions ≤ longest_soak) (s : Soaks its options (change first final) last)
-    → ByTurns (spoiled [] its) (change (soak_new options) last) (change first final) (lists its options first last final few s)
+    → ByLegs (spoiled [] its) (change (soak_new options) last) (change first final) (Handed (lists its options first last final few s) ∷ [])
 soak_turns its options first last final few s =
     let t = Turns-none its (soak_new options) first last final s.turns in
-    record { history = t.turns.history; good = t.turns.good; in_order = sym t.same }
+    subst (λ (l : List (List Record)). ByLegs (spoiled [] its) (change (soak_new options) last) (change first final) (Handed l ∷ [])) t.same
+    (one_leg (spoiled [] its) (soak_new options) last first final t.turns)
 
 own_run :
     {C : Type 0} (gives : Meaning C) (options : SoakOptions) (core : C) (last : Timed) (after : C)
@@ -151,9 +148,9 @@ scalar_run :
     → IsSoakRun gives options Scalar (change core core) last
 scalar_run gives options core last ahead few s =
     soak_run gives IsScalarCall options Scalar core core new_scalar last ahead few s
-    (handed_for gives Scalar [] [] (soak_new options) core (lists IsScalarCall options new_scalar last ahead few s) last core
-    (new_leads default_config (soak_start options) sizes_fit refl)
-    (record { final = ahead; turns = soak_turns IsScalarCall options new_scalar last ahead few s; same = refl }))
+    (handed_for gives Scalar [] [] (soak_new options) core (Handed (lists IsScalarCall options new_scalar last ahead few s) ∷ []) last core
+    (new_leads default_config (soak_start options) sizes_fit refl) tt
+    (record { final = ahead; by = soak_turns IsScalarCall options new_scalar last ahead few s; same = refl }))
 
 -- ---- what is written of them
 

@@ -7,7 +7,8 @@ use Rattle.diva_isa.specs.declared.record.Record.{Record}
 use Rattle.diva_args.specs.Options.{RunOptions}
 use Rattle.diva_args.specs.declared.job.LanePlace.{LanePlace}
 use Rattle.diva_cli.specs.Changes.{Change}
-use Rattle.diva_cli.specs.Runs.{HasRun, IsBrokenOff, IsShown, start_in}
+use Rattle.diva_cli.specs.Runs.{HasRun, IsBrokenOff, IsShown}
+use Rattle.diva_cli.specs.Sessions.{start_in}
 use Rattle.diva_cli.specs.Wanted.{FileBytes}
 
 written_with_liar : (options : RunOptions) (liar : Option LanePlace) (start : State) (lists : List (List Record)) (last : Timed) (ended : Result ℕ (List ℕ)) (text : List ℕ)
@@ -22,5 +23,5 @@ run_with_liar gives options liar bytes core ended text h =
     record {
       last = h.last;
       of_files = h.of_files;
-      written = written_with_liar options liar (start_in options.setup bytes) h.of_files.run.driven.lists h.last ended text h.written;
+      written = written_with_liar options liar (start_in options.setup bytes) h.of_files.holds.lists h.last ended text h.written;
     }

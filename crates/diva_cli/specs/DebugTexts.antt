@@ -10,8 +10,7 @@ use Rattle.diva_debug.specs.Reading.{commands_of}
 use Rattle.diva_debug.specs.declared.command.Command.{Command}
 use Rattle.diva_cli.specs.Changes.{Change}
 use Rattle.diva_cli.specs.Wanted.{FileBytes}
-use Rattle.diva_cli.specs.Runs.{start_in}
-use Rattle.diva_cli.specs.Sessions.{IsSessionOfFiles}
+use Rattle.diva_cli.specs.Sessions.{IsSessionOfFiles, start_in}
 use Rattle.diva_cli.specs.Cuts.{BeforeLast}
 use Rattle.diva_cli.specs.Replies.{AreLed, at_start, cycles_of, newest_after, replies_of}
 
@@ -27,9 +26,9 @@ pub record HasReplies {C : Type 0} (gives : Meaning C) (options : DebugOptions) 
   pub of_files : IsSessionOfFiles gives options.setup (cycles_of (length done) options.setup.config.limit) bytes core last
   -- a part for each command
   pub led : AreLed (start_in options.setup bytes) done at_start (new_timed options.setup.config (start_in options.setup bytes))
-      of_files.session.driven.parts
+      of_files.holds.driven.parts
   pub lines : text ≡ replies_of (start_in options.setup bytes) done at_start
-      (newest_after (new_timed options.setup.config (start_in options.setup bytes)) of_files.session.driven.parts)
+      (newest_after (new_timed options.setup.config (start_in options.setup bytes)) of_files.holds.driven.parts)
   -- where the sink failed, it did so at the last of these replies; those before it had been put
   pub cut : IfErr ended (λ put. BeforeLast done (λ earlier. put ≡ replies_of (start_in options.setup bytes) earlier at_start
-      (newest_after (new_timed options.setup.config (start_in options.setup bytes)) of_files.session.driven.parts)))
+      (newest_after (new_timed options.setup.config (start_in options.setup bytes)) of_files.holds.driven.parts)))

@@ -17,7 +17,8 @@ use Rattle.diva_drawing.specs.Snapshot.{AreSnapshots, IsSnapshot, Snapshot}
 use Rattle.diva_cli.specs.Changes.{Change}
 use Rattle.diva_cli.specs.Wanted.{FileBytes}
 use Rattle.diva_cli.specs.Cuts.{BeforeLast}
-use Rattle.diva_cli.specs.Runs.{EndsWith, IsRunOfFiles, IsWhole, start_in}
+use Rattle.diva_cli.specs.Runs.{EndsWith, IsRunOfFiles, IsWhole}
+use Rattle.diva_cli.specs.Sessions.{start_in}
 
 -- ---- the parts of the text, in each format; a drawing is of the cycles from one to another
 
@@ -95,6 +96,6 @@ pub record HasDrawing {C : Type 0} (gives : Meaning C) (options : DrawOptions) (
   pub first : Snapshot
   pub saw : IsSnapshot (new_timed options.run.setup.config (start_in options.run.setup bytes)) first
   pub seen : List Snapshot
-  pub are : AreSnapshots (new_timed options.run.setup.config (start_in options.run.setup bytes)) of_files.run.driven.lists seen
-  pub written : IsDrawnWhole options (start_in options.run.setup bytes) last first of_files.run.driven.lists seen ended text
-      ⊎ IsDrawnPart options first of_files.run.driven.lists seen ended text
+  pub are : AreSnapshots (new_timed options.run.setup.config (start_in options.run.setup bytes)) of_files.holds.lists seen
+  pub written : IsDrawnWhole options (start_in options.run.setup bytes) last first of_files.holds.lists seen ended text
+      ⊎ IsDrawnPart options first of_files.holds.lists seen ended text

@@ -6,10 +6,10 @@ pub mod Lines
 pub mod Wanted
 pub mod Stops
 pub mod Driven
+pub mod Sessions
 pub mod Cuts
 pub mod Runs
 pub mod TapeTexts
-pub mod Sessions
 pub mod Replies
 pub mod DebugTexts
 pub mod ImageTexts

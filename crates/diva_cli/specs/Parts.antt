@@ -44,7 +44,7 @@ use Rattle.diva_cli.specs.Asked.{Asked}
 use Rattle.diva_cli.specs.Changes.{Asking, Change, HasFailed, IsUncounted, LanesAsked, SinkChange, Takes, TakesPart, TakesPast, change, core_of}
 use Rattle.diva_cli.specs.Lines.{unreadable_line, refused_line}
 use Rattle.diva_cli.specs.Wanted.{Wanted, FileBytes, HasFault, IsSound, AreSound, file_if, machine_files, session_files, tape_name, wanted}
-use Rattle.diva_cli.specs.Runs.{AreRows, AreLists, start_in}
+use Rattle.diva_cli.specs.Sessions.{AreRows, AreLists, start_in}
 use Rattle.diva_cli.specs.DuoTexts.{duo_start}
 use Rattle.diva_cli.specs.CampaignTexts.{campaign_start, campaign_tally, first_run}
 use Rattle.diva_cli.specs.SoakTexts.{soak_cycles, soak_start}

@@ -1,9 +1,7 @@
 -- What is promised of a run, and the text that the command `run` leaves of it.
 -- Cited in `Texts.antt`, for `top`; by `one_liar_is_outvoted` and `own_run_is_determined`.
-use Rattle.std.specs.Prelude.{◌≡◌, ◌⊎◌, ◌≤◌, ◌/◌, ◌*◌, ◌+◌, ◌++◌, ℕ, Bool, true, false, List, [], Option, Some, None, Result, Ok, Err, IfOk, IfErr}
+use Rattle.std.specs.Prelude.{◌≡◌, ◌⊎◌, ◌≤◌, ◌/◌, ◌*◌, ◌+◌, ◌++◌, ℕ, Bool, true, false, List, [], ◌∷◌, length, Option, Some, None, Result, Err, IfOk, IfErr}
 use Rattle.diva_outside.specs.Text.{Text}
-use Rattle.diva_outside.specs.declared.files.What.TheVariants.{Image, Script, Tape as TapeFile}
-use Rattle.diva_image.specs.Programs.{image_in}
 use Rattle.diva_isa.specs.State.{State, goes_on}
 use Rattle.diva_isa.specs.End.{end_of}
 use Rattle.diva_isa.specs.declared.end.End.{End}
@@ -12,46 +10,66 @@ use Rattle.diva_isa.specs.Step.{steps}
 use Rattle.diva_isa.specs.declared.record.Record.{Record}
 use Rattle.diva_core.specs.Timed.{Timed, new_timed, depth}
 use Rattle.diva_core.specs.Cycle.{run_of}
-use Rattle.diva_core.specs.History.{Meaning}
+use Rattle.diva_core.specs.History.{Meaning, IsHistory, lists_of}
+use Rattle.diva_core.specs.Legs.{Handed}
 use Rattle.diva_core.specs.Headline.{AddsRows, AreCommitted, EndsAfter}
 use Rattle.diva_core.specs.Right.{AreRight}
-use Rattle.diva_hart.specs.Start.{start_of}
 use Rattle.diva_faults.specs.declared.rows.Row.{Row}
-use Rattle.diva_faults.specs.Reading.{script_of}
-use Rattle.diva_tape.specs.Tapes.{tape_of}
+use Rattle.diva_faults.specs.Spoiled.{spoiled}
 use Rattle.diva_args.specs.Options.{Setup, RunOptions, DumpRange}
-use Rattle.diva_args.specs.declared.job.CoreChoice.TheVariants.{Lockstep, Scalar}
 use Rattle.diva_trace.specs.declared.report.Dump.{Dump}
 use Rattle.diva_trace.specs.Text.{text_of, trace_of}
-use Rattle.diva_cli.specs.Changes.{Change, change}
-use Rattle.diva_cli.specs.Wanted.{FileBytes, tape_name}
+use Rattle.diva_cli.specs.Changes.{Change}
+use Rattle.diva_cli.specs.Wanted.{FileBytes}
 use Rattle.diva_cli.specs.Cuts.{BeforeLast}
-use Rattle.diva_cli.specs.Driven.{IsDriven}
-
--- the machine was never flushed
-pub record IsUnflushed (m : Timed) : Type 0 where
-  pub flushes : m.under.log.flushes ≡ 0
-  pub silent : m.under.log.silent ≡ 0
+use Rattle.diva_cli.specs.Driven.{ByLegs}
+use Rattle.diva_cli.specs.Sessions.{IsSessionFrom, IsUnflushed, OverFiles, start_in}
 
 -- ---- a run
 
--- a run of so many cycles at most from the state `start` led to the machine `last`, whatever the core handed over and the
--- script made of it
+-- a run is a session of one part: these lists are handed over, and nothing is taken back
 pub record IsRunFrom {C : Type 0} (gives : Meaning C) (setup : Setup) (cycles : ℕ) (tape : List (List Record)) (script : List Row)
     (start : State) (core : Change C) (last : Timed) : Type 0 where
-  pub driven : IsDriven gives setup.core tape script cycles (change (new_timed setup.config start) last) core
-  -- the committed state is the table's after the counted instructions
-  pub stepped : last.arch ≡ steps last.count start
+  pub session : IsSessionFrom gives setup cycles tape script start core last
+  pub lists : List (List Record)
+  pub one : session.driven.parts ≡ Handed lists ∷ []
+
+-- what a session says of its parts, said of the lists of a run, which lead from the machine `first` to `last`
+pub record IsReadOff (cycles : ℕ) (first : Timed) (lists : List (List Record)) (last : Timed) : Type 0 where
+  pub ran : last ≡ run_of first lists
+  pub each : last.cycles ≡ first.cycles + length lists
+  pub most : length lists ≤ cycles
   -- in each cycle equal claims that had waited committed, or the one instruction that ran solo
-  pub committed : AreCommitted (new_timed setup.config start) driven.lists
+  pub committed : AreCommitted first lists
   -- each row of the log is that of a cycle of the run in which a claim differed from the due record, or idle stood at the limit
-  pub rows : AddsRows (new_timed setup.config start) driven.lists last
+  pub rows : AddsRows first lists last
   -- until the end every W + 6 cycles counted at least one instruction, W being the watchdog's limit
-  pub paced : last.cycles / (setup.config.limit + depth) ≤ last.count
+  pub paced : last.cycles / (first.config.limit + depth) ≤ last.count
   -- where each list was right for its machine, nothing was flushed
-  pub calm : AreRight (new_timed setup.config start) driven.lists → IsUnflushed last
-  -- so it is under lockstep and under scalar where there is no script, or one without rows
-  pub unflushed : (setup.core ≡ Lockstep) ⊎ (setup.core ≡ Scalar) → script ≡ [] → IsUnflushed last
+  pub calm : AreRight first lists → IsUnflushed last
+
+-- so it is of each run
+abbrev pub RunsAreReadOff : {C : Type 0} → Meaning C → Type 0
+RunsAreReadOff {C} gives = (setup : Setup) (cycles : ℕ) (tape : List (List Record)) (script : List Row) (start : State) (core : Change C) (last : Timed)
+    → (run : IsRunFrom gives setup cycles tape script start core last) → IsReadOff cycles (new_timed setup.config start) run.lists last
+
+-- the lists are those of turns that lead from a machine and a core to others
+pub record ByTurns {C : Type 0} (gives : Meaning C) (machine : Change Timed) (core : Change C) (lists : List (List Record)) : Type 0 where
+  pub history : List (List Record × C)
+  pub good : IsHistory gives machine.before core.before history machine.after core.after
+  pub in_order : lists ≡ lists_of history
+
+-- legs of one part are turns
+abbrev pub LegsAreTurns : {C : Type 0} → Meaning C → Type 0
+LegsAreTurns {C} gives = (script : List Row) (machine : Change Timed) (core : Change C) (lists : List (List Record))
+    → ByLegs (spoiled script gives) machine core (Handed lists ∷ []) → ByTurns (spoiled script gives) machine core lists
+
+-- a run over files with these bytes
+abbrev pub IsRunOfFiles : {C : Type 0} → Meaning C → Setup → (cycles : ℕ) → FileBytes → Change C → (last : Timed) → Type 0
+IsRunOfFiles gives setup cycles bytes core last =
+    OverFiles setup bytes (λ tape script. IsRunFrom gives setup cycles tape script (start_in setup bytes) core last)
+
+-- ---- how it ended
 
 -- the run was not broken off: the machine ended, or all cycles that were asked for were run
 pub record IsWhole (setup : Setup) (cycles : ℕ) (start : State) (last : Timed) : Type 0 where
@@ -70,31 +88,6 @@ end_status GoesOn = 4
 pub record EndsWith (last : Timed) (cycles status : ℕ) : Type 0 where
   pub by_end : status ≡ end_status (end_of last.arch.end)
   pub all : status ≡ 4 → last.cycles ≡ cycles
-
--- ---- the files of a run
-
--- the rows that are laid over the core: those of the script of this name, and none where no script is named
-abbrev pub AreRows : Option (List ℕ) → (bytes : List ℕ) → (script : List Row) → Type 0
-AreRows None bytes script = script ≡ []
-AreRows (Some name) bytes script = script_of bytes ≡ Ok script
-
--- the lists of the tape of this name, and none where no tape is named
-abbrev pub AreLists : Option (List ℕ) → (bytes : List ℕ) → (tape : List (List Record)) → Type 0
-AreLists None bytes tape = tape ≡ []
-AreLists (Some name) bytes tape = tape_of bytes ≡ Ok tape
-
--- the state that begins with a setup's image
-abbrev pub start_in : Setup → FileBytes → State
-start_in setup bytes = start_of (image_in setup.room (bytes Image))
-
--- a run over files with these bytes
-pub record IsRunOfFiles {C : Type 0} (gives : Meaning C) (setup : Setup) (cycles : ℕ) (bytes : FileBytes) (core : Change C)
-    (last : Timed) : Type 0 where
-  pub script : List Row
-  pub rows : AreRows setup.script (bytes Script) script
-  pub tape : List (List Record)
-  pub lists : AreLists (tape_name setup.core) (bytes TapeFile) tape
-  pub run : IsRunFrom gives setup cycles tape script (start_in setup bytes) core last
 
 -- ---- the command
 
@@ -130,4 +123,4 @@ pub record HasRun {C : Type 0} (gives : Meaning C) (options : RunOptions) (bytes
   pub last : Timed
   pub of_files : IsRunOfFiles gives options.setup options.cycles bytes core last
   pub written : IsShown options (start_in options.setup bytes) last ended text
-      ⊎ IsBrokenOff options (start_in options.setup bytes) of_files.run.driven.lists last ended text
+      ⊎ IsBrokenOff options (start_in options.setup bytes) of_files.holds.lists last ended text

@@ -17,7 +17,8 @@ use Rattle.diva_args.specs.declared.job.CoreChoice.TheVariants.{Tape as OfTape}
 use Rattle.diva_cli.specs.Changes.{Change, change}
 use Rattle.diva_cli.specs.Wanted.{FileBytes}
 use Rattle.diva_cli.specs.Cuts.{BeforeLast}
-use Rattle.diva_cli.specs.Runs.{IsRunOfFiles, IsWhole, EndsWith, HasRun, asked_trace, start_in, shown_dump}
+use Rattle.diva_cli.specs.Runs.{IsRunOfFiles, IsWhole, EndsWith, HasRun, asked_trace, shown_dump}
+use Rattle.diva_cli.specs.Sessions.{start_in}
 
 -- a `run` of the same image with the same room and numbers, by the tape of this text and without a script
 pub record IsReplay (options : TapeOptions) (bytes : FileBytes) (text : Text) (replay : RunOptions) (its_bytes : FileBytes) : Type 0 where
@@ -59,6 +60,6 @@ pub record HasTape {C : Type 0} (gives : Meaning C) (options : TapeOptions) (byt
     (ended : Result ℕ Text) (text : Text) : Type 0 where
   pub last : Timed
   pub of_files : IsRunOfFiles gives options.setup options.cycles bytes core last
-  pub lines : text ≡ tape_text of_files.run.driven.lists
-  pub whole : IfOk ended (IsTapeOf gives options bytes of_files.run.driven.lists last text)
-  pub cut : IfErr ended (λ put. BeforeLast of_files.run.driven.lists (λ earlier. put ≡ tape_text earlier))
+  pub lines : text ≡ tape_text of_files.holds.lists
+  pub whole : IfOk ended (IsTapeOf gives options bytes of_files.holds.lists last text)
+  pub cut : IfErr ended (λ put. BeforeLast of_files.holds.lists (λ earlier. put ≡ tape_text earlier))

@@ -7,9 +7,9 @@ use Rattle.diva_outside.specs.declared.sink.SinkFailed.{SinkFailed}
 use Rattle.diva_isa.specs.State.{goes_on}
 use Rattle.diva_isa.specs.declared.record.Record.{Record}
 use Rattle.diva_core.specs.Timed.{Timed}
-use Rattle.diva_core.specs.Cycle.{cycle_of, run_of}
+use Rattle.diva_core.specs.Cycle.{cycle_of}
 use Rattle.diva_core.specs.History.{Meaning, Turns, lists_of}
-use Rattle.diva_core.specs.Legs.{AreLegs, Leg, Part, handed_in, part_of, run_parts}
+use Rattle.diva_core.specs.Legs.{AreLegs, Handed, Leg, Part, handed_in, part_of, run_parts}
 use Rattle.diva_core.specs.Headline.{committed_in}
 use Rattle.diva_faults.specs.declared.rows.Row.{Row}
 use Rattle.diva_faults.specs.Spoiled.{spoiled}
@@ -21,14 +21,13 @@ use Rattle.diva_tape.specs.TapeText.{IsList, list_text}
 use Rattle.diva_cli.specs.Changes.{Change, HasFailed, PutsTo, SinkChange, Takes, TakesPart, TakesPast}
 use Rattle.diva_cli.specs.Cuts.{BeforeLast}
 use Rattle.diva_cli.specs.DrawTexts.{begin_text, cycles_drawn, drawn_text, front_text, pen_behind}
-use Rattle.diva_cli.specs.Driven.{ByTurns, ByRule, ByOther, scripted_rule}
+use Rattle.diva_cli.specs.Driven.{ByLegs, ByRule, ByOther, scripted_rule}
 use Rattle.diva_cli.specs.declared.driving.CoreInUse.{CoreInUse}
 use Rattle.diva_cli.specs.declared.driving.CoreInUse.TheVariants.{Own, Lockstep, Scalar, Silent, Flood, Echo, Noise, Tape as OfTape}
 use Rattle.diva_cli.specs.declared.tasks.Task.{Task}
 use Rattle.diva_cli.specs.declared.tasks.Task.TheVariants.{Quiet, Trace, Tape, Draw}
 use Rattle.diva_trace.specs.Text.{commits_text}
 use Rattle.diva_cli.specs.Replies.{AreLed, at_start, cycles_of, keep, newest_after, replies_of}
-use Rattle.diva_cli.specs.Sessions.{ByLegs, ByOtherLegs, ByRuleInParts}
 use Rattle.diva_args.specs.declared.job.Format.{Format}
 use Rattle.diva_args.specs.declared.job.LanePlace.{LanePlace}
 use Rattle.diva_drawing.specs.Rows.{Pen}
@@ -183,28 +182,11 @@ pub record Performs {D : Type 0} (gives : Meaning D) (machine : Change Timed) (c
   pub turns : Turns gives machine.before core.before machine.after core.after
   pub done : this (lists_of turns.history)
 
--- where the lists come from, by the core in use
-abbrev pub AreHandedBy : {C : Type 0} → Meaning C → CoreInUse → (script : List Row) → (machine : Change Timed) → (core : Change C)
-    → List (List Record) → Type 0
-AreHandedBy gives Own script machine core lists = ByTurns (spoiled script gives) machine core lists
-AreHandedBy gives Lockstep script machine core lists = ByRule (scripted_rule script lockstep_list) machine.before core lists
-AreHandedBy gives (Scalar first) script machine core lists = ByOther IsScalarCall first script machine core lists
-AreHandedBy gives Silent script machine core lists = ByRule (scripted_rule script silent_list) machine.before core lists
-AreHandedBy gives Flood script machine core lists = ByRule (scripted_rule script flood_list) machine.before core lists
-AreHandedBy gives Echo script machine core lists = ByRule (scripted_rule script echo_list) machine.before core lists
-AreHandedBy gives (Noise first) script machine core lists = ByOther noise_call first script machine core lists
-AreHandedBy gives (OfTape tape) script machine core lists = ByOther tape_call tape script machine core lists
-
--- the core in use took turns with a machine under a script, and this holds of their lists
-pub record PerformsBy {C : Type 0} (gives : Meaning C) (used : CoreInUse) (script : List Row) (machine : Change Timed)
-    (core : Change C) (this : List (List Record) → Type 0) : Type 0 where
+-- it is one part: these lists are handed over, and this holds of them
+pub record IsOnePart (this : List (List Record) → Type 0) (parts : List Part) : Type 0 where
   pub lists : List (List Record)
-  pub ran : machine.after ≡ run_of machine.before lists
-  pub each : machine.after.cycles ≡ machine.before.cycles + length lists
-  pub handed : AreHandedBy gives used script machine core lists
+  pub one : parts ≡ Handed lists ∷ []
   pub done : this lists
-
--- ---- a session by a core
 
 -- legs lead from a machine and a core to others, with one list for each cycle, and this holds of the parts
 pub record Plays {D : Type 0} (gives : Meaning D) (machine : Change Timed) (core : Change D) (this : List Part → Type 0) : Type 0 where
@@ -214,16 +196,16 @@ pub record Plays {D : Type 0} (gives : Meaning D) (machine : Change Timed) (core
   pub done : this (map part_of legs)
 
 -- where the lists of the parts come from, by the core in use
-abbrev pub AreHandedInPartsBy : {C : Type 0} → Meaning C → CoreInUse → (script : List Row) → (machine : Change Timed) → (core : Change C)
+abbrev pub AreHandedBy : {C : Type 0} → Meaning C → CoreInUse → (script : List Row) → (machine : Change Timed) → (core : Change C)
     → List Part → Type 0
-AreHandedInPartsBy gives Own script machine core parts = ByLegs (spoiled script gives) machine core parts
-AreHandedInPartsBy gives Lockstep script machine core parts = ByRuleInParts (scripted_rule script lockstep_list) machine.before core parts
-AreHandedInPartsBy gives (Scalar first) script machine core parts = ByOtherLegs IsScalarCall first script machine core parts
-AreHandedInPartsBy gives Silent script machine core parts = ByRuleInParts (scripted_rule script silent_list) machine.before core parts
-AreHandedInPartsBy gives Flood script machine core parts = ByRuleInParts (scripted_rule script flood_list) machine.before core parts
-AreHandedInPartsBy gives Echo script machine core parts = ByRuleInParts (scripted_rule script echo_list) machine.before core parts
-AreHandedInPartsBy gives (Noise first) script machine core parts = ByOtherLegs noise_call first script machine core parts
-AreHandedInPartsBy gives (OfTape tape) script machine core parts = ByOtherLegs tape_call tape script machine core parts
+AreHandedBy gives Own script machine core parts = ByLegs (spoiled script gives) machine core parts
+AreHandedBy gives Lockstep script machine core parts = ByRule (scripted_rule script lockstep_list) machine.before core parts
+AreHandedBy gives (Scalar first) script machine core parts = ByOther IsScalarCall first script machine core parts
+AreHandedBy gives Silent script machine core parts = ByRule (scripted_rule script silent_list) machine.before core parts
+AreHandedBy gives Flood script machine core parts = ByRule (scripted_rule script flood_list) machine.before core parts
+AreHandedBy gives Echo script machine core parts = ByRule (scripted_rule script echo_list) machine.before core parts
+AreHandedBy gives (Noise first) script machine core parts = ByOther noise_call first script machine core parts
+AreHandedBy gives (OfTape tape) script machine core parts = ByOther tape_call tape script machine core parts
 
 -- the core in use drove a machine in parts under a script, and this holds of the parts
 pub record PlaysBy {C : Type 0} (gives : Meaning C) (used : CoreInUse) (script : List Row) (machine : Change Timed)
@@ -231,5 +213,5 @@ pub record PlaysBy {C : Type 0} (gives : Meaning C) (used : CoreInUse) (script :
   pub parts : List Part
   pub ran : machine.after ≡ run_parts machine.before parts
   pub each : machine.after.cycles ≡ machine.before.cycles + length (handed_in parts)
-  pub handed : AreHandedInPartsBy gives used script machine core parts
+  pub handed : AreHandedBy gives used script machine core parts
   pub done : this parts

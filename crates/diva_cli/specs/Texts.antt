@@ -13,7 +13,8 @@ use Rattle.diva_args.specs.declared.job.LanePlace.{LanePlace}
 use Rattle.diva_core.specs.Timed.{new_timed}
 use Rattle.diva_machine.specs.Asked.{asked_over}
 use Rattle.diva_cli.specs.Wanted.{FileBytes}
-use Rattle.diva_cli.specs.Runs.{HasRun, start_in}
+use Rattle.diva_cli.specs.Runs.{HasRun}
+use Rattle.diva_cli.specs.Sessions.{start_in}
 use Rattle.diva_cli.specs.TapeTexts.{HasTape}
 use Rattle.diva_cli.specs.DebugTexts.{HasReplies}
 use Rattle.diva_cli.specs.ImageTexts.{HasAssembled, HasListing, HasMigrated}
@@ -46,7 +47,7 @@ AsksInRun setup liar bytes lists lanes = lanes liar (asked_over (new_timed setup
 abbrev pub AsksLanes : {C : Type 0} → (gives : Meaning C) (job : Job) (bytes : FileBytes) (core : Change C) (ended : Result ℕ Text) (text : Text)
     → HasText gives job bytes core ended text → LanesAsked → Type 0
 AsksLanes gives (Run options) bytes core ended text means lanes =
-    AsksInRun options.setup options.liar bytes means.of_files.run.driven.lists lanes
+    AsksInRun options.setup options.liar bytes means.of_files.holds.lists lanes
 AsksLanes gives (Tape options) bytes core ended text means lanes = lanes None []
 AsksLanes gives (Duo options) bytes core ended text means lanes = lanes None []
 AsksLanes gives (Debug options) bytes core ended text means lanes = lanes None []
@@ -56,7 +57,7 @@ AsksLanes gives (Migrate options) bytes core ended text means lanes = lanes None
 AsksLanes gives (Soak options) bytes core ended text means lanes = lanes None []
 AsksLanes gives (Campaign options) bytes core ended text means lanes = lanes None []
 AsksLanes gives (Draw options) bytes core ended text means lanes =
-    AsksInRun options.run.setup options.run.liar bytes means.of_files.run.driven.lists lanes
+    AsksInRun options.run.setup options.run.liar bytes means.of_files.holds.lists lanes
 
 -- ---- how a command ends
 

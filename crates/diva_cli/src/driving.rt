@@ -2,7 +2,7 @@
 ghost use Rattle.diva_cli.specs.Changes.{change, sink_change};
 ghost use Rattle.diva_machine.specs.Asked.{asked_over};
 ghost use Rattle.diva_cli.specs.Lanes.{AreHonest, are_asked};
-ghost use Rattle.diva_cli.specs.Tasks.{Allows, CanReply, Does, IsReplied, PerformsBy, PlaysBy, liar_of};
+ghost use Rattle.diva_cli.specs.Tasks.{Allows, CanReply, Does, IsOnePart, IsReplied, PlaysBy, liar_of};
 
 use crate::lanes::Lanes;
 use crate::replying::reply_under;
@@ -41,9 +41,9 @@ pub(crate) fn perform_by<C: Core, S: Sink, L: Lane>(
 ) -> Result<(), SinkFailed>
     requires allows { Allows task m.old.timed }
     requires honest { AreHonest L.honest lanes.old }
-    ensures { PerformsBy C.gives core.old script.now (change m.old.timed m.new.timed) (change own.old own.new)
-        (λ lists. Does task (change m.old.timed m.new.timed) lists (sink_change S.contents S.faults sink.old sink.new) result
-        × are_asked L.says lanes.old lanes.new (liar_of task) (asked_over m.old.timed lists)) }
+    ensures { PlaysBy C.gives core.old script.now (change m.old.timed m.new.timed) (change own.old own.new)
+        (IsOnePart (λ lists. Does task (change m.old.timed m.new.timed) lists (sink_change S.contents S.faults sink.old sink.new) result
+        × are_asked L.says lanes.old lanes.new (liar_of task) (asked_over m.old.timed lists))) }
 {
     match core {
         CoreInUse::Own => perform_under(script, m, own, task, lanes, sink),

@@ -6,7 +6,7 @@ ghost use Rattle.diva_args.specs.declared.job.CoreChoice.TheVariants.{Own};
 ghost use Rattle.diva_args.specs.declared.job.LanePlace.{LanePlace};
 ghost use Rattle.diva_cli.specs.Changes.{Change, change};
 ghost use Rattle.diva_cli.specs.Determined.{IsDetermined};
-ghost use Rattle.diva_cli.specs.Runs.{HasRun};
+ghost use Rattle.diva_cli.specs.Runs.{HasRun, LegsAreTurns, RunsAreReadOff};
 ghost use Rattle.diva_cli.specs.SoakTexts.{HasSoaked};
 ghost use Rattle.diva_cli.specs.Wanted.{FileBytes};
 
@@ -34,4 +34,12 @@ pub fn one_liar_is_outvoted<C: Core>()
     ensures { (options : RunOptions) (liar : Option LanePlace) (bytes : FileBytes) (core : Change C) (ended : Result ℕ Text) (text : Text)
         → HasRun C.gives options bytes core ended text
         → HasRun C.gives (record options { liar = liar }) bytes core ended text }
+{}
+
+/// A run is a session of one part, and what a session says of its parts is read off of it: what the lists of a run lead to, what
+/// each of their cycles commits, and which rows it adds to the log; its pace; and that right lists are not flushed. The legs of one part are
+/// turns, each of them a call of the core, under a script or without one.
+pub fn run_is_one_part<C: Core>()
+    ensures off { RunsAreReadOff C.gives }
+    ensures turns { LegsAreTurns C.gives }
 {}

@@ -15,8 +15,9 @@
 //! - `lines`: the lines that are written where no job is done;
 //! - `stop`: why a job is not done, and why there is no whole answer;
 //! - `sure`: `top_sure`, the program over files and a sink that never fail;
-//! - `laws`: that the text of a run, and that of `soak`, is determined (`own_run_is_determined`), and that what is promised of
-//!   the text of a run is the same with a liar in any place and without (`one_liar_is_outvoted`).
+//! - `laws`: that the text of a run, and that of `soak`, is determined (`own_run_is_determined`), that what is promised of
+//!   the text of a run is the same with a liar in any place and without (`one_liar_is_outvoted`), and what a session of one part says of its
+//!   lists (`run_is_one_part`).
 //!
 //! What is promised, each part in a file of `specs/`, in the order in which it is best read:
 //!
@@ -24,10 +25,11 @@
 //!   lines where no job is done;
 //! - `Statuses`: what each status says; `Answers`: what is answered, and why;
 //! - `Wanted`: which files a job wants, and what is wrong with their bytes; `Stops`: at which of them loading stops;
-//! - `Texts`: the text of each command; `Runs`: that of `run`, with what holds of the machine; `Driven`: what drove it;
-//! - `TapeTexts`: the text of `tape`; `DebugTexts`, with `Replies`: that of `debug`, and `Sessions`: what holds of its machine, and
-//!   what drove it; `ImageTexts`: those of `asm`, `dis` and `migrate`; `SoakTexts`: that of `soak`; `DuoTexts`: that of `duo`;
-//!   `CampaignTexts`: that of `campaign`; `DrawTexts`: those of `log` and `draw`; `Cuts`: in which part of a text a sink failed;
+//! - `Texts`: the text of each command; `Sessions`: what holds of the machine of a session, and of a run, which is a session of one part;
+//!   `Driven`: what drove it; `Runs`: a run, with the text of `run`;
+//! - `TapeTexts`: the text of `tape`; `DebugTexts`, with `Replies`: that of `debug`; `ImageTexts`: those of `asm`, `dis` and `migrate`;
+//!   `SoakTexts`: that of `soak`; `DuoTexts`: that of `duo`; `CampaignTexts`: that of `campaign`; `DrawTexts`: those of `log` and
+//!   `draw`; `Cuts`: in which part of a text a sink failed;
 //! - `Determined`: what is determined of a run; `Sure`: what files that never fail hold.
 //!
 //! `Tasks` and `Parts` are what the parts of the program promise one another. What each command promises, and so the whole

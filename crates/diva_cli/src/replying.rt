@@ -22,24 +22,8 @@ pub(crate) fn reply_under<D: Core, S: Sink>(
         (sink_change S.contents S.faults sink.old sink.new) result) }
 {
     if script.rows().is_empty() {
-        reply_each(session, core, commands, sink)
-    } else {
-        reply_faulty(script, session, core, commands, sink)
+        return reply_each(session, core, commands, sink);
     }
-}
-
-fn reply_faulty<D: Core, S: Sink>(
-    script: &Script,
-    session: &mut Rewindable,
-    core: &mut D,
-    commands: &[Command],
-    sink: &mut S,
-) -> Result<(), SinkFailed>
-    requires { CanReply commands.now session.old }
-    ensures { Plays (spoiled script.now D.gives) (change session.old.machine.timed session.new.machine.timed)
-        (change core.old core.new) (λ parts. IsReplied commands.now session.old.machine.timed parts
-        (sink_change S.contents S.faults sink.old sink.new) result) }
-{
     let mut faulty = Faulty::new(core, script);
     reply_each(session, &mut faulty, commands, sink)
 }

@@ -3,7 +3,7 @@ ghost use Rattle.diva_faults.specs.Spoiled.{spoiled};
 ghost use Rattle.diva_cli.specs.Changes.{change, sink_change};
 ghost use Rattle.diva_machine.specs.Asked.{asked_over};
 ghost use Rattle.diva_cli.specs.Lanes.{AreHonest, are_asked};
-ghost use Rattle.diva_cli.specs.Tasks.{Allows, Does, Performs, liar_of};
+ghost use Rattle.diva_cli.specs.Tasks.{Allows, Does, IsOnePart, Plays, liar_of};
 
 use crate::checking::drive_checked;
 use crate::drawing::drive_drawing;
@@ -45,9 +45,9 @@ pub(crate) fn perform_under<D: Core, S: Sink, L: Lane>(
 ) -> Result<(), SinkFailed>
     requires allows { Allows task m.old.timed }
     requires honest { AreHonest L.honest lanes.old }
-    ensures { Performs (spoiled script.now D.gives) (change m.old.timed m.new.timed) (change core.old core.new)
-        (λ lists. Does task (change m.old.timed m.new.timed) lists (sink_change S.contents S.faults sink.old sink.new) result
-        × are_asked L.says lanes.old lanes.new (liar_of task) (asked_over m.old.timed lists)) }
+    ensures { Plays (spoiled script.now D.gives) (change m.old.timed m.new.timed) (change core.old core.new)
+        (IsOnePart (λ lists. Does task (change m.old.timed m.new.timed) lists (sink_change S.contents S.faults sink.old sink.new) result
+        × are_asked L.says lanes.old lanes.new (liar_of task) (asked_over m.old.timed lists))) }
 {
     if script.rows().is_empty() {
         perform(m, core, task, lanes, sink)
@@ -67,9 +67,9 @@ fn perform_faulty<D: Core, S: Sink, L: Lane>(
 ) -> Result<(), SinkFailed>
     requires allows { Allows task m.old.timed }
     requires honest { AreHonest L.honest lanes.old }
-    ensures { Performs (spoiled script.now D.gives) (change m.old.timed m.new.timed) (change core.old core.new)
-        (λ lists. Does task (change m.old.timed m.new.timed) lists (sink_change S.contents S.faults sink.old sink.new) result
-        × are_asked L.says lanes.old lanes.new (liar_of task) (asked_over m.old.timed lists)) }
+    ensures { Plays (spoiled script.now D.gives) (change m.old.timed m.new.timed) (change core.old core.new)
+        (IsOnePart (λ lists. Does task (change m.old.timed m.new.timed) lists (sink_change S.contents S.faults sink.old sink.new) result
+        × are_asked L.says lanes.old lanes.new (liar_of task) (asked_over m.old.timed lists))) }
 {
     if let Task::Quiet(cycles, liar) = task {
         drive_scripted(m, core, script, cycles, liar, lanes);
@@ -90,9 +90,9 @@ fn perform<D: Core, S: Sink, L: Lane>(
 ) -> Result<(), SinkFailed>
     requires allows { Allows task m.old.timed }
     requires honest { AreHonest L.honest lanes.old }
-    ensures { Performs D.gives (change m.old.timed m.new.timed) (change core.old core.new)
-        (λ lists. Does task (change m.old.timed m.new.timed) lists (sink_change S.contents S.faults sink.old sink.new) result
-        × are_asked L.says lanes.old lanes.new (liar_of task) (asked_over m.old.timed lists)) }
+    ensures { Plays D.gives (change m.old.timed m.new.timed) (change core.old core.new)
+        (IsOnePart (λ lists. Does task (change m.old.timed m.new.timed) lists (sink_change S.contents S.faults sink.old sink.new) result
+        × are_asked L.says lanes.old lanes.new (liar_of task) (asked_over m.old.timed lists))) }
 {
     match task {
         Task::Quiet(cycles, liar) => {

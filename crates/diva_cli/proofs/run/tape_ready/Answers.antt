@@ -2,7 +2,6 @@
 use Rattle.std.proofs.Common.{Ok, ap, refl}
 use Rattle.std.proofs.lemmas.Result.{err_from_is_err_and}
 use Rattle.diva_args.specs.Options.{TapeOptions}
-use Rattle.diva_cli.proofs.Handing.{performs_so}
 use Rattle.diva_cli.proofs.Replaying.{wrote_tape, cut_tape}
 use Rattle.diva_cli.proofs.run.tape_ready.Goals as goal
 
@@ -11,12 +10,12 @@ returns-in_err-perform_by g c = λ bytes is.
     let p = err_from_is_err_and c.from_residual.result c.from_residual.ensures.1 in
     rw (p.1, p.2) (cut_tape g.C.Core.gives c.args.options bytes c.args.ready.now _ _ _ _ _ _
     (ap (λ (o : TapeOptions). o.cycles) c.options.view_is)
-    c.requires.fits is _ c.in_err-perform_by.ensures.done.1 (performs_so g.C.Core.gives _ _ _ _ _ _ (λ lists both. both.0) c.in_err-perform_by.ensures) _ refl)
+    c.requires.fits is _ c.in_err-perform_by.ensures.done.done.1 _ c.in_err-perform_by.ensures _ refl)
 
 pub returns : goal.returns
 returns g c = λ bytes is.
     wrote_tape g.C.Core.gives c.args.options bytes c.args.ready.now _ _ _ _ _ (Ok tt)
     (ap (λ (o : TapeOptions). o.cycles) c.options.view_is)
-    c.requires.fits is _ c.in_ok-perform_by.ensures.done.1 (performs_so g.C.Core.gives _ _ _ _ _ _ (λ lists both. both.0) c.in_ok-perform_by.ensures) c.end_status.result
+    c.requires.fits is _ c.in_ok-perform_by.ensures.done.done.1 _ c.in_ok-perform_by.ensures c.end_status.result
     c.end_status.ensures
     refl
