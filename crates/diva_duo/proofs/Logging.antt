@@ -1,5 +1,5 @@
--- What each hart commits in the cycles of a run, and the rows that these add to its log.
-use Rattle.std.proofs.Common.{◌≡◌, ℕ, ◌+◌, ◌≤◌, Bool, List, [], ◌∷◌, ◌++◌, length, take, Option, Some, refl, ap, sym, ◌∙◌, arith, inl, inr, length-append, length-take, append-nil, append_assoc, if◌then◌else◌}
+-- What each cycle of a run promises of each hart, and the rows that these add to its log.
+use Rattle.std.proofs.Common.{◌≡◌, ℕ, ◌+◌, ◌≤◌, Bool, List, [], ◌∷◌, ◌++◌, length, take, Option, Some, refl, ap, sym, ◌∙◌, arith, ◌⊎◌, inl, inr, length-append, length-take, append-nil, append_assoc, if◌then◌else◌}
 use Rattle.std.specs.Prelude.{nat_lt, count_by}
 use Rattle.std.proofs.lemmas.Bool.{cond_both, cases_lt, ltb-true, ltb-false}
 use Rattle.std.proofs.lemmas.List.{take-append-le, take_all}
@@ -9,12 +9,13 @@ use Rattle.diva_core.specs.declared.flushes.FlushRow.{FlushRow}
 use Rattle.diva_core.specs.Timed.{Timed, rows_kept}
 use Rattle.diva_core.specs.Cycle.{is_silent, kept, number}
 use Rattle.diva_core.specs.Headline.{HasRows, IsRowOf, SameLog, is_silent_row, newest_of}
+use Rattle.diva_core.specs.HartCycle.{FlushesOnce, WithoutFlush}
 use Rattle.diva_duo.specs.Duo.{Duo, duo_cycle_of, duo_drained}
 use Rattle.diva_duo.specs.Which.{Which, First, Second, machine_at}
 use Rattle.diva_duo.specs.Between.{IsDuo, duo_run}
-use Rattle.diva_duo.specs.Headline.{AddsRowsAt, AreCommittedAt, AreRowsAt, LogsAt, WithoutFlush, judged_at}
+use Rattle.diva_duo.specs.Headline.{AddsRowsAt, AreCyclesAt, AreRowsAt, judged_at}
 use Rattle.diva_duo.proofs.Readying.{hart_holds}
-use Rattle.diva_duo.proofs.Cycles.{commits_at, logs_at, stays}
+use Rattle.diva_duo.proofs.Cycles.{cycles_at, stays}
 
 count-append : (p : FlushRow → Bool) (xs ys : List FlushRow) → count_by p (xs ++ ys) ≡ count_by p xs + count_by p ys
 count-append p xs ys = sum_by-append (λ x. if p x then 1 else 0) xs ys
@@ -77,10 +78,10 @@ has-then m mid last first more a b =
 abbrev Pair : Type 0
 Pair = List Record × List Record
 
-pub are_committed : (w : Which) (lists : List Pair) (d : Duo) → IsDuo d → AreCommittedAt w d lists
-are_committed w [] d inv = tt
-are_committed w (l ∷ rest) d inv =
-    (commits_at d inv l.0 l.1 w, are_committed w rest (duo_cycle_of d l.0 l.1) (stays d inv l.0 l.1))
+pub are_cycles : (w : Which) (lists : List Pair) (d : Duo) → IsDuo d → AreCyclesAt w d lists
+are_cycles w [] d inv = tt
+are_cycles w (l ∷ rest) d inv =
+    (cycles_at d inv l.0 l.1 w, are_cycles w rest (duo_cycle_of d l.0 l.1) (stays d inv l.0 l.1))
 
 rows-same : (w : Which) (d : Duo) (l : Pair) (rest : List Pair) (rows : List FlushRow)
     → WithoutFlush (judged_at w d) (machine_at w (duo_cycle_of d l.0 l.1)) → AreRowsAt w (duo_cycle_of d l.0 l.1) rest rows → AreRowsAt w d (l ∷ rest) rows
@@ -102,7 +103,7 @@ rows_judged Second d inv = inv.second.machine.rows
 rows-more :
     (w : Which) (d : Duo) (l : Pair) (rest : List Pair) (last : Duo)
     → IsDuo d
-    → LogsAt w d (duo_cycle_of d l.0 l.1)
+    → WithoutFlush (judged_at w d) (machine_at w (duo_cycle_of d l.0 l.1)) ⊎ FlushesOnce (judged_at w d) (machine_at w (duo_cycle_of d l.0 l.1))
     → AddsRowsAt w (duo_cycle_of d l.0 l.1) rest last
     → AddsRowsAt w d (l ∷ rest) last
 rows-more w d l rest last inv (inl s) later =
@@ -130,4 +131,4 @@ adds_rows w [] d inv =
       has = same-has (machine_at w d) (machine_at w d) (hart_holds w d inv).machine.rows (record { rows = refl; newest = refl; flushes = refl; silent = refl });
     }
 adds_rows w (l ∷ rest) d inv =
-    rows-more w d l rest _ inv (logs_at d inv l.0 l.1 w) (adds_rows w rest (duo_cycle_of d l.0 l.1) (stays d inv l.0 l.1))
+    rows-more w d l rest _ inv (cycles_at d inv l.0 l.1 w).logs (adds_rows w rest (duo_cycle_of d l.0 l.1) (stays d inv l.0 l.1))
