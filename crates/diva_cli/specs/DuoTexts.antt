@@ -14,7 +14,7 @@ use Rattle.diva_duo.specs.Harts.{replay}
 use Rattle.diva_duo.specs.Duo.{Duo, duo_cycle_of, harts_of, is_over, new_duo}
 use Rattle.diva_duo.specs.Which.{Which, First, Second, hart_at, machine_at}
 use Rattle.diva_duo.specs.Between.{HasGone, duo_run}
-use Rattle.diva_duo.specs.Headline.{AddsRowsAt, AreCommittedAt}
+use Rattle.diva_duo.specs.Headline.{AddsRowsAt, AreCyclesAt}
 use Rattle.diva_duo.specs.Turns.{acted_by}
 use Rattle.diva_ahead.specs.Ahead.{Ahead}
 use Rattle.diva_tape.specs.Lists.{lockstep_call}
@@ -61,7 +61,7 @@ pub record IsDuoRun (kind : HartCore) (cycles : ℕ) (start last : Duo) : Type 0
   -- the actions of all cycles, one after the other, are possible on the store-buffer machine, and lead it from the one to the other
   pub replayed : replay (acted_by start pairs) (harts_of start) ≡ Some (harts_of last)
   -- in each cycle each hart committed equal claims that had waited, or the one instruction that ran solo for six cycles
-  pub committed : (w : Which) → AreCommittedAt w start pairs
+  pub committed : (w : Which) → AreCyclesAt w start pairs
   -- each row of a hart's log is that of a cycle of the run in which a claim differed from the record that was due to its hart, or idle
   -- stood at the limit, and all are counted; with these flushes alone an instruction began to run solo
   pub rows : (w : Which) → AddsRowsAt w start pairs last

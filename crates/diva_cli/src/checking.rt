@@ -1,12 +1,9 @@
 // How the claims of a machine are checked: by the checks alone, or by three lanes that vote, of which one may lie. Nothing that is
 // promised of the machine of a turn or a drive depends on it.
-ghost use Rattle.std.specs.Prelude.{◌≡◌, ◌+◌, ◌-◌, ◌≤◌, ◌<◌, ◌^◌, ◌↔◌, None, Some, true, false};
-ghost use Rattle.diva_isa.specs.State.{goes_on};
-ghost use Rattle.diva_core.specs.Told.{told_of};
-ghost use Rattle.diva_core.specs.Cycle.{cycle_of};
-ghost use Rattle.diva_core.specs.Machine.{IsMachine};
-ghost use Rattle.diva_core.specs.Headline.{dues};
+ghost use Rattle.std.specs.Prelude.{◌+◌, ◌≤◌, ◌<◌, ◌^◌, None, Some};
 ghost use Rattle.diva_machine.specs.Asked.{DrivesAsking, asked_of};
+ghost use Rattle.diva_machine.specs.Cycles.{IsTurn};
+ghost use Rattle.diva_machine.specs.Drives.{IsDrive};
 ghost use Rattle.diva_cli.specs.Lanes.{AreHonest, are_asked};
 
 use crate::lanes::Lanes;
@@ -28,10 +25,7 @@ pub(crate) fn drive_checked<C: Core, L: Lane>(
     requires honest { AreHonest L.honest lanes.old }
     ensures honest { AreHonest L.honest lanes.new }
     ensures drives { DrivesAsking C.gives m.old core.old m.new core.new (are_asked L.says lanes.old lanes.new liar) }
-    ensures ended { (result ≡ Drive.Ended) ↔ (goes_on m.new.timed.arch ≡ false) }
-    ensures budget { (result ≡ Drive.Budget)
-        ↔ ((m.new.timed.cycles ≡ m.old.timed.cycles + budget) × (goes_on m.new.timed.arch ≡ true)) }
-    ensures within { m.new.timed.cycles ≤ m.old.timed.cycles + budget }
+    ensures is { IsDrive C.gives budget m.old core.old m.new core.new result }
 {
     match liar {
         None => drive(m, core, budget),
@@ -54,10 +48,7 @@ fn drive_with_liar<C: Core, L: Lane>(
     requires honest { AreHonest L.honest lanes.old }
     ensures honest { AreHonest L.honest lanes.new }
     ensures drives { DrivesAsking C.gives m.old core.old m.new core.new (are_asked L.says lanes.old lanes.new (Some place)) }
-    ensures ended { (result ≡ Drive.Ended) ↔ (goes_on m.new.timed.arch ≡ false) }
-    ensures budget { (result ≡ Drive.Budget)
-        ↔ ((m.new.timed.cycles ≡ m.old.timed.cycles + budget) × (goes_on m.new.timed.arch ≡ true)) }
-    ensures within { m.new.timed.cycles ≤ m.old.timed.cycles + budget }
+    ensures is { IsDrive C.gives budget m.old core.old m.new core.new result }
 {
     let Lanes {
         first,
@@ -114,11 +105,7 @@ pub(crate) fn turn_checked<C: Core, L: Lane>(
     requires honest { AreHonest L.honest lanes.old }
     ensures honest { AreHonest L.honest lanes.new }
     ensures lanes { are_asked L.says lanes.old lanes.new liar (asked_of m.old.timed) }
-    ensures cycled { m.new.timed ≡ cycle_of m.old.timed list.new }
-    ensures asked { goes_on m.old.timed.arch ≡ true
-        → C.gives core.old (told_of m.old.timed) m.old.timed.arch list.new core.new }
-    ensures last { m.new.last ≡ dues (m.new.timed.count - m.old.timed.count) m.old.timed.arch }
-    ensures machine { IsMachine m.new.timed }
+    ensures is { IsTurn C.gives m.old core.old list.new m.new core.new }
 {
     match liar {
         None => turn(m, core, list),
@@ -140,11 +127,7 @@ fn turn_with_liar<C: Core, L: Lane>(
     requires honest { AreHonest L.honest lanes.old }
     ensures honest { AreHonest L.honest lanes.new }
     ensures lanes { are_asked L.says lanes.old lanes.new (Some place) (asked_of m.old.timed) }
-    ensures cycled { m.new.timed ≡ cycle_of m.old.timed list.new }
-    ensures asked { goes_on m.old.timed.arch ≡ true
-        → C.gives core.old (told_of m.old.timed) m.old.timed.arch list.new core.new }
-    ensures last { m.new.last ≡ dues (m.new.timed.count - m.old.timed.count) m.old.timed.arch }
-    ensures machine { IsMachine m.new.timed }
+    ensures is { IsTurn C.gives m.old core.old list.new m.new core.new }
 {
     let Lanes {
         first,

@@ -24,6 +24,7 @@ pub mod Outcomes
 pub mod Pacing
 pub mod Passing
 pub mod Phases
+pub mod Promising
 pub mod Progressing
 pub mod Reaching
 pub mod Rows

@@ -36,7 +36,7 @@ module _ {rule : Rule} where
   Rises-base : (b n : Timed) (k : ℕ) → Base rule b n k → Rises b n
   Rises-base b n k v = record { counted = (let c = v.counted in omega arith); stepped = rw (k-is b n k v) v.stepped }
 
-  Rises-any : (b n : Timed) → AnyBase rule b n → Rises b n
+  pub Rises-any : (b n : Timed) → AnyBase rule b n → Rises b n
   Rises-any b n a = Rises-base b n a.k a.base
 
 -- a cycle on an ended machine changes nothing
@@ -103,7 +103,7 @@ module _ {rule : Rule} where
   Commits-base : (b n : Timed) (k : ℕ) (rest : List PendingClaim) → Base rule b n k → Commits k b.arch (b.cycles + 1) b.under.pending rest → CommitsClaims b n
   Commits-base b n k rest v h = record { rest = rest; commits = rw (k-is b n k v) h }
 
-  commit-cases : (b : Timed) (list : List Record) (n : Timed) → Cycled rule b list n → CommitsClaims b n ⊎ CommitsItself b n
+  pub commit-cases : (b : Timed) (list : List Record) (n : Timed) → Cycled rule b list n → CommitsClaims b n ⊎ CommitsItself b n
   commit-cases b list n (idled r) = inl (Commits-base b n 0 b.under.pending r.base refl)
   commit-cases b list n (ran r) = inl (Commits-base b n (suc r.k) r.rest r.base r.claims)
   commit-cases b list n (barks r) = inl (Commits-base b n 0 b.under.pending r.base refl)

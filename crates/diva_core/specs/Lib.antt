@@ -3,6 +3,7 @@ pub mod Difference
 pub mod Effects
 pub mod Entries
 pub mod Future
+pub mod HartCycle
 pub mod Headline
 pub mod History
 pub mod Legs

@@ -19,7 +19,7 @@
 //! `Effects`), what the oldest of them leave in the registers (`Future`), what each stage of the checker compares (`Stages`),
 //! turns of a machine and a core (`History`), what holds between cycles (`Machine`), right lists and calm machines (`Right`), the
 //! machine without its last instruction (`Undone`), sessions, which are turns and instructions that are taken back (`Legs`), and the
-//! words of what a cycle, a turn and a run promise (`Headline`). `Inner` is for private contracts alone.
+//! words of what a cycle, a turn and a run promise (`Headline`), and a cycle of any hart (`HartCycle`). `Inner` is for private contracts alone.
 //! `proofs/` has the laws that follow.
 #![tactic(auto)]
 

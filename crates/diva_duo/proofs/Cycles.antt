@@ -9,6 +9,9 @@ use Rattle.diva_storeq.specs.Stores.{laid}
 use Rattle.diva_storeq.proofs.Laying.{laid_base, laid_length}
 use Rattle.diva_core.specs.Timed.{Timed, is_empty}
 use Rattle.diva_isa.specs.declared.record.Record.{Record}
+use Rattle.diva_core.specs.Headline.{dues}
+use Rattle.diva_core.specs.HartCycle.{IsHartCycle}
+use Rattle.diva_core.proofs.Promising.{hart_cycle_none}
 use Rattle.diva_core.proofs.Stalling.{Stalls}
 use Rattle.diva_commit.specs.Committing.{AreInside}
 use Rattle.diva_commit.proofs.Storing.{inside_later, inside_rest}
@@ -19,9 +22,8 @@ use Rattle.diva_duo.specs.Harts.{Harts, may_drain, memory_drained, replay, state
 use Rattle.diva_duo.specs.Duo.{Duo, Hart, timed, drained_hart, hart_cycle, duo_drained, duo_cycle_of, phased, is_over, is_hart_over, harts_of, drains, actions}
 use Rattle.diva_duo.specs.Which.{Which, First, Second, hart_at, machine_at}
 use Rattle.diva_duo.specs.Between.{CountsFew, IsDuo, IsHart}
-use Rattle.diva_duo.specs.Headline.{CommitsAt, CommitsBy, FlushesOnce, LogsAt, WithoutFlush, judged_at}
-use Rattle.diva_duo.proofs.Headlines.{commits_none, logs_none}
-use Rattle.diva_duo.proofs.Moving.{Moves, moves_on, keeps_on, commits_on, logs_on, other_memory, stalls_hart}
+use Rattle.diva_duo.specs.Headline.{CyclesAt, judged_at}
+use Rattle.diva_duo.proofs.Moving.{Moves, moves_on, keeps_on, cycle_on, other_memory, stalls_hart}
 use Rattle.diva_duo.proofs.Replaying.{replays, replay_then, went_on, went_none}
 
 -- ---- one hart, which goes on or has ended
@@ -63,7 +65,7 @@ module _ (now : ℕ) (before memory : Bytes) (h : Hart) (inv : IsHart now before
         })
   ]
 
-  -- what it commits, and what that adds to its log
+  -- what its cycle promises
   abbrev judged : Timed
   judged = timed now memory (drained_hart h)
 
@@ -73,16 +75,10 @@ module _ (now : ℕ) (before memory : Bytes) (h : Hart) (inv : IsHart now before
   ended_is : h.state.end ≢ 0 → after ≡ timed (now + 1) memory (drained_hart h)
   ended_is off = ap (timed (now + 1) memory) (stands off)
 
-  pub commits_hart : CommitsBy judged after
-  commits_hart = elim (cases_Bool (h.state.end == 0)) [
-    | inl on ↦ commits_on now before memory h inv inside list (eqb-true _ _ on)
-    | inr off ↦ commits_none judged after (now + 1) (ended_is (eqb-false _ _ off))
-  ]
-
-  pub logs_hart : WithoutFlush judged after ⊎ FlushesOnce judged after
-  logs_hart = elim (cases_Bool (h.state.end == 0)) [
-    | inl on ↦ logs_on now before memory h inv inside list (eqb-true _ _ on)
-    | inr off ↦ inl (logs_none judged after (now + 1) (ended_is (eqb-false _ _ off)))
+  pub cycle_hart : IsHartCycle judged after (dues (after.count - judged.count) judged.arch)
+  cycle_hart = elim (cases_Bool (h.state.end == 0)) [
+    | inl on ↦ cycle_on now before memory h inv inside list (eqb-true _ _ on)
+    | inr off ↦ hart_cycle_none judged after (now + 1) (ended_is (eqb-false _ _ off))
   ]
 
 -- ---- both
@@ -114,11 +110,8 @@ module _ (d : Duo) (over : is_over d ≡ true) where
   over_judged First = sym (still d.cycles d.memory d.first.state.buffer d.second.state.buffer d.first none_first none_second none_first)
   over_judged Second = sym (still d.cycles d.memory d.first.state.buffer d.second.state.buffer d.second none_first none_second none_second)
 
-  pub over_commits : (w : Which) → CommitsAt w d d
-  over_commits w = commits_none (judged_at w d) (machine_at w d) d.cycles (over_judged w)
-
-  pub over_logs : (w : Which) → LogsAt w d d
-  over_logs w = inl (logs_none (judged_at w d) (machine_at w d) d.cycles (over_judged w))
+  pub over_cycle : (w : Which) → CyclesAt w d d
+  over_cycle w = hart_cycle_none (judged_at w d) (machine_at w d) d.cycles (over_judged w)
 
 drains_first : (memory : Bytes) (x : HartState) (regs : List ℕ) (pc : ℕ) (output : List ℕ) (instret end : ℕ) (buffer : List Masked)
     → (let h : HartState = record { regs = regs; pc = pc; output = output; instret = instret; end = end; buffer = buffer } in
@@ -253,26 +246,15 @@ module _ (d : Duo) (inv : IsDuo d) (a b : List Record) where
   next_stalls First on = stalls_hart d.cycles d.memory memory d.first inv.first inside_first a on
   next_stalls Second on = stalls_hart d.cycles d.memory memory d.second inv.second inside_second b on
 
-  next_commits : (w : Which) → CommitsAt w d next
+  next_cycle : (w : Which) → CyclesAt w d next
   unfolding duo_drained
-  next_commits First = commits_hart d.cycles d.memory memory d.first inv.first inside_first a
-  next_commits Second = commits_hart d.cycles d.memory memory d.second inv.second inside_second b
+  next_cycle First = cycle_hart d.cycles d.memory memory d.first inv.first inside_first a
+  next_cycle Second = cycle_hart d.cycles d.memory memory d.second inv.second inside_second b
 
-  next_logs : (w : Which) → LogsAt w d next
-  unfolding duo_drained
-  next_logs First = logs_hart d.cycles d.memory memory d.first inv.first inside_first a
-  next_logs Second = logs_hart d.cycles d.memory memory d.second inv.second inside_second b
-
-  pub commits_at : (w : Which) → CommitsAt w d (duo_cycle_of d a b)
-  commits_at w = elim (cases_Bool (is_over d)) [
-    | inl over ↦ subst (CommitsAt w d) (sym (cycle_over over)) (over_commits d over w)
-    | inr goes ↦ subst (CommitsAt w d) (sym (cycle_next goes)) (next_commits w)
-  ]
-
-  pub logs_at : (w : Which) → LogsAt w d (duo_cycle_of d a b)
-  logs_at w = elim (cases_Bool (is_over d)) [
-    | inl over ↦ subst (LogsAt w d) (sym (cycle_over over)) (over_logs d over w)
-    | inr goes ↦ subst (LogsAt w d) (sym (cycle_next goes)) (next_logs w)
+  pub cycles_at : (w : Which) → CyclesAt w d (duo_cycle_of d a b)
+  cycles_at w = elim (cases_Bool (is_over d)) [
+    | inl over ↦ subst (CyclesAt w d) (sym (cycle_over over)) (over_cycle d over w)
+    | inr goes ↦ subst (CyclesAt w d) (sym (cycle_next goes)) (next_cycle w)
   ]
 
   pub continues : (w : Which) → Continues w (duo_cycle_of d a b)

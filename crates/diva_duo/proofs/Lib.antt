@@ -4,7 +4,7 @@ pub mod Replaying
 pub mod Growing
 pub mod Fronting
 pub mod Readying
-pub mod Headlines
+pub mod Owing
 pub mod Moving
 pub mod Cycles
 pub mod Logging

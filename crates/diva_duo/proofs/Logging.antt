@@ -1,26 +1,27 @@
--- What each hart commits in the cycles of a run, and the rows that these add to its log.
-use Rattle.std.proofs.Common.{◌≡◌, ◌≤◌, List, [], ◌∷◌, ◌++◌, length, refl, sym, subst, inl, inr}
+-- What each cycle of a run promises of each hart, and the rows that these add to its log.
+use Rattle.std.proofs.Common.{◌≡◌, ◌≤◌, List, [], ◌∷◌, ◌++◌, length, refl, sym, subst, ◌⊎◌, inl, inr}
 use Rattle.diva_isa.specs.declared.record.Record.{Record}
 use Rattle.diva_core.specs.declared.flushes.FlushRow.{FlushRow}
 use Rattle.diva_core.specs.Timed.{Timed, UnderWay, rows_kept}
 use Rattle.diva_core.specs.Headline.{HasRows}
+use Rattle.diva_core.specs.HartCycle.{FlushesOnce, WithoutFlush}
 use Rattle.diva_core.proofs.Rows.{no_rows, one_row, rows_then}
 use Rattle.diva_duo.specs.Duo.{Duo, duo_cycle_of, duo_drained}
 use Rattle.diva_duo.specs.Which.{Which, First, Second, hart_at, machine_at}
 use Rattle.diva_duo.specs.Between.{IsDuo, duo_run}
-use Rattle.diva_duo.specs.Headline.{AddsRowsAt, AreCommittedAt, AreRowsAt, LogsAt, WithoutFlush, judged_at}
+use Rattle.diva_duo.specs.Headline.{AddsRowsAt, AreCyclesAt, AreRowsAt, judged_at}
 use Rattle.diva_duo.proofs.Readying.{hart_holds}
-use Rattle.diva_duo.proofs.Cycles.{commits_at, logs_at, stays}
+use Rattle.diva_duo.proofs.Cycles.{cycles_at, stays}
 
 -- ---- a run
 
 abbrev Pair : Type 0
 Pair = List Record × List Record
 
-pub are_committed : (w : Which) (lists : List Pair) (d : Duo) → IsDuo d → AreCommittedAt w d lists
-are_committed w [] d inv = tt
-are_committed w (l ∷ rest) d inv =
-    (commits_at d inv l.0 l.1 w, are_committed w rest (duo_cycle_of d l.0 l.1) (stays d inv l.0 l.1))
+pub are_cycles : (w : Which) (lists : List Pair) (d : Duo) → IsDuo d → AreCyclesAt w d lists
+are_cycles w [] d inv = tt
+are_cycles w (l ∷ rest) d inv =
+    (cycles_at d inv l.0 l.1 w, are_cycles w rest (duo_cycle_of d l.0 l.1) (stays d inv l.0 l.1))
 
 rows-same : (w : Which) (d : Duo) (l : Pair) (rest : List Pair) (rows : List FlushRow)
     → WithoutFlush (judged_at w d) (machine_at w (duo_cycle_of d l.0 l.1)) → AreRowsAt w (duo_cycle_of d l.0 l.1) rest rows → AreRowsAt w d (l ∷ rest) rows
@@ -46,7 +47,7 @@ rows_judged w d inv = subst (λ (u : UnderWay). length u.log.rows ≤ rows_kept)
 rows-more :
     (w : Which) (d : Duo) (l : Pair) (rest : List Pair) (last : Duo)
     → IsDuo d
-    → LogsAt w d (duo_cycle_of d l.0 l.1)
+    → WithoutFlush (judged_at w d) (machine_at w (duo_cycle_of d l.0 l.1)) ⊎ FlushesOnce (judged_at w d) (machine_at w (duo_cycle_of d l.0 l.1))
     → AddsRowsAt w (duo_cycle_of d l.0 l.1) rest last
     → AddsRowsAt w d (l ∷ rest) last
 rows-more w d l rest last inv (inl s) later =
@@ -74,4 +75,4 @@ adds_rows w [] d inv =
       has = no_rows (machine_at w d).under.log (hart_holds w d inv).machine.rows;
     }
 adds_rows w (l ∷ rest) d inv =
-    rows-more w d l rest _ inv (logs_at d inv l.0 l.1 w) (adds_rows w rest (duo_cycle_of d l.0 l.1) (stays d inv l.0 l.1))
+    rows-more w d l rest _ inv (cycles_at d inv l.0 l.1 w).logs (adds_rows w rest (duo_cycle_of d l.0 l.1) (stays d inv l.0 l.1))

@@ -11,9 +11,11 @@ use Rattle.diva_core.specs.Timed.{Timed, depth}
 use Rattle.diva_core.specs.Cycle.{Rule, accepts, begun, cycle_under, drained, phases_under, stores_wait, watched}
 use Rattle.diva_core.specs.Machine.{IsMachine, Lives, IsSolo, stalled, stalled_since}
 use Rattle.diva_core.specs.Headline.{dues}
+use Rattle.diva_core.specs.HartCycle.{IsHartCycle}
 use Rattle.diva_core.proofs.Passing.{AlonePasses, Keeps, Passed, owed_after}
 use Rattle.diva_core.proofs.Cycling.{Cycled, cycled_under}
 use Rattle.diva_core.proofs.Outcomes.{AnyBase, any-base, k-is}
+use Rattle.diva_core.proofs.Promising.{hart_cycle_by}
 use Rattle.diva_core.proofs.Stalling.{Stalls, stalls_under}
 use Rattle.diva_core.proofs.Keeping.{stays_under}
 use Rattle.diva_commit.specs.Committing.{AreInside, buffered}
@@ -21,9 +23,8 @@ use Rattle.diva_hart.specs.HartArch.{HartState, hart_in, seen}
 use Rattle.diva_duo.specs.Rules.{fence_waits, fences_wait, is_fence}
 use Rattle.diva_duo.specs.Duo.{Hart, timed, moved, drained_hart, hart_cycle}
 use Rattle.diva_duo.specs.Between.{IsHart}
-use Rattle.diva_duo.specs.Headline.{CommitsBy, FlushesOnce, WithoutFlush}
 use Rattle.diva_duo.proofs.Replaying.{Goes, goes_by, went_on}
-use Rattle.diva_duo.proofs.Headlines.{commits_by, commits_owing, logs_by, logs_owing}
+use Rattle.diva_duo.proofs.Owing.{cycle_owing}
 
 -- ---- the rule of two harts
 
@@ -214,11 +215,9 @@ module _ (now : ℕ) (before memory : Bytes) (h : Hart) (inv : IsHart now before
           }))
         ]
 
-    -- what it commits, and what that adds to its log, told from the machine as it is judged
-    pub commits_on : CommitsBy (timed now memory d) (timed (now + 1) memory (hart_cycle (now + 1) memory list d))
-    commits_on = subst (CommitsBy (timed now memory d)) (sym after_is) (commits_owing b n (length d.state.buffer) (commits_by b list n how))
-
-    pub logs_on : WithoutFlush (timed now memory d) (timed (now + 1) memory (hart_cycle (now + 1) memory list d)) ⊎ FlushesOnce (timed now memory d) (timed (now + 1) memory (hart_cycle (now + 1) memory list d))
-    logs_on =
-        subst (λ (z : Timed). WithoutFlush (timed now memory d) z ⊎ FlushesOnce (timed now memory d) z) (sym after_is)
-        (logs_owing b n (length d.state.buffer) (logs_by b list n sound how))
+    -- what its cycle promises, told from the machine as it is judged
+    pub cycle_on : (let last = timed (now + 1) memory (hart_cycle (now + 1) memory list d) in
+        IsHartCycle (timed now memory d) last (dues (last.count - (timed now memory d).count) (timed now memory d).arch))
+    cycle_on =
+        subst (λ (z : Timed). IsHartCycle (timed now memory d) z (dues (z.count - (timed now memory d).count) (timed now memory d).arch)) (sym after_is)
+        (cycle_owing b n (length d.state.buffer) _ (hart_cycle_by b list n sound how))

@@ -12,7 +12,7 @@ use Rattle.diva_duo.specs.Shown.{Shown}
 use Rattle.diva_duo.specs.Headline.{AddsRowsAt}
 use Rattle.diva_duo.specs.Turns.{HandsOver, DrivesDuo, DuoTurn, DuoTurns, IsDuoHistory, acted_by, last_acted, pairs_of}
 use Rattle.diva_duo.proofs.Cycles.{cycles_more, replays_actions}
-use Rattle.diva_duo.proofs.Logging.{adds_rows, are_committed}
+use Rattle.diva_duo.proofs.Logging.{adds_rows, are_cycles}
 use Rattle.diva_duo.proofs.Replaying.{replay_then}
 
 abbrev Pair : Type 0
@@ -104,6 +104,6 @@ module _ {A B : Type 0} (gives_a : Meaning A) (gives_b : Meaning B) where
         turns = further;
         replayed = ap (λ (xs : List Action). replay xs (harts_of d.duo)) acted ∙ replay_then (acted_by d.duo pairs) (actions mid.duo e) (harts_of d.duo) (harts_of mid.duo) (harts_of e) drives.replayed step;
         shows = acts ∙ ap (actions mid.duo) is ∙ here ∙ sym (ap (last_acted d.last d.duo) more ∙ last_more d.last d.duo pairs p);
-        committed = λ w. are_committed w (pairs_of further.history) d.duo began;
+        committed = λ w. are_cycles w (pairs_of further.history) d.duo began;
         rows = λ w. subst (AddsRowsAt w d.duo (pairs_of further.history)) (sym reached) (adds_rows w (pairs_of further.history) d.duo began);
       })

@@ -6,7 +6,7 @@ use Rattle.diva_core.specs.Told.{told_of}
 use Rattle.diva_core.specs.History.{Meaning}
 use Rattle.diva_duo.specs.Duo.{Duo, actions, duo_cycle_of, harts_of, is_over}
 use Rattle.diva_duo.specs.Harts.{replay}
-use Rattle.diva_duo.specs.Headline.{AddsRowsAt, AreCommittedAt}
+use Rattle.diva_duo.specs.Headline.{AddsRowsAt, AreCyclesAt}
 use Rattle.diva_duo.specs.Shown.{Shown}
 use Rattle.diva_duo.specs.Which.{Which, First, Second, hart_at, machine_at}
 use Rattle.diva_duo.specs.declared.action.Action.{Action}
@@ -65,5 +65,5 @@ pub record DrivesDuo {A B : Type 0} (gives_a : Meaning A) (gives_b : Meaning B) 
   pub turns : DuoTurns gives_a gives_b d.duo a b last.duo final_a final_b
   pub replayed : replay (acted_by d.duo (pairs_of turns.history)) (harts_of d.duo) ≡ Some (harts_of last.duo)
   pub shows : last.last ≡ last_acted d.last d.duo (pairs_of turns.history)
-  pub committed : (w : Which) → AreCommittedAt w d.duo (pairs_of turns.history)
+  pub committed : (w : Which) → AreCyclesAt w d.duo (pairs_of turns.history)
   pub rows : (w : Which) → AddsRowsAt w d.duo (pairs_of turns.history) last.duo

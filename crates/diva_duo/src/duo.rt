@@ -11,7 +11,7 @@ ghost use Rattle.diva_duo.specs.Harts.{memory_drained, replay};
 ghost use Rattle.diva_duo.specs.Duo.{actions, drained_hart, drains, duo_cycle_of, goes, hart_cycle, harts_of, is_over, new_duo};
 ghost use Rattle.diva_duo.specs.Which.{First, Second, Which, hart_at, machine_at, which};
 ghost use Rattle.diva_duo.specs.Between.{CountsFew, IsDuo, WillGo, HasGone};
-ghost use Rattle.diva_duo.specs.Headline.{CommitsAt, LogsAt};
+ghost use Rattle.diva_duo.specs.Headline.{CyclesAt};
 ghost use Rattle.diva_duo.specs.Inner.{CanCycle};
 
 use crate::action::Action;
@@ -290,7 +290,7 @@ impl Duo {
 
     /// Runs one cycle, each hart on its list. Where they are over, nothing changes but `last`, which is then empty. Fewer than
     /// 2^60 cycles may have run before.
-    #[tactic(auto, using(crate::proofs::Cycles::replays_actions, crate::proofs::Cycles::stays, crate::proofs::Cycles::counts_few, crate::proofs::Cycles::commits_at, crate::proofs::Cycles::logs_at, crate::proofs::Cycles::over_commits, crate::proofs::Cycles::over_logs, crate::proofs::Progress::will_go, crate::proofs::Progress::has_gone, crate::proofs::Cycles::cycle_over))]
+    #[tactic(auto, using(crate::proofs::Cycles::replays_actions, crate::proofs::Cycles::stays, crate::proofs::Cycles::counts_few, crate::proofs::Cycles::cycles_at, crate::proofs::Cycles::over_cycle, crate::proofs::Progress::will_go, crate::proofs::Progress::has_gone, crate::proofs::Cycles::cycle_over))]
     pub fn cycle(&mut self, a: &Claims, b: &Claims)
         requires { self.old.duo.cycles < 2 ^ 60 }
         // It is the cycle of the definition, in every part.
@@ -302,10 +302,9 @@ impl Duo {
         ensures first_few { CountsFew First self.old.duo self.new.duo }
         ensures second_few { CountsFew Second self.old.duo self.new.duo }
 
-        // Each hart commits equal claims that had waited, or the one instruction that ran solo for six cycles. It is flushed only
-        // where a claim differs from what is due, or idle stands at the limit; and only with a flush an instruction begins to run solo.
-        ensures commits { (w : Which) → CommitsAt w self.old.duo self.new.duo }
-        ensures logs { (w : Which) → LogsAt w self.old.duo self.new.duo }
+        // It is the cycle of each hart: the hart commits equal claims that had waited, or the one instruction that ran solo for six
+        // cycles, and its log says why it was flushed.
+        ensures harts { (w : Which) → CyclesAt w self.old.duo self.new.duo }
 
         // Each hart goes on within the watchdog's limit and six cycles, whatever is handed over, and has done so until now.
         ensures first_will_go { WillGo First self.new.duo }

@@ -210,7 +210,19 @@ module _ {C S : Type 0} (gives : Meaning C) (m : Machine) (core : C) (last : Mac
 -- what was outvoted is noted behind the drive
 pub drives_noting : {C : Type 0} (gives : Meaning C) (m : Machine) (core : C) (last : Machine) (final : C) (counts : Outvoted)
     → Drives gives m core last final → Drives gives m core (record last { outvoted = counts }) final
-drives_noting gives m core last final counts d = record { turns = d.turns; commits = d.commits; shows = d.shows; rows = d.rows; calm = d.calm }
+drives_noting gives m core last final counts d =
+    record {
+      turns = d.turns;
+      commits = d.commits;
+      shows = d.shows;
+      rows = d.rows;
+      calm = d.calm;
+      rises = d.rises;
+      machine = d.machine;
+      pace = d.pace;
+      paced = d.paced;
+      counts = d.counts;
+    }
 
 pub asking_noting : {C : Type 0} (gives : Meaning C) (m : Machine) (core : C) (last : Machine) (final : C) (counts : Outvoted) (this : List Question → Type 0)
     → DrivesAsking gives m core last final this → DrivesAsking gives m core (record last { outvoted = counts }) final this

@@ -7,9 +7,10 @@ use Rattle.diva_core.specs.Cycle.{cycle_of}
 use Rattle.diva_core.specs.Told.{told_of}
 use Rattle.diva_core.specs.History.{Meaning, IsHistory, Turns, lists_of}
 use Rattle.diva_core.specs.Machine.{IsMachine}
-use Rattle.diva_core.specs.Headline.{KeepsPace, Rises, committed_in, dues, last_committed}
+use Rattle.diva_core.specs.Headline.{committed_in, dues, last_committed}
 use Rattle.diva_core.proofs.Outcomes.{cycle-cycles}
-use Rattle.diva_core.proofs.Pacing.{turns-calm, turns-commit, turns-pace, turns-rise, turns-rows, turns-stay}
+use Rattle.diva_core.proofs.Pacing.{turns-calm, turns-commit, turns-pace, turns-rise, turns-rows, turns-stay, will_count}
+use Rattle.diva_core.proofs.Progressing.{has_pace}
 use Rattle.diva_core.proofs.Turning.{IsHistory-more}
 use Rattle.diva_machine.specs.Drives.{Drives}
 use Rattle.diva_machine.specs.Inner.{TakesTurns}
@@ -60,16 +61,12 @@ module _ {C : Type 0} (gives : Meaning C) (m : Machine) (core : C) (last : Machi
     shows = t.shows;
     rows = turns-rows gives m.timed core last.timed final inv t.turns;
     calm = turns-calm gives m.timed core last.timed final inv t.turns;
+    rises = turns-rise gives m.timed core last.timed final inv t.turns;
+    machine = turns-stay gives m.timed core last.timed final inv t.turns;
+    pace = turns-pace gives m.timed core last.timed final inv t.turns;
+    paced = has_pace _ (turns-stay gives m.timed core last.timed final inv t.turns);
+    counts = will_count _ (turns-stay gives m.timed core last.timed final inv t.turns);
   }
-
-  pub rises : IsMachine m.timed → Rises m.timed last.timed
-  rises inv = turns-rise gives m.timed core last.timed final inv t.turns
-
-  pub keeps : IsMachine m.timed → IsMachine last.timed
-  keeps inv = turns-stay gives m.timed core last.timed final inv t.turns
-
-  pub paces : IsMachine m.timed → KeepsPace m.timed last.timed
-  paces inv = turns-pace gives m.timed core last.timed final inv t.turns
 
   -- one turn more, to the machine that its cycle leaves
   unfoldable pub turn_more :

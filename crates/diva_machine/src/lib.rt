@@ -15,10 +15,10 @@
 //! (pending claims, solo instruction, watchdog, log and number of undos), are the parts that `diva_hart` has for a hart, as is memory's port.
 //!
 //! What a cycle does is `cycle_of` of `diva_core`'s definitions; `specs/Start.antt` of `diva_hart` says in which
-//! state an image starts, `specs/Machine.antt` what contracts see of a machine, `specs/Drives.antt` what a
-//! drive leaves of one, `specs/Counts.antt` how it stands to a count, `specs/Staged.antt` what the stages note of a claim by
-//! its age, and `specs/Asked.antt` what is asked of lanes that vote. `Inner`, and `Panels` of lanes that are lent to the stages, are
-//! for private contracts alone.
+//! state an image starts, `specs/Machine.antt` what contracts see of a machine, `specs/Cycles.antt` what a cycle and a turn promise of
+//! one, `specs/Drives.antt` what a drive does, `specs/Counts.antt` how it stands to a count, `specs/Staged.antt` what the stages note of a
+//! claim by its age, and `specs/Asked.antt` what is asked of lanes that vote. `Inner`, and `Panels` of lanes that are lent to the stages,
+//! are for private contracts alone.
 #![tactic(auto)]
 
 mod arch;

@@ -1,22 +1,22 @@
 // The machine between cycles.
-ghost use Rattle.std.specs.Prelude.{◌≡◌, ◌⊎◌, ◌↔◌, ◌+◌, ◌-◌, ◌*◌, ◌<◌, ◌≤◌, ◌^◌, ◌∷◌, ◌++◌, ℕ, [], List, length, map, min, not, slice_get, None, Some, IsNone, IfOk, IsTrue, true, false};
-ghost use Rattle.diva_isa.specs.State.{goes_on, GoesOn, output_limit};
+ghost use Rattle.std.specs.Prelude.{◌≡◌, ◌↔◌, ◌-◌, ◌<◌, ◌≤◌, ◌^◌, ◌++◌, [], List, length, map, not, slice_get, None, Some, IsNone, IfOk, IsTrue, true, false};
+ghost use Rattle.diva_isa.specs.State.{goes_on, output_limit};
 ghost use Rattle.diva_isa.specs.End.{end_of, end_number};
-ghost use Rattle.diva_isa.specs.Step.{steps};
 ghost use Rattle.diva_image.specs.ImageLayout.{layout};
 ghost use Rattle.diva_core.specs.Entries.{pending_claim_of};
 ghost use Rattle.diva_core.specs.Older.{before_entry};
-ghost use Rattle.diva_core.specs.Timed.{Timed, PendingClaim, depth, new_timed, room_of};
+ghost use Rattle.diva_core.specs.Timed.{new_timed, room_of};
 ghost use Rattle.diva_core.specs.Told.{told_of};
 ghost use Rattle.diva_core.specs.Undone.{CanUndo, undone};
 ghost use Rattle.diva_core.specs.Cycle.{cycle_of};
 ghost use Rattle.diva_core.specs.Machine.{IsMachine};
-ghost use Rattle.diva_core.specs.Headline.{dues, Rises, ByClaims, BySolo, IsJudged, SameLog, AddsRow, HasPace, WillCount, WillJudge};
-ghost use Rattle.diva_core.specs.Right.{IsRight, IsCalm, StaysCalm};
+ghost use Rattle.diva_core.specs.Headline.{HasPace, WillCount, dues};
+ghost use Rattle.diva_core.specs.Right.{IsCalm};
 ghost use Rattle.diva_hart.specs.Start.{start_of};
 ghost use Rattle.diva_vote.specs.Polls.{AlwaysTwoAreRight, ArePolledAndCounted};
 ghost use Rattle.diva_vote.specs.Questions.{Question};
 ghost use Rattle.diva_machine.specs.Asked.{asked_of};
+ghost use Rattle.diva_machine.specs.Cycles.{IsCycle};
 ghost use Rattle.diva_machine.specs.Staged.{AreChecked, IsChecked};
 
 use crate::panel::Panel;
@@ -230,48 +230,10 @@ impl Machine {
     /// Runs one cycle on what a core handed over. On an ended machine nothing changes but `last`,
     /// which is then empty. Fewer than 2^60 cycles may have run before.
     #[inline(always)]
-    #[tactic(auto, using(diva_core::proofs::Keeping::stays, diva_core::proofs::Outcomes::rises, diva_core::proofs::Outcomes::logs, diva_core::proofs::Outcomes::records_by, diva_core::proofs::Pacing::will_count, diva_core::proofs::Progressing::has_pace, diva_core::proofs::Calming::stays_calm, crate::proofs::Laws::sixth_commits))]
     pub fn cycle(&mut self, list: &Claims)
         requires { self.old.timed.cycles < 2 ^ 60 }
-        // It is the cycle of the definition, in every part.
-        ensures cycled { self.new.timed ≡ cycle_of self.old.timed list.now }
-        ensures last { self.new.last
-            ≡ dues (self.new.timed.count - self.old.timed.count) self.old.timed.arch }
-
-        // The committed state is the table's after the counted instructions, each committed by an
-        // equal claim or by the checker alone, and each flush has its cause.
-        ensures rises { Rises self.old.timed self.new.timed }
-        ensures commits { ByClaims self.old.timed self.new.last
-            ⊎ BySolo self.old.timed self.new.last }
-        ensures logs { SameLog self.old.timed self.new.timed ⊎ AddsRow self.old.timed self.new.timed }
-
-        // Its numbers are within their bounds again, and it goes on counting.
-        ensures machine { IsMachine self.new.timed }
-        ensures counts { WillCount self.new.timed }
-        ensures paced { HasPace self.new.timed }
-
-        // A right list leaves a calm machine calm, and leads to no flush.
-        ensures calm { IsCalm self.old.timed → IsRight self.old.timed list.now
-            → StaysCalm self.old.timed self.new.timed }
-
-        // The stages have checked each pending claim as far as its age goes; an ended machine keeps what it noted.
-        ensures checked { AreChecked self.new.timed.arch self.new.timed.cycles self.new.entries }
-        ensures stays { goes_on self.old.timed.arch ≡ false → self.new.entries ≡ self.old.entries }
+        ensures is { IsCycle self.old self.new list.now }
         ensures outvoted { self.new.outvoted ≡ self.old.outvoted }
-
-        // Nothing ready is held up for longer than until the port opens, and only a store is; a solo one never.
-        ensures judges { WillJudge self.new.timed }
-        ensures front { (p : PendingClaim) (rest : List PendingClaim)
-            → goes_on self.old.timed.arch ≡ true
-            → self.old.timed.under.solo ≡ None
-            → self.old.timed.under.pending ≡ p ∷ rest
-            → p.cycle + depth ≤ self.old.timed.cycles + 1
-            → IsJudged self.old.timed self.new.timed p }
-        ensures sixth { (start : ℕ)
-            → goes_on self.old.timed.arch ≡ true
-            → self.old.timed.under.solo ≡ Some start
-            → self.old.timed.cycles + 1 ≡ start + depth
-            → self.new.timed.count ≡ self.old.timed.count + 1 }
     {
         self.cycle_by(list, &mut Checks);
     }
@@ -280,7 +242,6 @@ impl Machine {
     /// stage, whatever the others said, and whatever an earlier stage found, and it is counted where one is outvoted. It is enough
     /// that of the three answers to each question two are right, whichever they are: of lanes two of which are honest `recall_two_honest`
     /// of `diva_vote` says so. The registers, the store queue, what commits, and an instruction that runs solo are not voted on.
-    #[tactic(auto, using(diva_core::proofs::Keeping::stays, diva_core::proofs::Outcomes::rises, diva_core::proofs::Outcomes::logs, diva_core::proofs::Outcomes::records_by, diva_core::proofs::Pacing::will_count, diva_core::proofs::Progressing::has_pace, diva_core::proofs::Calming::stays_calm, crate::proofs::Laws::sixth_commits))]
     pub fn cycle_voted<A: Lane, B: Lane, L: Lane>(
         &mut self,
         list: &Claims,
@@ -298,45 +259,7 @@ impl Machine {
         ensures first_stays { A.honest a.old → A.honest a.new }
         ensures second_stays { B.honest b.old → B.honest b.new }
         ensures third_stays { L.honest l.old → L.honest l.new }
-
-        // It is the cycle of the definition, in every part.
-        ensures cycled { self.new.timed ≡ cycle_of self.old.timed list.now }
-        ensures last { self.new.last
-            ≡ dues (self.new.timed.count - self.old.timed.count) self.old.timed.arch }
-
-        // The committed state is the table's after the counted instructions, each committed by an
-        // equal claim or by the checker alone, and each flush has its cause.
-        ensures rises { Rises self.old.timed self.new.timed }
-        ensures commits { ByClaims self.old.timed self.new.last
-            ⊎ BySolo self.old.timed self.new.last }
-        ensures logs { SameLog self.old.timed self.new.timed ⊎ AddsRow self.old.timed self.new.timed }
-
-        // Its numbers are within their bounds again, and it goes on counting.
-        ensures machine { IsMachine self.new.timed }
-        ensures counts { WillCount self.new.timed }
-        ensures paced { HasPace self.new.timed }
-
-        // A right list leaves a calm machine calm, and leads to no flush.
-        ensures calm { IsCalm self.old.timed → IsRight self.old.timed list.now
-            → StaysCalm self.old.timed self.new.timed }
-
-        // The stages have checked each pending claim as far as its age goes; an ended machine keeps what it noted.
-        ensures checked { AreChecked self.new.timed.arch self.new.timed.cycles self.new.entries }
-        ensures stays { goes_on self.old.timed.arch ≡ false → self.new.entries ≡ self.old.entries }
-
-        // Nothing ready is held up for longer than until the port opens, and only a store is; a solo one never.
-        ensures judges { WillJudge self.new.timed }
-        ensures front { (p : PendingClaim) (rest : List PendingClaim)
-            → goes_on self.old.timed.arch ≡ true
-            → self.old.timed.under.solo ≡ None
-            → self.old.timed.under.pending ≡ p ∷ rest
-            → p.cycle + depth ≤ self.old.timed.cycles + 1
-            → IsJudged self.old.timed self.new.timed p }
-        ensures sixth { (start : ℕ)
-            → goes_on self.old.timed.arch ≡ true
-            → self.old.timed.under.solo ≡ Some start
-            → self.old.timed.cycles + 1 ≡ start + depth
-            → self.new.timed.count ≡ self.old.timed.count + 1 }
+        ensures is { IsCycle self.old self.new list.now }
     {
         let mut panel = Panel::new(a, b, l, self.outvoted);
         self.cycle_by(list, &mut panel);
@@ -422,12 +345,8 @@ impl Machine {
         ensures stages_sound { S.sound stages.new }
         ensures led { (first : S) (before : List Question) → S.led first before stages.old
             → S.led first (before ++ asked_of self.old.timed) stages.new }
-        ensures was { IsMachine self.old.timed }
-        ensures cycled { self.new.timed ≡ cycle_of self.old.timed list.now }
-        ensures last { self.new.last
-            ≡ dues (self.new.timed.count - self.old.timed.count) self.old.timed.arch }
+        ensures is { IsCycle self.old self.new list.now }
         ensures none { result ≡ false → self.new.last ≡ [] }
-        ensures stays { goes_on self.old.timed.arch ≡ false → self.new.entries ≡ self.old.entries }
         ensures outvoted { self.new.outvoted ≡ self.old.outvoted }
     {
         self.cycle_by(list, stages);
@@ -444,9 +363,7 @@ impl Machine {
         ensures stages_sound { S.sound stages.new }
         ensures led { (first : S) (before : List Question) → S.led first before stages.old
             → S.led first (before ++ asked_of self.old.timed) stages.new }
-        ensures cycled { self.new.timed ≡ cycle_of self.old.timed list.now }
-        ensures last { self.new.last
-            ≡ dues (self.new.timed.count - self.old.timed.count) self.old.timed.arch }
+        ensures is { IsCycle self.old self.new list.now }
         ensures none { result ≡ false → self.new.last ≡ [] }
         ensures outvoted { self.new.outvoted ≡ self.old.outvoted }
     {
@@ -468,9 +385,7 @@ impl Machine {
         ensures stages_sound { S.sound stages.new }
         ensures led { (first : S) (before : List Question) → S.led first before stages.old
             → S.led first (before ++ asked_of self.old.timed) stages.new }
-        ensures cycled { self.new.timed ≡ cycle_of self.old.timed list.now }
-        ensures last { self.new.last
-            ≡ dues (self.new.timed.count - self.old.timed.count) self.old.timed.arch }
+        ensures is { IsCycle self.old self.new list.now }
         ensures none { result ≡ false → self.new.last ≡ [] }
         ensures outvoted { self.new.outvoted ≡ self.old.outvoted }
     {

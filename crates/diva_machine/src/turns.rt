@@ -1,15 +1,13 @@
 // A machine and a core, turn by turn.
-ghost use Rattle.std.specs.Prelude.{◌≡◌, ◌+◌, ◌-◌, ◌≤◌, ◌<◌, ◌^◌, ◌↔◌, ◌⊎◌, ◌++◌, IsTrue, List, [], length, true, false};
+ghost use Rattle.std.specs.Prelude.{◌≡◌, ◌+◌, ◌≤◌, ◌<◌, ◌^◌, ◌↔◌, ◌++◌, IsTrue, List, length, true, false};
 ghost use Rattle.diva_isa.specs.State.{goes_on};
 ghost use Rattle.diva_core.specs.Told.{told_of};
-ghost use Rattle.diva_core.specs.Cycle.{cycle_of};
 ghost use Rattle.diva_core.specs.Timed.{room_of};
 ghost use Rattle.diva_core.specs.Machine.{IsMachine};
-ghost use Rattle.diva_core.specs.Headline.{AddsRow, ByClaims, BySolo, HasPace, KeepsPace, Rises, SameLog, WillCount, dues};
-ghost use Rattle.diva_core.specs.Right.{IsRight, IsCalm, StaysCalm};
 ghost use Rattle.diva_vote.specs.Questions.{Question};
 ghost use Rattle.diva_machine.specs.Asked.{asked_of};
-ghost use Rattle.diva_machine.specs.Drives.{Drives};
+ghost use Rattle.diva_machine.specs.Cycles.{IsTurn};
+ghost use Rattle.diva_machine.specs.Drives.{IsDrive};
 ghost use Rattle.diva_machine.specs.Inner.{LedTurns};
 
 use crate::machine::Machine;
@@ -19,29 +17,10 @@ use diva_hart::Drive;
 
 /// Asks the core once and runs one cycle; the list is then what was handed over. On an ended
 /// machine the core is not asked, and the list is empty. Fewer than 2^60 cycles may have run before.
-#[tactic(auto, using(diva_core::proofs::Outcomes::rises, diva_core::proofs::Outcomes::logs, diva_core::proofs::Outcomes::records_by, diva_core::proofs::Keeping::stays, diva_core::proofs::Pacing::will_count, diva_core::proofs::Progressing::has_pace, diva_core::proofs::Calming::stays_calm))]
 pub fn turn<C: Core>(m: &mut Machine, core: &mut C, list: &mut Claims)
     requires { m.old.timed.cycles < 2 ^ 60 }
-    ensures cycled { m.new.timed ≡ cycle_of m.old.timed list.new }
-    ensures asked { goes_on m.old.timed.arch ≡ true
-        → C.gives core.old (told_of m.old.timed) m.old.timed.arch list.new core.new }
-    ensures ended { goes_on m.old.timed.arch ≡ false
-        → (m.new.timed ≡ m.old.timed) × (m.new.last ≡ []) × (core.new ≡ core.old) × (list.new ≡ []) }
-    ensures stays { goes_on m.old.timed.arch ≡ false → m.new.entries ≡ m.old.entries }
+    ensures is { IsTurn C.gives m.old core.old list.new m.new core.new }
     ensures outvoted { m.new.outvoted ≡ m.old.outvoted }
-
-    // The committed state is the table's after the counted instructions, each committed by an
-    // equal claim or by the checker alone, and each flush has its cause.
-    ensures rises { Rises m.old.timed m.new.timed }
-    ensures last { m.new.last ≡ dues (m.new.timed.count - m.old.timed.count) m.old.timed.arch }
-    ensures commits { ByClaims m.old.timed m.new.last ⊎ BySolo m.old.timed m.new.last }
-    ensures logs { SameLog m.old.timed m.new.timed ⊎ AddsRow m.old.timed m.new.timed }
-    ensures machine { IsMachine m.new.timed }
-    ensures counts { WillCount m.new.timed }
-    ensures paced { HasPace m.new.timed }
-
-    // A right list leaves a calm machine calm, and leads to no flush.
-    ensures calm { IsCalm m.old.timed → IsRight m.old.timed list.new → StaysCalm m.old.timed m.new.timed }
 {
     turn_by(m, core, list, &mut Checks);
 }
@@ -59,15 +38,8 @@ pub(crate) fn turn_by<C: Core, S: Stages>(
     ensures stages_sound { S.sound stages.new }
     ensures led { (first : S) (before : List Question) → S.led first before stages.old
         → S.led first (before ++ asked_of m.old.timed) stages.new }
-    ensures was { IsMachine m.old.timed }
-    ensures cycled { m.new.timed ≡ cycle_of m.old.timed list.new }
-    ensures asked { goes_on m.old.timed.arch ≡ true
-        → C.gives core.old (told_of m.old.timed) m.old.timed.arch list.new core.new }
-    ensures ended { goes_on m.old.timed.arch ≡ false
-        → (m.new.timed ≡ m.old.timed) × (m.new.last ≡ []) × (core.new ≡ core.old) × (list.new ≡ []) }
-    ensures stays { goes_on m.old.timed.arch ≡ false → m.new.entries ≡ m.old.entries }
+    ensures is { IsTurn C.gives m.old core.old list.new m.new core.new }
     ensures outvoted { m.new.outvoted ≡ m.old.outvoted }
-    ensures last { m.new.last ≡ dues (m.new.timed.count - m.old.timed.count) m.old.timed.arch }
 {
     if m.goes_on() {
         let fits = ask(m, core, list);
@@ -97,27 +69,8 @@ fn ask<C: Core>(m: &Machine, core: &mut C, list: &mut Claims) -> bool
 /// changes, and the core is not asked. The cycles that have run and the budget may come to 2^60 at most.
 pub fn drive<C: Core>(m: &mut Machine, core: &mut C, budget: u64) -> Drive
     requires { m.old.timed.cycles + budget ≤ 2 ^ 60 }
-    // Machine and core are reached by turns, one for each cycle. In each cycle equal claims committed,
-    // or the checker's own instruction; the machine shows those of the last one. Each row of the log is
-    // that of a cycle, with its cause. Where each list is right for its machine, a calm machine is not flushed.
-    ensures drives { Drives C.gives m.old core.old m.new core.new }
-    ensures ended { (result ≡ Drive.Ended) ↔ (goes_on m.new.timed.arch ≡ false) }
-    ensures budget { (result ≡ Drive.Budget)
-        ↔ ((m.new.timed.cycles ≡ m.old.timed.cycles + budget) × (goes_on m.new.timed.arch ≡ true)) }
-    ensures within { m.new.timed.cycles ≤ m.old.timed.cycles + budget }
-    ensures stays { goes_on m.old.timed.arch ≡ false
-        → (m.new ≡ m.old) × (core.new ≡ core.old) }
+    ensures is { IsDrive C.gives budget m.old core.old m.new core.new result }
     ensures outvoted { m.new.outvoted ≡ m.old.outvoted }
-
-    // The committed state is the table's after the counted instructions.
-    ensures rises { Rises m.old.timed m.new.timed }
-    ensures machine { IsMachine m.new.timed }
-
-    // Until the end every W + 6 cycles count at least one instruction more, W being the watchdog's
-    // limit: in this drive, since the machine was new, and from now on.
-    ensures pace { KeepsPace m.old.timed m.new.timed }
-    ensures paced { HasPace m.new.timed }
-    ensures counts { WillCount m.new.timed }
 {
     drive_by(m, core, &mut Checks, budget)
 }

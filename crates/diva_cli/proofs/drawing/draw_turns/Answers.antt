@@ -28,8 +28,8 @@ pub draw_turn-requires-clause-count : goal.draw_turn-requires-clause-count
 draw_turn-requires-clause-count g c =
     let inv = c.loop.invariant in
     let next = cycle-cycles c.loop.m.timed c.turn_checked.new.list inv.sound inv.on in
-    counts_fit c.turn_checked.new.m.timed c.turn_checked.ensures.machine
-    (let e = ap (λ (k : Timed). k.cycles) c.turn_checked.ensures.cycled in let y = inv.draws.many in let l = c.loop-test.true in let r = c.requires.cycles in omega arith)
+    counts_fit c.turn_checked.new.m.timed c.turn_checked.ensures.is.cycle.machine
+    (let e = ap (λ (k : Timed). k.cycles) c.turn_checked.ensures.is.cycle.cycled in let y = inv.draws.many in let l = c.loop-test.true in let r = c.requires.cycles in omega arith)
 
 pub returns-in_err-draw_turn : goal.returns-in_err-draw_turn
 returns-in_err-draw_turn g c =
@@ -37,7 +37,7 @@ returns-in_err-draw_turn g c =
     let failed = err_from_is_err_and c.from_residual.result c.from_residual.ensures.1 in
     rw failed.1 (draws_performs g.D.Core.gives c.args.format _ _ _ g.S.Sink.contents g.S.Sink.faults _ _ (c.loop.counter + 1) c.args.budget _ _ _ _ (are_asked g.L.Lane.says c.args.lanes.now c.turn_checked.new.lanes c.args.liar)
     (draws_turn g.D.Core.gives c.args.format _ _ _ _ _ _ (are_asked g.L.Lane.says c.args.lanes.now c.turn_checked.new.lanes c.args.liar) c.loop.counter _ _ _ _ _ inv.draws
-    (λ earlier asked. asked_then g.L.Lane.says _ _ _ c.args.liar earlier _ asked c.turn_checked.ensures.lanes) _ _ _ _ _ _ _ c.turn_checked.ensures.cycled c.goes_on.ensures.machine inv.on (c.turn_checked.ensures.asked inv.on) c.in_err-draw_turn.ensures.seen c.in_err-draw_turn.ensures.pen c.in_err-draw_turn.ensures.put)
+    (λ earlier asked. asked_then g.L.Lane.says _ _ _ c.args.liar earlier _ asked c.turn_checked.ensures.lanes) _ _ _ _ _ _ _ c.turn_checked.ensures.is.cycle.cycled c.goes_on.ensures.machine inv.on (c.turn_checked.ensures.is.asked inv.on) c.in_err-draw_turn.ensures.seen c.in_err-draw_turn.ensures.pen c.in_err-draw_turn.ensures.put)
     (let l = c.loop-test.true in omega arith) tt)
 
 pub returns-then-not-goes_on-2 : goal.returns-then-not-goes_on-2
@@ -45,7 +45,7 @@ returns-then-not-goes_on-2 g c =
     let inv = c.loop.invariant in
     draws_performs g.D.Core.gives c.args.format _ _ _ g.S.Sink.contents g.S.Sink.faults _ _ (c.loop.counter + 1) c.args.budget _ _ _ _ (are_asked g.L.Lane.says c.args.lanes.now c.turn_checked.new.lanes c.args.liar)
     (draws_turn g.D.Core.gives c.args.format _ _ _ _ _ _ (are_asked g.L.Lane.says c.args.lanes.now c.turn_checked.new.lanes c.args.liar) c.loop.counter _ _ _ _ _ inv.draws
-    (λ earlier asked. asked_then g.L.Lane.says _ _ _ c.args.liar earlier _ asked c.turn_checked.ensures.lanes) _ _ _ _ _ _ _ c.turn_checked.ensures.cycled c.goes_on.ensures.machine inv.on (c.turn_checked.ensures.asked inv.on) c.in_ok-draw_turn.ensures.seen c.in_ok-draw_turn.ensures.pen c.in_ok-draw_turn.ensures.put)
+    (λ earlier asked. asked_then g.L.Lane.says _ _ _ c.args.liar earlier _ asked c.turn_checked.ensures.lanes) _ _ _ _ _ _ _ c.turn_checked.ensures.is.cycle.cycled c.goes_on.ensures.machine inv.on (c.turn_checked.ensures.is.asked inv.on) c.in_ok-draw_turn.ensures.seen c.in_ok-draw_turn.ensures.pen c.in_ok-draw_turn.ensures.put)
     (let l = c.loop-test.true in omega arith)
     (ended c.turn_checked.new.m.timed (c.loop.counter + 1) c.args.budget (sym c.goes_on-in-loop.ensures.value ∙ c.if-not-goes_on-2.true))
 
@@ -54,9 +54,9 @@ loop-preserved g c =
     let inv = c.loop.invariant in
     record {
       draws = draws_turn g.D.Core.gives c.args.format _ _ _ _ _ _ (are_asked g.L.Lane.says c.args.lanes.now c.turn_checked.new.lanes c.args.liar) c.loop.counter _ _ _ _ _ inv.draws
-          (λ earlier asked. asked_then g.L.Lane.says _ _ _ c.args.liar earlier _ asked c.turn_checked.ensures.lanes) _ _ _ _ _ _ _ c.turn_checked.ensures.cycled c.goes_on.ensures.machine inv.on (c.turn_checked.ensures.asked inv.on) c.in_ok-draw_turn.ensures.seen c.in_ok-draw_turn.ensures.pen c.in_ok-draw_turn.ensures.put;
+          (λ earlier asked. asked_then g.L.Lane.says _ _ _ c.args.liar earlier _ asked c.turn_checked.ensures.lanes) _ _ _ _ _ _ _ c.turn_checked.ensures.is.cycle.cycled c.goes_on.ensures.machine inv.on (c.turn_checked.ensures.is.asked inv.on) c.in_ok-draw_turn.ensures.seen c.in_ok-draw_turn.ensures.pen c.in_ok-draw_turn.ensures.put;
       on = sym c.goes_on-in-loop.ensures.value ∙ c.if-not-goes_on-2.false;
-      sound = c.turn_checked.ensures.machine;
+      sound = c.turn_checked.ensures.is.cycle.machine;
       honest = c.turn_checked.ensures.honest;
       rows = (let r = inv.rows in let f = c.in_ok-draw_turn.ensures.few in omega arith);
     }

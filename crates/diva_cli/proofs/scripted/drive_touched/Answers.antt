@@ -14,4 +14,4 @@ returns-clause-drives g c =
     drives_for (spoiled c.args.script.now g.C.Core.gives) _ _ _ _ _ c.drive_checked.result _
     t.turns
     (subst (λ (lists : List (List Record)). are_asked g.L.Lane.says c.args.lanes.now c.drive_checked.new.lanes c.args.liar (asked_over c.args.m.now.timed lists)) (sym t.same) c.drive_checked.ensures.drives.asked)
-    c.drive_checked.ensures.within c.drive_checked.ensures.ended c.drive_checked.ensures.budget
+    c.drive_checked.ensures.is.within c.drive_checked.ensures.is.ended c.drive_checked.ensures.is.budget

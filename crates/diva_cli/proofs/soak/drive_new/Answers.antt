@@ -9,4 +9,4 @@ pub returns : goal.returns
 returns g c =
     drove g.D.Core.gives c.args.options.now _ _ _ _ _ c.drive.result c.requires
     (c.soak_cycles.ensures ∙ ap (λ (o : SoakOptions). soak_cycles o.instructions) c.options.view_is)
-    c.drive.ensures.drives.turns c.drive.ensures.within c.drive.ensures.ended c.drive.ensures.budget
+    c.drive.ensures.is.drives.turns c.drive.ensures.is.within c.drive.ensures.is.ended c.drive.ensures.is.budget

@@ -26,7 +26,7 @@ returns-in_err-write g c =
     let failed = err_from_is_err_and c.from_residual.result c.from_residual.ensures.1 in
     rw failed.1 (writes_performs g.D.Core.gives g.W.CycleWriter.text g.W.CycleWriter.says _ _ g.S.Sink.contents g.S.Sink.faults _ _ (c.loop.counter + 1) c.args.budget _ _ _
     (are_asked g.L.Lane.says c.args.lanes.now c.turn_checked.new.lanes c.args.liar) (writes_turn g.D.Core.gives g.W.CycleWriter.text g.W.CycleWriter.says _ _ _ _ _ (are_asked g.L.Lane.says c.args.lanes.now c.turn_checked.new.lanes c.args.liar) c.loop.counter _ _ _ _ inv.writes
-    (λ earlier asked. asked_then g.L.Lane.says _ _ _ c.args.liar earlier _ asked c.turn_checked.ensures.lanes) _ _ _ _ _ _ _ _ c.count-first.ensures (c.last.ensures ∙ c.turn_checked.ensures.last) c.turn_checked.ensures.cycled c.goes_on.ensures.machine inv.on (c.turn_checked.ensures.asked inv.on) c.in_err-write.ensures.put c.in_err-write.ensures.says)
+    (λ earlier asked. asked_then g.L.Lane.says _ _ _ c.args.liar earlier _ asked c.turn_checked.ensures.lanes) _ _ _ _ _ _ _ _ c.count-first.ensures (c.last.ensures ∙ c.turn_checked.ensures.is.cycle.hart.due) c.turn_checked.ensures.is.cycle.cycled c.goes_on.ensures.machine inv.on (c.turn_checked.ensures.is.asked inv.on) c.in_err-write.ensures.put c.in_err-write.ensures.says)
     (let l = c.loop-test.true in omega arith) tt)
 
 pub returns-then-not-goes_on-2 : goal.returns-then-not-goes_on-2
@@ -34,7 +34,7 @@ returns-then-not-goes_on-2 g c =
     let inv = c.loop.invariant in
     writes_performs g.D.Core.gives g.W.CycleWriter.text g.W.CycleWriter.says _ _ g.S.Sink.contents g.S.Sink.faults _ _ (c.loop.counter + 1) c.args.budget _ _ _
     (are_asked g.L.Lane.says c.args.lanes.now c.turn_checked.new.lanes c.args.liar) (writes_turn g.D.Core.gives g.W.CycleWriter.text g.W.CycleWriter.says _ _ _ _ _ (are_asked g.L.Lane.says c.args.lanes.now c.turn_checked.new.lanes c.args.liar) c.loop.counter _ _ _ _ inv.writes
-    (λ earlier asked. asked_then g.L.Lane.says _ _ _ c.args.liar earlier _ asked c.turn_checked.ensures.lanes) _ _ _ _ _ _ _ _ c.count-first.ensures (c.last.ensures ∙ c.turn_checked.ensures.last) c.turn_checked.ensures.cycled c.goes_on.ensures.machine inv.on (c.turn_checked.ensures.asked inv.on) c.in_ok-write.ensures.put c.in_ok-write.ensures.says)
+    (λ earlier asked. asked_then g.L.Lane.says _ _ _ c.args.liar earlier _ asked c.turn_checked.ensures.lanes) _ _ _ _ _ _ _ _ c.count-first.ensures (c.last.ensures ∙ c.turn_checked.ensures.is.cycle.hart.due) c.turn_checked.ensures.is.cycle.cycled c.goes_on.ensures.machine inv.on (c.turn_checked.ensures.is.asked inv.on) c.in_ok-write.ensures.put c.in_ok-write.ensures.says)
     (let l = c.loop-test.true in omega arith)
     (ended c.turn_checked.new.m.timed (c.loop.counter + 1) c.args.budget (sym c.goes_on-in-loop.ensures.value ∙ c.if-not-goes_on-2.true))
 
@@ -43,9 +43,9 @@ loop-preserved g c =
     let inv = c.loop.invariant in
     record {
       writes = writes_turn g.D.Core.gives g.W.CycleWriter.text g.W.CycleWriter.says _ _ _ _ _ (are_asked g.L.Lane.says c.args.lanes.now c.turn_checked.new.lanes c.args.liar) c.loop.counter _ _ _ _ inv.writes
-          (λ earlier asked. asked_then g.L.Lane.says _ _ _ c.args.liar earlier _ asked c.turn_checked.ensures.lanes) _ _ _ _ _ _ _ _ c.count-first.ensures (c.last.ensures ∙ c.turn_checked.ensures.last) c.turn_checked.ensures.cycled c.goes_on.ensures.machine inv.on (c.turn_checked.ensures.asked inv.on) c.in_ok-write.ensures.put c.in_ok-write.ensures.says;
+          (λ earlier asked. asked_then g.L.Lane.says _ _ _ c.args.liar earlier _ asked c.turn_checked.ensures.lanes) _ _ _ _ _ _ _ _ c.count-first.ensures (c.last.ensures ∙ c.turn_checked.ensures.is.cycle.hart.due) c.turn_checked.ensures.is.cycle.cycled c.goes_on.ensures.machine inv.on (c.turn_checked.ensures.is.asked inv.on) c.in_ok-write.ensures.put c.in_ok-write.ensures.says;
       on = sym c.goes_on-in-loop.ensures.value ∙ c.if-not-goes_on-2.false;
-      sound = c.turn_checked.ensures.machine;
+      sound = c.turn_checked.ensures.is.cycle.machine;
       honest = c.turn_checked.ensures.honest;
     }
 

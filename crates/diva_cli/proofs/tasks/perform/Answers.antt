@@ -7,7 +7,7 @@ pub returns-in-Quiet : goal.returns-in-Quiet
 returns-in-Quiet g c =
     rw c.in-Quiet.is (plays_turns g.D.Core.gives _ _ _ _ _ (performs_quiet g.D.Core.gives _ _ _ _ _ g.S.Sink.contents g.S.Sink.faults _ (are_asked g.L.Lane.says c.args.lanes.now c.drive_checked.new.lanes c.in-Quiet.liar)
     (drives_for g.D.Core.gives _ _ _ _ _ c.drive_checked.result (are_asked g.L.Lane.says c.args.lanes.now c.drive_checked.new.lanes c.in-Quiet.liar)
-    c.drive_checked.ensures.drives.drives.turns c.drive_checked.ensures.drives.asked c.drive_checked.ensures.within c.drive_checked.ensures.ended c.drive_checked.ensures.budget)))
+    c.drive_checked.ensures.drives.drives.turns c.drive_checked.ensures.drives.asked c.drive_checked.ensures.is.within c.drive_checked.ensures.is.ended c.drive_checked.ensures.is.budget)))
 
 pub returns-in-Trace : goal.returns-in-Trace
 returns-in-Trace g c = rw c.in-Trace.is (plays_turns g.D.Core.gives _ _ _ _ _ c.drive_writing.ensures)

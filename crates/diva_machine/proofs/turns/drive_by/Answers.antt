@@ -29,19 +29,19 @@ loop-list-init g c =
 pub has_just_ended-requires : goal.has_just_ended-requires
 has_just_ended-requires g c =
     let inv = c.loop-list.invariant in
-    λ off. idle_goes_on c.loop-list.m.timed c.cycle_within-committed.new.self.timed c.ask-fits.new.list c.cycle_within-committed.new.self.last (turns-stay g.C.Core.gives _ _ _ _ inv.sound inv.led.taken.turns) c.cycle_within-committed.ensures.cycled inv.on c.cycle_within-committed.ensures.last (c.cycle_within-committed.ensures.none off)
+    λ off. idle_goes_on c.loop-list.m.timed c.cycle_within-committed.new.self.timed c.ask-fits.new.list c.cycle_within-committed.new.self.last (turns-stay g.C.Core.gives _ _ _ _ inv.sound inv.led.taken.turns) c.cycle_within-committed.ensures.is.cycled inv.on c.cycle_within-committed.ensures.is.hart.due (c.cycle_within-committed.ensures.none off)
 
 -- one that ended it
 
 pub returns-then-has_just_ended-clause-led : goal.returns-then-has_just_ended-clause-led
 returns-then-has_just_ended-clause-led g c =
     let inv = c.loop-list.invariant in
-    led_more g.C.Core.gives _ _ _ _ g.S.Stages.led _ _ inv.led inv.sound c.cycle_within-committed.new.self c.ask-fits.new.list c.ask-fits.new.core c.cycle_within-committed.new.stages inv.on c.ask-fits.ensures.asked c.cycle_within-committed.ensures.cycled c.cycle_within-committed.ensures.last c.cycle_within-committed.ensures.led
+    led_more g.C.Core.gives _ _ _ _ g.S.Stages.led _ _ inv.led inv.sound c.cycle_within-committed.new.self c.ask-fits.new.list c.ask-fits.new.core c.cycle_within-committed.new.stages inv.on c.ask-fits.ensures.asked c.cycle_within-committed.ensures.is.cycled c.cycle_within-committed.ensures.is.hart.due c.cycle_within-committed.ensures.led
 
 pub returns-then-has_just_ended-clause-within : goal.returns-then-has_just_ended-clause-within
 returns-then-has_just_ended-clause-within g c =
     let inv = c.loop-list.invariant in
-    let next = ap (λ m. m.cycles) c.cycle_within-committed.ensures.cycled ∙ cycle-cycles c.loop-list.m.timed c.ask-fits.new.list (turns-stay g.C.Core.gives _ _ _ _ inv.sound inv.led.taken.turns) inv.on in
+    let next = ap (λ m. m.cycles) c.cycle_within-committed.ensures.is.cycled ∙ cycle-cycles c.loop-list.m.timed c.ask-fits.new.list (turns-stay g.C.Core.gives _ _ _ _ inv.sound inv.led.taken.turns) inv.on in
     let l = c.loop-list-test.true in
     let first = c.cycles.ensures in
     let now = c.cycles-in-loop-list.ensures in omega arith
@@ -51,7 +51,7 @@ returns-then-has_just_ended-clause-within g c =
 pub loop-list-smaller : goal.loop-list-smaller
 loop-list-smaller g c =
     let inv = c.loop-list.invariant in
-    let next = ap (λ m. m.cycles) c.cycle_within-committed.ensures.cycled ∙ cycle-cycles c.loop-list.m.timed c.ask-fits.new.list (turns-stay g.C.Core.gives _ _ _ _ inv.sound inv.led.taken.turns) inv.on in
+    let next = ap (λ m. m.cycles) c.cycle_within-committed.ensures.is.cycled ∙ cycle-cycles c.loop-list.m.timed c.ask-fits.new.list (turns-stay g.C.Core.gives _ _ _ _ inv.sound inv.led.taken.turns) inv.on in
     let l = c.loop-list-test.true in
     let first = c.cycles.ensures in
     let now = c.cycles-in-loop-list.ensures in omega arith
@@ -59,7 +59,7 @@ loop-list-smaller g c =
 pub loop-list-preserved : goal.loop-list-preserved
 loop-list-preserved g c =
     let inv = c.loop-list.invariant in
-    let next = ap (λ m. m.cycles) c.cycle_within-committed.ensures.cycled ∙ cycle-cycles c.loop-list.m.timed c.ask-fits.new.list (turns-stay g.C.Core.gives _ _ _ _ inv.sound inv.led.taken.turns) inv.on in
+    let next = ap (λ m. m.cycles) c.cycle_within-committed.ensures.is.cycled ∙ cycle-cycles c.loop-list.m.timed c.ask-fits.new.list (turns-stay g.C.Core.gives _ _ _ _ inv.sound inv.led.taken.turns) inv.on in
     let l = c.loop-list-test.true in
     let first = c.cycles.ensures in
     let now = c.cycles-in-loop-list.ensures in
@@ -71,5 +71,5 @@ loop-list-preserved g c =
       sound = inv.sound;
       outvoted = c.cycle_within-committed.ensures.outvoted ∙ inv.outvoted;
       stages = c.cycle_within-committed.ensures.stages_sound;
-      led = led_more g.C.Core.gives _ _ _ _ g.S.Stages.led _ _ inv.led inv.sound c.cycle_within-committed.new.self c.ask-fits.new.list c.ask-fits.new.core c.cycle_within-committed.new.stages inv.on c.ask-fits.ensures.asked c.cycle_within-committed.ensures.cycled c.cycle_within-committed.ensures.last c.cycle_within-committed.ensures.led;
+      led = led_more g.C.Core.gives _ _ _ _ g.S.Stages.led _ _ inv.led inv.sound c.cycle_within-committed.new.self c.ask-fits.new.list c.ask-fits.new.core c.cycle_within-committed.new.stages inv.on c.ask-fits.ensures.asked c.cycle_within-committed.ensures.is.cycled c.cycle_within-committed.ensures.is.hart.due c.cycle_within-committed.ensures.led;
     }

@@ -1,29 +1,20 @@
 -- The lanes were polled while they were lent, and are given back.
 use Rattle.std.proofs.Common.{[], refl, ◌∙◌, rules}
 use Rattle.diva_vote.proofs.Polling.{stays_honest}
-use Rattle.diva_core.proofs.Pacing.{will_count}
-use Rattle.diva_core.proofs.Progressing.{has_pace}
 use Rattle.diva_machine.proofs.Asking.{asking_noting, drives_asking, drives_noting, polled_lent, sound_back, sound_lent}
-use Rattle.diva_machine.proofs.Driving.{drives, keeps, paces, rises}
+use Rattle.diva_machine.proofs.Driving.{drives}
 use Rattle.diva_machine.proofs.voted.drive_voted.Goals as goal
 
-pub returns-clause-drives : goal.returns-clause-drives
-returns-clause-drives g c = rw c.note_outvoted.ensures (drives_noting g.C.Core.gives _ _ _ _ _ (drives g.C.Core.gives _ _ _ _ c.drive_by-driven.ensures.led.taken c.drive_by-driven.ensures.was))
-
-pub returns-clause-rises : goal.returns-clause-rises
-returns-clause-rises g c = rw c.note_outvoted.ensures (rises g.C.Core.gives _ _ _ _ c.drive_by-driven.ensures.led.taken c.drive_by-driven.ensures.was)
-
-pub returns-clause-machine : goal.returns-clause-machine
-returns-clause-machine g c = rw c.note_outvoted.ensures (keeps g.C.Core.gives _ _ _ _ c.drive_by-driven.ensures.led.taken c.drive_by-driven.ensures.was)
-
-pub returns-clause-pace : goal.returns-clause-pace
-returns-clause-pace g c = rw c.note_outvoted.ensures (paces g.C.Core.gives _ _ _ _ c.drive_by-driven.ensures.led.taken c.drive_by-driven.ensures.was)
-
-pub returns-clause-paced : goal.returns-clause-paced
-returns-clause-paced g c = rw c.note_outvoted.ensures (has_pace _ (keeps g.C.Core.gives _ _ _ _ c.drive_by-driven.ensures.led.taken c.drive_by-driven.ensures.was))
-
-pub returns-clause-counts : goal.returns-clause-counts
-returns-clause-counts g c = rw c.note_outvoted.ensures (will_count _ (keeps g.C.Core.gives _ _ _ _ c.drive_by-driven.ensures.led.taken c.drive_by-driven.ensures.was))
+pub returns-clause-is : goal.returns-clause-is
+returns-clause-is g c =
+    let driven = c.drive_by-driven.ensures in
+    rw c.note_outvoted.ensures (record {
+      drives = drives_noting g.C.Core.gives _ _ _ _ _ (drives g.C.Core.gives _ _ _ _ driven.led.taken driven.was);
+      ended = driven.ended;
+      budget = driven.budget;
+      within = driven.within;
+      stays = λ off. let s = driven.stays off in search (rules, s);
+    })
 
 pub drive_by-driven-requires-clause-stages_sound : goal.drive_by-driven-requires-clause-stages_sound
 drive_by-driven-requires-clause-stages_sound g c =

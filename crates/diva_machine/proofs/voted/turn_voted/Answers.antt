@@ -3,12 +3,16 @@ use Rattle.std.proofs.Common.{[], sym, ap, ◌∙◌, rules}
 use Rattle.diva_vote.proofs.Polling.{stays_honest}
 use Rattle.diva_machine.specs.Machine.{Machine}
 use Rattle.diva_machine.proofs.Asking.{polled_lent, sound_back, sound_lent}
+use Rattle.diva_machine.proofs.Laws.{turn_noting}
 use Rattle.diva_machine.proofs.voted.turn_voted.Goals as goal
 
 pub turn_by-requires-clause-stages_sound : goal.turn_by-requires-clause-stages_sound
 turn_by-requires-clause-stages_sound g c =
     let lent = c.new-panel.ensures in
     sound_lent g.A.Lane.says g.B.Lane.says g.L.Lane.says c.new-panel.result _ _ _ lent.first lent.second lent.third c.requires.majority
+
+pub returns-clause-is : goal.returns-clause-is
+returns-clause-is g c = rw c.note_outvoted.ensures (turn_noting g.C.Core.gives _ _ _ _ _ _ c.turn_by.ensures.is)
 
 pub returns-clause-polled : goal.returns-clause-polled
 returns-clause-polled g c =

@@ -2,23 +2,17 @@
 use Rattle.std.proofs.Common.{[], sym, ap, ◌∙◌, rules}
 use Rattle.diva_vote.proofs.Polling.{stays_honest}
 use Rattle.diva_machine.specs.Machine.{Machine}
-use Rattle.diva_machine.proofs.Laws.{front_is_judged, judges_again}
+use Rattle.diva_machine.proofs.Laws.{is_cycle}
 use Rattle.diva_machine.proofs.Asking.{polled_lent, sound_back, sound_lent}
 use Rattle.diva_machine.proofs.machine.Machine.cycle_voted.Goals as goal
-
-pub returns-clause-judges : goal.returns-clause-judges
-returns-clause-judges g c = rw c.note_outvoted.ensures (judges_again _ _ _ c.cycle_by.ensures.was c.cycle_by.ensures.cycled)
-
-pub returns-clause-front : goal.returns-clause-front
-returns-clause-front g c = rw c.note_outvoted.ensures (front_is_judged _ _ _ c.cycle_by.ensures.was c.cycle_by.ensures.cycled)
 
 pub cycle_by-requires-clause-stages_sound : goal.cycle_by-requires-clause-stages_sound
 cycle_by-requires-clause-stages_sound g c =
     let lent = c.new-panel.ensures in
     sound_lent g.A.Lane.says g.B.Lane.says g.L.Lane.says c.new-panel.result _ _ _ lent.first lent.second lent.third c.requires.majority
 
-pub returns-clause-checked : goal.returns-clause-checked
-returns-clause-checked g c = rw c.note_outvoted.ensures c.cycle_by.ensures.checked
+pub returns-clause-is : goal.returns-clause-is
+returns-clause-is g c = rw c.note_outvoted.ensures (is_cycle _ _ _ c.cycle_by.ensures.was c.cycle_by.ensures.cycled c.cycle_by.ensures.last c.cycle_by.ensures.checked c.cycle_by.ensures.stays)
 
 pub returns-clause-polled : goal.returns-clause-polled
 returns-clause-polled g c =
