@@ -1,6 +1,6 @@
 -- One cycle of the timed machine, a definition for each phase. The cycle's number is raised first, so that each phase
 -- knows it.
--- Cited by `Machine::cycle`, `cycle_voted`, `turn` and `turn_voted` of diva_machine; by `HartArch::commit` and `Log::add` of diva_hart.
+-- Cited in `Cycles.antt`, for `Machine::cycle` and `turn`; in `Duo.antt`, for `Duo::cycle`; by `HartArch::commit` and `Log::add` of diva_hart.
 use Rattle.std.specs.Prelude.{ℕ, zero, suc, ◌+◌, ◌-◌, ◌%◌, ◌==◌, List, [], ◌∷◌, ◌++◌, length, take, drop, map, Bool, true, false, ◌&&◌, Option, Some, None, is_none, nat_le, nat_lt, if◌then◌else◌}
 use Rattle.diva_isa.specs.declared.effect.Effect.{Effect}
 use Rattle.diva_isa.specs.declared.effect.Effect.TheVariants.{Nothing, Writes, Stores, Puts}

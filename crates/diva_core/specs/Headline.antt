@@ -1,5 +1,5 @@
 -- What a cycle, a turn and a run promise, whatever is handed over.
--- Cited by `Machine::cycle`, `turn`, `drive`, `drive_to`, and the same with lanes, of diva_machine.
+-- Cited by `Machine::new`; in `HartCycle.antt` and `Cycles.antt`, for `Machine::cycle`; in `Drives.antt`, for `drive`.
 use Rattle.std.specs.Prelude.{ℕ, zero, suc, ◌≡◌, ◌≢◌, ◌≤◌, ◌<◌, ◌+◌, ◌-◌, ◌*◌, ◌/◌, ◌%◌, List, [], ◌∷◌, ◌++◌, ◌⊎◌, length, take, slice_get, count_by, Option, Some, None, Bool, true, false}
 use Rattle.std.specs.List.{All}
 use Rattle.diva_isa.specs.State.{State, goes_on}

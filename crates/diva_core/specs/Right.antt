@@ -1,5 +1,5 @@
 -- Right lists, and calm machines: those in which no right list leads to a flush.
--- Cited by `Machine::new`, `cycle`, `undo` and `turn` of diva_machine; by `lockstep_is_right` and `scalar_is_right` of diva_tape.
+-- Cited by `Machine::new` and `undo`; in `Cycles.antt`, for `Machine::cycle` and `turn`; by `lockstep_is_right` and `scalar_is_right` of diva_tape.
 use Rattle.std.specs.Prelude.{ℕ, ◌≡◌, ◌≢◌, ◌<◌, ◌≤◌, ◌+◌, ◌-◌, List, [], ◌∷◌, length, take, map, true, Some, None, max, slice_get}
 use Rattle.std.specs.Int.{next_multiple_of}
 use Rattle.diva_isa.specs.State.{State, goes_on}
