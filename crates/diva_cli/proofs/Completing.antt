@@ -1,5 +1,5 @@
 -- A job all of whose files are known and sound is done.
-use Rattle.std.proofs.Common.{◌≡◌, ◌⊎◌, ℕ, List, [], ◌∷◌, length, Option, Some, None, Result, Ok, Err, IsOk, inl, inr, sym, ◌∙◌, refl, ap, arith, subst}
+use Rattle.std.proofs.Common.{◌≡◌, ◌≢◌, ◌≤◌, ◌⊎◌, ℕ, List, [], ◌∷◌, length, Option, Some, None, Result, Ok, Err, IsOk, inl, inr, sym, ◌∙◌, refl, ap, arith, subst}
 use Rattle.std.specs.Prelude.{max}
 use Rattle.std.proofs.lemmas.Bool.{cases_Bool, true≢false}
 use Rattle.diva_outside.specs.Causes.{Rose}
@@ -24,8 +24,8 @@ use Rattle.diva_cli.specs.CampaignTexts.{campaign_start, first_run}
 use Rattle.diva_cli.specs.DuoTexts.{duo_status}
 use Rattle.diva_cli.specs.Runs.{EndsWith, end_status}
 use Rattle.diva_cli.specs.Texts.{HasText, CanEnd, IsDone}
-use Rattle.diva_cli.specs.Answers.{IsAnswer, misused, unread, refused, done}
-use Rattle.diva_cli.specs.Statuses.{IsKnownSound, AreKnownSound, CanWork, HasEnded}
+use Rattle.diva_cli.specs.Answers.{HasDone, IsAnswer, IsMisused, misused, unread, refused, done}
+use Rattle.diva_cli.specs.Statuses.{IsKnownSound, AreKnownSound, CanWork, HasEnded, HasLine, IsCut}
 use Rattle.diva_cli.specs.Promises.{KeepsPromises, status_of}
 
 -- ---- the statuses of a job whose text was written whole: a line for each command
@@ -147,3 +147,49 @@ module _ {C S : Type 0} (gives : Meaning C) (asked : Asked) (files : FileFaults)
   complete (Ok status) w = inl (answered status w.text w.answer w.written)
   complete (Err Cut) w = absurd (sink_well w.rose)
   complete (Err Memory) w = inr refl
+
+-- ---- the usage line, and a text that was cut
+
+job_done : (job : Job) (status : ℕ) → CanEnd job status → IsDone status
+job_done (Run options) status h = h
+job_done (Tape options) status h = h
+job_done (Harts options) status h = h
+job_done (Debug options) status h = inl h
+job_done (Asm name) status h = inl h
+job_done (Dis name) status h = inl h
+job_done (Migrate options) status h = inl h
+job_done (Soak options) status h = inl h
+job_done (Campaign options) status h = h
+job_done (Draw options) status h = h
+
+-- no job ends with 2, nor with 9
+done_few : (status : ℕ) → IsDone status → (status ≤ 4) × (status ≢ 2)
+done_few status (inl zero) = (omega arith, λ two. absurd (omega arith))
+done_few status (inr (inl trapped)) = (omega arith, λ two. absurd (omega arith))
+done_few status (inr (inr goes_on)) = (omega arith, λ two. absurd (omega arith))
+
+module _ {C S : Type 0} (gives : Meaning C) (asked : Asked) (files : FileFaults) (asks : Asking C) (sink : SinkChange S) where
+  few_of : (status : ℕ) (text : List ℕ) → HasDone gives asked files asks (Ok status) text → (status ≤ 4) × (status ≢ 2)
+  few_of status text d = done_few status (job_done d.job status (can_end gives d.job d.bytes (core_of asks) status text d.means))
+
+  usage_told : (status : ℕ) (text : List ℕ) → status ≡ 2 → IsAnswer gives asked files asks (Ok status) text → Takes sink text → HasLine (IsMisused asked files) asks sink
+  usage_told status text two (misused m unasked s) w = record { text = text; caused = m; unasked = unasked; written = w }
+  usage_told status text two (unread u unasked s) w = absurd (omega arith)
+  usage_told status text two (refused r unasked s) w = absurd (omega arith)
+  usage_told status text two (done d) w = absurd ((few_of status text d).1 two)
+
+  pub misuses : (result : Result ℕ Failure) → KeepsPromises gives asked files asks sink result → status_of result ≡ 2 → HasLine (IsMisused asked files) asks sink
+  misuses (Ok status) a two = usage_told status a.text two a.answer a.written
+  misuses (Err Cut) a two = absurd (omega arith)
+  misuses (Err Memory) a two = absurd (omega arith)
+
+  told_few : (status : ℕ) (text : List ℕ) → IsAnswer gives asked files asks (Ok status) text → status ≤ 8
+  told_few status text (misused m unasked s) = omega arith
+  told_few status text (unread u unasked s) = omega arith
+  told_few status text (refused r unasked s) = omega arith
+  told_few status text (done d) = let few = (few_of status text d).0 in omega arith
+
+  pub cuts : (result : Result ℕ Failure) → KeepsPromises gives asked files asks sink result → status_of result ≡ 9 → IsCut gives asked files asks sink
+  cuts (Ok status) a nine = absurd (let few = told_few status a.text a.answer in omega arith)
+  cuts (Err Cut) a nine = a
+  cuts (Err Memory) a nine = absurd (omega arith)

@@ -1,5 +1,6 @@
--- What is answered of files that are known: sound ones, and the first that can't be used.
-use Rattle.diva_cli.proofs.Completing.{complete}
+-- What is answered of files that are known, sound ones and the first that can't be used; the usage line, and a text that was cut.
+use Rattle.std.proofs.Common.{sym, ◌∙◌}
+use Rattle.diva_cli.proofs.Completing.{complete, cuts, misuses}
 use Rattle.diva_cli.proofs.Refusing.{refuses, misses}
 use Rattle.diva_cli.proofs.program.top.Goals as goal
 
@@ -14,3 +15,9 @@ returns-clause-refuses g c = λ text must.
 pub returns-clause-misses : goal.returns-clause-misses
 returns-clause-misses g c = λ missing.
     rw c.status_of.ensures (misses g.C.Core.gives _ _ _ _ _ _ c.answer.result c.answer.ensures.answers missing)
+
+pub returns-clause-misused : goal.returns-clause-misused
+returns-clause-misused g c = λ two. misuses g.C.Core.gives _ _ _ _ c.answer.result c.answer.ensures.answers (sym c.status_of.ensures ∙ two)
+
+pub returns-clause-cut : goal.returns-clause-cut
+returns-clause-cut g c = λ nine. cuts g.C.Core.gives _ _ _ _ c.answer.result c.answer.ensures.answers (sym c.status_of.ensures ∙ nine)
