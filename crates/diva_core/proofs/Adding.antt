@@ -1,11 +1,7 @@
 -- The rows that many cycles add to the log.
 use Rattle.std.specs.List.{All}
-use Rattle.std.proofs.Common.{◌≡◌, ℕ, zero, suc, ◌+◌, ◌-◌, ◌<◌, ◌≤◌, Bool, List, [], ◌∷◌, ◌++◌, length, take, get_or, Option, Some, refl, ap, sym, subst, ◌∙◌, arith, ◌⊎◌, inl, inr, length-append, length-take, append-nil, append_assoc, if◌then◌else◌}
-use Rattle.std.specs.Prelude.{nat_lt, count_by}
-use Rattle.std.proofs.lemmas.Bool.{cond_both, cases_lt, ltb-true, ltb-false}
-use Rattle.std.proofs.lemmas.List.{take-append-le, take_all}
+use Rattle.std.proofs.Common.{◌≡◌, ℕ, zero, suc, ◌-◌, ◌<◌, ◌≤◌, List, [], ◌∷◌, get_or, refl, ap, sym, subst, ◌∙◌, arith, ◌⊎◌, inl, inr}
 use Rattle.std.proofs.lemmas.List.Elements.{All-append}
-use Rattle.std.proofs.lemmas.List.Sums.{sum_by-append}
 use Rattle.diva_isa.specs.declared.record.Record.{Record}
 use Rattle.diva_isa.specs.Step.{record_of, steps}
 use Rattle.diva_core.specs.declared.flushes.FlushRow.{FlushRow}
@@ -13,10 +9,10 @@ use Rattle.diva_core.specs.declared.flushes.Cause.{Cause}
 use Rattle.diva_core.specs.declared.flushes.Cause.TheVariants.{Differs, Silent}
 use Rattle.diva_core.specs.Difference.{field_of}
 use Rattle.diva_core.proofs.Differing.{difference-some}
-use Rattle.diva_core.specs.Timed.{Timed, rows_kept}
-use Rattle.diva_core.specs.Cycle.{cycle_of, run_of, kept, number, is_silent}
+use Rattle.diva_core.specs.Timed.{Timed}
+use Rattle.diva_core.specs.Cycle.{cycle_of, run_of}
 use Rattle.diva_core.specs.Machine.{IsMachine}
-use Rattle.diva_core.specs.Headline.{Rises, SameLog, AddsRow, AddsRows, HasRows, AreRowsOf, IsRowOf, IsRowSince, IsCause, HasCause, newest_of, is_silent_row}
+use Rattle.diva_core.specs.Headline.{Rises, SameLog, AddsRow, AddsRows, HasRows, AreRowsOf, IsRowOf, IsRowSince, IsCause, HasCause}
 use Rattle.diva_core.proofs.Steps.{steps-add}
 use Rattle.diva_core.proofs.Outcomes.{logs, rises}
 use Rattle.diva_core.proofs.Keeping.{stays}

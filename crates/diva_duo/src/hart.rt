@@ -1,13 +1,12 @@
 // One hart: what it has for itself of the committed state, and what is under way. Memory is lent to it, and it changes memory
 // only where a store drains.
-ghost use Rattle.std.specs.Prelude.{◌≡◌, ◌+◌, ◌-◌, ◌<◌, ◌≤◌, ◌^◌, ◌++◌, [], ℕ, length, map, take, IfOk, IsTrue, Some, true, false, not, ◌==◌, ◌&&◌, if◌then◌else◌};
+ghost use Rattle.std.specs.Prelude.{◌≡◌, ◌+◌, ◌-◌, ◌<◌, ◌≤◌, ◌^◌, ◌++◌, [], ℕ, length, IfOk, IsTrue, Some, true, false, not, ◌==◌, ◌&&◌, if◌then◌else◌};
 ghost use Rattle.diva_decode.specs.Table.{row_of};
 ghost use Rattle.diva_isa.specs.End.{end_of, end_number};
 ghost use Rattle.diva_isa.specs.State.{output_limit};
 ghost use Rattle.diva_isa.specs.Step.{record_of};
 ghost use Rattle.diva_memory.specs.Bytes.{Bytes};
 ghost use Rattle.diva_image.specs.ImageLayout.{layout};
-ghost use Rattle.diva_storeq.specs.Stores.{laid};
 ghost use Rattle.diva_core.specs.Timed.{Timed, room_of};
 ghost use Rattle.diva_core.specs.Told.{told_of};
 ghost use Rattle.diva_core.specs.Cycle.{accepts, commits_under, committed, flushed, judged_under, puts_store, watched};

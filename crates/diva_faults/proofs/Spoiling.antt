@@ -29,13 +29,6 @@ module _ {C : Type 0} (gives : Meaning C) (before : C) (told : Told) (s : State)
       let P : List Record → Type 0 = λ l. gives before told s l after in
       subst P (sym (h.laid ∙ scripted-none told.cycle h.inner)) h.given
 
--- a history of a core under a script without rows is a history of the core
-pub history-none : {C : Type 0} (gives : Meaning C) (m : Timed) (core : C) (history : List (List Record × C)) (last : Timed) (after : C)
-    → IsHistory (spoiled [] gives) m core history last after → IsHistory gives m core history last after
-history-none gives m core [] last after h = h
-history-none gives m core (turn ∷ rest) last after h =
-    (h.0, (none-spoiled gives core (told_of m) m.arch turn.0 turn.1 h.1.0, history-none gives (cycle_of m turn.0) turn.1 rest last after h.1.1))
-
 -- ---- cycles that no row touches
 
 -- a history of a core in cycles in which the rows change nothing is a history of the core under the script
