@@ -83,6 +83,7 @@ impl<'a, A: Lane, B: Lane, L: Lane> Stages for Panel<'a, A, B, L> {
 
     ghost led = { λ before asked after. LedLanes A.says B.says L.says before asked after };
 
+    #[tactic(auto, using(crate::proofs::Staging::future_same))]
     fn pass(
         &mut self,
         pending: &mut Pending,

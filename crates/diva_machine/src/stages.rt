@@ -94,6 +94,7 @@ impl Stages for Checks {
     ghost led = { λ before questions after. ⊤ };
 
     #[inline(always)]
+    #[tactic(auto, using(crate::proofs::Staging::future_same))]
     fn pass(
         &mut self,
         pending: &mut Pending,
