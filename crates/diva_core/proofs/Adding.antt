@@ -12,12 +12,12 @@ use Rattle.diva_core.proofs.Differing.{difference-some}
 use Rattle.diva_core.specs.Timed.{Timed}
 use Rattle.diva_core.specs.Cycle.{cycle_of, run_of}
 use Rattle.diva_core.specs.Machine.{IsMachine}
-use Rattle.diva_core.specs.Headline.{Rises, SameLog, AddsRow, AddsRows, HasRows, AreRowsOf, IsRowOf, IsRowSince, IsCause, HasCause}
+use Rattle.diva_core.specs.Headline.{Rises, SameLog, AddsRows, HasRows, AreRowsOf, IsRowOf, IsRowSince, IsCause, HasCause}
 use Rattle.diva_core.proofs.Steps.{steps-add}
 use Rattle.diva_core.proofs.Outcomes.{logs, rises}
 use Rattle.diva_core.proofs.Keeping.{stays}
 use Rattle.diva_core.proofs.Progressing.{same-config}
-use Rattle.diva_core.proofs.Rows.{no_rows, one_row, rows_then}
+use Rattle.diva_core.proofs.Rows.{AddsRow, no_rows, one_row, rows_then}
 
 all-one : (P : FlushRow → Type 0) (row : FlushRow) → P row → (k : ℕ) (d : FlushRow) → k < 1 → P (get_or (row ∷ []) k d)
 all-one P row p zero d h = p

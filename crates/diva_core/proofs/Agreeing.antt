@@ -12,7 +12,7 @@ use Rattle.diva_core.specs.declared.differences.Diff.{Diff}
 use Rattle.diva_core.specs.declared.differences.Field.{Field}
 use Rattle.diva_core.specs.declared.differences.Field.TheVariants.{Addr}
 use Rattle.diva_core.specs.Difference.{difference_in, field_of}
-use Rattle.diva_core.specs.Stages.{fetch_fields, read_fields, address_fields, execute_fields, outcome_fields, is_memory, is_memory_by}
+use Rattle.diva_core.specs.Stages.{earlier, execute, fields_at, is_memory, is_memory_by, memory, operands, outcome_fields}
 use Rattle.diva_core.proofs.Differing.{AreSame, in-none}
 
 -- a record with other operands, or another address
@@ -25,29 +25,31 @@ with_addr r a = record r { addr = a }
 decoded_is : (r : Record) (s : State) → r.word ≡ (record_of s).word → row_of (unwrap_or (word_of s s.pc) 0) ≡ row_of r.word
 decoded_is r s e = ap row_of (sym (e ∙ word_is s))
 
-pub operands_filled : (r : Record) (s : State) → difference_in fetch_fields r (record_of s) ≡ None
+pub operands_filled : (r : Record) (s : State) → difference_in (earlier operands) r (record_of s) ≡ None
     → with_operands r (source1_of (row_of r.word) s) (source2_of (row_of r.word) s) ≡ with_operands r (record_of s).src1 (record_of s).src2
+unfolding fields_at
 operands_filled r s h =
-    let same = in-none fetch_fields r (record_of s) h in
+    let same = in-none (earlier operands) r (record_of s) h in
     let decoded = decoded_is r s same.1.0 in
     let a = (parts s).src1 ∙ ap (λ (o : Option Instr). source1_of o s) decoded in
     let b = (parts s).src2 ∙ ap (λ (o : Option Instr). source2_of o s) decoded in
     λ i. record r { src1 = sym a i; src2 = sym b i }
 
 -- the operands of a claim whose pc and word are due
-pub operands_due : (r : Record) (s : State) → difference_in fetch_fields r (record_of s) ≡ None
+pub operands_due : (r : Record) (s : State) → difference_in (earlier operands) r (record_of s) ≡ None
     → (source1_of (row_of r.word) s ≡ (record_of s).src1) × (source2_of (row_of r.word) s ≡ (record_of s).src2)
 operands_due r s h = let same = operands_filled r s h in (ap (λ (x : Record). x.src1) same, ap (λ (x : Record). x.src2) same)
 
-pub address_filled : (r : Record) (s : State) → difference_in read_fields r (record_of s) ≡ None
+pub address_filled : (r : Record) (s : State) → difference_in (earlier execute) r (record_of s) ≡ None
     → with_addr r (address_of (row_of r.word) r.src1) ≡ with_addr r (record_of s).addr
+unfolding fields_at
 address_filled r s h =
-    let same = in-none read_fields r (record_of s) h in
+    let same = in-none (earlier execute) r (record_of s) h in
     let a = (parts s).addr ∙ ap (λ (o : Option Instr). address_of o (record_of s).src1) (decoded_is r s same.1.0) ∙ ap (address_of (row_of r.word)) (sym same.1.1.0) in
     ap (with_addr r) (sym a)
 
 -- the address of a claim whose operands are due
-pub address_due : (r : Record) (s : State) → difference_in read_fields r (record_of s) ≡ None
+pub address_due : (r : Record) (s : State) → difference_in (earlier execute) r (record_of s) ≡ None
     → address_of (row_of r.word) r.src1 ≡ (record_of s).addr
 address_due r s h = ap (λ (x : Record). x.addr) (address_filled r s h)
 
@@ -56,10 +58,11 @@ any_there : (b c : Bool) (decoded : Option Instr) (s : State) (pc x y z : ℕ) �
 any_there b c None s pc x y z h = rw (h refl) refl
 any_there b c (Some i) s pc x y z h = refl
 
-pub outcome_filled : (r : Record) (s : State) (there : Bool) (decoded : Option Instr) → decoded ≡ row_of r.word → (decoded ≡ None → there ≡ is_some (word_of s s.pc)) → difference_in address_fields r (record_of s) ≡ None
+pub outcome_filled : (r : Record) (s : State) (there : Bool) (decoded : Option Instr) → decoded ≡ row_of r.word → (decoded ≡ None → there ≡ is_some (word_of s s.pc)) → difference_in (earlier memory) r (record_of s) ≡ None
     → record_with r.pc r.word r.src1 r.src2 r.addr (outcome_of there decoded s r.pc r.src1 r.src2 r.addr) ≡ record_of s
+unfolding fields_at
 outcome_filled r s there decoded e t h =
-    let same = in-none address_fields r (record_of s) h in
+    let same = in-none (earlier memory) r (record_of s) h in
     let x = record_of s in
     let is : decoded ≡ row_of (unwrap_or (word_of s s.pc) 0) = e ∙ sym (decoded_is r s same.1.0) in
     ap (record_with r.pc r.word r.src1 r.src2 r.addr) (any_there there (is_some (word_of s s.pc)) decoded s r.pc r.src1 r.src2 r.addr t)
@@ -73,42 +76,45 @@ none-in [] p r e = refl
 none-in (f ∷ fs) p r e = rw (eq-eqb (field_of f p) (field_of f r) e.0) (none-in fs p r e.1)
 
 -- where the fields read agree, they do with the due address too
-pub placed_agrees : (r x : Record) → difference_in read_fields r x ≡ None → difference_in address_fields (with_addr r x.addr) x ≡ None
+pub placed_agrees : (r x : Record) → difference_in (earlier execute) r x ≡ None → difference_in (earlier memory) (with_addr r x.addr) x ≡ None
+unfolding fields_at
 placed_agrees r x h =
-    let same = in-none read_fields r x h in
-    none-in address_fields (with_addr r x.addr) x (same.0, (same.1.0, (same.1.1.0, (same.1.1.1.0, (refl, tt)))))
+    let same = in-none (earlier execute) r x h in
+    none-in (earlier memory) (with_addr r x.addr) x (same.0, (same.1.0, (same.1.1.0, (same.1.1.1.0, (refl, tt)))))
 
 -- a claim that agrees in its word is a load or a store where the due record is
-pub same_memory : (r x : Record) (b : Bool) → difference_in read_fields r x ≡ None → is_memory_by (row_of r.word) ≡ b → is_memory x ≡ b
-same_memory r x b h e = ap (λ (w : ℕ). is_memory_by (row_of w)) (sym (in-none read_fields r x h).1.0) ∙ e
+pub same_memory : (r x : Record) (b : Bool) → difference_in (earlier execute) r x ≡ None → is_memory_by (row_of r.word) ≡ b → is_memory x ≡ b
+unfolding fields_at
+same_memory r x b h e = ap (λ (w : ℕ). is_memory_by (row_of w)) (sym (in-none (earlier execute) r x h).1.0) ∙ e
 
 -- ---- the stage that executes
 
 -- the addresses differ
 pub executed_addr : (claim due : Record) (a : ℕ) (b : Bool) → claim.addr ≢ a → a ≡ due.addr
-    → Some (record { field = Addr; claimed = claim.addr; due = a }) ≡ difference_in (execute_fields b) claim due
+    → Some (record { field = Addr; claimed = claim.addr; due = a }) ≡ difference_in (execute.fields b) claim due
 executed_addr claim due a b n e = addr_first b (ne_eqb claim.addr a n)
   where
-    addr_first : (b : Bool) → (claim.addr == a) ≡ false → Some (record { field = Addr; claimed = claim.addr; due = a }) ≡ difference_in (execute_fields b) claim due
+    addr_first : (b : Bool) → (claim.addr == a) ≡ false → Some (record { field = Addr; claimed = claim.addr; due = a }) ≡ difference_in (execute.fields b) claim due
     addr_first true other = rw (← e, other) refl
     addr_first false other = rw (← e, other) refl
 
 -- of a load or a store nothing else is compared
 pub executed_memory : (claim due : Record) (decoded : Option Instr) → decoded ≡ row_of claim.word → is_memory_by decoded ≡ true
-    → difference_in read_fields claim due ≡ None → claim.addr ≡ due.addr
-    → None ≡ difference_in (execute_fields (is_memory due)) claim due
+    → difference_in (earlier execute) claim due ≡ None → claim.addr ≡ due.addr
+    → None ≡ difference_in (execute.fields (is_memory due)) claim due
 executed_memory claim due decoded f m h a =
     rw (same_memory claim due true h (ap is_memory_by (sym f) ∙ m), eq-eqb claim.addr due.addr a) refl
 
-agrees_addr : (claim due : Record) → difference_in read_fields claim due ≡ None → claim.addr ≡ due.addr → difference_in address_fields claim due ≡ None
+agrees_addr : (claim due : Record) → difference_in (earlier execute) claim due ≡ None → claim.addr ≡ due.addr → difference_in (earlier memory) claim due ≡ None
+unfolding fields_at
 agrees_addr claim due h a =
-    let same = in-none read_fields claim due h in
-    none-in address_fields claim due (same.0, (same.1.0, (same.1.1.0, (same.1.1.1.0, (a, tt)))))
+    let same = in-none (earlier execute) claim due h in
+    none-in (earlier memory) claim due (same.0, (same.1.0, (same.1.1.0, (same.1.1.1.0, (a, tt)))))
 
 pub executed_other : (claim due : Record) (answer : Option Diff) (decoded : Option Instr) → decoded ≡ row_of claim.word → is_memory_by decoded ≡ false
-    → difference_in read_fields claim due ≡ None → claim.addr ≡ due.addr
-    → (difference_in address_fields claim due ≡ None → answer ≡ difference_in outcome_fields claim due)
-    → answer ≡ difference_in (execute_fields (is_memory due)) claim due
+    → difference_in (earlier execute) claim due ≡ None → claim.addr ≡ due.addr
+    → (difference_in (earlier memory) claim due ≡ None → answer ≡ difference_in outcome_fields claim due)
+    → answer ≡ difference_in (execute.fields (is_memory due)) claim due
 executed_other claim due answer decoded f m h a o =
     o (agrees_addr claim due h a)
     ∙ rw (same_memory claim due false h (ap is_memory_by (sym f) ∙ m), eq-eqb claim.addr due.addr a) refl

@@ -11,7 +11,7 @@ use Rattle.diva_core.specs.Timed.{Log, Timed, PendingClaim, room_of, depth, rows
 use Rattle.diva_core.specs.Cycle.{Rule, accepted_in, cycle_of, cycle_under, drained, is_silent, kept}
 use Rattle.diva_core.proofs.Phases.{number-least}
 use Rattle.diva_core.specs.Machine.{IsMachine, Lives, IsSolo, ArePast}
-use Rattle.diva_core.specs.Headline.{SameLog, AddsRow}
+use Rattle.diva_core.specs.Headline.{SameLog}
 use Rattle.diva_core.proofs.Commits.{Commits}
 use Rattle.diva_core.proofs.Cycling.{Cycled, Base, idled, ran, barks, differed, ended, finished, waited, taken}
 use Rattle.diva_core.proofs.Going.{counted-cases}
@@ -19,6 +19,7 @@ use Rattle.diva_core.proofs.Opening.{owed_since}
 use Rattle.diva_core.proofs.Outcomes.{any-base, by_cases_under, log-cases}
 use Rattle.diva_core.proofs.Passing.{AlonePasses, Keeps, alone_stores, stores_keep}
 use Rattle.diva_core.proofs.Stalling.{Paces, paces, stall-cases}
+use Rattle.diva_core.proofs.Rows.{AddsRow}
 
 pub ArePast-later : (c d : ℕ) (xs : List PendingClaim) → c ≤ d → ArePast c xs → ArePast d xs
 ArePast-later c d [] h a = tt

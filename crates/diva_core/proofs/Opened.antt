@@ -6,12 +6,13 @@ use Rattle.diva_isa.specs.declared.record.Record.{Record}
 use Rattle.diva_core.specs.Timed.{Log, Config, PendingClaim, Timed, depth}
 use Rattle.diva_core.specs.Cycle.{cycle_of, run_of, stores_wait}
 use Rattle.diva_core.specs.Machine.{IsMachine}
-use Rattle.diva_core.specs.Headline.{AddsRow, SameLog, WillJudge}
+use Rattle.diva_core.specs.Headline.{SameLog, WillJudge}
 use Rattle.diva_core.proofs.Cycling.{Cycled, barks, cycled, differed, ended, finished, idled, ran, taken, waited}
 use Rattle.diva_core.proofs.Holding.{not_yet}
 use Rattle.diva_core.proofs.Keeping.{stays}
 use Rattle.diva_core.proofs.Outcomes.{logs}
 use Rattle.diva_core.proofs.Progressing.{run-rises, same-config}
+use Rattle.diva_core.proofs.Rows.{AddsRow}
 
 -- a claim committed, or the machine flushed
 abbrev Moved : Timed → Timed → Type 0

@@ -8,11 +8,12 @@ use Rattle.diva_isa.specs.State.{State, goes_on}
 use Rattle.diva_core.specs.Timed.{Timed, PendingClaim}
 use Rattle.diva_core.specs.Cycle.{Rule, cycle_of, cycle_under, stores_wait}
 use Rattle.diva_core.specs.Machine.{IsMachine, Lives}
-use Rattle.diva_core.specs.Headline.{SameLog, Rises, AddsRow, IsRefuted}
+use Rattle.diva_core.specs.Headline.{SameLog, Rises, IsRefuted}
 use Rattle.diva_core.specs.Headline.{dues, ByClaims, BySolo}
 use Rattle.diva_core.proofs.Commits.{Commits, CommitsClaims, CommitsItself, commits-records}
 use Rattle.diva_core.proofs.Passing.{AlonePasses, Keeps, alone_stores, stores_keep}
 use Rattle.diva_core.proofs.Cycling.{Cycled, cycled, cycled_under, Base, Differed, idled, ran, barks, differed, ended, finished, waited}
+use Rattle.diva_core.proofs.Rows.{AddsRow}
 
 module _ (rule : Rule) where
   pub record AnyBase (b n : Timed) : Type 0 where

@@ -5,9 +5,14 @@ use Rattle.std.proofs.lemmas.Bool.{cond_both, cases_lt, ltb-true, ltb-false}
 use Rattle.std.proofs.lemmas.List.{take-append-le, take_all}
 use Rattle.std.proofs.lemmas.List.Sums.{sum_by-append}
 use Rattle.diva_core.specs.declared.flushes.FlushRow.{FlushRow}
-use Rattle.diva_core.specs.Timed.{Log, rows_kept}
+use Rattle.diva_core.specs.Timed.{Log, Timed, rows_kept}
 use Rattle.diva_core.specs.Cycle.{is_silent, kept, logged, number}
-use Rattle.diva_core.specs.Headline.{HasRows, is_silent_row, newest_of}
+use Rattle.diva_core.specs.Headline.{HasRows, IsRowOf, is_silent_row, newest_of}
+
+-- a cycle added a row
+pub record AddsRow (m last : Timed) : Type 0 where
+  pub row : FlushRow
+  pub is : IsRowOf m last row
 
 count-append : (p : FlushRow → Bool) (xs ys : List FlushRow) → count_by p (xs ++ ys) ≡ count_by p xs + count_by p ys
 count-append p xs ys = sum_by-append (λ x. if p x then 1 else 0) xs ys

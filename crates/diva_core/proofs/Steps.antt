@@ -1,15 +1,8 @@
 -- Steps of a state.
-use Rattle.std.proofs.Common.{◌≡◌, ℕ, zero, suc, ◌+◌, refl, ap, ◌∙◌, false, add-zero, add-suc}
+use Rattle.std.proofs.Common.{◌≡◌, ℕ, zero, suc, refl, ap, ◌∙◌, false}
 use Rattle.diva_isa.specs.State.{State, goes_on}
 use Rattle.diva_isa.specs.Step.{record_of, apply, step, steps}
-
-pub steps-add : (a b : ℕ) (s : State) → steps (a + b) s ≡ steps b (steps a s)
-steps-add a zero s = rw add-zero refl
-steps-add a (suc b) s = rw add-suc (ap step (steps-add a b s))
-
-pub steps-shift : (k : ℕ) (s : State) → steps k (step s) ≡ steps (suc k) s
-steps-shift zero s = refl
-steps-shift (suc k) s = ap step (steps-shift k s)
+pub use Rattle.diva_isa.proofs.Steps.{steps-add, steps-step as steps-shift}
 
 -- a state that goes on takes the step of its record
 pub step-on : (s : State) → step s ≡ apply s (record_of s)

@@ -117,11 +117,6 @@ pub record IsRowOf (m last : Timed) (row : FlushRow) : Type 0 where
   pub at : row.at ≡ last.count
   pub caused : IsCause m last row.cause
 
--- a cycle added a row
-pub record AddsRow (m last : Timed) : Type 0 where
-  pub row : FlushRow
-  pub is : IsRowOf m last row
-
 -- the rows are those that the cycles of a run added, in order: each cycle added its row, or left the log as it was
 abbrev pub AreRowsOf : Timed → List (List Record) → List FlushRow → Type 0
 AreRowsOf m [] rows = rows ≡ []

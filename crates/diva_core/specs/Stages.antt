@@ -1,15 +1,7 @@
--- The stages of the checker: what each compares of a pending claim with the record that is due after the older claims.
--- Cited by `check` of diva_fetchchk, diva_opchk and diva_execchk, with `check_in`, `check_access` and `check_memory`.
---
--- age  stage                   fields compared
--- 1    fetch                   pc, word
--- 2    decode                  none
--- 3    operands                src1, src2
--- 4    execute                 addr, and but for loads and stores value, next, end
--- 5    memory                  value, next, end of loads and stores
---
--- The age of a claim is the number of cycles since it was accepted. From age 6 on it is ready, and its verdict is complete.
-use Rattle.std.specs.Prelude.{◌≡◌, ℕ, zero, suc, Bool, true, false, List, [], ◌∷◌, ◌++◌, Option, Some, None}
+-- The stages of the checker, a row for each: what it compares of a pending claim with the record that is due after the older claims.
+-- Cited by `check` of diva_fetchchk, diva_opchk and diva_execchk, with `check_in`, `check_access` and `check_memory`; in `Questions.antt`,
+-- for `Lane::judge`; in `Log.antt` and `Drawing.antt`, for `Pen::log_cycle` and `draw_cycle`.
+use Rattle.std.specs.Prelude.{◌≡◌, ◌-◌, ◌==◌, nat_le, ℕ, Bool, true, false, List, [], ◌∷◌, codes, find, flat_map, Option, Some, None, if◌then◌else◌}
 use Rattle.diva_decode.specs.declared.instr.Instr.{Instr}
 use Rattle.diva_decode.specs.Table.{row_of}
 use Rattle.diva_isa.specs.State.{State}
@@ -20,18 +12,55 @@ use Rattle.diva_core.specs.declared.differences.Field.{Field}
 use Rattle.diva_core.specs.declared.differences.Field.TheVariants.{Pc, Word, Src1, Src2, Addr, Value, Next, End}
 use Rattle.diva_core.specs.declared.differences.Diff.{Diff}
 use Rattle.diva_core.specs.declared.pending.Entry.{Entry}
-use Rattle.diva_core.specs.Difference.{all_fields, difference_in}
+use Rattle.diva_core.specs.Difference.{difference_in}
 
--- ---- the fields of each stage
+-- ---- the rows
 
-abbrev pub fetch_fields : List Field
-fetch_fields = Pc ∷ Word ∷ []
+-- a stage: a claim passes it at this age, the number of cycles since it was accepted; logs call it by this name, and drawings by this
+-- letter; and these fields are compared, where `access` says whether the due record is a load or a store
+pub record StageRow : Type 0 where
+  pub age : ℕ
+  pub name : List ℕ
+  pub letter : ℕ
+  pub fields : (access : Bool) → List Field
 
-abbrev pub operand_fields : List Field
-operand_fields = Src1 ∷ Src2 ∷ []
-
+-- what a load or a store has of memory, and any other record has when it executes
 abbrev pub outcome_fields : List Field
 outcome_fields = Value ∷ Next ∷ End ∷ []
+
+abbrev pub fetch : StageRow
+fetch = record { age = 1; name = codes "fetch"; letter = 0x46; fields = λ access. Pc ∷ Word ∷ [] }
+
+abbrev pub decode : StageRow
+decode = record { age = 2; name = codes "decode"; letter = 0x44; fields = λ access. [] }
+
+abbrev pub operands : StageRow
+operands = record { age = 3; name = codes "operands"; letter = 0x4f; fields = λ access. Src1 ∷ Src2 ∷ [] }
+
+abbrev pub execute : StageRow
+execute = record { age = 4; name = codes "execute"; letter = 0x58; fields = λ access. Addr ∷ (if access then [] else outcome_fields) }
+
+abbrev pub memory : StageRow
+memory = record { age = 5; name = codes "memory"; letter = 0x4d; fields = λ access. if access then outcome_fields else [] }
+
+abbrev pub stages : List StageRow
+stages = fetch ∷ decode ∷ operands ∷ execute ∷ memory ∷ []
+
+-- ---- what is read of them
+
+-- the stage that claims of an age pass, if there is one
+abbrev pub stage_at : (age : ℕ) → Option StageRow
+stage_at age = find (λ stage. stage.age == age) stages
+
+-- the fields that a claim of an age has been compared in: those of the stages that it has passed
+unfoldable pub fields_at : (age : ℕ) (access : Bool) → List Field
+fields_at age access = flat_map (λ stage. if nat_le stage.age age then stage.fields access else []) stages
+
+-- those that have to agree before a stage: what earlier ones compare of any record, which is what they compare of a load or a store
+abbrev pub earlier : StageRow → List Field
+earlier stage = fields_at (stage.age - 1) true
+
+-- ---- what a check answers, and what an entry carries
 
 abbrev pub is_memory_by : Option Instr → Bool
 is_memory_by None = false
@@ -41,39 +70,13 @@ is_memory_by (Some i) = moves_memory (kind i.op)
 abbrev pub is_memory : Record → Bool
 is_memory r = is_memory_by (row_of r.word)
 
--- `memory` says whether the due record is a load or a store
-abbrev pub execute_fields : (memory : Bool) → List Field
-execute_fields true = Addr ∷ []
-execute_fields false = Addr ∷ outcome_fields
+-- if a claim agrees with the due record in the earlier fields, the answer is the first difference in the stage's own
+abbrev pub Finds : StageRow → (claim due : Record) → (answer : Option Diff) → Type 0
+Finds stage claim due answer = difference_in (earlier stage) claim due ≡ None → answer ≡ difference_in (stage.fields (is_memory due)) claim due
 
-abbrev pub memory_fields : (memory : Bool) → List Field
-memory_fields true = outcome_fields
-memory_fields false = []
-
--- ---- the fields of all stages up to one
-
-abbrev pub read_fields : List Field
-read_fields = fetch_fields ++ operand_fields
-
-abbrev pub address_fields : List Field
-address_fields = read_fields ++ Addr ∷ []
-
--- those that a claim of an age has been compared in
-abbrev pub fields_at : (age : ℕ) (memory : Bool) → List Field
-fields_at zero memory = []
-fields_at (suc zero) memory = fetch_fields
-fields_at (suc (suc zero)) memory = fetch_fields
-fields_at (suc (suc (suc zero))) memory = read_fields
-fields_at (suc (suc (suc (suc zero)))) memory = read_fields ++ execute_fields memory
-fields_at (suc (suc (suc (suc (suc age))))) memory = all_fields
-
--- ---- what a check answers, and what an entry carries
-
--- where the state s goes on and the claim agrees with its due record in the earlier fields, the answer is the first difference
--- in the stage's own
-abbrev pub Answers : (earlier : List Field) (own : (memory : Bool) → List Field) → State → Record → Option Diff → Type 0
-Answers earlier own s claim answer =
-    s.end ≡ 0 → difference_in earlier claim (record_of s) ≡ None → answer ≡ difference_in (own (is_memory (record_of s))) claim (record_of s)
+-- so it is, with what is due in the state s, if that goes on
+abbrev pub Answers : StageRow → State → (claim : Record) → (answer : Option Diff) → Type 0
+Answers stage s claim answer = s.end ≡ 0 → Finds stage claim (record_of s) answer
 
 -- where s goes on, an entry of this age that stands in it carries the first difference from its due record in the fields of its
 -- age

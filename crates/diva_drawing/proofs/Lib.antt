@@ -4,3 +4,4 @@ pub mod Fronts
 pub mod Holding
 pub mod Passing
 pub mod Rowing
+pub mod Waiting

@@ -5,10 +5,12 @@
 use Rattle.std.specs.Prelude.{ℕ, zero, suc, ◌+◌, ◌-◌, ◌%◌, ◌==◌, ◌&&◌, not, nat_lt, List, [], ◌∷◌, ◌++◌, length, map, take, drop, codes, Bool, true, false, Option, Some, None, if◌then◌else◌}
 use Rattle.std.specs.Fmt.{decimal}
 use Rattle.std.specs.List.{concat, flat_map}
+use Rattle.std.specs.Option.{option_map_or}
 use Rattle.diva_isa.specs.declared.record.Record.{Record}
 use Rattle.diva_core.specs.declared.flushes.FlushRow.{FlushRow}
 use Rattle.diva_drawing.specs.declared.snapshot.SnapshotClaim.{SnapshotClaim}
 use Rattle.diva_core.specs.Cycle.{is_silent}
+use Rattle.diva_core.specs.Stages.{stage_at}
 use Rattle.diva_outside.specs.Text.{Text}
 use Rattle.diva_asm.specs.Listing.{list_line}
 use Rattle.diva_trace.specs.Text.{numbered}
@@ -44,16 +46,11 @@ listed_in line = drop 18 (take (length line - 1) line)
 abbrev pub name_text : Record → Text
 name_text r = padded (listed_in (list_line r.pc r.word))
 
--- the letter of a row at an age: it begins, is in the stages of fetch, decode, operands, execute and memory, and waits
+-- the letter of a row at an age: it begins, passes through the checker's stages, and waits
 abbrev pub letter : (solo : Bool) → (age : ℕ) → ℕ
 letter false zero = 0x41
 letter true zero = 0x53
-letter solo (suc zero) = 0x46
-letter solo (suc (suc zero)) = 0x44
-letter solo (suc (suc (suc zero))) = 0x4f
-letter solo (suc (suc (suc (suc zero)))) = 0x58
-letter solo (suc (suc (suc (suc (suc zero))))) = 0x4d
-letter solo (suc (suc (suc (suc (suc (suc age)))))) = 0x2e
+letter solo (suc age) = option_map_or (λ stage. stage.letter) (stage_at (suc age)) 0x2e
 
 -- its letter in its last cycle: it commits, it flushes, it is dropped, or it stays
 abbrev pub last_letter : (stays : ℕ) → Ending → ℕ

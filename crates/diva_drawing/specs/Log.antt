@@ -1,8 +1,9 @@
 -- A run as a log in the Kanata format, version 4, which the Konata viewer reads. Fields are separated by tabs.
 -- Cited by `begin_log` and `Pen::log_cycle`.
-use Rattle.std.specs.Prelude.{ℕ, zero, suc, ◌+◌, ◌-◌, List, [], ◌++◌, length, drop, slice_get, codes, Bool, false, is_some, Option, Some, None, if◌then◌else◌}
+use Rattle.std.specs.Prelude.{ℕ, zero, suc, ◌+◌, ◌-◌, ◌==◌, List, [], ◌++◌, length, drop, slice_get, codes, Bool, false, is_some, Option, Some, None, if◌then◌else◌}
 use Rattle.std.specs.Fmt.{decimal}
 use Rattle.std.specs.List.{concat, flat_map, range_with_len}
+use Rattle.std.specs.Option.{option_map_or}
 use Rattle.diva_isa.specs.declared.record.Record.{Record}
 use Rattle.diva_core.specs.declared.differences.Diff.{Diff}
 use Rattle.diva_core.specs.declared.differences.Field.{Field}
@@ -11,6 +12,8 @@ use Rattle.diva_core.specs.declared.flushes.Cause.TheVariants.{Differs}
 use Rattle.diva_core.specs.declared.flushes.FlushRow.{FlushRow}
 use Rattle.diva_drawing.specs.declared.snapshot.SnapshotClaim.{SnapshotClaim}
 use Rattle.diva_core.specs.Difference.{all_fields, field_name, field_of}
+use Rattle.diva_core.specs.Stages.{stage_at}
+use Rattle.diva_core.specs.Timed.{depth}
 use Rattle.diva_outside.specs.Text.{Text, hex_word}
 use Rattle.diva_asm.specs.Listing.{list_line}
 use Rattle.diva_trace.specs.Lines.{cause_text}
@@ -84,16 +87,11 @@ abbrev pub begun_text : (stage : Text) → (row place : ℕ) → Record → Text
 begun_text stage row place r =
     row_line row ++ (place_lead row place ++ list_line r.pc r.word) ++ fields_line row r ++ stage_line row stage
 
--- it begins at age 0, in this stage, and passes through the checker's stages by its age
+-- it begins at age 0, in this stage, passes through the checker's stages by its age, and is ready after them
 abbrev pub stage_text : (first : Text) → (row place : ℕ) → Record → (age : ℕ) → Text
 stage_text first row place r zero = begun_text first row place r
-stage_text first row place r (suc zero) = stage_line row (codes "fetch")
-stage_text first row place r (suc (suc zero)) = stage_line row (codes "decode")
-stage_text first row place r (suc (suc (suc zero))) = stage_line row (codes "operands")
-stage_text first row place r (suc (suc (suc (suc zero)))) = stage_line row (codes "execute")
-stage_text first row place r (suc (suc (suc (suc (suc zero))))) = stage_line row (codes "memory")
-stage_text first row place r (suc (suc (suc (suc (suc (suc zero)))))) = stage_line row (codes "ready")
-stage_text first row place r (suc (suc (suc (suc (suc (suc (suc age))))))) = []
+stage_text first row place r (suc age) =
+    option_map_or (λ stage. stage_line row stage.name) (stage_at (suc age)) (if suc age == depth then stage_line row (codes "ready") else [])
 
 -- whether a verdict had been noted of a claim, if it was pending already
 abbrev pub was_noted : Option SnapshotClaim → Bool

@@ -334,6 +334,7 @@ fn cell(row: &DrawnRow, cycle: u64) -> Line
 }
 
 /// The letter of a row at an age.
+#[tactic(auto, using(crate::proofs::Waiting::letter_waits))]
 fn letter(solo: bool, age: u64) -> u8
     ensures { result ≡ letter solo age }
 {

@@ -17,6 +17,7 @@ pub(crate) struct Numbers {
 }
 
 /// Appends the lines of a row of an age: it begins at age 0, in the stage `first`, and passes through a stage at each age up to 6.
+#[tactic(auto, using(crate::proofs::Waiting::text_waits))]
 pub(crate) fn push_stage(
     block: &mut Block,
     first: &'static [u8],

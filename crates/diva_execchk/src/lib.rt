@@ -1,6 +1,6 @@
 //! The checker's last two stages: what a pending claim says that its instruction computed, and had of memory.
 //!
-//! The fields are those of `execute_fields` and `memory_fields` of `diva_core`'s `specs/Stages.antt`, compared with the record
+//! The fields are those of the rows `execute` and `memory` of `diva_core`'s `specs/Stages.antt`, compared with the record
 //! that is due after the older claims: the stores of these lie over memory, and the bytes that they put count, as they do
 //! themselves.
 #![tactic(auto)]
@@ -14,7 +14,7 @@ ghost use Rattle.diva_isa.specs.declared.record.Record.{Record};
 ghost use Rattle.diva_core.specs.declared.pending.Entry.{Entry};
 ghost use Rattle.diva_core.specs.Difference.{difference_in};
 ghost use Rattle.diva_core.specs.Older.{before_entry};
-ghost use Rattle.diva_core.specs.Stages.{Answers, address_fields, execute_fields, is_memory, is_memory_by, memory_fields, outcome_fields, read_fields};
+ghost use Rattle.diva_core.specs.Stages.{Answers, Finds, earlier, execute, is_memory_by, memory, outcome_fields};
 
 use diva_core::{Bypass, Claim, Diff, Entry, Field, Pending, View};
 use diva_decode::{Instr, decode};
@@ -27,7 +27,7 @@ use diva_isa::{Look, Outcome, Record, access, address, execute, fetch, finish, k
 pub fn check(pending: &Pending, at: usize, view: &View<'_>) -> Option<Diff>
     requires { at < length pending.now.items }
     ensures { (e : Entry) → slice_get pending.now.items at ≡ Some e
-        → Answers read_fields execute_fields (before_entry view.now pending.now.items at) e.claim result }
+        → Answers execute (before_entry view.now pending.now.items at) e.claim result }
 {
     let entry = pending.at(at);
     let state = Bypass::new(pending, at, view);
@@ -41,10 +41,11 @@ pub fn check(pending: &Pending, at: usize, view: &View<'_>) -> Option<Diff>
 /// record that is due after the older claims, `None` where there is none. Where the older claims have ended the machine, or a
 /// field before value differs, nothing is said of the answer.
 #[inline(always)]
+#[tactic(auto, unfolding(diva_core::specs::Stages::fields_at))]
 pub fn check_memory(pending: &Pending, at: usize, view: &View<'_>) -> Option<Diff>
     requires { at < length pending.now.items }
     ensures { (e : Entry) → slice_get pending.now.items at ≡ Some e
-        → Answers address_fields memory_fields (before_entry view.now pending.now.items at) e.claim result }
+        → Answers memory (before_entry view.now pending.now.items at) e.claim result }
 {
     let entry = pending.at(at);
     match entry.decoded {
@@ -67,7 +68,7 @@ pub fn check_access(
     requires entry { slice_get pending.now.items at ≡ Some entry.now }
     requires says { row_of entry.now.claim.word ≡ Some i.now }
     requires access { moves_memory (kind i.now.op) ≡ true }
-    ensures { Answers address_fields memory_fields (before_entry view.now pending.now.items at) entry.now.claim result }
+    ensures { Answers memory (before_entry view.now pending.now.items at) entry.now.claim result }
 {
     let state = Bypass::new(pending, at, view);
     compare_with(&entry.claim, access(&state, i, &entry.claim))
@@ -76,10 +77,11 @@ pub fn check_access(
 /// The same, where what the word says was not noted.
 #[cold]
 #[inline(never)]
+#[tactic(auto, unfolding(diva_core::specs::Stages::fields_at))]
 fn check_memory_anew(pending: &Pending, at: usize, view: &View<'_>) -> Option<Diff>
     requires { at < length pending.now.items }
     ensures { (e : Entry) → slice_get pending.now.items at ≡ Some e
-        → Answers address_fields memory_fields (before_entry view.now pending.now.items at) e.claim result }
+        → Answers memory (before_entry view.now pending.now.items at) e.claim result }
 {
     let entry = pending.at(at);
     let decoded = decode(entry.claim.word);
@@ -95,8 +97,7 @@ fn check_memory_anew(pending: &Pending, at: usize, view: &View<'_>) -> Option<Di
 #[tactic(auto, using(diva_core::proofs::Agreeing::address_due))]
 fn compare<L: Look>(claim: &Claim, i: &Instr, state: &L) -> Option<Diff>
     requires { row_of claim.now.word ≡ Some i.now }
-    ensures { let due = record_of (L.shows state.now) in
-        difference_in read_fields claim.now due ≡ None → result ≡ difference_in (execute_fields (is_memory due)) claim.now due }
+    ensures { Finds execute claim.now (record_of (L.shows state.now)) result }
 {
     if is_memory(Some(*i)) {
         let addr = address(Some(*i), claim.src1);
@@ -114,8 +115,7 @@ fn compare<L: Look>(claim: &Claim, i: &Instr, state: &L) -> Option<Diff>
 /// The same, where the claim's word says nothing.
 fn compare_unread<L: Look>(claim: &Claim, state: &L) -> Option<Diff>
     requires { row_of claim.now.word ≡ None }
-    ensures { let due = record_of (L.shows state.now) in
-        difference_in read_fields claim.now due ≡ None → result ≡ difference_in (execute_fields (is_memory due)) claim.now due }
+    ensures { Finds execute claim.now (record_of (L.shows state.now)) result }
 {
     if claim.addr != 0 {
         return Some(Diff::new(Field::Addr, claim.addr, 0));
@@ -129,7 +129,7 @@ fn compare_unread<L: Look>(claim: &Claim, state: &L) -> Option<Diff>
 fn check_anew(pending: &Pending, at: usize, view: &View<'_>) -> Option<Diff>
     requires { at < length pending.now.items }
     ensures { (e : Entry) → slice_get pending.now.items at ≡ Some e
-        → Answers read_fields execute_fields (before_entry view.now pending.now.items at) e.claim result }
+        → Answers execute (before_entry view.now pending.now.items at) e.claim result }
 {
     let claim = &pending.at(at).claim;
     let state = Bypass::new(pending, at, view);
@@ -144,7 +144,7 @@ fn check_anew(pending: &Pending, at: usize, view: &View<'_>) -> Option<Diff>
 fn compare_outcome<L: Look>(claim: &Claim, decoded: Option<Instr>, state: &L) -> Option<Diff>
     requires { decoded ≡ row_of claim.now.word }
     ensures { let due = record_of (L.shows state.now) in
-        difference_in address_fields claim.now due ≡ None → result ≡ difference_in outcome_fields claim.now due }
+        difference_in (earlier memory) claim.now due ≡ None → result ≡ difference_in outcome_fields claim.now due }
 {
     compare_with(claim, outcome(claim, decoded, state))
 }
@@ -170,7 +170,7 @@ fn compare_with(claim: &Claim, due: Outcome) -> Option<Diff>
 
 /// Gives a record whose pc, word, src1 and src2 are due in a state its other fields. Those four stay.
 pub fn solo(r: &mut Record, view: &View<'_>)
-    ensures due { let due = record_of view.now in difference_in read_fields r.old due ≡ None → r.new ≡ due }
+    ensures due { let due = record_of view.now in difference_in (earlier execute) r.old due ≡ None → r.new ≡ due }
     ensures rest { r.new
         ≡ record r.new { pc = r.old.pc; word = r.old.word; src1 = r.old.src1; src2 = r.old.src2 } }
 {
@@ -194,8 +194,8 @@ pub fn is_memory(decoded: Option<Instr>) -> bool
 #[tactic(auto, using(diva_core::proofs::Agreeing::address_filled, diva_core::proofs::Agreeing::placed_agrees))]
 fn placed(r: Record, decoded: Option<Instr>) -> Record
     requires { decoded ≡ row_of r.word }
-    ensures due { (s : State) → difference_in read_fields r (record_of s) ≡ None
-        → difference_in address_fields result (record_of s) ≡ None }
+    ensures due { (s : State) → difference_in (earlier execute) r (record_of s) ≡ None
+        → difference_in (earlier memory) result (record_of s) ≡ None }
     ensures rest { result ≡ record r { addr = result.addr } }
 {
     Record {
@@ -210,7 +210,7 @@ fn placed(r: Record, decoded: Option<Instr>) -> Record
 fn outcome<L: Look>(r: &Record, decoded: Option<Instr>, state: &L) -> Outcome
     requires { decoded ≡ row_of r.now.word }
     ensures { let due = record_of (L.shows state.now) in
-        difference_in address_fields r.now due ≡ None
+        difference_in (earlier memory) r.now due ≡ None
         → record r.now { value = result.value; next = result.next; end = result.end } ≡ due }
 {
     // Whether the word is there tells a fetch outside memory from a word that is not of the table.

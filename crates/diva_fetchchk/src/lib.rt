@@ -1,14 +1,14 @@
 //! The checker's first stage: where a pending claim says that its instruction stands, and the word that it says stands there.
 //!
-//! The fields are those of `fetch_fields` of `diva_core`'s `specs/Stages.antt`, compared with the record that is due after the
+//! The fields are those of the row `fetch` of `diva_core`'s `specs/Stages.antt`, compared with the record that is due after the
 //! older claims.
 #![tactic(auto)]
 
-ghost use Rattle.std.specs.Prelude.{◌≡◌, ◌<◌, length, Some, [], slice_get};
+ghost use Rattle.std.specs.Prelude.{◌≡◌, ◌<◌, length, Some, slice_get};
 ghost use Rattle.diva_isa.specs.Step.{record_of};
 ghost use Rattle.diva_core.specs.declared.pending.Entry.{Entry};
 ghost use Rattle.diva_core.specs.Older.{before_entry};
-ghost use Rattle.diva_core.specs.Stages.{Answers, fetch_fields};
+ghost use Rattle.diva_core.specs.Stages.{Answers, fetch};
 
 use diva_core::{Bypass, Diff, Field, Pending, View};
 use diva_isa::{Look, Record, fetch};
@@ -19,7 +19,7 @@ use diva_isa::{Look, Record, fetch};
 pub fn check(pending: &Pending, at: usize, view: &View<'_>) -> Option<Diff>
     requires { at < length pending.now.items }
     ensures { (e : Entry) → slice_get pending.now.items at ≡ Some e
-        → Answers [] (λ memory. fetch_fields) (before_entry view.now pending.now.items at) e.claim result }
+        → Answers fetch (before_entry view.now pending.now.items at) e.claim result }
 {
     let claim = &pending.at(at).claim;
     let (pc, word) = pc_and_word(&Bypass::new(pending, at, view));

@@ -1,6 +1,6 @@
 -- What is asked, claim by claim and cycle by cycle, and what becomes of the lanes by it.
 use Rattle.std.proofs.Common.{◌≡◌, ◌⊎◌, ℕ, zero, suc, ◌+◌, ◌-◌, ◌==◌, ◌≤◌, nat_le, Bool, List, [], ◌∷◌, ◌++◌, map, take, slice_get, Option, None, Some, true, false, if◌then◌else◌, refl, sym, ap, ◌∙◌, subst, inl, inr, arith}
-use Rattle.std.proofs.lemmas.Bool.{eqb-true, leb-true}
+use Rattle.std.proofs.lemmas.Bool.{eqb-true, leb-true, ne_eqb}
 use Rattle.std.proofs.lemmas.List.{append-nil, append_assoc}
 use Rattle.std.proofs.lemmas.Option.{none-some, same_Some}
 use Rattle.diva_isa.specs.State.{State, goes_on}
@@ -23,7 +23,7 @@ use Rattle.diva_vote.specs.declared.votes.Outvoted.{Outvoted}
 use Rattle.diva_vote.specs.Polls.{AlwaysTwoAreRight, ArePolledAndCounted}
 use Rattle.diva_vote.specs.Questions.{Question, Saying}
 use Rattle.diva_vote.proofs.Polling.{polled_more, polled_none}
-use Rattle.diva_machine.specs.Asked.{DrivesAsking, asked_at, asked_in, asked_of, asked_over}
+use Rattle.diva_machine.specs.Asked.{DrivesAsking, asked_at, asked_in, asked_of, asked_over, stages_at}
 use Rattle.diva_machine.specs.Drives.{Drives}
 use Rattle.diva_machine.specs.Inner.{LedTurns}
 use Rattle.diva_machine.specs.Panels.{IsSound, LedLanes, in_first, in_second, in_third}
@@ -35,13 +35,9 @@ use Rattle.diva_machine.proofs.Driving.{drives, no_turns, turn_more, turns_more}
 
 -- nothing is asked of a claim that is past the last stage
 none_past : (age : ℕ) (s : State) (claim : Record) → suc last_stage ≤ age → asked_at age s claim ≡ []
-none_past zero s claim past = absurd (omega arith)
-none_past (suc zero) s claim past = absurd (omega arith)
-none_past (suc (suc zero)) s claim past = absurd (omega arith)
-none_past (suc (suc (suc zero))) s claim past = absurd (omega arith)
-none_past (suc (suc (suc (suc zero)))) s claim past = absurd (omega arith)
-none_past (suc (suc (suc (suc (suc zero))))) s claim past = absurd (omega arith)
-none_past (suc (suc (suc (suc (suc (suc age)))))) s claim past = refl
+unfolding stages_at
+none_past age s claim past =
+    rw (ne_eqb 1 age (λ e. omega arith), ne_eqb 3 age (λ e. omega arith), ne_eqb 4 age (λ e. omega arith), ne_eqb 5 age (λ e. omega arith)) refl
 
 -- nor of those that were past it a cycle ago
 none_first : (now : ℕ) (s : State) (p : PendingClaim) (rest : List PendingClaim) (past : Bool) → nat_le (p.cycle + last_stage) now ≡ past

@@ -13,13 +13,12 @@ use Rattle.diva_isa.specs.declared.record.Record.{Record}
 use Rattle.diva_core.specs.declared.pending.Entry.{Entry}
 use Rattle.diva_core.specs.Entries.{fresh, pending_claim_of}
 use Rattle.diva_core.specs.declared.differences.Diff.{Diff}
-use Rattle.diva_core.specs.declared.differences.Field.{Field}
 use Rattle.diva_core.specs.declared.flushes.Cause.{Cause}
 use Rattle.diva_core.specs.Cycle.{accepted_in, begun, drained, flushed, number}
 use Rattle.diva_core.specs.Difference.{first_difference}
 use Rattle.diva_core.specs.Future.{FutureFile, IsFuture, committed_file}
 use Rattle.diva_core.specs.Older.{after, before_entry, older, with_claims}
-use Rattle.diva_core.specs.Stages.{Answers, HasVerdict}
+use Rattle.diva_core.specs.Stages.{Answers, HasVerdict, StageRow, fields_at}
 use Rattle.diva_core.specs.Timed.{Timed, PendingClaim}
 use Rattle.diva_core.specs.Undone.{undone}
 use Rattle.diva_isa.specs.declared.undo.Undo.{Undo}
@@ -27,8 +26,8 @@ use Rattle.diva_core.proofs.Bypassing.{after_goes, before_is}
 use Rattle.diva_core.proofs.Leaving.{claims_alike, future_begun, older_more}
 use Rattle.diva_vote.specs.declared.stage.Stage.{Stage}
 use Rattle.diva_machine.specs.Staged.{AreChecked, AreInOrder, IsChecked, IsFilled, IsSoloFilled, IsStaged, Parts, last_stage, passed_by}
-use Rattle.diva_vote.specs.Questions.{earlier_of, own_of}
-use Rattle.diva_machine.specs.Inner.{age_of, IsAdvanced}
+use Rattle.diva_vote.specs.Questions.{stage_row}
+use Rattle.diva_machine.specs.Inner.{IsAdvanced}
 use Rattle.diva_machine.proofs.Verdicts.{age_from, before_of, decodes_none, form_kept, form_whole, found_by, stays_found, verdict_past, whole_verdict}
 
 -- ---- entries by place
@@ -63,6 +62,7 @@ get_more (x ∷ entries) more (suc k) e P h old new = get_more entries more k e 
 
 -- a claim that is accepted
 fresh_checked : (s : State) (now age : ℕ) (claim : Record) → age ≡ 0 → IsChecked s age (fresh now claim)
+unfolding fields_at
 fresh_checked s now zero claim is = record { verdict = λ on. refl; decoded = refl }
 fresh_checked s now (suc age) claim is = absurd (omega arith)
 
@@ -171,20 +171,20 @@ advanced_all arch now n entries le a k e h = a.below k e (let w = get_within ent
 pub goes_view : (s v : State) → v ≡ record s { end = 0 } → s.end ≡ 0 → v ≡ s
 goes_view s v is on = is ∙ ap (λ (n : ℕ). record s { end = n }) (sym on)
 
-pub answers_there : (arch view : State) (entries : List Entry) (at : ℕ) (earlier : List Field) (own : Bool → List Field) (p : Record) (v : Option Diff)
-    → view ≡ record arch { end = 0 } → Answers earlier own (before_entry view entries at) p v → Answers earlier own (before_entry arch entries at) p v
-answers_there arch view entries at earlier own p v is answer = λ on.
+pub answers_there : (arch view : State) (entries : List Entry) (at : ℕ) (stage : StageRow) (p : Record) (v : Option Diff)
+    → view ≡ record arch { end = 0 } → Answers stage (before_entry view entries at) p v → Answers stage (before_entry arch entries at) p v
+answers_there arch view entries at stage p v is answer = λ on.
     let same : view ≡ arch = goes_view arch view is (after_goes arch (older entries at) on) in
-    subst (λ (s : State). Answers earlier own (before_entry s entries at) p v) same answer on
+    subst (λ (s : State). Answers stage (before_entry s entries at) p v) same answer on
 
 -- what its stage answers of an entry without a verdict is its verdict
 stage_passed :
-    (arch view : State) (entries new : List Entry) (now at a : ℕ) (e : Entry) (earlier : List Field) (own : Bool → List Field) (v : Option Diff)
+    (arch view : State) (entries new : List Entry) (now at a : ℕ) (e : Entry) (stage : StageRow) (v : Option Diff)
     → slice_get entries at ≡ Some e → new ≡ slice_set entries at (record e { verdict = v }) → view ≡ record arch { end = 0 } → now + 1 ≡ suc a + e.cycle → a ≢ 1
-    → Answers earlier own (before_entry view entries at) e.claim v
-    → ((s : State) → Answers earlier own s e.claim v → HasVerdict s a e → HasVerdict s (suc a) (record e { verdict = v }))
+    → Answers stage (before_entry view entries at) e.claim v
+    → ((s : State) → Answers stage s e.claim v → HasVerdict s a e → HasVerdict s (suc a) (record e { verdict = v }))
     → IsAdvanced arch now at entries → IsAdvanced arch now (at + 1) new
-stage_passed arch view entries new now at a e earlier own v here is shows age other answer found adv =
+stage_passed arch view entries new now at a e stage v here is shows age other answer found adv =
     let before : now - e.cycle ≡ a = omega arith in
     let behind : now + 1 - e.cycle ≡ suc a = omega arith in
     let s = before_entry arch entries at in
@@ -192,13 +192,14 @@ stage_passed arch view entries new now at a e earlier own v here is shows age ot
     (advanced_more arch now at entries e (record e { verdict = v }) here refl refl
     (λ c. let d : IsChecked s a e = subst (λ (n : ℕ). IsChecked s n e) before c in
     subst (λ (n : ℕ). IsChecked s n (record e { verdict = v })) (sym behind)
-    (record { verdict = found s (answers_there arch view entries at earlier own e.claim v shows answer) d.verdict; decoded = d.decoded ∙ sym (form_kept a e.claim.word other) }))
+    (record { verdict = found s (answers_there arch view entries at stage e.claim v shows answer) d.verdict; decoded = d.decoded ∙ sym (form_kept a e.claim.word other) }))
     adv)
 
 -- the decode stage
 pub decode_passed :
     (arch : State) (entries new : List Entry) (now at : ℕ) (e : Entry) → slice_get entries at ≡ Some e → new ≡ slice_set entries at (record e { decoded = row_of e.claim.word }) → now + 1 ≡ 2 + e.cycle
     → IsAdvanced arch now at entries → IsAdvanced arch now (at + 1) new
+unfolding fields_at
 decode_passed arch entries new now at e here is age adv =
     let before : now - e.cycle ≡ 1 = omega arith in
     let behind : now + 1 - e.cycle ≡ 2 = omega arith in
@@ -230,16 +231,16 @@ verdict_kept arch entries now at a e here found age other adv =
 
 -- what its stage answers of an entry is its verdict, unless it has one
 stage_noted :
-    (arch view : State) (entries new : List Entry) (now at a : ℕ) (e : Entry) (earlier : List Field) (own : Bool → List Field) (v : Option Diff)
+    (arch view : State) (entries new : List Entry) (now at a : ℕ) (e : Entry) (stage : StageRow) (v : Option Diff)
     → slice_get entries at ≡ Some e → new ≡ slice_set entries at (record e { verdict = option_or e.verdict v }) → view ≡ record arch { end = 0 } → now + 1 ≡ suc a + e.cycle → a ≢ 1
-    → Answers earlier own (before_entry view entries at) e.claim v
-    → (e.verdict ≡ None → (s : State) → Answers earlier own s e.claim v → HasVerdict s a e → HasVerdict s (suc a) (record e { verdict = v }))
+    → Answers stage (before_entry view entries at) e.claim v
+    → (e.verdict ≡ None → (s : State) → Answers stage s e.claim v → HasVerdict s a e → HasVerdict s (suc a) (record e { verdict = v }))
     → IsAdvanced arch now at entries → IsAdvanced arch now (at + 1) new
-stage_noted arch view entries new now at a e earlier own v here is shows age other answer found adv = by_verdict e.verdict refl
+stage_noted arch view entries new now at a e stage v here is shows age other answer found adv = by_verdict e.verdict refl
   where
     by_verdict : (w : Option Diff) → e.verdict ≡ w → IsAdvanced arch now (at + 1) new
     by_verdict None p =
-        stage_passed arch view entries new now at a e earlier own v here (is ∙ ap (λ (w : Option Diff). slice_set entries at (record e { verdict = option_or w v })) p) shows age other answer (found p) adv
+        stage_passed arch view entries new now at a e stage v here (is ∙ ap (λ (w : Option Diff). slice_set entries at (record e { verdict = option_or w v })) p) shows age other answer (found p) adv
     by_verdict (Some d) p =
         let kept : new ≡ slice_set entries at e = is ∙ ap (λ (w : Option Diff). slice_set entries at (record e { verdict = option_or w v })) p ∙ ap (λ (w : Option Diff). slice_set entries at (record e { verdict = w })) (sym p) in
         subst (λ (es : List Entry). IsAdvanced arch now (at + 1) es) (sym (kept ∙ set_same entries at e here)) (verdict_kept arch entries now at a e here (ap is_some p) age other adv)
@@ -255,33 +256,33 @@ or_first (Some d) v h = refl
 
 -- where that is no difference, it stays as it is
 stage_agreed :
-    (arch view : State) (entries : List Entry) (now at a : ℕ) (e : Entry) (earlier : List Field) (own : Bool → List Field) (v : Option Diff)
+    (arch view : State) (entries : List Entry) (now at a : ℕ) (e : Entry) (stage : StageRow) (v : Option Diff)
     → slice_get entries at ≡ Some e → is_some v ≡ false → view ≡ record arch { end = 0 } → now + 1 ≡ suc a + e.cycle → a ≢ 1
-    → Answers earlier own (before_entry view entries at) e.claim v
-    → (e.verdict ≡ None → (s : State) → Answers earlier own s e.claim v → HasVerdict s a e → HasVerdict s (suc a) (record e { verdict = v }))
+    → Answers stage (before_entry view entries at) e.claim v
+    → (e.verdict ≡ None → (s : State) → Answers stage s e.claim v → HasVerdict s a e → HasVerdict s (suc a) (record e { verdict = v }))
     → IsAdvanced arch now at entries → IsAdvanced arch now (at + 1) entries
-stage_agreed arch view entries now at a e earlier own None here none shows age other answer found adv =
-    stage_noted arch view entries entries now at a e earlier own None here
+stage_agreed arch view entries now at a e stage None here none shows age other answer found adv =
+    stage_noted arch view entries entries now at a e stage None here
     (sym (ap (λ (w : Option Diff). slice_set entries at (record e { verdict = w })) (or_none e.verdict) ∙ set_same entries at e here))
     shows age other answer found adv
-stage_agreed arch view entries now at a e earlier own (Some d) here none shows age other answer found adv = absurd (true≢false none)
+stage_agreed arch view entries now at a e stage (Some d) here none shows age other answer found adv = absurd (true≢false none)
 
 -- the same of a stage that compares
 module _ (arch view : State) (entries : List Entry) (now at : ℕ) (stage : Stage) (e : Entry) (v : Option Diff) where
-  age_before : now + 1 ≡ age_of stage + e.cycle → now + 1 ≡ suc (before_of stage) + e.cycle
+  age_before : now + 1 ≡ (stage_row stage).age + e.cycle → now + 1 ≡ suc (before_of stage) + e.cycle
   age_before age = age ∙ ap (λ (n : ℕ). n + e.cycle) (age_from stage)
 
   pub check_noted : (new : List Entry) → slice_get entries at ≡ Some e → new ≡ slice_set entries at (record e { verdict = option_or e.verdict v }) → view ≡ record arch { end = 0 }
-      → now + 1 ≡ age_of stage + e.cycle → Answers (earlier_of stage) (own_of stage) (before_entry view entries at) e.claim v
+      → now + 1 ≡ (stage_row stage).age + e.cycle → Answers (stage_row stage) (before_entry view entries at) e.claim v
       → IsAdvanced arch now at entries → IsAdvanced arch now (at + 1) new
   check_noted new here is shows age answer =
-      stage_noted arch view entries new now at (before_of stage) e (earlier_of stage) (own_of stage) v here is shows (age_before age) (decodes_none stage) answer (λ none s. found_by s e stage v none)
+      stage_noted arch view entries new now at (before_of stage) e (stage_row stage) v here is shows (age_before age) (decodes_none stage) answer (λ none s. found_by s e stage v none)
 
   pub check_agreed : slice_get entries at ≡ Some e → is_some v ≡ false → view ≡ record arch { end = 0 }
-      → now + 1 ≡ age_of stage + e.cycle → Answers (earlier_of stage) (own_of stage) (before_entry view entries at) e.claim v
+      → now + 1 ≡ (stage_row stage).age + e.cycle → Answers (stage_row stage) (before_entry view entries at) e.claim v
       → IsAdvanced arch now at entries → IsAdvanced arch now (at + 1) entries
   check_agreed here none shows age answer =
-      stage_agreed arch view entries now at (before_of stage) e (earlier_of stage) (own_of stage) v here none shows (age_before age) (decodes_none stage) answer (λ none s. found_by s e stage v none)
+      stage_agreed arch view entries now at (before_of stage) e (stage_row stage) v here none shows (age_before age) (decodes_none stage) answer (λ none s. found_by s e stage v none)
 
 -- ---- claims in the order in which they were accepted
 
@@ -515,7 +516,8 @@ pub staged_flushed : (now : ℕ) (w : Parts) (cause : Cause) → IsStaged now (r
 unfolding flushed
 staged_flushed now w cause = record { waits = refl; checked = checked_none w.timed.arch now; ordered = omega arith; passed = refl; future = future_begun w.timed.arch [] }
 
-filled_young : (s : State) (age : ℕ) (r : Record) → age ≡ 0 → IsFilled s age r
+pub filled_young : (s : State) (age : ℕ) (r : Record) → age ≡ 0 → IsFilled s age r
+unfolding fields_at
 filled_young s zero r h = refl
 filled_young s (suc age) r h = absurd (omega arith)
 

@@ -1,7 +1,8 @@
 -- A verdict grows by the fields of the next stage.
-use Rattle.std.proofs.Common.{◌≡◌, ◌≢◌, ℕ, zero, suc, ◌≤◌, ◌==◌, List, [], ◌∷◌, ◌++◌, Option, Some, None, Bool, true, false, cond, refl, sym, ap, ◌∙◌, arith}
+use Rattle.std.proofs.Common.{◌≡◌, ◌≢◌, ℕ, zero, suc, ◌-◌, ◌≤◌, ◌==◌, List, [], ◌∷◌, ◌++◌, Option, Some, None, Bool, true, false, cond, refl, sym, ap, ◌∙◌, arith}
 use Rattle.std.specs.Option.{is_some}
-use Rattle.std.proofs.lemmas.Bool.{true≢false}
+use Rattle.std.proofs.lemmas.Bool.{le-leb, true≢false}
+use Rattle.std.proofs.lemmas.List.{append-nil}
 use Rattle.std.proofs.lemmas.Option.{none-some}
 use Rattle.diva_decode.specs.Table.{row_of}
 use Rattle.diva_isa.specs.State.{State}
@@ -10,13 +11,13 @@ use Rattle.diva_isa.specs.declared.record.Record.{Record}
 use Rattle.diva_core.specs.declared.differences.Field.{Field}
 use Rattle.diva_core.specs.declared.differences.Diff.{Diff}
 use Rattle.diva_core.specs.declared.pending.Entry.{Entry}
-use Rattle.diva_core.specs.Difference.{difference_in, field_of, first_difference}
-use Rattle.diva_core.specs.Stages.{Answers, HasVerdict, fields_at, fetch_fields, operand_fields, address_fields, outcome_fields, execute_fields, memory_fields, is_memory}
+use Rattle.diva_core.specs.Difference.{all_fields, difference_in, field_of, first_difference}
+use Rattle.diva_core.specs.Stages.{Answers, HasVerdict, decode, earlier, execute, fetch, fields_at, is_memory, memory, operands, outcome_fields}
+use Rattle.diva_core.proofs.Differing.{difference-none}
 use Rattle.diva_vote.specs.declared.stage.Stage.{Stage}
 use Rattle.diva_vote.specs.declared.stage.Stage.TheVariants.{Fetch, Operands, Execute, Memory}
 use Rattle.diva_machine.specs.Staged.{decoded_at, last_stage}
-use Rattle.diva_vote.specs.Questions.{earlier_of, own_of}
-use Rattle.diva_machine.specs.Inner.{age_of}
+use Rattle.diva_vote.specs.Questions.{stage_row}
 
 -- the verdict of a claim p of an age, where r is due
 abbrev pub verdict_at : ℕ → Record → Record → Option Diff
@@ -41,23 +42,35 @@ difference_more [] gs p r = refl
 difference_more (f ∷ fs) gs p r =
     rw (difference_more fs gs p r) (first_if (field_of f p == field_of f r) (difference_in fs p r) (record { field = f; claimed = field_of f p; due = field_of f r }) (difference_in gs p r))
 
+-- from the last stage on all fields have been compared
+pub fields_whole : (age : ℕ) (access : Bool) → last_stage ≤ age → fields_at age access ≡ all_fields
+unfolding fields_at
+fields_whole age true past = rw (le-leb 1 age (omega arith), le-leb 2 age (omega arith), le-leb 3 age (omega arith), le-leb 4 age (omega arith), le-leb 5 age past) refl
+fields_whole age false past = rw (le-leb 1 age (omega arith), le-leb 2 age (omega arith), le-leb 3 age (omega arith), le-leb 4 age (omega arith), le-leb 5 age past) refl
+
+fields_next : (age : ℕ) (access : Bool) → last_stage ≤ age → fields_at (suc age) access ≡ fields_at age access
+fields_next age access past = fields_whole (suc age) access (omega arith) ∙ sym (fields_whole age access past)
+
 -- the fields of the stage that leads from an age to the next
 abbrev pub own_at : ℕ → Bool → List Field
-own_at zero memory = fetch_fields
-own_at (suc zero) memory = []
-own_at (suc (suc zero)) memory = operand_fields
-own_at (suc (suc (suc zero))) memory = execute_fields memory
-own_at (suc (suc (suc (suc zero)))) memory = memory_fields memory
-own_at (suc (suc (suc (suc (suc n))))) memory = []
+own_at zero access = fetch.fields access
+own_at (suc zero) access = decode.fields access
+own_at (suc (suc zero)) access = operands.fields access
+own_at (suc (suc (suc zero))) access = execute.fields access
+own_at (suc (suc (suc (suc zero)))) access = memory.fields access
+own_at (suc (suc (suc (suc (suc n))))) access = []
 
-fields_more : (a : ℕ) (memory : Bool) → fields_at (suc a) memory ≡ fields_at a memory ++ own_at a memory
-fields_more zero memory = refl
-fields_more (suc zero) memory = refl
-fields_more (suc (suc zero)) memory = refl
-fields_more (suc (suc (suc zero))) memory = refl
+fields_more : (a : ℕ) (access : Bool) → fields_at (suc a) access ≡ fields_at a access ++ own_at a access
+unfolding fields_at
+fields_more zero access = refl
+fields_more (suc zero) access = refl
+fields_more (suc (suc zero)) access = refl
+fields_more (suc (suc (suc zero))) true = refl
+fields_more (suc (suc (suc zero))) false = refl
 fields_more (suc (suc (suc (suc zero)))) true = refl
 fields_more (suc (suc (suc (suc zero)))) false = refl
-fields_more (suc (suc (suc (suc (suc n))))) memory = refl
+fields_more (suc (suc (suc (suc (suc n))))) access =
+    fields_next (suc (suc (suc (suc (suc n))))) access (omega arith) ∙ sym (append-nil (fields_at (suc (suc (suc (suc (suc n))))) access))
 
 verdict_more : (a : ℕ) (p r : Record) → verdict_at (suc a) p r ≡ first_of_two (verdict_at a p r) (difference_in (own_at a (is_memory r)) p r)
 verdict_more a p r = ap (λ fs. difference_in fs p r) (fields_more a (is_memory r)) ∙ difference_more (fields_at a (is_memory r)) (own_at a (is_memory r)) p r
@@ -68,12 +81,9 @@ none_first (Some c) d h = absurd (none-some _ h)
 
 -- the age of a claim that comes to a stage
 abbrev pub before_of : Stage → ℕ
-before_of Fetch = 0
-before_of Operands = 2
-before_of Execute = 3
-before_of Memory = 4
+before_of stage = (stage_row stage).age - 1
 
-pub age_from : (stage : Stage) → age_of stage ≡ suc (before_of stage)
+pub age_from : (stage : Stage) → (stage_row stage).age ≡ suc (before_of stage)
 age_from Fetch = refl
 age_from Operands = refl
 age_from Execute = refl
@@ -86,10 +96,21 @@ decodes_none Operands = λ is. omega arith
 decodes_none Execute = λ is. omega arith
 decodes_none Memory = λ is. omega arith
 
--- what the memory stage needs of the earlier fields
-address_agrees : (memory : Bool) (p r : Record) → difference_in (fields_at 4 memory) p r ≡ None → difference_in address_fields p r ≡ None
-address_agrees true p r h = h
-address_agrees false p r h = none_first (difference_in address_fields p r) (difference_in outcome_fields p r) (sym h ∙ difference_more address_fields outcome_fields p r)
+-- what a stage needs of the earlier fields
+earlier_agree : (stage : Stage) (access : Bool) (p r : Record) → difference_in (fields_at (before_of stage) access) p r ≡ None → difference_in (earlier (stage_row stage)) p r ≡ None
+unfolding fields_at
+earlier_agree Fetch access p r h = h
+earlier_agree Operands access p r h = h
+earlier_agree Execute access p r h = h
+earlier_agree Memory true p r h = h
+earlier_agree Memory false p r h =
+    none_first (difference_in (earlier memory) p r) (difference_in outcome_fields p r) (sym h ∙ difference_more (earlier memory) outcome_fields p r)
+
+own_is : (stage : Stage) (access : Bool) → own_at (before_of stage) access ≡ (stage_row stage).fields access
+own_is Fetch access = refl
+own_is Operands access = refl
+own_is Execute access = refl
+own_is Memory access = refl
 
 -- ---- one age more
 
@@ -109,40 +130,51 @@ module _ (s : State) (e : Entry) where
       answer on (sym old) ∙ ap (λ o. first_of_two o (difference_in (own_at a (is_memory (record_of s))) e.claim (record_of s))) old ∙ sym (verdict_more a e.claim (record_of s))
 
   -- what a stage finds
-  pub found_by : (stage : Stage) (v : Option Diff) → e.verdict ≡ None → Answers (earlier_of stage) (own_of stage) s e.claim v → HasVerdict s (before_of stage) e → HasVerdict s (suc (before_of stage)) (record e { verdict = v })
-  found_by Fetch v was answer = found_next 0 v was (λ on agrees. answer on agrees)
-  found_by Operands v was answer = found_next 2 v was (λ on agrees. answer on agrees)
-  found_by Execute v was answer = found_next 3 v was (λ on agrees. answer on agrees)
-  found_by Memory v was answer = found_next 4 v was (λ on agrees. answer on (address_agrees (is_memory (record_of s)) e.claim (record_of s) agrees))
+  pub found_by : (stage : Stage) (v : Option Diff) → e.verdict ≡ None → Answers (stage_row stage) s e.claim v → HasVerdict s (before_of stage) e → HasVerdict s (suc (before_of stage)) (record e { verdict = v })
+  found_by stage v was answer =
+      let access = is_memory (record_of s) in
+      found_next (before_of stage) v was
+      (λ on agrees. answer on (earlier_agree stage access e.claim (record_of s) agrees) ∙ ap (λ fs. difference_in fs e.claim (record_of s)) (sym (own_is stage access)))
 
   -- nor behind the last one
   pub verdict_past : (a : ℕ) → last_stage ≤ a → HasVerdict s a e → HasVerdict s (suc a) e
-  verdict_past zero h v = absurd (omega arith)
-  verdict_past (suc zero) h v = absurd (omega arith)
-  verdict_past (suc (suc zero)) h v = absurd (omega arith)
-  verdict_past (suc (suc (suc zero))) h v = absurd (omega arith)
-  verdict_past (suc (suc (suc (suc zero)))) h v = absurd (omega arith)
-  verdict_past (suc (suc (suc (suc (suc n))))) h v = v
+  verdict_past a past v = λ on.
+      let access = is_memory (record_of s) in
+      v on ∙ ap (λ fs. difference_in fs e.claim (record_of s)) (sym (fields_next a access past))
 
   -- there a verdict is the first difference of all fields
   pub whole_verdict : (age : ℕ) → last_stage ≤ age → s.end ≡ 0 → HasVerdict s age e → e.verdict ≡ first_difference e.claim (record_of s)
   unfolding first_difference
-  whole_verdict zero h on v = absurd (omega arith)
-  whole_verdict (suc zero) h on v = absurd (omega arith)
-  whole_verdict (suc (suc zero)) h on v = absurd (omega arith)
-  whole_verdict (suc (suc (suc zero))) h on v = absurd (omega arith)
-  whole_verdict (suc (suc (suc (suc zero)))) h on v = absurd (omega arith)
-  whole_verdict (suc (suc (suc (suc (suc n))))) h on v = v on
+  whole_verdict age past on v = v on ∙ ap (λ fs. difference_in fs e.claim (record_of s)) (fields_whole age (is_memory (record_of s)) past)
+
+-- ---- the solo instruction
+
+-- the record of a solo instruction is filled by the stages of fetch, operands and execute
+pub fields_kept : (age : ℕ) → 1 ≤ age → age ≢ 1 → age ≢ 3 → age ≢ 4 → fields_at (age - 1) false ≡ fields_at age false
+unfolding fields_at
+fields_kept zero some one three four = absurd (omega arith)
+fields_kept (suc zero) some one three four = absurd (one refl)
+fields_kept (suc (suc zero)) some one three four = refl
+fields_kept (suc (suc (suc zero))) some one three four = absurd (three refl)
+fields_kept (suc (suc (suc (suc zero)))) some one three four = absurd (four refl)
+fields_kept (suc (suc (suc (suc (suc zero))))) some one three four = refl
+fields_kept (suc (suc (suc (suc (suc (suc n)))))) some one three four =
+    let before : suc (suc (suc (suc (suc (suc n))))) - 1 ≡ suc (suc (suc (suc (suc n)))) = omega arith in
+    ap (λ (age : ℕ). fields_at age false) before ∙ sym (fields_next (suc (suc (suc (suc (suc n))))) false (omega arith))
+
+-- where it is filled by all stages it is the due one
+pub filled_whole : (s : State) (age : ℕ) (r : Record) → difference_in (fields_at age false) r (record_of s) ≡ None → last_stage ≤ age → r ≡ record_of s
+unfolding first_difference
+filled_whole s age r filled past =
+    difference-none r (record_of s) (ap (λ fs. difference_in fs r (record_of s)) (sym (fields_whole age false past)) ∙ filled)
 
 -- ---- the decoded form
 
 -- it changes with the decode stage alone
+pub form_whole : (a word : ℕ) → 2 ≤ a → decoded_at a word ≡ row_of word
+form_whole a word h = rw (le-leb 2 a h) refl
+
 pub form_kept : (a word : ℕ) → a ≢ 1 → decoded_at (suc a) word ≡ decoded_at a word
 form_kept zero word n = refl
 form_kept (suc zero) word n = absurd (n refl)
-form_kept (suc (suc a)) word n = refl
-
-pub form_whole : (a word : ℕ) → 2 ≤ a → decoded_at a word ≡ row_of word
-form_whole zero word h = absurd (omega arith)
-form_whole (suc zero) word h = absurd (omega arith)
-form_whole (suc (suc a)) word h = refl
+form_kept (suc (suc a)) word n = form_whole (suc (suc (suc a))) word (omega arith) ∙ sym (form_whole (suc (suc a)) word (omega arith))

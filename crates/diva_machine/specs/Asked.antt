@@ -1,6 +1,6 @@
 -- What is asked of the lanes of a machine that is voted on: of each claim, once at each stage that compares.
 -- Cited by `Machine::cycle_voted`, `turn_voted` and `drive_voted`.
-use Rattle.std.specs.Prelude.{ℕ, zero, suc, ◌+◌, ◌-◌, List, [], ◌∷◌, ◌++◌, map, if◌then◌else◌}
+use Rattle.std.specs.Prelude.{ℕ, ◌+◌, ◌-◌, ◌==◌, List, [], ◌∷◌, ◌++◌, filter, map, if◌then◌else◌}
 use Rattle.diva_isa.specs.State.{State, goes_on}
 use Rattle.diva_isa.specs.Step.{apply}
 use Rattle.diva_isa.specs.declared.record.Record.{Record}
@@ -9,19 +9,13 @@ use Rattle.diva_core.specs.Cycle.{begun, commits_under, cycle_of, drained, store
 use Rattle.diva_core.specs.History.{Meaning, lists_of}
 use Rattle.diva_vote.specs.declared.stage.Stage.{Stage}
 use Rattle.diva_vote.specs.declared.stage.Stage.TheVariants.{Fetch, Operands, Execute, Memory}
-use Rattle.diva_vote.specs.Questions.{Question}
+use Rattle.diva_vote.specs.Questions.{Question, stage_row}
 use Rattle.diva_machine.specs.Drives.{Drives}
 use Rattle.diva_machine.specs.Machine.{Machine}
 
--- the stage that compares a claim of an age: one, or none
-abbrev pub stages_at : (age : ℕ) → List Stage
-stages_at zero = []
-stages_at (suc zero) = Fetch ∷ []
-stages_at (suc (suc zero)) = []
-stages_at (suc (suc (suc zero))) = Operands ∷ []
-stages_at (suc (suc (suc (suc zero)))) = Execute ∷ []
-stages_at (suc (suc (suc (suc (suc zero))))) = Memory ∷ []
-stages_at (suc (suc (suc (suc (suc (suc age)))))) = []
+-- the stage that compares claims of an age: one, or none
+unfoldable pub stages_at : (age : ℕ) → List Stage
+stages_at age = filter (λ stage. (stage_row stage).age == age) (Fetch ∷ Operands ∷ Execute ∷ Memory ∷ [])
 
 -- what is asked of a claim of an age that stands in a state
 abbrev pub asked_at : (age : ℕ) → State → Record → List Question

@@ -19,9 +19,7 @@ use Rattle.diva_core.specs.declared.pending.Entry.{Entry}
 use Rattle.diva_core.specs.Entries.{pending_claim_of}
 use Rattle.diva_core.specs.Future.{committed_file, without_oldest}
 use Rattle.diva_core.specs.Older.{before_entry}
-use Rattle.diva_vote.specs.declared.stage.Stage.{Stage}
-use Rattle.diva_vote.specs.declared.stage.Stage.TheVariants.{Fetch, Operands, Execute, Memory}
-use Rattle.diva_machine.specs.Staged.{IsChecked, last_stage, Parts}
+use Rattle.diva_machine.specs.Staged.{IsChecked, Parts}
 
 -- how a machine stands to a count; the count is looked at first
 abbrev pub reach_of : (target : ℕ) → Timed → Reach
@@ -82,13 +80,6 @@ takes_claims m = goes_on m.arch && is_none m.under.solo
 -- that is so exactly where the machine goes on and has not flushed, m being the one before that phase and n the one behind it
 abbrev pub Tells : (m n : Timed) → Type 0
 Tells m n = takes_claims n ≡ (goes_on n.arch && (n.under.log.flushes == m.under.log.flushes))
-
--- the age at which a claim passes through a stage that compares
-abbrev pub age_of : Stage → ℕ
-age_of Fetch = 1
-age_of Operands = 3
-age_of Execute = 4
-age_of Memory = last_stage
 
 -- the entries before a place have gone through the stages of the cycle now + 1, the others through those of `now`
 pub record IsAdvanced (arch : State) (now at : ℕ) (entries : List Entry) : Type 0 where

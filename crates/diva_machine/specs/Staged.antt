@@ -1,6 +1,6 @@
 -- What the checker's stages have noted so far of each pending claim, and of the solo instruction.
 -- Cited by `Machine::entry`, `cycle` and the type `Machine`.
-use Rattle.std.specs.Prelude.{ℕ, zero, suc, ◌≡◌, ◌+◌, ◌-◌, ◌≤◌, nat_le, false, List, [], ◌∷◌, map, Option, Some, None, slice_get, ⊤, if◌then◌else◌}
+use Rattle.std.specs.Prelude.{ℕ, suc, ◌≡◌, ◌+◌, ◌-◌, ◌≤◌, nat_le, false, List, [], ◌∷◌, map, Option, Some, None, slice_get, ⊤, if◌then◌else◌}
 use Rattle.diva_decode.specs.declared.instr.Instr.{Instr}
 use Rattle.diva_decode.specs.Table.{row_of}
 use Rattle.diva_isa.specs.State.{State}
@@ -11,14 +11,12 @@ use Rattle.diva_core.specs.Entries.{pending_claim_of}
 use Rattle.diva_core.specs.Future.{FutureFile, IsFuture}
 use Rattle.diva_core.specs.Older.{before_entry}
 use Rattle.diva_core.specs.Difference.{difference_in}
-use Rattle.diva_core.specs.Stages.{fields_at, HasVerdict}
+use Rattle.diva_core.specs.Stages.{HasVerdict, decode, fields_at, memory}
 use Rattle.diva_core.specs.Timed.{Timed, PendingClaim}
 
--- the decoded form of a claim with this word: it is noted at age 2
+-- the decoded form of a claim with this word: it is noted as the claim is decoded
 abbrev pub decoded_at : (age : ℕ) (word : ℕ) → Option Instr
-decoded_at zero word = None
-decoded_at (suc zero) word = None
-decoded_at (suc (suc age)) word = row_of word
+decoded_at age word = if nat_le decode.age age then row_of word else None
 
 -- an entry of this age that stands in the state s has its verdict and its decoded form
 pub record IsChecked (s : State) (age : ℕ) (e : Entry) : Type 0 where
@@ -34,7 +32,7 @@ AreChecked arch now entries =
 
 -- the age at which a claim passes through the last stage
 abbrev pub last_stage : ℕ
-last_stage = 5
+last_stage = memory.age
 
 -- how many of the claims, from the oldest on, are past the last stage
 abbrev pub passed_by : (now : ℕ) → List PendingClaim → ℕ

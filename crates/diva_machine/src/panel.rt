@@ -2,8 +2,8 @@
 ghost use Rattle.std.specs.Prelude.{◌≡◌, ◌<◌, [], ◌∷◌, length, map, slice_get, Some};
 ghost use Rattle.diva_core.specs.declared.pending.Entry.{Entry};
 ghost use Rattle.diva_core.specs.Entries.{pending_claim_of};
-ghost use Rattle.diva_vote.specs.Questions.{question_at};
-ghost use Rattle.diva_machine.specs.Inner.{HasPassed, age_of};
+ghost use Rattle.diva_vote.specs.Questions.{question_at, stage_row};
+ghost use Rattle.diva_machine.specs.Inner.{HasPassed};
 
 use crate::arch::Arch;
 use crate::stages::{
@@ -59,7 +59,7 @@ impl<'a, A: Lane, B: Lane, L: Lane> Panel<'a, A, B, L> {
             self.old (question_at stage (record arch.now.state { end = 0 }) pending.old.items at e ∷ []) self.new }
         ensures waits { map pending_claim_of pending.new.items ≡ map pending_claim_of pending.old.items }
         ensures capacity { pending.new.capacity ≡ pending.old.capacity }
-        ensures advanced { HasPassed arch.now.state (age_of stage) at pending.old.items pending.new.items }
+        ensures advanced { HasPassed arch.now.state (stage_row stage).age at pending.old.items pending.new.items }
     {
         let view = arch.view();
         let ballot = judge_by_vote(
@@ -83,6 +83,7 @@ impl<'a, A: Lane, B: Lane, L: Lane> Stages for Panel<'a, A, B, L> {
 
     ghost led = { λ before asked after. LedLanes A.says B.says L.says before asked after };
 
+    #[tactic(auto, using(crate::proofs::Staging::future_same))]
     fn pass(
         &mut self,
         pending: &mut Pending,

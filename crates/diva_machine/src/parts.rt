@@ -266,7 +266,7 @@ impl Parts {
 
     /// Judges the front claim, which is ready.
     #[inline(always)]
-    #[tactic(auto, unfolding(diva_core::specs::Cycle::committed, diva_core::specs::Cycle::flushed))]
+    #[tactic(auto, using(crate::proofs::Staging::filled_young), unfolding(diva_core::specs::Cycle::committed, diva_core::specs::Cycle::flushed))]
     fn judge_front(&mut self) -> Judged
         requires ready { 0 < self.old.passed }
         requires goes_on { GoesOn self.old.timed.arch }
@@ -338,7 +338,7 @@ impl Parts {
 
     /// Phase 2: what is ready commits, at most `width` claims or the solo instruction.
     #[inline(always)]
-    #[tactic(auto, unfolding(diva_core::specs::Cycle::commits_under, diva_core::specs::Cycle::committed))]
+    #[tactic(auto, using(crate::proofs::Verdicts::filled_whole), unfolding(diva_core::specs::Cycle::commits_under, diva_core::specs::Cycle::committed))]
     fn commits(&mut self)
         requires width { self.old.timed.config.width ≤ 4 }
         requires goes_on { GoesOn self.old.timed.arch }

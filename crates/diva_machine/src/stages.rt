@@ -6,11 +6,12 @@ ghost use Rattle.diva_core.specs.declared.pending.Entry.{Entry};
 ghost use Rattle.diva_core.specs.Entries.{pending_claim_of};
 ghost use Rattle.diva_core.specs.Future.{IsFuture};
 ghost use Rattle.diva_core.specs.Older.{before_entry};
-ghost use Rattle.diva_core.specs.Stages.{Answers, address_fields, memory_fields};
+ghost use Rattle.diva_core.specs.Stages.{Answers, execute, fetch, memory, operands};
 ghost use Rattle.diva_isa.specs.Kind.{kind, moves_memory};
 ghost use Rattle.diva_isa.specs.State.{State};
+ghost use Rattle.diva_vote.specs.Questions.{stage_row};
 ghost use Rattle.diva_machine.specs.Staged.{IsFilled, last_stage};
-ghost use Rattle.diva_machine.specs.Inner.{HasPassed, age_of};
+ghost use Rattle.diva_machine.specs.Inner.{HasPassed};
 
 use crate::arch::Arch;
 use diva_core::{Diff, Entry, Field, FutureFile, Pending, View};
@@ -93,6 +94,7 @@ impl Stages for Checks {
     ghost led = { λ before questions after. ⊤ };
 
     #[inline(always)]
+    #[tactic(auto, using(crate::proofs::Staging::future_same))]
     fn pass(
         &mut self,
         pending: &mut Pending,
@@ -122,7 +124,7 @@ fn pass_fetch(pending: &mut Pending, at: usize, arch: &Arch)
     requires { at < length pending.old.items }
     ensures waits { map pending_claim_of pending.new.items ≡ map pending_claim_of pending.old.items }
     ensures capacity { pending.new.capacity ≡ pending.old.capacity }
-    ensures advanced { HasPassed arch.now.state (age_of Stage.Fetch) at pending.old.items pending.new.items }
+    ensures advanced { HasPassed arch.now.state fetch.age at pending.old.items pending.new.items }
 {
     if diva_fetchchk::check(pending, at, &arch.view()).is_some() {
         note_check(Stage::Fetch, pending, at, arch);
@@ -138,7 +140,7 @@ fn pass_operands(pending: &mut Pending, future: &mut FutureFile, at: usize, arch
     ensures future { IsFuture arch.now.state pending.new.items future.new }
     ensures waits { map pending_claim_of pending.new.items ≡ map pending_claim_of pending.old.items }
     ensures capacity { pending.new.capacity ≡ pending.old.capacity }
-    ensures advanced { HasPassed arch.now.state (age_of Stage.Operands) at pending.old.items pending.new.items }
+    ensures advanced { HasPassed arch.now.state operands.age at pending.old.items pending.new.items }
 {
     pending.recall();
     let entry = pending.at(at);
@@ -163,7 +165,7 @@ fn note_operands(pending: &mut Pending, future: &mut FutureFile, at: usize, arch
     ensures future { IsFuture arch.now.state pending.new.items future.new }
     ensures waits { map pending_claim_of pending.new.items ≡ map pending_claim_of pending.old.items }
     ensures capacity { pending.new.capacity ≡ pending.old.capacity }
-    ensures advanced { HasPassed arch.now.state (age_of Stage.Operands) at pending.old.items pending.new.items }
+    ensures advanced { HasPassed arch.now.state operands.age at pending.old.items pending.new.items }
 {
     keep_next(future, pending, at);
     note_check(Stage::Operands, pending, at, arch);
@@ -186,7 +188,7 @@ fn pass_execute(pending: &mut Pending, at: usize, arch: &Arch)
     requires { at < length pending.old.items }
     ensures waits { map pending_claim_of pending.new.items ≡ map pending_claim_of pending.old.items }
     ensures capacity { pending.new.capacity ≡ pending.old.capacity }
-    ensures advanced { HasPassed arch.now.state (age_of Stage.Execute) at pending.old.items pending.new.items }
+    ensures advanced { HasPassed arch.now.state execute.age at pending.old.items pending.new.items }
 {
     if pending.at(at).decoded.is_none()
         || diva_execchk::check(pending, at, &arch.view()).is_some()
@@ -201,7 +203,7 @@ fn pass_last(pending: &mut Pending, at: usize, arch: &Arch)
     requires { at < length pending.old.items }
     ensures waits { map pending_claim_of pending.new.items ≡ map pending_claim_of pending.old.items }
     ensures capacity { pending.new.capacity ≡ pending.old.capacity }
-    ensures advanced { HasPassed arch.now.state LAST_STAGE at pending.old.items pending.new.items }
+    ensures advanced { HasPassed arch.now.state memory.age at pending.old.items pending.new.items }
 {
     let entry = pending.at(at);
     let agrees = match entry.decoded {
@@ -221,7 +223,7 @@ fn access_agrees(pending: &Pending, at: usize, entry: &Entry, i: &Instr, arch: &
     requires entry { slice_get pending.now.items at ≡ Some entry.now }
     requires says { row_of entry.now.claim.word ≡ Some i.now }
     requires access { moves_memory (kind i.now.op) ≡ true }
-    ensures { IsTrue result → Answers address_fields memory_fields
+    ensures { IsTrue result → Answers memory
         (before_entry (record arch.now.state { end = 0 }) pending.now.items at) entry.now.claim None }
 {
     check_access(pending, at, entry, i, &arch.view()).is_none()
@@ -234,7 +236,7 @@ fn note_check(stage: Stage, pending: &mut Pending, at: usize, arch: &Arch)
     requires { at < length pending.old.items }
     ensures waits { map pending_claim_of pending.new.items ≡ map pending_claim_of pending.old.items }
     ensures capacity { pending.new.capacity ≡ pending.old.capacity }
-    ensures advanced { HasPassed arch.now.state (age_of stage) at pending.old.items pending.new.items }
+    ensures advanced { HasPassed arch.now.state (stage_row stage).age at pending.old.items pending.new.items }
 {
     let found = check(stage, pending, at, &arch.view());
     note(pending, at, found);
@@ -285,6 +287,7 @@ fn note_difference(pending: &mut Pending, at: usize, field: Field, claimed: u32,
 }
 
 /// The record of the solo instruction comes to an age, and gets the fields of that age's stage.
+#[tactic(auto, using(crate::proofs::Verdicts::fields_kept), unfolding(diva_core::specs::Stages::fields_at))]
 pub(crate) fn fill(r: &mut Record, view: &View<'_>, age: u64)
     requires { 1 ≤ age }
     ensures { IsFilled view.now (age - 1) r.old → IsFilled view.now age r.new }

@@ -1,6 +1,6 @@
 //! The checker's stage of operands: the words that a pending claim says its instruction read.
 //!
-//! The fields are those of `operand_fields` of `diva_core`'s `specs/Stages.antt`, compared with the record that is due after
+//! The fields are those of the row `operands` of `diva_core`'s `specs/Stages.antt`, compared with the record that is due after
 //! the older claims: what they say that they wrote bypasses the register file.
 #![tactic(auto)]
 
@@ -13,7 +13,7 @@ ghost use Rattle.diva_core.specs.declared.pending.Entry.{Entry};
 ghost use Rattle.diva_core.specs.Difference.{difference_in};
 ghost use Rattle.diva_core.specs.Entries.{IsDecoded};
 ghost use Rattle.diva_core.specs.Older.{before_entry};
-ghost use Rattle.diva_core.specs.Stages.{Answers, fetch_fields, operand_fields};
+ghost use Rattle.diva_core.specs.Stages.{Answers, Finds, earlier, is_memory, operands};
 
 use diva_core::{Bypass, Claim, Diff, Entry, Field, Pending, View};
 use diva_decode::{Instr, decode};
@@ -26,7 +26,7 @@ use diva_isa::{Look, Operands, Record, Regs, sources, sources_in};
 pub fn check(pending: &Pending, at: usize, view: &View<'_>) -> Option<Diff>
     requires { at < length pending.now.items }
     ensures { (e : Entry) → slice_get pending.now.items at ≡ Some e
-        → Answers fetch_fields (λ memory. operand_fields) (before_entry view.now pending.now.items at) e.claim result }
+        → Answers operands (before_entry view.now pending.now.items at) e.claim result }
 {
     let entry = pending.at(at);
     let state = Bypass::new(pending, at, view);
@@ -42,7 +42,7 @@ pub fn check(pending: &Pending, at: usize, view: &View<'_>) -> Option<Diff>
 #[inline(always)]
 pub fn check_in(entry: &Entry, regs: &Regs) -> Option<Diff>
     requires { IsDecoded entry.now }
-    ensures { (s : State) → s.regs ≡ regs.now → Answers fetch_fields (λ memory. operand_fields) s entry.now.claim result }
+    ensures { (s : State) → s.regs ≡ regs.now → Answers operands s entry.now.claim result }
 {
     differs(&entry.claim, sources_in(regs, entry.decoded()))
 }
@@ -54,8 +54,7 @@ pub fn check_in(entry: &Entry, regs: &Regs) -> Option<Diff>
 fn compare<L: Look>(claim: &Claim, decoded: Option<Instr>, state: &L) -> Option<Diff>
     requires row { decoded ≡ row_of claim.now.word }
     requires registers { IfSome decoded HasRegisters }
-    ensures { let due = record_of (L.shows state.now) in
-        difference_in fetch_fields claim.now due ≡ None → result ≡ difference_in operand_fields claim.now due }
+    ensures { Finds operands claim.now (record_of (L.shows state.now)) result }
 {
     differs(claim, sources(state, decoded))
 }
@@ -64,7 +63,7 @@ fn compare<L: Look>(claim: &Claim, decoded: Option<Instr>, state: &L) -> Option<
 #[inline(always)]
 fn differs(claim: &Claim, read: Operands) -> Option<Diff>
     ensures { (due : Record) → read.first ≡ due.src1 → read.second ≡ due.src2
-        → result ≡ difference_in operand_fields claim.now due }
+        → result ≡ difference_in (operands.fields (is_memory due)) claim.now due }
 {
     if claim.src1 != read.first {
         return Some(Diff::new(Field::Src1, claim.src1, read.first));
@@ -81,7 +80,7 @@ fn differs(claim: &Claim, read: Operands) -> Option<Diff>
 fn check_anew(pending: &Pending, at: usize, view: &View<'_>) -> Option<Diff>
     requires { at < length pending.now.items }
     ensures { (e : Entry) → slice_get pending.now.items at ≡ Some e
-        → Answers fetch_fields (λ memory. operand_fields) (before_entry view.now pending.now.items at) e.claim result }
+        → Answers operands (before_entry view.now pending.now.items at) e.claim result }
 {
     let claim = &pending.at(at).claim;
     compare(claim, decode(claim.word), &Bypass::new(pending, at, view))
@@ -90,7 +89,7 @@ fn check_anew(pending: &Pending, at: usize, view: &View<'_>) -> Option<Diff>
 /// Gives a record whose pc and word are due the words that its instruction reads from a state. Its other fields stay.
 pub fn solo(r: &mut Record, view: &View<'_>)
     ensures due { let due = record_of view.now in
-        difference_in fetch_fields r.old due ≡ None → r.new ≡ record r.old { src1 = due.src1; src2 = due.src2 } }
+        difference_in (earlier operands) r.old due ≡ None → r.new ≡ record r.old { src1 = due.src1; src2 = due.src2 } }
     ensures rest { r.new ≡ record r.old { src1 = r.new.src1; src2 = r.new.src2 } }
 {
     *r = fill(*r, decode(r.word), view);
@@ -102,7 +101,7 @@ fn fill<L: Look>(r: Record, decoded: Option<Instr>, state: &L) -> Record
     requires row { decoded ≡ row_of r.word }
     requires registers { IfSome decoded HasRegisters }
     ensures due { let due = record_of (L.shows state.now) in
-        difference_in fetch_fields r due ≡ None → result ≡ record r { src1 = due.src1; src2 = due.src2 } }
+        difference_in (earlier operands) r due ≡ None → result ≡ record r { src1 = due.src1; src2 = due.src2 } }
     ensures rest { result ≡ record r { src1 = result.src1; src2 = result.src2 } }
 {
     let read = sources(state, decoded);

@@ -1,13 +1,12 @@
 -- What lanes are asked, and which answer is right.
 -- Cited by `Lane::judge`, `judge_by_vote`, and what `Honest` says.
-use Rattle.std.specs.Prelude.{ℕ, Bool, List, [], Option}
+use Rattle.std.specs.Prelude.{ℕ, List, Option}
 use Rattle.diva_isa.specs.State.{State}
 use Rattle.diva_isa.specs.declared.record.Record.{Record}
 use Rattle.diva_core.specs.declared.pending.Entry.{Entry}
 use Rattle.diva_core.specs.declared.differences.Diff.{Diff}
-use Rattle.diva_core.specs.declared.differences.Field.{Field}
 use Rattle.diva_core.specs.Older.{before_entry}
-use Rattle.diva_core.specs.Stages.{Answers, fetch_fields, operand_fields, execute_fields, memory_fields, read_fields, address_fields}
+use Rattle.diva_core.specs.Stages.{Answers, StageRow, execute, fetch, memory, operands}
 use Rattle.diva_vote.specs.declared.stage.Stage.{Stage}
 use Rattle.diva_vote.specs.declared.stage.Stage.TheVariants.{Fetch, Operands, Execute, Memory}
 
@@ -21,23 +20,16 @@ pub record Question : Type 0 where
 abbrev pub question_at : Stage → State → List Entry → (at : ℕ) → Entry → Question
 question_at stage s entries at e = record { stage = stage; claim = e.claim; state = before_entry s entries at }
 
--- the fields that a stage compares; `memory` says whether the due record is a load or a store
-abbrev pub own_of : Stage → (memory : Bool) → List Field
-own_of Fetch memory = fetch_fields
-own_of Operands memory = operand_fields
-own_of Execute memory = execute_fields memory
-own_of Memory memory = memory_fields memory
-
--- those that have to agree before: where they do not, nothing is said of the answer
-abbrev pub earlier_of : Stage → List Field
-earlier_of Fetch = []
-earlier_of Operands = fetch_fields
-earlier_of Execute = read_fields
-earlier_of Memory = address_fields
+-- the row of a stage
+abbrev pub stage_row : Stage → StageRow
+stage_row Fetch = fetch
+stage_row Operands = operands
+stage_row Execute = execute
+stage_row Memory = memory
 
 -- the answer is that of the check
 abbrev pub IsAnswer : Question → Option Diff → Type 0
-IsAnswer q answer = Answers (earlier_of q.stage) (own_of q.stage) q.state q.claim answer
+IsAnswer q answer = Answers (stage_row q.stage) q.state q.claim answer
 
 -- the meaning of what a lane says: the lane before a question, the question, its answer, and the lane after
 abbrev pub Saying : Type 0 → Type 1
