@@ -17,7 +17,7 @@ use Rattle.diva_core.proofs.Starting.{new-machine}
 use Rattle.diva_core.proofs.Keeping.{stays}
 use Rattle.diva_core.proofs.Outcomes.{rises}
 use Rattle.diva_core.proofs.Progressing.{run-rises}
-use Rattle.diva_machine.proofs.Fronts.{dues-add, length-dues}
+use Rattle.diva_hart.proofs.Dues.{dues-add, length-dues}
 use Rattle.diva_core.proofs.Ending.{same_end}
 use Rattle.diva_outside.specs.Sink.{AppendsPast, Puts}
 use Rattle.diva_outside.specs.declared.sink.SinkFailed.{SinkFailed}

@@ -1,9 +1,8 @@
 -- What becomes of the front claim of a hart.
-use Rattle.std.proofs.Common.{◌≡◌, ℕ, ◌+◌, ◌<◌, ◌≤◌, Bool, true, false, List, [], ◌∷◌, ◌++◌, map, drop, length, Option, Some, None, refl, ap, sym, ◌∙◌, arith, slice_get, subst, if◌then◌else◌}
-use Rattle.std.proofs.lemmas.Bool.{le-leb, lt-leb}
-use Rattle.std.proofs.lemmas.Option.{none-some, same_Some}
+use Rattle.std.proofs.Common.{◌≡◌, ℕ, ◌+◌, ◌<◌, ◌≤◌, ◌==◌, Bool, true, false, not, ◌&&◌, ◌||◌, List, [], ◌∷◌, map, drop, length, Option, Some, None, refl, ap, sym, ◌∙◌, arith, slice_get, if◌then◌else◌}
+use Rattle.std.proofs.lemmas.Option.{none-some}
 use Rattle.std.specs.Option.{option_and_then, unwrap_or}
-use Rattle.circular_buffer.specs.Buffer.{Buffer, buffer}
+use Rattle.diva_decode.specs.declared.instr.Instr.{Instr}
 use Rattle.diva_decode.specs.Table.{row_of}
 use Rattle.diva_isa.specs.State.{State, goes_on, word_of}
 use Rattle.diva_isa.proofs.Parts.{row_of_zero, word_is}
@@ -14,16 +13,18 @@ use Rattle.diva_core.specs.declared.flushes.Cause.TheVariants.{Differs}
 use Rattle.diva_core.specs.declared.pending.Entry.{Entry}
 use Rattle.diva_core.specs.Difference.{first_difference}
 use Rattle.diva_core.specs.Timed.{Timed, PendingClaim, depth}
-use Rattle.diva_core.specs.Cycle.{Judgement, Wait, Commit, Flush, by_difference, by_front, by_judgement, judgement_under, past_front, flushed, committed, with_pending}
+use Rattle.diva_core.specs.Cycle.{committed, flushed, past_front, stores_wait, with_pending}
 use Rattle.diva_core.specs.Entries.{pending_claim_of}
-use Rattle.diva_duo.specs.Rules.{fences_wait}
 use Rattle.diva_memory.specs.Bytes.{Bytes}
 use Rattle.diva_storeq.specs.Stores.{laid}
-use Rattle.diva_commit.specs.Committing.{buffered, state_of}
+use Rattle.diva_commit.specs.Committing.{answer, is_committed, state_of}
+use Rattle.diva_commit.proofs.Answering.{committed_room, held_by}
 use Rattle.diva_hart.specs.HartArch.{HartState, seen}
+use Rattle.diva_hart.specs.Inner.{JudgesFront}
+use Rattle.diva_hart.proofs.Fronts.{front_commits, front_flushes, front_free, front_held, front_ready, front_waits, front_young}
+use Rattle.diva_duo.specs.Rules.{fence_waits, fences_wait, is_fence, is_fence_by}
 use Rattle.diva_duo.specs.Duo.{Hart, timed}
-use Rattle.diva_duo.specs.Inner.{Grown, NonePastEnd, judge_next}
-use Rattle.diva_duo.proofs.Growing.{grown_at}
+use Rattle.diva_duo.proofs.Moving.{fences_keep}
 
 -- what the word of a due record says is what the fetched word does
 says_by : (o : Option ℕ) (w : ℕ) → w ≡ unwrap_or o 0 → option_and_then row_of o ≡ row_of w
@@ -33,124 +34,79 @@ says_by (Some v) w h = ap row_of (sym h)
 pub word_says : (o : Option ℕ) (s : State) → o ≡ word_of s s.pc → option_and_then row_of o ≡ row_of (record_of s).word
 word_says o s h = says_by o (record_of s).word (word_is s ∙ ap (λ (x : Option ℕ). unwrap_or x 0) (sym h))
 
-first_is : (items : List Entry) (e : Entry) → slice_get items 0 ≡ Some e → items ≡ e ∷ drop 1 items
-first_is [] e h = absurd (none-some _ h)
-first_is (x ∷ items) e h = ap (λ (y : Entry). y ∷ items) (same_Some _ _ h)
-
-pub some_wait : (items : List Entry) (e : Entry) → slice_get items 0 ≡ Some e → 0 < length (map pending_claim_of items)
-some_wait [] e h = absurd (none-some _ h)
-some_wait (x ∷ items) e h = omega arith
-
-module _ (m : Timed) (items : List Entry) (e : Entry) (first : slice_get items 0 ≡ Some e) (waits : m.under.pending ≡ map pending_claim_of items) where
-  front_is : m.under.pending ≡ pending_claim_of e ∷ map pending_claim_of (drop 1 items)
-  front_is = waits ∙ ap (map pending_claim_of) (first_is items e first)
-
-  by : (w : Judgement) → judgement_under fences_wait m ≡ w → (next : Timed → Timed) → judge_next next m ≡ by_judgement m (next (past_front m)) w
-  by w is next = ap (by_judgement m (next (past_front m))) is
-
-  pub young : m.cycles < e.cycle + depth → (next : Timed → Timed) → judge_next next m ≡ m
-  young few next = by Wait (ap (by_front fences_wait m) front_is ∙ rw (lt-leb (e.cycle + depth) m.cycles (omega arith)) refl) next
-
-  module _ (old : e.cycle + depth ≤ m.cycles) where
-    ready : (o : Option Diff) → first_difference e.claim (record_of m.arch) ≡ o → judgement_under fences_wait m ≡ by_difference fences_wait m o
-    ready o d = ap (by_front fences_wait m) front_is ∙ rw (le-leb (e.cycle + depth) m.cycles old, d) refl
-
-    differs : (d : Diff) → first_difference e.claim (record_of m.arch) ≡ Some d → (next : Timed → Timed) → judge_next next m ≡ flushed m (Differs d)
-    differs d is next = by (Flush d) (ready (Some d) is) next
-
-    held : first_difference e.claim (record_of m.arch) ≡ None → fences_wait m.config.stores m.owed (record_of m.arch) ≡ true → (next : Timed → Timed) → judge_next next m ≡ m
-    held is stops next = by Wait (ready None is ∙ rw stops refl) next
-
-    free : first_difference e.claim (record_of m.arch) ≡ None → fences_wait m.config.stores m.owed (record_of m.arch) ≡ false → (next : Timed → Timed) → judge_next next m ≡ next (past_front m)
-    free is goes next = by Commit (ready None is ∙ rw goes refl) next
-
--- the machine behind a front claim that committed
-module _ (m n : Timed) (ps : List PendingClaim) (is : n ≡ committed (with_pending m ps) (record_of m.arch)) where
-  same_end : goes_on (committed m (record_of m.arch)).arch ≡ goes_on n.arch
-  unfolding committed
-  same_end = ap (λ (z : Timed). goes_on z.arch) (sym is)
-
-  past_on : drop 1 m.under.pending ≡ ps → goes_on n.arch ≡ true → past_front m ≡ n
-  unfolding committed
-  past_on rest on =
-      ap (λ (b : Bool). with_pending (committed m (record_of m.arch)) (if b then drop 1 m.under.pending else [])) (same_end ∙ on)
-      ∙ ap (λ (xs : List PendingClaim). with_pending (committed m (record_of m.arch)) xs) rest
-      ∙ sym is
-
-  past_off : goes_on n.arch ≡ false → past_front m ≡ with_pending n []
-  unfolding committed
-  past_off off =
-      ap (λ (b : Bool). with_pending (committed m (record_of m.arch)) (if b then drop 1 m.under.pending else [])) (same_end ∙ off)
-      ∙ ap (λ (z : Timed). with_pending z []) (sym is)
-
--- ---- of a hart
-
-front_goes_on : (h : Hart) (items : List Entry) (e : Entry) → NonePastEnd h → h.under.pending ≡ map pending_claim_of items → slice_get items 0 ≡ Some e → h.state.end ≡ 0
-front_goes_on h items e none_past_end waits first = none_past_end (subst (λ (xs : List PendingClaim). 0 < length xs) (sym waits) (some_wait items e first))
-
 pub due_is : (memory : Bytes) (h : Hart) (view : State) (r : Record) → view ≡ record (seen memory h.state) { end = 0 } → r ≡ record_of view → h.state.end ≡ 0 → r ≡ record_of (seen memory h.state)
 due_is memory h view r shows is on =
     let o : HartState = h.state in
     is ∙ ap record_of shows ∙ ap (λ (e : ℕ). record_of (state_of o.regs o.pc (laid memory o.buffer) o.output o.instret e)) (sym on)
 
--- a hart whose claims are those in `left`
-abbrev pub behind_it : (memory : Bytes) (cycles : ℕ) → Buffer Entry → Hart → Timed
-behind_it memory cycles left h =
-    with_pending (record (timed cycles memory h) { config = record h.config { window = left.capacity } }) (map pending_claim_of left.items)
+or_true : (a b : Bool) → b ≡ true → (a || b) ≡ true
+or_true true b is = refl
+or_true false b is = is
 
--- the front claim of a hart: what its parts show is `inside`, `pending` has its claims, and `due` is worked out in what it sees
-module _ (memory : Bytes) (h inside : Hart) (is : inside ≡ h) (pending : Buffer Entry) (waits : inside.under.pending ≡ map pending_claim_of pending.items) (e : Entry)
-    (first : slice_get pending.items 0 ≡ Some e) (none_past_end : NonePastEnd h)
-    (view : State) (shows : view ≡ record (seen memory h.state) { end = 0 }) (due : Record) (due_in : due ≡ record_of view) where
-  these_wait : h.under.pending ≡ map pending_claim_of pending.items
-  these_wait = ap (λ (x : Hart). x.under.pending) (sym is) ∙ waits
+or_false : (a b : Bool) → a ≡ false → b ≡ false → (a || b) ≡ false
+or_false true b is none = absurd (cc)
+or_false false b is none = none
 
-  due_here : due ≡ record_of (seen memory h.state)
-  due_here = due_is memory h view due shows due_in (front_goes_on h pending.items e none_past_end these_wait first)
+rest_is : (entries : List Entry) (goes : Bool) → map pending_claim_of (if goes then drop 1 entries else []) ≡ (if goes then drop 1 (map pending_claim_of entries) else [])
+rest_is [] true = refl
+rest_is (e ∷ entries) true = refl
+rest_is entries false = refl
 
-  pub front_grown : (cycles : ℕ) (left : Buffer Entry) (g : Hart) → timed cycles memory g ≡ committed (behind_it memory cycles left inside) due
-      → g.state.buffer ≡ inside.state.buffer ++ buffered due → Grown memory h g
-  front_grown cycles left g settled puts =
-      grown_at memory h g cycles (behind_it memory cycles left inside) due settled (ap (λ (x : Hart). x.state.instret) is) (ap (λ (x : Hart). seen memory x.state) is) due_here
-      (puts ∙ ap (λ (x : Hart). x.state.buffer ++ buffered due) is)
+pub still_waits : (items others : List Entry) (e : Entry) → slice_get items 0 ≡ Some e → map pending_claim_of others ≡ map pending_claim_of items → 0 < length others
+still_waits [] others e first same = absurd (none-some _ first)
+still_waits (x ∷ items) [] e first same = absurd (cc)
+still_waits (x ∷ items) (y ∷ others) e first same = omega arith
 
-  -- it is ready, and compared with its due record
-  module _ (cycles : ℕ) (old : e.cycle + depth ≤ cycles) (found : Option Diff) (look : found ≡ first_difference e.claim due) where
-    looked : first_difference e.claim (record_of (seen memory h.state)) ≡ found
-    looked = ap (first_difference e.claim) (sym due_here) ∙ sym look
+-- m is a hart that goes on, and e its front claim
+module _ (memory : Bytes) (h : Hart) (cycles : ℕ) (owed : length h.state.buffer ≤ h.config.stores) (running : h.under.solo ≡ None) where
+  abbrev m : Timed
+  m = timed cycles memory h
 
-    pub front_differs : (d : Diff) → found ≡ Some d → (next : Timed → Timed) → judge_next next (timed cycles memory h) ≡ flushed (timed cycles memory h) (Differs d)
-    front_differs d some = differs (timed cycles memory h) pending.items e first these_wait old d (looked ∙ some)
+  module _ (items : List Entry) (e : Entry) (first : slice_get items 0 ≡ Some e) (waits : h.under.pending ≡ map pending_claim_of items) where
+    pub young_waits : cycles < e.cycle + depth → JudgesFront fences_wait m m false
+    young_waits few = front_waits fences_wait m owed running (front_young fences_wait m items e first waits few)
 
-    module _ (none : found ≡ None) (stops : Bool) (asked : stops ≡ fences_wait h.config.stores (length h.state.buffer) due) where
-      stops_here : fences_wait h.config.stores (length h.state.buffer) (record_of (seen memory h.state)) ≡ stops
-      stops_here = ap (fences_wait h.config.stores (length h.state.buffer)) (sym due_here) ∙ sym asked
+    -- it is ready, and is compared with its due record
+    module _ (old : e.cycle + depth ≤ cycles) (due : Record) (here : due ≡ record_of (seen memory h.state)) (found : Option Diff) (look : found ≡ first_difference e.claim due) where
+      looked : first_difference e.claim (record_of (seen memory h.state)) ≡ found
+      looked = ap (first_difference e.claim) (sym here) ∙ sym look
 
-      pub front_held : stops ≡ true → (next : Timed → Timed) → judge_next next (timed cycles memory h) ≡ timed cycles memory h
-      front_held does = held (timed cycles memory h) pending.items e first these_wait old (looked ∙ none) (stops_here ∙ does)
+      pub differing_flushes : (n : Timed) (d : Diff) → found ≡ Some d → n ≡ flushed m (Differs d) → JudgesFront fences_wait m n false
+      differing_flushes n d some = front_flushes fences_wait m n d owed (front_ready fences_wait m items e first waits old (Some d) (looked ∙ some))
 
-      -- it commits, which leads to g
-      module _ (passes : stops ≡ false) (out : Entry) (left : Buffer Entry) (pops : pending ≡ buffer (out ∷ left.items) left.capacity)
-          (window : inside.config.window ≡ pending.capacity) (g : Hart) (settled : timed cycles memory g ≡ committed (behind_it memory cycles left inside) due) where
-        same_window : h.config.window ≡ left.capacity
-        same_window = ap (λ (x : Hart). x.config.window) (sym is) ∙ window ∙ ap (λ (b : Buffer Entry). b.capacity) pops
+      module _ (none : found ≡ None) (decoded : Option Instr) (says : decoded ≡ row_of due.word) where
+        ruled : (b : Bool) → fences_wait h.config.stores (length h.state.buffer) due ≡ b → fences_wait h.config.stores (length h.state.buffer) (record_of (seen memory h.state)) ≡ b
+        ruled b is = ap (fences_wait h.config.stores (length h.state.buffer)) (sym here) ∙ is
 
-        reached : timed cycles memory g ≡ committed (with_pending (timed cycles memory h) (map pending_claim_of left.items)) (record_of (seen memory h.state))
-        reached =
-            settled
-            ∙ ap (λ (x : Hart). committed (behind_it memory cycles left x) due) is
-            ∙ ap (λ (k : ℕ). committed (with_pending (record (timed cycles memory h) { config = record h.config { window = k } }) (map pending_claim_of left.items)) due) (sym same_window)
-            ∙ ap (committed (with_pending (timed cycles memory h) (map pending_claim_of left.items))) due_here
+        fences : fence_waits (length h.state.buffer) due ≡ (is_fence_by decoded && not (length h.state.buffer == 0))
+        unfolding is_fence
+        fences = ap (λ (o : Option Instr). is_fence_by o && not (length h.state.buffer == 0)) (sym says)
 
-        goes : (next : Timed → Timed) → judge_next next (timed cycles memory h) ≡ next (past_front (timed cycles memory h))
-        goes = free (timed cycles memory h) pending.items e first these_wait old (looked ∙ none) (stops_here ∙ passes)
+        held : fences_wait h.config.stores (length h.state.buffer) due ≡ true → JudgesFront fences_wait m m false
+        held is = front_waits fences_wait m owed running (front_held fences_wait m items e first waits old (looked ∙ none) (ruled true is))
 
-        pub front_on : goes_on (timed cycles memory g).arch ≡ true → (next : Timed → Timed) → judge_next next (timed cycles memory h) ≡ next (timed cycles memory g)
-        front_on on next =
-            goes next
-            ∙ ap next (past_on (timed cycles memory h) (timed cycles memory g) (map pending_claim_of left.items) reached
-            (ap (drop 1) these_wait ∙ ap (λ (b : Buffer Entry). drop 1 (map pending_claim_of b.items)) pops) on)
+        pub fence_held : (is_fence_by decoded && not (length h.state.buffer == 0)) ≡ true → JudgesFront fences_wait m m false
+        fence_held is = held (or_true (stores_wait h.config.stores (length h.state.buffer) due) _ (fences ∙ is))
 
-        pub front_off : goes_on (timed cycles memory g).arch ≡ false → (next : Timed → Timed) → judge_next next (timed cycles memory h) ≡ next (with_pending (timed cycles memory g) [])
-        front_off off next =
-            goes next ∙ ap next (past_off (timed cycles memory h) (timed cycles memory g) (map pending_claim_of left.items) reached off)
+        pub store_held : is_committed (answer None due (length h.state.buffer == h.config.stores)) ≡ false → JudgesFront fences_wait m m false
+        store_held is = let both = held_by due (length h.state.buffer == h.config.stores) is in held (rw (both.0, both.1) refl)
+
+        pub equal_commits : (is_fence_by decoded && not (length h.state.buffer == 0)) ≡ false → is_committed (answer None due (length h.state.buffer == h.config.stores)) ≡ true
+            → (n : Timed) (goes : Bool) → n ≡ past_front m → goes ≡ goes_on n.arch → JudgesFront fences_wait m n goes
+        equal_commits fenceless done n goes =
+            let free = ruled false (or_false _ _ (committed_room None due (length h.state.buffer == h.config.stores) done) (fences ∙ fenceless)) in
+            front_commits fences_wait fences_keep m n goes owed running free (front_free fences_wait m items e first waits old (looked ∙ none) free)
+
+  -- it has committed, which led to g, and leaves
+  pub past_is : (g : Hart) (due : Record) → due ≡ record_of (seen memory h.state) → timed cycles memory g ≡ committed m due
+      → (items : List Entry) → g.under.pending ≡ map pending_claim_of items → (goes : Bool) → goes ≡ (g.state.end == 0)
+      → with_pending (timed cycles memory g) (map pending_claim_of (if goes then drop 1 items else [])) ≡ past_front m
+  unfolding committed
+  past_is g due here settled items waits goes does =
+      let after : Timed = committed m (record_of m.arch) in
+      let is : timed cycles memory g ≡ after = settled ∙ ap (committed m) here in
+      let on : goes ≡ goes_on after.arch = does ∙ ap (λ (z : Timed). goes_on z.arch) is in
+      let there : map pending_claim_of items ≡ m.under.pending = sym waits ∙ ap (λ (z : Timed). z.under.pending) is in
+      ap (λ (z : Timed). with_pending z (map pending_claim_of (if goes then drop 1 items else []))) is
+      ∙ ap (with_pending after) (rest_is items goes ∙ ap (λ (b : Bool). if b then drop 1 (map pending_claim_of items) else []) on
+      ∙ ap (λ (ps : List PendingClaim). if goes_on after.arch then drop 1 ps else []) there)

@@ -1,79 +1,80 @@
--- A hart goes on by the instructions that it counted.
-use Rattle.std.proofs.Common.{◌≡◌, ◌≢◌, ℕ, zero, suc, ◌+◌, ◌-◌, ◌<◌, List, ◌∷◌, ◌++◌, refl, ap, sym, ◌∙◌, arith}
+-- What a hart that goes on puts into its buffer.
+use Rattle.std.proofs.Common.{◌≡◌, ◌≢◌, ℕ, ◌+◌, ◌-◌, Bool, List, [], ◌++◌, length, map, min, take, None, if◌then◌else◌, refl, ap, sym, ◌∙◌, subst, arith}
 use Rattle.std.specs.Prelude.{flat_map}
 use Rattle.std.proofs.lemmas.Bool.{eq-eqb, ne_eqb}
 use Rattle.std.proofs.lemmas.Grind.{flat_map-append}
-use Rattle.std.proofs.lemmas.List.{append-nil, append_assoc}
+use Rattle.std.proofs.lemmas.List.{append-nil, append_assoc, take_min}
+use Rattle.circular_buffer.specs.Buffer.{buffer}
 use Rattle.diva_memory.specs.Bytes.{Bytes}
 use Rattle.diva_storeq.specs.declared.masked.Masked.{Masked}
-use Rattle.diva_isa.specs.State.{State}
 use Rattle.diva_isa.specs.declared.record.Record.{Record}
-use Rattle.diva_isa.specs.Step.{record_of, apply, step, steps}
-use Rattle.diva_core.specs.Cycle.{committed, judged_under, phases_under}
-use Rattle.diva_core.specs.Timed.{Timed}
-use Rattle.diva_core.specs.Headline.{dues}
-use Rattle.diva_core.proofs.Steps.{steps-add, steps-shift}
+use Rattle.diva_isa.specs.Step.{record_of}
+use Rattle.diva_core.specs.Cycle.{accepted_in, accepts, committed, phases_under, with_pending}
+use Rattle.diva_core.specs.Entries.{fresh}
+use Rattle.diva_core.specs.Timed.{PendingClaim, Timed, room_of}
+use Rattle.diva_core.specs.Headline.{Rises, dues}
+use Rattle.diva_core.proofs.Accepting.{claims_more}
 use Rattle.diva_commit.specs.Committing.{buffered}
 use Rattle.diva_hart.specs.HartArch.{HartState, seen}
+use Rattle.diva_hart.specs.Inner.{Tells}
+use Rattle.diva_hart.specs.UnderWay.{config_of, takes_claims, told_machine, under_of}
+use Rattle.diva_hart.specs.declared.under_way.UnderWay.{UnderWay}
+use Rattle.diva_hart.proofs.Dues.{dues_then}
+use Rattle.diva_hart.proofs.Telling.{accepts_open}
 use Rattle.diva_duo.specs.Rules.{fences_wait}
 use Rattle.diva_duo.specs.Duo.{Hart, timed, hart_of, added, hart_cycle}
-use Rattle.diva_duo.specs.Inner.{Grown, judge_next}
-
--- the records due after some instructions, and those that follow
-dues-add : (j k : ℕ) (s : State) → dues (j + k) s ≡ dues j s ++ dues k (steps j s)
-dues-add zero k s = ap (λ i. dues i s) (omega arith)
-dues-add (suc j) k s =
-    let e : suc j + k ≡ suc (j + k) = omega arith in
-    ap (λ i. dues i s) e ∙ ap (λ (rs : List Record). record_of s ∷ rs) (dues-add j k (step s) ∙ ap (λ (t : State). dues j (step s) ++ dues k t) (steps-shift j s))
+use Rattle.diva_duo.specs.Inner.{Puts}
 
 module _ (memory : Bytes) where
-  pub grown_none : (h g : Hart) → g.state ≡ h.state → Grown memory h g
-  grown_none h g o =
-      let c : g.state.instret ≡ h.state.instret = ap (λ (x : HartState). x.instret) o in
-      let k : g.state.instret - h.state.instret ≡ 0 = omega arith in
-      record {
-        counted = omega arith;
-        stepped = ap (seen memory) o ∙ ap (λ i. steps i (seen memory h.state)) (sym k);
-        buffer = ap (λ (x : HartState). x.buffer) o ∙ sym (append-nil h.state.buffer) ∙ ap (λ i. h.state.buffer ++ flat_map buffered (dues i (seen memory h.state))) (sym k);
-      }
+  -- by so many instructions
+  puts_by : (h g : Hart) (k : ℕ) → g.state.instret - h.state.instret ≡ k → g.state.buffer ≡ h.state.buffer ++ flat_map buffered (dues k (seen memory h.state)) → Puts memory h g
+  puts_by h g k counted b = b ∙ ap (λ i. h.state.buffer ++ flat_map buffered (dues i (seen memory h.state))) (sym counted)
 
-  grown_one : (h g : Hart) → g.state.instret ≡ h.state.instret + 1 → seen memory g.state ≡ step (seen memory h.state) → g.state.buffer ≡ h.state.buffer ++ buffered (record_of (seen memory h.state)) → Grown memory h g
-  grown_one h g c s b =
-      let k : g.state.instret - h.state.instret ≡ 1 = omega arith in
-      record {
-        counted = omega arith;
-        stepped = s ∙ ap (λ i. steps i (seen memory h.state)) (sym k);
-        buffer = b ∙ ap (λ (x : List Masked). h.state.buffer ++ x) (sym (append-nil (buffered (record_of (seen memory h.state))))) ∙ ap (λ i. h.state.buffer ++ flat_map buffered (dues i (seen memory h.state))) (sym k);
-      }
+  pub puts_none : (h g : Hart) → g.state ≡ h.state → Puts memory h g
+  puts_none h g o =
+      let same : g.state.instret ≡ h.state.instret = ap (λ (x : HartState). x.instret) o in
+      puts_by h g 0 (omega arith) (ap (λ (x : HartState). x.buffer) o ∙ sym (append-nil h.state.buffer))
 
-  pub grown_then : (h g f : Hart) → Grown memory h g → Grown memory g f → Grown memory h f
-  grown_then h g f a b =
-      let j = g.state.instret - h.state.instret in
-      let k = f.state.instret - g.state.instret in
-      let s = seen memory h.state in
-      let e : j + k ≡ f.state.instret - h.state.instret = (let x = a.counted in let y = b.counted in omega arith) in
-      record {
-        counted = (let x = a.counted in let y = b.counted in omega arith);
-        stepped = b.stepped ∙ ap (steps k) a.stepped ∙ sym (steps-add j k s) ∙ ap (λ i. steps i s) e;
-        buffer = b.buffer ∙ ap (λ (x : List Masked). x ++ flat_map buffered (dues k (seen memory g.state))) a.buffer
-            ∙ append_assoc h.state.buffer (flat_map buffered (dues j s)) (flat_map buffered (dues k (seen memory g.state)))
-            ∙ ap (λ (t : State). h.state.buffer ++ (flat_map buffered (dues j s) ++ flat_map buffered (dues k t))) a.stepped
-            ∙ ap (λ (x : List Masked). h.state.buffer ++ x) (sym (flat_map-append buffered (dues j s) (dues k (steps j s))))
-            ∙ ap (λ (x : List Record). h.state.buffer ++ flat_map buffered x) (sym (dues-add j k s))
-            ∙ ap (λ i. h.state.buffer ++ flat_map buffered (dues i s)) e;
-      }
+  pub puts_same : (h g f : Hart) → f.state ≡ g.state → Puts memory h g → Puts memory h f
+  puts_same h g f o puts =
+      subst (λ (x : HartState). x.buffer ≡ h.state.buffer ++ flat_map buffered (dues (x.instret - h.state.instret) (seen memory h.state))) (sym o) puts
 
--- one claim less is to be judged
-pub judged_less : (n i : ℕ) (m : Timed) → i < n → judged_under fences_wait (n - i) m ≡ judge_next (judged_under fences_wait (n - (i + 1))) m
-judged_less n i m h = ap (λ k. judged_under fences_wait k m) (let e : n - i ≡ suc (n - (i + 1)) = omega arith in e)
+  -- r committed; z is the hart's machine, but for what is under way
+  pub puts_one : (h g : Hart) (cycles : ℕ) (z : Timed) (r : Record) → timed cycles memory g ≡ committed z r → z.count ≡ h.state.instret → r ≡ record_of (seen memory h.state)
+      → g.state.buffer ≡ h.state.buffer ++ buffered r → Puts memory h g
+  unfolding committed
+  puts_one h g cycles z r is count due b =
+      let more : g.state.instret ≡ h.state.instret + 1 = ap (λ (x : Timed). x.count) is ∙ ap (λ k. k + 1) count in
+      puts_by h g 1 (omega arith)
+      (b ∙ ap (λ (x : Record). h.state.buffer ++ buffered x) due ∙ ap (λ (x : List Masked). h.state.buffer ++ x) (sym (append-nil (buffered (record_of (seen memory h.state))))))
 
--- an instruction committed; z is the hart's machine, but for what is pending
-pub grown_at : (memory : Bytes) (h g : Hart) (cycles : ℕ) (z : Timed) (r : Record) → timed cycles memory g ≡ committed z r → z.count ≡ h.state.instret → z.arch ≡ seen memory h.state → r ≡ record_of (seen memory h.state) → g.state.buffer ≡ h.state.buffer ++ buffered r → Grown memory h g
-unfolding committed step
-grown_at memory h g cycles z r is count arch due b =
-    grown_one memory h g (ap (λ (x : Timed). x.count) is ∙ ap (λ k. k + 1) count)
-    (ap (λ (x : Timed). x.arch) is ∙ ap (λ (t : State). apply t r) arch ∙ ap (apply (seen memory h.state)) due)
-    (b ∙ ap (λ (x : Record). h.state.buffer ++ buffered x) due)
+  pub puts_then : (cycles : ℕ) (h g f : Hart) → Rises (timed cycles memory h) (timed cycles memory g) → Rises (timed cycles memory g) (timed cycles memory f)
+      → Puts memory h g → Puts memory g f → Puts memory h f
+  puts_then cycles h g f first next a b =
+      let xs : List Record = dues (g.state.instret - h.state.instret) (seen memory h.state) in
+      let ys : List Record = dues (f.state.instret - g.state.instret) (seen memory g.state) in
+      b ∙ ap (λ (x : List Masked). x ++ flat_map buffered ys) a
+      ∙ append_assoc h.state.buffer (flat_map buffered xs) (flat_map buffered ys)
+      ∙ ap (λ (x : List Masked). h.state.buffer ++ x) (sym (flat_map-append buffered xs ys))
+      ∙ ap (λ (rs : List Record). h.state.buffer ++ flat_map buffered rs) (dues_then (timed cycles memory h) (timed cycles memory g) (timed cycles memory f) first next)
+
+-- claims become pending, which leads from u to v
+pub accepts_so : (cycles : ℕ) (memory : Bytes) (stores : ℕ) (state : HartState) (u v : UnderWay) (before : Timed) (list : List Record) (room : ℕ)
+    → (let with : UnderWay → Timed = λ (x : UnderWay). timed cycles memory (record { config = config_of stores 1 x; state = state; under = under_of x }) in
+    room ≡ room_of before
+    → (before.under.solo ≡ None → Tells before (with u))
+    → v ≡ record u {
+      pending = buffer (u.pending.items ++ map (fresh cycles) (if takes_claims (told_machine state 1 0 u) then take (min room (length list)) list else [])) u.pending.capacity;
+    }
+    → with v ≡ accepts before list (with u))
+accepts_so cycles memory stores state u v before list room is tells accepted =
+    let with : UnderWay → Timed = λ (x : UnderWay). timed cycles memory (record { config = config_of stores 1 x; state = state; under = under_of x }) in
+    let takes : Bool = takes_claims (with u) in
+    ap with accepted
+    ∙ ap (λ (ps : List PendingClaim). with_pending (with u) ps) (claims_more u.pending.items cycles (if takes then take (min room (length list)) list else []))
+    ∙ ap (λ (k : ℕ). with_pending (with u) ((with u).under.pending ++ map (accepted_in cycles) (if takes then take (min k (length list)) list else []))) is
+    ∙ ap (λ (claims : List Record). with_pending (with u) ((with u).under.pending ++ map (accepted_in cycles) (if takes then claims else []))) (take_min (room_of before) list)
+    ∙ accepts_open before (with u) list tells
 
 -- phases 2 to 5 make up the cycle
 pub cycle_from : (cycles : ℕ) (memory : Bytes) (list : List Record) (h g : Hart) → h.state.end ≡ 0 → timed cycles memory g ≡ phases_under fences_wait (timed cycles memory h) (timed cycles memory h) list → g.state.buffer ≡ h.state.buffer ++ added (timed cycles memory h) (timed cycles memory g) → g ≡ hart_cycle cycles memory list h

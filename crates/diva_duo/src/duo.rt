@@ -17,7 +17,7 @@ ghost use Rattle.diva_duo.specs.Inner.{CanCycle};
 use crate::action::Action;
 use crate::hart::Hart;
 use arrayvec::ArrayVec;
-use diva_core::{Claim, Claims, Config, FlushRow, Told, View};
+use diva_core::{Claims, Config, FlushRow, Told, View};
 use diva_image::Image;
 use diva_isa::End;
 use diva_memory::{Memory, Readable};
@@ -70,7 +70,7 @@ impl Parts {
 
     /// One cycle of harts that are not over.
     #[tactic(auto, unfolding(crate::specs::Duo::duo_cycle_of, crate::specs::Duo::duo_drained, crate::specs::Duo::actions), using(crate::proofs::Readying::inside_drained))]
-    fn cycle(&mut self, a: &[Claim], b: &[Claim])
+    fn cycle(&mut self, a: &Claims, b: &Claims)
         requires goes_on { is_over self.old.duo ≡ false }
         requires duo { IsDuo self.old.duo }
         requires cycles { self.old.duo.cycles < 2 ^ 60 }
@@ -102,14 +102,7 @@ fn drain(number: u8, hart: &mut Hart, memory: &mut Memory, last: &mut Actions)
 }
 
 /// Phases 2 to 5 of the hart of a number.
-fn run(
-    number: u8,
-    hart: &mut Hart,
-    memory: &Memory,
-    cycles: u64,
-    list: &[Claim],
-    last: &mut Actions,
-)
+fn run(number: u8, hart: &mut Hart, memory: &Memory, cycles: u64, list: &Claims, last: &mut Actions)
     requires ready { CanCycle hart.old }
     requires room { length last.old.items ≤ 6 }
     ensures hart { hart.new ≡ hart_cycle cycles memory.now list.now hart.old }
@@ -315,7 +308,7 @@ impl Duo {
     {
         self.parts.last.clear();
         if !self.parts.is_over() {
-            self.parts.cycle(a.as_slice(), b.as_slice());
+            self.parts.cycle(a, b);
         }
     }
 }

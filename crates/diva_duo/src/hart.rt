@@ -1,28 +1,30 @@
 // One hart: what it has for itself of the committed state, and what is under way. Memory is lent to it, and it changes memory
 // only where a store drains.
-ghost use Rattle.std.specs.Prelude.{◌≡◌, ◌+◌, ◌-◌, ◌<◌, ◌≤◌, ◌^◌, ◌++◌, [], ℕ, length, IfOk, IsTrue, Some, true, false, not, ◌==◌, ◌&&◌, if◌then◌else◌};
+ghost use Rattle.std.specs.Prelude.{◌≡◌, ◌+◌, ◌-◌, ◌<◌, ◌≤◌, ◌^◌, ◌++◌, [], ℕ, length, IfOk, None, Some, true, false, not, ◌==◌, ◌&&◌, if◌then◌else◌};
 ghost use Rattle.diva_decode.specs.Table.{row_of};
 ghost use Rattle.diva_isa.specs.End.{end_of, end_number};
 ghost use Rattle.diva_isa.specs.State.{output_limit};
 ghost use Rattle.diva_isa.specs.Step.{record_of};
 ghost use Rattle.diva_memory.specs.Bytes.{Bytes};
 ghost use Rattle.diva_image.specs.ImageLayout.{layout};
-ghost use Rattle.diva_core.specs.Timed.{Timed, room_of};
+ghost use Rattle.diva_core.specs.Timed.{Timed};
 ghost use Rattle.diva_core.specs.Told.{told_of};
-ghost use Rattle.diva_core.specs.Cycle.{accepts, commits_under, committed, flushed, judged_under, puts_store, watched};
-ghost use Rattle.diva_commit.specs.Committing.{AreInside, buffered};
+ghost use Rattle.diva_core.specs.Cycle.{commits_under, committed, flushed, watched};
+ghost use Rattle.diva_commit.specs.Committing.{AreInside, answer, buffered, is_committed};
 ghost use Rattle.diva_hart.specs.HartArch.{seen};
+ghost use Rattle.diva_hart.specs.Inner.{JudgesFront, JudgesReady, KeepsBounds, Tells};
 ghost use Rattle.diva_hart.specs.Start.{start_of};
-ghost use Rattle.diva_duo.specs.Rules.{fences_wait};
+ghost use Rattle.diva_duo.specs.Rules.{fences_wait, is_fence_by};
 ghost use Rattle.diva_duo.specs.Harts.{memory_drained};
 ghost use Rattle.diva_duo.specs.Duo.{drained_hart, hart_cycle, is_hart_over, new_hart, timed};
-ghost use Rattle.diva_duo.specs.Inner.{judge_next, Grown, NonePastEnd, CanCycle, KeepsBounds};
+ghost use Rattle.diva_duo.specs.Inner.{CanCycle, Puts};
 
-use diva_core::{Cause, Claim, Config, FlushRow, Told, View, first_difference};
+use diva_commit::Committed;
+use diva_core::{Cause, Claims, Config, FlushRow, Told, View, first_difference};
 use diva_decode::Instr;
 use diva_hart::{DEPTH, HartArch, Port, UnderWay};
 use diva_image::Image;
-use diva_isa::{Effect, End, Kind, Record, decoded_of, effect_by, fetch, kind_of, record_by};
+use diva_isa::{End, Kind, Record, decoded_of, fetch, kind_of, record_by};
 use diva_memory::Memory;
 use diva_watchdog::Recover;
 use std::alloc::{AllocError, Global};
@@ -153,59 +155,54 @@ impl Hart {
         requires silent { self.old.under.log.silent < 2 ^ 63 }
         ensures timed { (memory : Bytes) → timed cycles memory self.new ≡ flushed (timed cycles memory self.old) cause }
         ensures state { self.new.state ≡ self.old.state }
-        ensures pending { self.new.under.pending ≡ [] }
-        ensures bounds { KeepsBounds 0 self.old self.new }
     {
         let count = self.arch.count();
         self.under.flush(cycles, count, cause);
     }
 
-    /// Whether an equal claim waits: a store where the buffer is full, or a FENCE where it is not empty. `decoded` is what the
-    /// record's word says.
-    #[tactic(auto, unfolding(diva_core::specs::Cycle::puts_store, crate::specs::Rules::is_fence))]
-    fn waits(&self, decoded: Option<Instr>, due: &Record) -> bool
-        requires { decoded ≡ row_of due.now.word }
-        ensures { result ≡ fences_wait self.now.config.stores (length self.now.state.buffer) due.now }
+    /// Whether an equal claim waits by the rule that two harts alone have: it is a FENCE, and the buffer is not empty. `decoded` is what
+    /// its word says.
+    fn fence_waits(&self, decoded: Option<Instr>) -> bool
+        ensures { result ≡ (is_fence_by decoded && not (length self.now.state.buffer == 0)) }
     {
-        let stores = due.end == 0 && matches!(effect_by(decoded, due), Effect::Stores { .. });
-        let fences = match decoded {
+        let is_fence = match decoded {
             Some(i) => matches!(kind_of(i.op), Kind::Fence),
             None => false,
         };
-        stores && self.arch.is_full() || fences && self.arch.owed() != 0
+        is_fence && self.arch.owed() != 0
     }
 
-    /// The next instruction commits by its due record: what it stores goes to the buffer.
+    /// The next instruction commits by its due record, unless it is a store for which the buffer has no room.
     #[tactic(auto, unfolding(diva_core::specs::Cycle::committed))]
-    fn settle(&mut self, memory: &Memory, decoded: Option<Instr>, due: &Record)
+    fn settle(&mut self, memory: &Memory, decoded: Option<Instr>, due: &Record) -> Committed
         requires goes_on { self.old.state.end ≡ 0 }
         requires decoded { decoded ≡ row_of due.now.word }
         requires due { due.now ≡ record_of (seen memory.now self.old.state) }
-        requires room { (puts_store due.now && (length self.old.state.buffer == self.old.config.stores)) ≡ false }
         requires count { self.old.state.instret < 2 ^ 62 }
-        ensures timed { (cycles : ℕ) → timed cycles memory.now self.new ≡ committed (timed cycles memory.now self.old) due.now }
-        ensures buffer { self.new.state.buffer ≡ self.old.state.buffer ++ buffered due.now }
-        ensures pending { self.new.under.pending ≡ self.old.under.pending }
-        ensures bounds { KeepsBounds 1 self.old self.new }
-        ensures same { (self.new.under.log.flushes ≡ self.old.under.log.flushes) × (self.new.under.log.silent ≡ self.old.under.log.silent) }
+        ensures answer { result ≡ answer None due.now (length self.old.state.buffer == self.old.config.stores) }
+        ensures room { length self.old.state.buffer < self.old.config.stores → is_committed result ≡ true }
+        ensures stays { is_committed result ≡ false → self.new ≡ self.old }
+        ensures timed { (cycles : ℕ) → is_committed result ≡ true
+            → timed cycles memory.now self.new ≡ committed (timed cycles memory.now self.old) due.now }
+        ensures buffer { is_committed result ≡ true → self.new.state.buffer ≡ self.old.state.buffer ++ buffered due.now }
+        ensures count { is_committed result ≡ true → self.new.state.instret ≡ self.old.state.instret + 1 }
+        ensures under { self.new.under ≡ self.old.under }
     {
-        self.arch.commit(memory, decoded, due, None);
+        self.arch.commit(memory, decoded, due, None)
     }
 
-    /// Judges the front claim, if it is ready: whether a further one may be. It is judged by the state as it now stands, word and
-    /// loaded value included, since the other hart's stores have changed memory meanwhile.
-    #[tactic(auto, using(crate::proofs::Growing::grown_none))]
+    /// Judges the front claim, if it is ready: whether it committed and the hart goes on, so that another may be judged. It is judged by
+    /// the state as it now stands, word and loaded value included, since the other hart's stores have changed memory meanwhile.
+    #[tactic(auto, using(crate::proofs::Growing::puts_none))]
     fn judge_front(&mut self, memory: &Memory, cycles: u64) -> bool
-        requires none_past_end { NonePastEnd self.old }
+        requires goes_on { self.old.state.end ≡ 0 }
+        requires running { self.old.under.solo ≡ None }
+        requires owed { length self.old.state.buffer ≤ self.old.config.stores }
         requires count { self.old.state.instret < 2 ^ 62 }
         requires flushes { self.old.under.log.flushes < 2 ^ 63 }
         requires silent { self.old.under.log.silent < 2 ^ 63 }
-        ensures none_past_end { NonePastEnd self.new }
-        ensures judges { (next : Timed → Timed) → judge_next next (timed cycles memory.now self.old)
-            ≡ (if result then next (timed cycles memory.now self.new) else timed cycles memory.now self.new) }
-        ensures grown { Grown memory.now self.old self.new }
-        ensures bounds { KeepsBounds 1 self.old self.new }
-        ensures same { IsTrue result → (self.new.under.log.flushes ≡ self.old.under.log.flushes) × (self.new.under.log.silent ≡ self.old.under.log.silent) }
+        ensures judges { JudgesFront fences_wait (timed cycles memory.now self.old) (timed cycles memory.now self.new) result }
+        ensures buffer { Puts memory.now self.old self.new }
     {
         let Some(front) = self.under.pending.front() else {
             return false;
@@ -219,28 +216,28 @@ impl Hart {
             self.flush(cycles, Cause::Differs(diff));
             return false;
         }
-        if self.waits(decoded, &due) {
+        if self.fence_waits(decoded) {
             return false;
         }
-        self.under.pending.pop();
-        self.settle(memory, decoded, &due);
-        if !self.arch.goes_on() {
-            self.under.pending.clear();
+        if !self.settle(memory, decoded, &due).is_committed() {
+            return false;
         }
-        true
+        let goes_on = self.arch.goes_on();
+        self.under.leave_front(goes_on);
+        goes_on
     }
 
     /// Judges at most `n` ready claims, oldest first.
-    #[tactic(auto, using(crate::proofs::Growing::judged_less, crate::proofs::Growing::grown_then, crate::proofs::Growing::grown_none))]
     fn judge(&mut self, memory: &Memory, cycles: u64, n: u32)
         requires width { n ≤ 4 }
-        requires none_past_end { NonePastEnd self.old }
+        requires goes_on { self.old.state.end ≡ 0 }
+        requires running { self.old.under.solo ≡ None }
+        requires owed { length self.old.state.buffer ≤ self.old.config.stores }
         requires count { self.old.state.instret + 4 ≤ 2 ^ 62 }
-        requires flushes { self.old.under.log.flushes < 2 ^ 63 }
-        requires silent { self.old.under.log.silent < 2 ^ 63 }
-        ensures judged { timed cycles memory.now self.new ≡ judged_under fences_wait n (timed cycles memory.now self.old) }
-        ensures grown { Grown memory.now self.old self.new }
-        ensures bounds { KeepsBounds 4 self.old self.new }
+        requires flushes { self.old.under.log.flushes < 2 ^ 62 }
+        requires silent { self.old.under.log.silent < 2 ^ 62 }
+        ensures judges { JudgesReady fences_wait n (timed cycles memory.now self.old) (timed cycles memory.now self.new) }
+        ensures buffer { Puts memory.now self.old self.new }
     {
         for i in 0..n {
             if !self.judge_front(memory, cycles) {
@@ -249,18 +246,21 @@ impl Hart {
         }
     }
 
-    /// Phase 2.
-    #[tactic(auto, unfolding(diva_core::specs::Cycle::commits_under), using(crate::proofs::Growing::grown_none))]
+    /// Phase 2: what is ready commits, at most `width` claims or the solo instruction.
+    #[tactic(auto, unfolding(diva_core::specs::Cycle::commits_under), using(crate::proofs::Growing::puts_none))]
     fn commits(&mut self, memory: &Memory, cycles: u64)
         requires width { self.old.config.width ≤ 4 }
         requires goes_on { self.old.state.end ≡ 0 }
         requires owed { length self.old.state.buffer < self.old.config.stores }
         requires count { self.old.state.instret + 4 ≤ 2 ^ 62 }
-        requires flushes { self.old.under.log.flushes < 2 ^ 63 }
-        requires silent { self.old.under.log.silent < 2 ^ 63 }
+        requires flushes { self.old.under.log.flushes < 2 ^ 62 }
+        requires silent { self.old.under.log.silent < 2 ^ 62 }
         ensures commits { timed cycles memory.now self.new ≡ commits_under fences_wait (timed cycles memory.now self.old) }
-        ensures grown { Grown memory.now self.old self.new }
-        ensures bounds { KeepsBounds 4 self.old self.new }
+        ensures tells { self.old.under.solo ≡ None → Tells (timed cycles memory.now self.old) (timed cycles memory.now self.new) }
+        ensures counted { self.old.state.instret ≤ self.new.state.instret }
+        ensures few { self.new.state.instret ≤ self.old.state.instret + 4 }
+        ensures buffer { Puts memory.now self.old self.new }
+        ensures bounds { KeepsBounds (timed cycles memory.now self.old) (timed cycles memory.now self.new) }
     {
         match self.under.recover {
             Recover::Running => self.judge(memory, cycles, self.under.width),
@@ -271,21 +271,6 @@ impl Hart {
                     self.settle(memory, decoded, &due);
                 }
             }
-        }
-    }
-
-    /// Phase 4: the first `room` claims become pending, where phase 2 neither flushed nor ended; `flushes` came before it.
-    #[tactic(auto, unfolding(diva_core::specs::Cycle::accepts))]
-    fn accept(&mut self, cycles: u64, room: usize, flushes: u64, list: &[Claim])
-        requires { length self.old.under.pending + room ≤ self.old.config.window }
-        ensures accepts { (memory : Bytes) (before : Timed) → room_of before ≡ room → before.under.log.flushes ≡ flushes
-            → timed cycles memory self.new ≡ accepts before list.now (timed cycles memory self.old) }
-        ensures rest { self.new ≡ record self.old { under = record self.old.under { pending = self.new.under.pending } } }
-    {
-        if self.arch.goes_on() && self.under.log.flushes() == flushes {
-            self.under
-                .pending
-                .accept_all(&list[..room.min(list.len())], cycles);
         }
     }
 
@@ -300,15 +285,14 @@ impl Hart {
             → timed cycles memory self.new ≡ watched before (timed cycles memory self.old) }
         ensures state { self.new.state ≡ self.old.state }
     {
-        let barks = self.under.tick(self.arch.count() != count);
-        if barks && self.arch.goes_on() {
+        if self.under.tick(&self.arch, self.arch.count() != count) {
             let limit = self.under.watchdog.limit();
             self.flush(cycles, Cause::Silent(limit));
         }
     }
 
     /// Phases 2 to 5.
-    pub fn cycle(&mut self, memory: &Memory, cycles: u64, list: &[Claim])
+    pub fn cycle(&mut self, memory: &Memory, cycles: u64, list: &Claims)
         requires { CanCycle self.old }
         ensures cycled { self.new ≡ hart_cycle cycles memory.now list.now self.old }
         ensures counted { self.old.state.instret ≤ self.new.state.instret }
@@ -318,10 +302,9 @@ impl Hart {
             return;
         }
         let room = self.under.room(&self.arch);
-        let flushes = self.under.log.flushes();
         let count = self.arch.count();
         self.commits(memory, cycles);
-        self.accept(cycles, room, flushes, list);
+        self.under.accept(&self.arch, list, room, cycles);
         self.watch(cycles, count);
     }
 }

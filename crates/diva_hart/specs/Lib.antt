@@ -2,3 +2,5 @@
 pub mod HartArch
 pub mod Start
 pub mod UnderWay
+-- what only private contracts cite
+pub mod Inner

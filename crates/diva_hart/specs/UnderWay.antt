@@ -1,8 +1,8 @@
 -- What is under way: the pending claims, the instruction that runs solo, the watchdog, the log, and the number of undos.
--- Cited by `UnderWay::new`, `room`, `told` and `told_where`.
-use Rattle.std.specs.Prelude.{ℕ, [], map}
+-- Cited by `UnderWay::new`, `room`, `told`, `told_where`, `accept` and `tick`.
+use Rattle.std.specs.Prelude.{ℕ, [], map, Bool, ◌&&◌, is_none}
 use Rattle.circular_buffer.specs.Buffer.{buffer}
-use Rattle.diva_isa.specs.State.{State}
+use Rattle.diva_isa.specs.State.{State, goes_on}
 use Rattle.diva_core.specs.Timed.{Config, Timed, new_log, UnderWay as Under}
 use Rattle.diva_core.specs.Entries.{pending_claim_of}
 use Rattle.diva_watchdog.specs.Solo.{solo_of}
@@ -50,3 +50,7 @@ told_state h = record { regs = []; pc = h.pc; base = 0; bytes = []; output = [];
 -- as much of a hart's machine
 abbrev pub told_machine : HartState → (port cycles : ℕ) → UnderWay → Timed
 told_machine h port cycles u = timed_of (told_state h) 0 0 port cycles u
+
+-- claims may be accepted behind phase 2, if there was room before it: the hart goes on, and no instruction runs solo
+abbrev pub takes_claims : Timed → Bool
+takes_claims m = goes_on m.arch && is_none m.under.solo

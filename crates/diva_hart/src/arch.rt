@@ -145,14 +145,6 @@ impl HartArch {
         self.queue.owed()
     }
 
-    /// Whether there is no room for one store more.
-    #[inline(always)]
-    pub fn is_full(&self) -> bool
-        ensures { result ≡ (length self.now.state.buffer == self.now.stores) }
-    {
-        self.queue.full()
-    }
-
     /// Puts the oldest store to memory, if there is one.
     #[inline(always)]
     pub fn drain(&mut self, memory: &mut Memory)

@@ -8,7 +8,8 @@
 //!
 //! `specs/Start.antt` says in which state an image starts, `specs/HartArch.antt` what state a hart sees, and what becomes of it by a
 //! record; `specs/UnderWay.antt` says which timed machine a state and what is under way make up. What a log has, and what a row more makes
-//! of it, stands in `diva_core`, in `specs/Timed.antt` (`Log`) and `specs/Cycle.antt` (`logged`).
+//! of it, stands in `diva_core`, in `specs/Timed.antt` (`Log`) and `specs/Cycle.antt` (`logged`). `Inner` says what to judge a claim does to
+//! such a machine, and to judge some: for private contracts of the machine and of a hart of two alone.
 #![tactic(auto)]
 
 mod arch;

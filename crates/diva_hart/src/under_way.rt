@@ -1,18 +1,18 @@
 // What is under way between two commits.
-ghost use Rattle.std.specs.Prelude.{◌≡◌, ◌≤◌, ◌<◌, ◌+◌, ◌-◌, ◌^◌, ◌&&◌, ◌==◌, [], length, IfOk, is_none, nat_le, not, true};
+ghost use Rattle.std.specs.Prelude.{◌≡◌, ◌≤◌, ◌<◌, ◌+◌, ◌-◌, ◌^◌, ◌&&◌, ◌==◌, ◌++◌, [], length, map, min, take, drop, IfOk, nat_le, not, true, if◌then◌else◌};
 ghost use Rattle.circular_buffer.specs.Buffer.{buffer};
 ghost use Rattle.diva_core.specs.Timed.{room_of};
 ghost use Rattle.diva_core.specs.Told.{told_of};
 ghost use Rattle.diva_core.specs.Cycle.{logged};
-ghost use Rattle.diva_watchdog.specs.Solo.{solo_of};
+ghost use Rattle.diva_core.specs.Entries.{fresh};
 ghost use Rattle.diva_watchdog.specs.Watchdog.{ticked};
 ghost use Rattle.diva_watchdog.specs.declared.recover.Recover.TheVariants.{Running, Solo};
-ghost use Rattle.diva_hart.specs.UnderWay.{new_under_way, told_machine};
+ghost use Rattle.diva_hart.specs.UnderWay.{new_under_way, takes_claims, told_machine};
 
 use crate::arch::HartArch;
 use crate::log::Log;
 use crate::port::Port;
-use diva_core::{Cause, Config, FlushRow, Pending, Told};
+use diva_core::{Cause, Claim, Claims, Config, FlushRow, Pending, Told};
 use diva_watchdog::{Recover, Watchdog};
 use std::alloc::{AllocError, Global};
 
@@ -135,18 +135,70 @@ impl UnderWay {
         }
     }
 
-    /// Ends a cycle in which an instruction committed, or none did: whether the watchdog calls for a flush.
+    /// Whether claims may be accepted behind the commit phase, if there was room before it.
     #[inline(always)]
-    pub fn tick(&mut self, committed: bool) -> bool
+    fn takes_claims(&self, hart: &HartArch) -> bool
+        ensures { result ≡ takes_claims (told_machine hart.now.state 1 0 self.now) }
+    {
+        hart.goes_on() && matches!(self.recover, Recover::Running)
+    }
+
+    /// Takes out the front claim, which has committed, and all others if that ended the hart.
+    #[inline(always)]
+    pub fn leave_front(&mut self, goes_on: bool)
+        requires { 0 < length self.old.pending.items }
+        ensures { self.new ≡ record self.old {
+          pending = buffer (if goes_on then drop 1 self.old.pending.items else []) self.old.pending.capacity;
+        } }
+    {
+        self.pending.pop();
+        if !goes_on {
+            self.pending.clear();
+        }
+    }
+
+    /// Phase 4 of a cycle: the first claims of a list, so many at most, become pending, where any may. In most cycles there is none,
+    /// which is asked of the list here: so nothing of it has to be at hand till now.
+    #[inline(always)]
+    pub fn accept(&mut self, hart: &HartArch, list: &Claims, most: usize, cycle: u64)
+        requires room { length self.old.pending.items + min most (length list.now) ≤ self.old.pending.capacity }
+        ensures { self.new ≡ record self.old {
+          pending = buffer (self.old.pending.items ++ map (fresh cycle)
+              (if takes_claims (told_machine hart.now.state 1 0 self.old) then take (min most (length list.now)) list.now else []))
+              self.old.pending.capacity;
+        } }
+    {
+        if !list.is_empty() && self.takes_claims(hart) {
+            let count = list.len().min(most);
+            self.accept_all(&list.as_slice()[..count], cycle);
+        }
+    }
+
+    /// The same, where it is known which.
+    fn accept_all(&mut self, claims: &[Claim], cycle: u64)
+        requires { length self.old.pending.items + length claims.now ≤ self.old.pending.capacity }
+        ensures { self.new ≡ record self.old {
+          pending = buffer (self.old.pending.items ++ map (fresh cycle) claims.now) self.old.pending.capacity;
+        } }
+    {
+        if !claims.is_empty() {
+            self.pending.accept_all(claims, cycle);
+        }
+    }
+
+    /// Phase 5 of a cycle in which an instruction committed, or none did: whether the watchdog barks.
+    #[inline(always)]
+    pub fn tick(&mut self, hart: &HartArch, committed: bool) -> bool
+        requires { self.old.watchdog.idle < 2 ^ 32 - 1 }
         ensures rest { self.new ≡ record self.old { watchdog = ticked self.old.watchdog committed } }
-        ensures barks { result ≡ (not committed && (nat_le self.new.watchdog.limit self.new.watchdog.idle && is_none (solo_of self.old.recover))) }
+        ensures barks { result ≡ (not committed
+            && (nat_le self.new.watchdog.limit self.new.watchdog.idle && takes_claims (told_machine hart.now.state 1 0 self.old))) }
     {
         if committed {
             self.watchdog.rest();
             return false;
         }
-        let alone = matches!(self.recover, Recover::Solo(_));
-        self.watchdog.tick(false, alone)
+        self.watchdog.wait() && self.takes_claims(hart)
     }
 
     /// Drops what is pending, and goes on so.

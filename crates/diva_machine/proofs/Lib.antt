@@ -1,6 +1,4 @@
-pub mod Fronts
 pub mod Laws
-pub mod Telling
 pub mod Verdicts
 pub mod Staging
 pub mod Judged

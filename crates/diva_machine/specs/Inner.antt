@@ -1,5 +1,5 @@
 -- What only private contracts of this crate cite. A reader of its promises can pass over it.
-use Rattle.std.specs.Prelude.{ℕ, ◌==◌, if◌then◌else◌, ◌≡◌, ◌≤◌, ◌+◌, ◌^◌, ◌&&◌, Bool, List, length, Some, ◌-◌, ◌<◌, [], ◌++◌, map, drop, slice_get, is_none}
+use Rattle.std.specs.Prelude.{ℕ, ◌==◌, if◌then◌else◌, ◌≡◌, ◌≤◌, ◌+◌, ◌^◌, Bool, List, length, Some, ◌-◌, ◌<◌, [], ◌++◌, map, drop, slice_get}
 use Rattle.diva_isa.specs.State.{goes_on, State}
 use Rattle.diva_core.specs.Timed.{Timed}
 use Rattle.diva_machine.specs.declared.ends.Reach.{Reach}
@@ -12,9 +12,7 @@ use Rattle.diva_machine.specs.Machine.{Machine}
 use Rattle.diva_memory.specs.Bytes.{Bytes}
 use Rattle.diva_storeq.specs.declared.masked.Masked.{Masked}
 use Rattle.diva_commit.specs.Committing.{AreInside}
-use Rattle.diva_core.specs.Cycle.{Judgement, Commit, Flush, Wait, judged_under, judgement_under, stores_wait, with_pending}
-use Rattle.diva_machine.specs.declared.front.Judged.{Judged}
-use Rattle.diva_machine.specs.declared.front.Judged.TheVariants.{Committed, Ended, Flushed, Waits}
+use Rattle.diva_core.specs.Cycle.{with_pending}
 use Rattle.diva_core.specs.declared.pending.Entry.{Entry}
 use Rattle.diva_core.specs.Entries.{pending_claim_of}
 use Rattle.diva_core.specs.Future.{committed_file, without_oldest}
@@ -49,37 +47,6 @@ pub record Arch : Type 0 where
 pub record HasStoresInside (m : Bytes) (stores : List Masked) : Type 0 where
   pub range : m.base + length m.items ≤ 2 ^ 32
   pub inside : AreInside m stores
-
--- what a part of a cycle keeps of a machine, and how far its numbers go
-pub record KeepsBounds (m last : Timed) : Type 0 where
-  pub config : last.config ≡ m.config
-  pub cycles : last.cycles ≡ m.cycles
-  pub idle : last.under.idle ≡ m.under.idle
-  pub owed : last.owed ≤ m.config.stores
-  pub pending : length last.under.pending ≤ length m.under.pending
-  pub flushes : last.under.log.flushes ≤ m.under.log.flushes + 1
-  pub silent : last.under.log.silent ≤ m.under.log.silent + 1
-
--- what becomes of the front claim by the machine's rule, and the machine where at most n ready claims are judged by it
-abbrev pub judgement_of : Timed → Judgement
-judgement_of = judgement_under stores_wait
-
-abbrev pub judged : ℕ → Timed → Timed
-judged = judged_under stores_wait
-
--- what became of a front claim, by its judgement and by whether the machine goes on then
-abbrev pub judged_by : Judgement → (goes : Bool) → Judged
-judged_by Commit goes = if goes then Committed else Ended
-judged_by (Flush d) goes = Flushed
-judged_by Wait goes = Waits
-
--- claims may be accepted behind the commit phase, if there was room before it: the machine goes on, and no instruction runs solo
-abbrev pub takes_claims : Timed → Bool
-takes_claims m = goes_on m.arch && is_none m.under.solo
-
--- that is so exactly where the machine goes on and has not flushed, m being the one before that phase and n the one behind it
-abbrev pub Tells : (m n : Timed) → Type 0
-Tells m n = takes_claims n ≡ (goes_on n.arch && (n.under.log.flushes == m.under.log.flushes))
 
 -- the entries before a place have gone through the stages of the cycle now + 1, the others through those of `now`
 pub record IsAdvanced (arch : State) (now at : ℕ) (entries : List Entry) : Type 0 where

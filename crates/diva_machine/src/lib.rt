@@ -4,7 +4,6 @@
 //! - `stages`: what a pending claim passes through at each age, `Stages`: the checks, `Checks`;
 //! - `panel`: or three lanes that vote in their place, with how often each was outvoted, `Panel`;
 //! - `parts`: the parts of the machine, and the phases of a cycle over them;
-//! - `front`: what became of the front claim, `Judged`;
 //! - `machine`: the machine between cycles, `Machine`;
 //! - `ends`: how a drive to a count stopped, `Reach`; of another drive `Drive` of `diva_hart` says so;
 //! - `turns`: a machine and a core, turn by turn, `turn` and `drive`;
@@ -23,7 +22,6 @@
 
 mod arch;
 mod ends;
-mod front;
 mod machine;
 mod panel;
 mod parts;

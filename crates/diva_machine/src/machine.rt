@@ -353,23 +353,6 @@ impl Machine {
         !self.parts.last.is_empty()
     }
 
-    /// The same for a machine that goes on, where there is room for all claims of the list.
-    #[inline(always)]
-    fn cycle_fitting<S: Stages>(&mut self, list: &Claims, stages: &mut S) -> bool
-        requires goes_on { goes_on self.old.timed.arch ≡ true }
-        requires cycles { self.old.timed.cycles < 2 ^ 60 }
-        requires fits { length list.now ≤ room_of self.old.timed }
-        requires stages_sound { S.sound stages.old }
-        ensures stages_sound { S.sound stages.new }
-        ensures led { (first : S) (before : List Question) → S.led first before stages.old
-            → S.led first (before ++ asked_of self.old.timed) stages.new }
-        ensures is { IsCycle self.old self.new list.now }
-        ensures none { result ≡ false → self.new.last ≡ [] }
-        ensures outvoted { self.new.outvoted ≡ self.old.outvoted }
-    {
-        self.parts.cycle(list, usize::MAX, stages)
-    }
-
     /// The same for a machine that goes on, where it is known whether there is room for all claims of the list.
     #[inline(always)]
     pub(crate) fn cycle_within<S: Stages>(
@@ -390,7 +373,7 @@ impl Machine {
         ensures outvoted { self.new.outvoted ≡ self.old.outvoted }
     {
         if fits {
-            self.cycle_fitting(list, stages)
+            self.parts.cycle(list, usize::MAX, stages)
         } else {
             self.cycle_called(list, stages)
         }

@@ -17,22 +17,22 @@ ghost use Rattle.diva_core.specs.Entries.{pending_claim_of};
 ghost use Rattle.diva_core.specs.Future.{IsFuture, committed_file};
 ghost use Rattle.diva_core.specs.Older.{before_entry};
 ghost use Rattle.diva_core.specs.Machine.{IsMachine, IsConfig};
-ghost use Rattle.diva_core.specs.Headline.{dues, SameLog};
+ghost use Rattle.diva_core.specs.Headline.{dues};
 ghost use Rattle.diva_core.specs.Cycle.{Commit, accepted_in, accepts, commits_under, committed, cycle_of, drained, flushed, number, port_opens, stores_wait, watched, with_pending, without_solo};
 ghost use Rattle.diva_core.specs.declared.flushes.Cause.TheVariants.{Silent};
 ghost use Rattle.diva_commit.specs.Committing.{answer, is_committed};
 ghost use Rattle.diva_hart.specs.Start.{start_of};
+ghost use Rattle.diva_hart.specs.UnderWay.{takes_claims};
+ghost use Rattle.diva_hart.specs.Inner.{JudgesFront, JudgesReady, KeepsBounds, Tells};
 ghost use Rattle.diva_vote.specs.Questions.{Question};
 ghost use Rattle.diva_machine.specs.Asked.{asked_at, asked_in, asked_of};
-ghost use Rattle.diva_machine.specs.Inner.{judged, judged_by, judgement_of, KeepsBounds, Tells};
 ghost use Rattle.diva_machine.specs.Staged.{last_stage, IsFilled, IsSoloFilled, IsStaged};
-ghost use Rattle.diva_machine.specs.Inner.{left, takes_claims, IsAdvanced};
+ghost use Rattle.diva_machine.specs.Inner.{left, IsAdvanced};
 
 use crate::arch::Arch;
-use crate::front::Judged;
 use crate::stages::{LAST_STAGE, Stages, fill};
 use diva_commit::Committed;
-use diva_core::{Cause, Claim, Claims, Config, Entry, FutureFile, Records, Told};
+use diva_core::{Cause, Claims, Config, Entry, FutureFile, Records, Told};
 use diva_decode::decode;
 use diva_hart::{DEPTH, Port, UnderWay};
 use diva_image::Image;
@@ -246,28 +246,26 @@ impl Parts {
 
     /// Takes out the front claim, which has committed, and all others where that ended the machine.
     #[inline(always)]
-    fn leave_front(&mut self) -> Judged
+    fn leave_front(&mut self)
         requires there { 0 < length self.old.entries }
         requires passed { 0 < self.old.passed }
-        ensures answer { result ≡ judged_by Commit (goes_on self.old.timed.arch) }
-        ensures left { self.new ≡ left (goes_on self.old.timed.arch) self.old }
+        ensures { self.new ≡ left (goes_on self.old.timed.arch) self.old }
     {
-        self.under.pending.pop();
-        self.passed -= 1;
-        self.future.leave(self.arch.regs());
-        if !self.arch.goes_on() {
-            self.under.pending.clear();
+        let goes_on = self.arch.goes_on();
+        self.under.leave_front(goes_on);
+        if goes_on {
+            self.passed -= 1;
+            self.future.leave(self.arch.regs());
+        } else {
             self.passed = 0;
             self.future.reset(self.arch.regs());
-            return Judged::Ended;
         }
-        Judged::Committed
     }
 
-    /// Judges the front claim, which is ready.
+    /// Judges the front claim, which is ready: whether it committed and the machine goes on, so that another may be judged.
     #[inline(always)]
     #[tactic(auto, using(crate::proofs::Staging::filled_young), unfolding(diva_core::specs::Cycle::committed, diva_core::specs::Cycle::flushed))]
-    fn judge_front(&mut self) -> Judged
+    fn judge_front(&mut self) -> bool
         requires ready { 0 < self.old.passed }
         requires goes_on { GoesOn self.old.timed.arch }
         requires owed { self.old.timed.owed ≤ self.old.timed.config.stores }
@@ -278,33 +276,25 @@ impl Parts {
         requires cycles { 1 ≤ self.old.timed.cycles }
         requires running { self.old.timed.under.solo ≡ None }
         requires staged { IsStaged (self.old.timed.cycles - 1) self.old }
-        ensures answer { result ≡ judged_by (judgement_of self.old.timed) (goes_on self.new.timed.arch) }
-        ensures timed { self.new.timed ≡ judged 1 self.old.timed }
-        ensures counted { self.old.timed.count ≤ self.new.timed.count }
-        ensures one { self.new.timed.count ≤ self.old.timed.count + 1 }
-        ensures stepped { self.new.timed.arch
-            ≡ steps (self.new.timed.count - self.old.timed.count) self.old.timed.arch }
+        ensures judges { JudgesFront stores_wait self.old.timed self.new.timed result }
         ensures last { self.new.last
             ≡ self.old.last ++ dues (self.new.timed.count - self.old.timed.count) self.old.timed.arch }
-        ensures running { result ≡ Judged.Committed → self.new.timed.under.solo ≡ None }
-        ensures same { result ≡ Judged.Committed → SameLog self.old.timed self.new.timed }
-        ensures bounds { KeepsBounds self.old.timed self.new.timed }
         ensures staged { IsStaged (self.new.timed.cycles - 1) self.new }
         ensures solo { IsSoloFilled self.new.timed.cycles self.new }
     {
         if let Some(diff) = self.under.pending.at(0).verdict {
             self.flush(Cause::Differs(diff));
-            return Judged::Flushed;
+            return false;
         }
         if !self.settle_front().is_committed() {
-            return Judged::Waits;
+            return false;
         }
-        self.leave_front()
+        self.leave_front();
+        self.arch.goes_on()
     }
 
     /// Judges at most `n` ready claims, oldest first.
     #[inline(always)]
-    #[tactic(auto, using(crate::proofs::Fronts::judged_less))]
     fn judge(&mut self, n: u32)
         requires width { n ≤ 4 }
         requires goes_on { GoesOn self.old.timed.arch }
@@ -316,23 +306,18 @@ impl Parts {
         requires cycles { 1 ≤ self.old.timed.cycles }
         requires running { self.old.timed.under.solo ≡ None }
         requires staged { IsStaged (self.old.timed.cycles - 1) self.old }
-        ensures judged { self.new.timed ≡ judged n self.old.timed }
-        ensures tells { Tells self.old.timed self.new.timed }
-        ensures counted { self.old.timed.count ≤ self.new.timed.count }
+        ensures judges { JudgesReady stores_wait n self.old.timed self.new.timed }
         ensures last { self.new.last
             ≡ dues (self.new.timed.count - self.old.timed.count) self.old.timed.arch }
-        ensures bounds { KeepsBounds self.old.timed self.new.timed }
         ensures staged { IsStaged (self.new.timed.cycles - 1) self.new }
         ensures solo { IsSoloFilled self.new.timed.cycles self.new }
     {
         let mut at = 0;
         while self.passed > 0 && at < n {
-            match self.judge_front() {
-                Judged::Committed => at += 1,
-                Judged::Ended => return,
-                Judged::Flushed => return,
-                Judged::Waits => return,
+            if !self.judge_front() {
+                return;
             }
+            at += 1;
         }
     }
 
@@ -486,18 +471,9 @@ impl Parts {
         }
     }
 
-    /// Whether claims may be accepted behind the commit phase, if there was room before it.
+    /// Phase 4: the first claims of a list, so many at most, become pending, where any may.
     #[inline(always)]
-    fn takes_claims(&self) -> bool
-        ensures { result ≡ takes_claims self.now.timed }
-    {
-        self.arch.goes_on() && matches!(self.under.recover, Recover::Running)
-    }
-
-    /// Phase 4: the first claims of a list, so many at most, become pending, where any may. In most cycles there is none, which
-    /// is asked of the list here: so nothing of it has to be at hand till now.
-    #[inline(always)]
-    fn accept_within(&mut self, list: &Claims, most: usize)
+    fn accept(&mut self, list: &Claims, most: usize)
         requires room { length self.old.timed.under.pending + min most (length list.now) ≤ self.old.timed.config.window }
         ensures timed { self.new.timed ≡ with_pending self.old.timed (self.old.timed.under.pending
             ++ map (accepted_in self.old.timed.cycles) (if takes_claims self.old.timed then take (min most (length list.now)) list.now else [])) }
@@ -505,24 +481,7 @@ impl Parts {
         ensures staged { IsStaged self.old.timed.cycles self.old → IsStaged self.new.timed.cycles self.new }
         ensures solo { IsSoloFilled self.old.timed.cycles self.old → IsSoloFilled self.new.timed.cycles self.new }
     {
-        if !list.is_empty() && self.takes_claims() {
-            let count = list.len().min(most);
-            self.accept(&list.as_slice()[..count]);
-        }
-    }
-
-    /// The same, where it is known which.
-    fn accept(&mut self, accepted: &[Claim])
-        requires { length self.old.timed.under.pending + length accepted.now ≤ self.old.timed.config.window }
-        ensures timed { self.new.timed
-            ≡ with_pending self.old.timed (self.old.timed.under.pending ++ map (accepted_in self.old.timed.cycles) accepted.now) }
-        ensures rest { self.new ≡ record self.old { timed = self.new.timed; entries = self.new.entries } }
-        ensures staged { IsStaged self.old.timed.cycles self.old → IsStaged self.new.timed.cycles self.new }
-        ensures solo { IsSoloFilled self.old.timed.cycles self.old → IsSoloFilled self.new.timed.cycles self.new }
-    {
-        if !accepted.is_empty() {
-            self.under.pending.accept_all(accepted, self.cycles);
-        }
+        self.under.accept(self.arch.own(), list, most, self.cycles);
     }
 
     /// Phase 5: the watchdog. `committed` tells whether the cycle counted an instruction.
@@ -539,9 +498,7 @@ impl Parts {
         ensures staged { IsStaged self.old.timed.cycles self.old → IsStaged self.new.timed.cycles self.new }
         ensures solo { IsSoloFilled self.old.timed.cycles self.old → IsSoloFilled self.new.timed.cycles self.new }
     {
-        if committed {
-            self.under.watchdog.rest();
-        } else if self.under.watchdog.wait() && self.takes_claims() {
+        if self.under.tick(self.arch.own(), committed) {
             self.bark();
         }
     }
@@ -591,7 +548,7 @@ impl Parts {
         self.drain();
         self.commits();
         self.advance(stages);
-        self.accept_within(list, most);
+        self.accept(list, most);
         let committed = !self.last.is_empty();
         self.watch(committed);
         committed

@@ -1,32 +1,37 @@
-use Rattle.std.proofs.Common.{◌≡◌, ◌+◌, ◌-◌, Bool, true, ap, sym, ◌∙◌, arith, if◌then◌else◌}
-use Rattle.diva_core.specs.Cycle.{judged_under}
-use Rattle.diva_core.specs.Timed.{Timed}
+use Rattle.std.proofs.Common.{refl, subst, arith}
+use Rattle.diva_hart.specs.Inner.{JudgesFront}
+use Rattle.diva_hart.proofs.Fronts.{judging_begins, judging_ends, judging_goes_on, judging_stops, none_left}
 use Rattle.diva_duo.specs.Rules.{fences_wait}
 use Rattle.diva_duo.specs.Duo.{timed}
-use Rattle.diva_duo.proofs.Growing.{grown_then, judged_less}
+use Rattle.diva_duo.proofs.Growing.{puts_none, puts_then}
 use Rattle.diva_duo.proofs.hart.Hart.judge.Goals as goal
 
-pub returns-then-not-judge_front-clause-grown : goal.returns-then-not-judge_front-clause-grown
-returns-then-not-judge_front-clause-grown c =
-    grown_then c.args.memory.now c.args.self.now c.loop-i.self c.judge_front.new.self c.loop-i.invariant.grown c.judge_front.ensures.grown
+pub loop-i-init : goal.loop-i-init
+loop-i-init c =
+    record {
+      so_far = judging_begins fences_wait c.args.n (timed c.args.cycles c.args.memory.now c.args.self.now) c.requires.owed c.requires.goes_on c.requires.running;
+      puts = puts_none c.args.memory.now c.args.self.now c.args.self.now refl;
+    }
+
+pub returns-clause-judges : goal.returns-clause-judges
+returns-clause-judges c =
+    judging_ends fences_wait c.args.n c.loop-i.i _ _ c.loop-i.invariant.so_far (omega arith) (none_left fences_wait c.args.n c.loop-i.i _ (omega arith))
+
+pub returns-then-not-judge_front-clause-judges : goal.returns-then-not-judge_front-clause-judges
+returns-then-not-judge_front-clause-judges c =
+    judging_stops fences_wait c.args.n c.loop-i.i _ _ _ c.loop-i.invariant.so_far (omega arith)
+    (subst (JudgesFront fences_wait _ _) c.if-not-judge_front.true c.judge_front.ensures.judges)
+
+pub returns-then-not-judge_front-clause-buffer : goal.returns-then-not-judge_front-clause-buffer
+returns-then-not-judge_front-clause-buffer c =
+    puts_then c.args.memory.now c.args.cycles c.args.self.now c.loop-i.self c.judge_front.new.self c.loop-i.invariant.so_far.rises c.judge_front.ensures.judges.rises
+    c.loop-i.invariant.puts c.judge_front.ensures.buffer
 
 pub loop-i-preserved : goal.loop-i-preserved
 loop-i-preserved c =
-    let inv = c.loop-i.invariant in
-    let next : Timed → Timed = judged_under fences_wait (c.args.n - (c.loop-i.i + 1)) in
-    let old : Timed = timed c.args.cycles c.args.memory.now c.loop-i.self in
-    let new : Timed = timed c.args.cycles c.args.memory.now c.judge_front.new.self in
-    let bounds = c.judge_front.ensures.bounds in
-    let yes : c.judge_front.result ≡ true = c.if-not-judge_front.false in
-    let same = c.judge_front.ensures.same yes in
     record {
-      left = sym (ap (λ (b : Bool). if b then next new else new) yes) ∙ sym (c.judge_front.ensures.judges next) ∙ sym (judged_less c.args.n c.loop-i.i old (omega arith)) ∙ inv.left;
-      none_past_end = c.judge_front.ensures.none_past_end;
-      grown = grown_then c.args.memory.now c.args.self.now c.loop-i.self c.judge_front.new.self inv.grown c.judge_front.ensures.grown;
-      config = bounds.config ∙ inv.config;
-      idle = bounds.idle ∙ inv.idle;
-      count = (let a = bounds.count in let b = inv.count in omega arith);
-      pending = (let a = bounds.pending in let b = inv.pending in omega arith);
-      flushes = same.0 ∙ inv.flushes;
-      silent = same.1 ∙ inv.silent;
+      so_far = judging_goes_on fences_wait c.args.n c.loop-i.i _ _ _ c.loop-i.invariant.so_far (omega arith)
+          (subst (JudgesFront fences_wait _ _) c.if-not-judge_front.false c.judge_front.ensures.judges);
+      puts = puts_then c.args.memory.now c.args.cycles c.args.self.now c.loop-i.self c.judge_front.new.self c.loop-i.invariant.so_far.rises c.judge_front.ensures.judges.rises
+          c.loop-i.invariant.puts c.judge_front.ensures.buffer;
     }

@@ -8,14 +8,15 @@ use Rattle.diva_core.specs.Timed.{Timed, depth, room_of}
 use Rattle.diva_core.specs.Cycle.{accepted_in, accepts, begun, commits_under, cycle_under, drained, watched, stores_wait, with_pending}
 use Rattle.diva_core.specs.Headline.{dues}
 use Rattle.diva_core.proofs.Passing.{alone_stores}
+use Rattle.diva_hart.specs.UnderWay.{takes_claims}
+use Rattle.diva_hart.specs.Inner.{Tells}
+use Rattle.diva_hart.proofs.Dues.{watched-count, accepts-count, none-due}
+use Rattle.diva_hart.proofs.Telling.{accepts_open}
 use Rattle.diva_vote.specs.Questions.{Question}
 use Rattle.diva_machine.specs.Asked.{asked_in, asked_of}
 use Rattle.diva_machine.proofs.Asking.{asked_shown, alone_pending}
-use Rattle.diva_machine.specs.Inner.{takes_claims, Tells}
 use Rattle.diva_machine.specs.Staged.{Parts}
 use Rattle.diva_machine.proofs.Staging.{staged_begun}
-use Rattle.diva_machine.proofs.Fronts.{watched-count, accepts-count, none-due}
-use Rattle.diva_machine.proofs.Telling.{accepts_open}
 use Rattle.diva_machine.proofs.parts.Parts.cycle.Given as given
 use Rattle.diva_machine.proofs.parts.Parts.cycle.Goals as goal
 
@@ -50,37 +51,37 @@ tells g c none =
     c.commits.ensures.tells (ap (λ (m : Timed). m.under.solo) (begins g c) ∙ none)
     ∙ ap (λ (m : Timed). goes_on c.commits.new.self.timed.arch && (c.commits.new.self.timed.under.log.flushes == m.under.log.flushes)) (begins g c)
 
-admits : (g : given.Over) (c : goal.After-watch g) → c.accept_within.new.self.timed ≡ accepts c.args.self.now.timed c.args.list.now c.commits.new.self.timed
+admits : (g : given.Over) (c : goal.After-watch g) → c.accept.new.self.timed ≡ accepts c.args.self.now.timed c.args.list.now c.commits.new.self.timed
 admits g c =
     let n : Timed = c.commits.new.self.timed in
     let within = λ (m : Timed) (claims : List Record). with_pending m (m.under.pending ++ map (accepted_in m.cycles) (if takes_claims m then claims else [])) in
-    c.accept_within.ensures.timed
+    c.accept.ensures.timed
     ∙ ap (λ (z : Parts). within z.timed (take (min c.args.most (length c.args.list.now)) c.args.list.now)) c.advance.ensures.rest
     ∙ ap (λ (k : ℕ). within n (take k c.args.list.now)) c.requires.count
     ∙ ap (within n) (take_min (room_of c.args.self.now.timed) c.args.list.now)
     ∙ accepts_open c.args.self.now.timed n c.args.list.now (tells g c)
 
 -- the instructions that were counted are those whose records came due
-comes-due : (g : given.Over) (c : goal.After-watch g) → c.accept_within.new.self.last ≡ dues (c.accept_within.new.self.timed.count - c.args.self.now.timed.count) c.args.self.now.timed.arch
+comes-due : (g : given.Over) (c : goal.After-watch g) → c.accept.new.self.last ≡ dues (c.accept.new.self.timed.count - c.args.self.now.timed.count) c.args.self.now.timed.arch
 unfolding drained
 comes-due g c =
     let old : Timed = c.args.self.now.timed in
-    let after : c.accept_within.new.self.timed.count ≡ c.commits.new.self.timed.count = ap (λ z. z.count) (admits g c) ∙ accepts-count old c.commits.new.self.timed c.args.list.now in
-    ap (λ (z : Parts). z.last) c.accept_within.ensures.rest ∙ ap (λ (z : Parts). z.last) c.advance.ensures.rest ∙ c.commits.ensures.last
+    let after : c.accept.new.self.timed.count ≡ c.commits.new.self.timed.count = ap (λ z. z.count) (admits g c) ∙ accepts-count old c.commits.new.self.timed c.args.list.now in
+    ap (λ (z : Parts). z.last) c.accept.ensures.rest ∙ ap (λ (z : Parts). z.last) c.advance.ensures.rest ∙ c.commits.ensures.last
     ∙ ap (λ (z : Timed). dues (c.commits.new.self.timed.count - z.count) z.arch) (begins g c)
     ∙ ap (λ n. dues (n - old.count) old.arch) (sym after)
 
-counts : (g : given.Over) (c : goal.After-watch g) → (c.accept_within.new.self.timed.count == c.args.self.now.timed.count) ≡ not (not c.is_empty-committed.result)
+counts : (g : given.Over) (c : goal.After-watch g) → (c.accept.new.self.timed.count == c.args.self.now.timed.count) ≡ not (not c.is_empty-committed.result)
 unfolding drained
 counts g c =
     let old : Timed = c.args.self.now.timed in
-    let after : c.accept_within.new.self.timed.count ≡ c.commits.new.self.timed.count = ap (λ z. z.count) (admits g c) ∙ accepts-count old c.commits.new.self.timed c.args.list.now in
+    let after : c.accept.new.self.timed.count ≡ c.commits.new.self.timed.count = ap (λ z. z.count) (admits g c) ∙ accepts-count old c.commits.new.self.timed c.args.list.now in
     let before : c.drain.new.self.timed.count ≡ old.count = ap (λ z. z.count) (begins g c) in
     let more = c.commits.ensures.counted in
-    none-due old.count c.accept_within.new.self.timed.count old.arch c.accept_within.new.self.last (omega arith) (comes-due g c)
+    none-due old.count c.accept.new.self.timed.count old.arch c.accept.new.self.last (omega arith) (comes-due g c)
     ∙ ap (λ (z : Parts). length z.last == 0) (sym c.self-2.view_is) ∙ sym c.is_empty-committed.ensures ∙ sym (not-not c.is_empty-committed.result)
 
-watches : (g : given.Over) (c : goal.After-watch g) → c.watch.new.self.timed ≡ watched c.args.self.now.timed c.accept_within.new.self.timed
+watches : (g : given.Over) (c : goal.After-watch g) → c.watch.new.self.timed ≡ watched c.args.self.now.timed c.accept.new.self.timed
 watches g c = c.watch.ensures.timed c.args.self.now.timed (counts g c)
 
 pub returns-clause-timed : goal.returns-clause-timed
@@ -94,7 +95,7 @@ returns-clause-timed g c =
 pub returns-clause-last : goal.returns-clause-last
 returns-clause-last g c =
     let old : Timed = c.args.self.now.timed in
-    let same : c.watch.new.self.timed.count ≡ c.accept_within.new.self.timed.count = ap (λ z. z.count) (watches g c) ∙ watched-count old c.accept_within.new.self.timed in
+    let same : c.watch.new.self.timed.count ≡ c.accept.new.self.timed.count = ap (λ z. z.count) (watches g c) ∙ watched-count old c.accept.new.self.timed in
     c.watch.ensures.last ∙ comes-due g c ∙ ap (λ n. dues (n - old.count) old.arch) (sym same)
 
 pub returns-clause-led : goal.returns-clause-led
