@@ -43,143 +43,56 @@ one_source f g s = λ i id. s.value id refl i
 pub record IsSound (l : Leaf) : Type 0 where
   pub enters : Enters (built diva) l.name (built_shape l)
   pub places : Places (built_rules l) 1 l.positionals
-  pub names : list_all is_name l.options ≡ true
-  pub flag_names : list_all is_name l.flags ≡ true
-  pub apart : are_apart l.options l.positionals ≡ true
-  pub flags_apart : are_apart l.flags l.options ≡ true
-  pub flags_no_positionals : are_apart l.flags l.positionals ≡ true
-  pub distinct : are_distinct l.positionals ≡ true
+  pub named : (list_all is_name l.options && list_all is_name l.flags && are_apart l.options l.positionals && are_apart l.flags l.options
+      && are_apart l.flags l.positionals && are_distinct l.positionals) ≡ true
   pub same : (f g : Text → Option Text) → SameValues l.flags f g → job_from l.name f ≡ job_from l.name g
   pub drawn_same : (f g : Text → Option Text) → SameValues l.flags f g → pipeline_job_from l.name f ≡ pipeline_job_from l.name g
 
 run_same : (f g : Text → Option Text) → SameValues run.flags f g → run_from f ≡ run_from g
 unfolding run_from setup_from room_from config_from cycles_from
 run_same f g s =
-    let image = s.value (codes "IMAGE") refl in
-    let room = s.value (codes "room") refl in
-    let core = s.value (codes "core") refl in
-    let script = s.value (codes "script") refl in
-    let tape = s.value (codes "tape") refl in
-    let width = s.value (codes "width") refl in
-    let window = s.value (codes "window") refl in
-    let stores = s.value (codes "stores") refl in
-    let watchdog = s.value (codes "watchdog") refl in
-    let port = s.value (codes "port") refl in
-    let cycles = s.value (codes "cycles") refl in
-    let dump = s.value (codes "dump") refl in
-    let liar = s.value (codes "liar") refl in
-    let trace = s.flag (codes "trace") in
+    let at = s.value in
     λ i. run_with
-    (setup_with (image i) (room_behind (room i)) (core_of (core i) (tape i)) (script i)
-    (config_with (number_or default_config.width (width i)) (number_or default_config.window (window i)) (number_or default_config.stores (stores i)) (number_or default_config.limit (watchdog i)) (number_or default_config.port (port i))))
-    (ranged_or 1 most_cycles default_cycles (cycles i)) (trace i) (dump_of (dump i)) (liar_of (liar i))
+    (setup_with (at (codes "IMAGE") refl i) (room_behind (at (codes "room") refl i)) (core_of (at (codes "core") refl i) (at (codes "tape") refl i)) (at (codes "script") refl i)
+    (config_with (number_or default_config.width (at (codes "width") refl i)) (number_or default_config.window (at (codes "window") refl i)) (number_or default_config.stores (at (codes "stores") refl i)) (number_or default_config.limit (at (codes "watchdog") refl i)) (number_or default_config.port (at (codes "port") refl i))))
+    (ranged_or 1 most_cycles default_cycles (at (codes "cycles") refl i)) (s.flag (codes "trace") i) (dump_of (at (codes "dump") refl i)) (liar_of (at (codes "liar") refl i))
 
 run_sound : IsSound run
 unfolding diva walked
 run_sound = record {
   enters = record { walk_is = refl; turn = refl; sub = refl; label = refl; bare = refl; negates = refl };
   places = (refl, refl, refl, tt);
-  names = refl;
-  flag_names = refl;
-  apart = refl;
-  flags_apart = refl;
-  flags_no_positionals = refl;
-  distinct = refl;
+  named = refl;
   same = λ f g s. ap (option_map Run) (run_same f g s);
   drawn_same = λ f g s. ap (option_map Run) (run_same f g s);
 }
 
 -- a row without flags
 sound_without_flags : (l : Leaf) → l.flags ≡ [] → Enters (built diva) l.name (built_shape l) → Places (built_rules l) 1 l.positionals
-    → (list_all is_name l.options && are_apart l.options l.positionals && are_distinct l.positionals) ≡ true → IsSound l
-sound_without_flags l none enters places named =
-    let distinct = both _ _ named in
-    let apart = both _ _ distinct.0 in
-    record {
-      enters = enters;
-      places = places;
-      names = apart.0;
-      flag_names = rw none refl;
-      apart = apart.1;
-      flags_apart = rw none refl;
-      flags_no_positionals = rw none refl;
-      distinct = distinct.1;
-      same = λ f g s. ap (job_from l.name) (one_source f g (subst (λ (flags : List Text). SameValues flags f g) none s));
-      drawn_same = λ f g s. ap (pipeline_job_from l.name) (one_source f g (subst (λ (flags : List Text). SameValues flags f g) none s));
-    }
-
-tape_sound : IsSound tape
-unfolding diva walked
-tape_sound =
-    sound_without_flags tape refl
-    (record { walk_is = refl; turn = refl; sub = refl; label = refl; bare = refl; negates = refl })
-    (refl, refl, refl, tt) refl
-
-duo_sound : IsSound duo
-unfolding diva walked
-duo_sound =
-    sound_without_flags duo refl
-    (record { walk_is = refl; turn = refl; sub = refl; label = refl; bare = refl; negates = refl })
-    (refl, refl, refl, tt) refl
-
-debug_sound : IsSound debug
-unfolding diva walked
-debug_sound =
-    sound_without_flags debug refl
-    (record { walk_is = refl; turn = refl; sub = refl; label = refl; bare = refl; negates = refl })
-    (refl, refl, refl, (refl, refl, refl, tt)) refl
-
-asm_sound : IsSound asm
-unfolding diva walked
-asm_sound =
-    sound_without_flags asm refl
-    (record { walk_is = refl; turn = refl; sub = refl; label = refl; bare = refl; negates = refl })
-    (refl, refl, refl, tt) refl
-
-dis_sound : IsSound dis
-unfolding diva walked
-dis_sound =
-    sound_without_flags dis refl
-    (record { walk_is = refl; turn = refl; sub = refl; label = refl; bare = refl; negates = refl })
-    (refl, refl, refl, tt) refl
-
-migrate_sound : IsSound migrate
-unfolding diva walked
-migrate_sound =
-    sound_without_flags migrate refl
-    (record { walk_is = refl; turn = refl; sub = refl; label = refl; bare = refl; negates = refl })
-    (refl, refl, refl, tt) refl
-
-soak_sound : IsSound soak
-unfolding diva walked
-soak_sound =
-    sound_without_flags soak refl
-    (record { walk_is = refl; turn = refl; sub = refl; label = refl; bare = refl; negates = refl })
-    (refl, refl, refl, (refl, refl, refl, tt)) refl
-
-campaign_sound : IsSound campaign
-unfolding diva walked
-campaign_sound =
-    sound_without_flags campaign refl
-    (record { walk_is = refl; turn = refl; sub = refl; label = refl; bare = refl; negates = refl })
-    (refl, refl, refl, (refl, refl, refl, tt)) refl
-
-log_sound : IsSound log
-unfolding diva walked
-log_sound =
-    sound_without_flags log refl
-    (record { walk_is = refl; turn = refl; sub = refl; label = refl; bare = refl; negates = refl })
-    (refl, refl, refl, tt) refl
-
-draw_sound : IsSound draw
-unfolding diva walked
-draw_sound =
-    sound_without_flags draw refl
-    (record { walk_is = refl; turn = refl; sub = refl; label = refl; bare = refl; negates = refl })
-    (refl, refl, refl, tt) refl
+    → (list_all is_name l.options && list_all is_name l.flags && are_apart l.options l.positionals && are_apart l.flags l.options
+    && are_apart l.flags l.positionals && are_distinct l.positionals) ≡ true → IsSound l
+sound_without_flags l none enters places named = record {
+  enters = enters;
+  places = places;
+  named = named;
+  same = λ f g s. ap (job_from l.name) (one_source f g (subst (λ (flags : List Text). SameValues flags f g) none s));
+  drawn_same = λ f g s. ap (pipeline_job_from l.name) (one_source f g (subst (λ (flags : List Text). SameValues flags f g) none s));
+}
 
 each_sound : (l : Leaf) → Contains leaves l → IsSound l
-each_sound l listed = All-contains IsSound leaves l (All-from_recursion IsSound leaves (run_sound, (tape_sound, (duo_sound, (debug_sound, (asm_sound, (dis_sound, (migrate_sound, (soak_sound, (campaign_sound, (log_sound, (draw_sound, tt)))))))))))) listed
+unfolding diva walked
+each_sound l listed =
+    let tape_is = sound_without_flags tape refl (record { walk_is = refl; turn = refl; sub = refl; label = refl; bare = refl; negates = refl }) (refl, refl, refl, tt) refl in
+    let duo_is = sound_without_flags duo refl (record { walk_is = refl; turn = refl; sub = refl; label = refl; bare = refl; negates = refl }) (refl, refl, refl, tt) refl in
+    let debug_is = sound_without_flags debug refl (record { walk_is = refl; turn = refl; sub = refl; label = refl; bare = refl; negates = refl }) (refl, refl, refl, (refl, refl, refl, tt)) refl in
+    let asm_is = sound_without_flags asm refl (record { walk_is = refl; turn = refl; sub = refl; label = refl; bare = refl; negates = refl }) (refl, refl, refl, tt) refl in
+    let dis_is = sound_without_flags dis refl (record { walk_is = refl; turn = refl; sub = refl; label = refl; bare = refl; negates = refl }) (refl, refl, refl, tt) refl in
+    let migrate_is = sound_without_flags migrate refl (record { walk_is = refl; turn = refl; sub = refl; label = refl; bare = refl; negates = refl }) (refl, refl, refl, tt) refl in
+    let soak_is = sound_without_flags soak refl (record { walk_is = refl; turn = refl; sub = refl; label = refl; bare = refl; negates = refl }) (refl, refl, refl, (refl, refl, refl, tt)) refl in
+    let campaign_is = sound_without_flags campaign refl (record { walk_is = refl; turn = refl; sub = refl; label = refl; bare = refl; negates = refl }) (refl, refl, refl, (refl, refl, refl, tt)) refl in
+    let log_is = sound_without_flags log refl (record { walk_is = refl; turn = refl; sub = refl; label = refl; bare = refl; negates = refl }) (refl, refl, refl, tt) refl in
+    let draw_is = sound_without_flags draw refl (record { walk_is = refl; turn = refl; sub = refl; label = refl; bare = refl; negates = refl }) (refl, refl, refl, tt) refl in
+    All-contains IsSound leaves l (All-from_recursion IsSound leaves (run_sound, (tape_is, (duo_is, (debug_is, (asm_is, (dis_is, (migrate_is, (soak_is, (campaign_is, (log_is, (draw_is, tt)))))))))))) listed
 
 -- ---- names and words
 
@@ -260,10 +173,15 @@ level_at line words plain sound =
     let l = line.command in
     let s = built_shape l in
     let parts = all_parts line.positionals (values_in line.uses) plain.plain in
-    let distinct = distinct_append l.positionals (names_in line.uses) sound.distinct
-    (λ id has. no_positional l line.uses id sound.apart sound.flags_no_positionals plain.known has) plain.once in
+    let ids = both _ _ sound.named in
+    let flags = both _ _ ids.0 in
+    let options = both _ _ flags.0 in
+    let apart = both _ _ options.0 in
+    let names = both _ _ apart.0 in
+    let distinct = distinct_append l.positionals (names_in line.uses) ids.1
+    (λ id has. no_positional l line.uses id apart.1 flags.1 plain.known has) plain.once in
     plain_level l _ line.positionals (map given_by line.uses) plain.complete
-    (line_end s l (serves l sound.names sound.flag_names sound.apart sound.flags_apart) line.uses l.positionals line.positionals nothing_held 1 []
+    (line_end s l (serves l names.0 names.1 apart.1 options.1) line.uses l.positionals line.positionals nothing_held 1 []
     sound.places plain.complete parts.0 plain.known distinct parts.1 (λ name has. tt) (start s))
 
 pub plain_line : (words : List Text) (line : PlainLine) → IsPlainLine words line → command_of words ≡ job_on line

@@ -106,14 +106,8 @@ tape_from value = tape_with (wide_from value) (cycles_from value)
 abbrev pub duo_with : Option Text → (room : Option ℕ) → Option HartCore → Option Config → (cycles : Option ℕ)
     → Option (Option DumpRange) → Option DuoOptions
 duo_with image room core config cycles dump =
-    option_and_then (λ i. option_and_then (λ r. option_and_then (λ c. option_and_then (λ z. option_and_then (λ n. option_map (λ d. record {
-      image = i;
-      room = r;
-      core = c;
-      config = z;
-      cycles = n;
-      dump = d;
-    }) dump) cycles) config) core) room) image
+    option_and_then (λ i. option_and_then (λ r. option_and_then (λ c. option_and_then (λ z. option_and_then (λ n. option_map (λ d.
+    record { image = i; room = r; core = c; config = z; cycles = n; dump = d }) dump) cycles) config) core) room) image
 
 -- `duo`, whose port takes a store in any cycle
 unfoldable pub duo_from : (Text → Option Text) → Option DuoOptions

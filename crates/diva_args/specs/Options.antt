@@ -1,7 +1,8 @@
 -- What contracts see of a job, and the ranges that its numbers keep.
--- Cited by the types `RunOptions`, `Setup` and those of the other commands' options; by `CampaignCycles::new` and `LastCycle::new`.
+-- Cited by the types `RunOptions`, `Setup` and those of the other commands' options.
 use Rattle.std.specs.Prelude.{ℕ, ◌+◌, ◌%◌, ◌^◌, ◌≡◌, ◌≤◌, Bool, List, Option}
 use Rattle.diva_core.specs.Timed.{Config}
+use Rattle.diva_outside.specs.NextWords.{IsInRange}
 use Rattle.diva_args.specs.declared.job.CoreChoice.{CoreChoice}
 use Rattle.diva_args.specs.declared.job.HartCore.{HartCore}
 use Rattle.diva_args.specs.declared.job.LanePlace.{LanePlace}
@@ -47,9 +48,8 @@ abbrev pub default_cycles : ℕ
 default_cycles = 1000000
 
 -- the range of the cycles to run at most
-pub record IsBudget (cycles : ℕ) : Type 0 where
-  pub low : 1 ≤ cycles
-  pub high : cycles ≤ most_cycles
+abbrev pub IsBudget : ℕ → Type 0
+IsBudget = IsInRange 1 most_cycles
 
 -- `run IMAGE` with its options
 pub record RunOptions : Type 0 where
@@ -93,18 +93,12 @@ abbrev pub longest_soak : ℕ
 longest_soak = 65536
 
 -- the range of that number
-pub record IsSoak (instructions : ℕ) : Type 0 where
-  pub low : 1 ≤ instructions
-  pub high : instructions ≤ longest_soak
+abbrev pub IsSoak : ℕ → Type 0
+IsSoak = IsInRange 1 longest_soak
 
 -- the latest cycle in which a campaign flips a bit
 abbrev pub latest_flip : ℕ
 latest_flip = 32
-
--- the range of the last such cycle
-pub record IsLastCycle (cycle : ℕ) : Type 0 where
-  pub low : 1 ≤ cycle
-  pub high : cycle ≤ latest_flip
 
 -- the most cycles that each run of a campaign can be given, and those for which none are asked
 abbrev pub most_campaign_cycles : ℕ
@@ -112,8 +106,3 @@ most_campaign_cycles = 100000
 
 abbrev pub default_campaign_cycles : ℕ
 default_campaign_cycles = 10000
-
--- the range of the cycles of each run at most
-pub record IsCampaignCycles (cycles : ℕ) : Type 0 where
-  pub low : 1 ≤ cycles
-  pub high : cycles ≤ most_campaign_cycles

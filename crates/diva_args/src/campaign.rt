@@ -1,9 +1,6 @@
 // The options of `campaign`, each number of which keeps its range.
-ghost use Rattle.std.specs.Prelude.{◌≡◌, ◌↔◌, ◌≤◌, IsSome, IfSome};
-ghost use Rattle.diva_args.specs.Options.{IsCampaignCycles, IsLastCycle};
-
 use crate::file_name::FileName;
-use std::marker::Model;
+use crate::ranged::Ranged;
 
 /// The latest cycle in which a campaign flips a bit.
 pub(crate) const LATEST_FLIP: u32 = 32;
@@ -26,83 +23,7 @@ pub struct CampaignOptions {
 }
 
 /// The last cycle in which a campaign flips a bit: 1 to 32.
-#[derive(Clone, Copy, Debug, PartialEq, Eq)]
-pub struct LastCycle {
-    number: u32,
-}
-
-impl Model for LastCycle {
-    ghost use Rattle.std.specs.Prelude.{ℕ};
-    ghost use Rattle.diva_args.specs.Options.{IsLastCycle};
-
-    ghost Value = { ℕ };
-
-    ghost view = { λ c. c.number };
-
-    ghost invariant = { λ c. IsLastCycle c.number };
-
-    ghost inverse = { λ n. record { number = n } };
-}
-
-impl LastCycle {
-    /// The cycle of this number, `None` exactly where it is out of its range.
-    pub fn new(number: u32) -> Option<Self>
-        ensures in_range { IsSome result ↔ IsLastCycle number }
-        ensures value { IfSome result (λ c. c ≡ number) }
-    {
-        if 1 <= number && number <= LATEST_FLIP {
-            Some(LastCycle { number })
-        } else {
-            None
-        }
-    }
-
-    /// The number.
-    pub fn get(self) -> u32
-        ensures value { result ≡ self }
-        ensures in_range { IsLastCycle result }
-    {
-        self.number
-    }
-}
+pub type LastCycle = Ranged<1, LATEST_FLIP>;
 
 /// The cycles of each run of a campaign at most: 1 to 100,000.
-#[derive(Clone, Copy, Debug, PartialEq, Eq)]
-pub struct CampaignCycles {
-    number: u32,
-}
-
-impl Model for CampaignCycles {
-    ghost use Rattle.std.specs.Prelude.{ℕ};
-    ghost use Rattle.diva_args.specs.Options.{IsCampaignCycles};
-
-    ghost Value = { ℕ };
-
-    ghost view = { λ c. c.number };
-
-    ghost invariant = { λ c. IsCampaignCycles c.number };
-
-    ghost inverse = { λ n. record { number = n } };
-}
-
-impl CampaignCycles {
-    /// So many cycles, `None` exactly where their number is out of its range.
-    pub fn new(number: u32) -> Option<Self>
-        ensures in_range { IsSome result ↔ IsCampaignCycles number }
-        ensures value { IfSome result (λ c. c ≡ number) }
-    {
-        if 1 <= number && number <= MOST_CAMPAIGN_CYCLES {
-            Some(CampaignCycles { number })
-        } else {
-            None
-        }
-    }
-
-    /// The number.
-    pub fn get(self) -> u32
-        ensures value { result ≡ self }
-        ensures in_range { IsCampaignCycles result }
-    {
-        self.number
-    }
-}
+pub type CampaignCycles = Ranged<1, MOST_CAMPAIGN_CYCLES>;

@@ -3,12 +3,13 @@ ghost use Rattle.std.specs.Prelude.{◌≡◌, ◌≤◌, IfOk, Err, None, Some,
 ghost use Rattle.clap.specs.Walk.{rows_of};
 ghost use Rattle.clap.specs.Words.{found_of, subcommand_rows_of};
 ghost use Rattle.diva_args.specs.Drawn.{drawing_from, drawn_by, drawn_run_from, pipeline_job_of, pipeline_job_on, pipeline_of};
+ghost use Rattle.diva_args.specs.Fault.{Reads};
 ghost use Rattle.diva_args.specs.Line.{taken, values_of};
 ghost use Rattle.diva_args.specs.Plain.{IsPlainLine, PlainLine};
 
 use crate::fault::ArgsFault;
 use crate::job::{DrawOptions, Format, Job, MOST_CYCLES, RunOptions};
-use crate::read::{cycles, job_named, matches, setup, text_of, width};
+use crate::read::{cycles, job_named, matches, or_usage, setup, text_of, width};
 use crate::values::{liar, number};
 use clap::ArgMatches;
 use std::alloc::Global;
@@ -33,14 +34,9 @@ pub fn read_pipeline_words(alloc: Global, words: &[&str]) -> Result<Job, ArgsFau
 
 /// The job of the subcommand that the matches entered.
 fn job(alloc: Global, matches: &ArgMatches<'_>) -> Result<Job, ArgsFault>
-    ensures job { IfOk result (λ job.
-        option_and_then pipeline_job_of (subcommand_rows_of matches.now) ≡ Some job) }
-    ensures usage { result ≡ Err ArgsFault.Usage
-        → option_and_then pipeline_job_of (subcommand_rows_of matches.now) ≡ None }
+    ensures { Reads (option_and_then pipeline_job_of (subcommand_rows_of matches.now)) result }
 {
-    let Some((name, found)) = matches.subcommand() else {
-        return Err(ArgsFault::Usage);
-    };
+    let (name, found) = or_usage(matches.subcommand())?;
     match name {
         "log" => drawn(alloc, found, Some(Format::Log)),
         "draw" => drawn(alloc, found, drawing(found)),
@@ -50,33 +46,21 @@ fn job(alloc: Global, matches: &ArgMatches<'_>) -> Result<Job, ArgsFault>
 
 /// A run that is drawn in this format.
 fn drawn(alloc: Global, found: &ArgMatches<'_>, format: Option<Format>) -> Result<Job, ArgsFault>
-    ensures job { IfOk result (λ job.
-        drawn_by (drawn_run_from (values_of (rows_of (found_of found.now)))) format ≡ Some job) }
-    ensures usage { result ≡ Err ArgsFault.Usage
-        → drawn_by (drawn_run_from (values_of (rows_of (found_of found.now)))) format ≡ None }
+    ensures { Reads (drawn_by (drawn_run_from (values_of (rows_of (found_of found.now)))) format) result }
 {
     let run = drawn_run(alloc, found)?;
-    let Some(format) = format else {
-        return Err(ArgsFault::Usage);
-    };
+    let format = or_usage(format)?;
     Ok(Job::Draw(DrawOptions { run, format }))
 }
 
 /// The run, which has neither commit lines nor a part of memory to show.
 #[tactic(auto, unfolding(crate::specs::Drawn::drawn_run_from))]
 fn drawn_run(alloc: Global, found: &ArgMatches<'_>) -> Result<RunOptions, ArgsFault>
-    ensures run { IfOk result (λ run.
-        drawn_run_from (values_of (rows_of (found_of found.now))) ≡ Some run) }
-    ensures usage { result ≡ Err ArgsFault.Usage
-        → drawn_run_from (values_of (rows_of (found_of found.now))) ≡ None }
+    ensures { Reads (drawn_run_from (values_of (rows_of (found_of found.now)))) result }
 {
     let setup = setup(alloc, found, width(found))?;
-    let Some(cycles) = cycles(found) else {
-        return Err(ArgsFault::Usage);
-    };
-    let Some(liar) = liar(text_of(found, "liar")) else {
-        return Err(ArgsFault::Usage);
-    };
+    let cycles = or_usage(cycles(found))?;
+    let liar = or_usage(liar(text_of(found, "liar")))?;
     Ok(RunOptions {
         setup,
         cycles,

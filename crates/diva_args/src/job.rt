@@ -175,14 +175,7 @@ impl Model for DuoOptions {
 
     ghost Value = { DuoOptions };
 
-    ghost view = { λ d. record {
-      image = d.image;
-      room = d.room;
-      core = d.core;
-      config = d.config;
-      cycles = d.cycles;
-      dump = d.dump;
-    } };
+    ghost view = { λ d. record { image = d.image; room = d.room; core = d.core; config = d.config; cycles = d.cycles; dump = d.dump } };
 
     ghost invariant = { λ d. IsConfig d.config × (d.config.port ≡ 1) × IsRoomBehind d.room × IsBudget d.cycles };
 }

@@ -7,7 +7,7 @@
 //! - `command`: the table of commands, and `clap`'s command of it.
 //! - `values`: the values of options as cores, numbers, parts of memory and places of voting lanes.
 //! - `job`: `Job` and its parts, whose types keep the ranges of the numbers. `campaign`: those of the command `campaign`.
-//! - `file_name`: `FileName`, the name of a file.
+//! - `file_name`: `FileName`, the name of a file. `ranged`: `Ranged`, a number that keeps a range.
 //! - `fault`: `ArgsFault`, why there is no job.
 //!
 //! `specs/Line.antt` says which job the words ask for, over the table of commands (`Command`) and the rules on values (`Values`);
@@ -22,6 +22,7 @@ mod drawn;
 mod fault;
 mod file_name;
 mod job;
+mod ranged;
 mod read;
 mod values;
 
@@ -33,4 +34,5 @@ pub use job::{
     CoreChoice, DebugOptions, DrawOptions, DumpRange, DuoOptions, Format, HartCore, Job, LanePlace,
     MigrateOptions, RunOptions, Setup, SoakOptions, TapeOptions,
 };
+pub use ranged::Ranged;
 pub use read::read_words;

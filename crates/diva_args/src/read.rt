@@ -2,6 +2,7 @@
 ghost use Rattle.std.specs.Prelude.{◌≡◌, ◌≤◌, IfOk, IfSome, None, Some, codes, map, option_and_then, option_map};
 ghost use Rattle.clap.specs.Walk.{rows_of};
 ghost use Rattle.clap.specs.Words.{found_of, subcommand_rows_of};
+ghost use Rattle.diva_args.specs.Fault.{Reads};
 ghost use Rattle.diva_args.specs.Line.{campaign_from, command_of, config_from, cycles_from, debug_from, duo_from, job_from, job_of, migrate_from, port_from};
 ghost use Rattle.diva_args.specs.Line.{room_from, run_from, setup_from, soak_from, taken, tape_from, values_of, width_from};
 ghost use Rattle.diva_args.specs.Options.{IsBudget, IsRoomBehind, default_campaign_cycles, latest_flip, most_campaign_cycles};
@@ -56,23 +57,15 @@ pub(crate) fn matches<'a>(alloc: Global, words: &'a [&'a str]) -> Result<ArgMatc
 
 /// The job of the subcommand that the matches entered.
 fn job(alloc: Global, matches: &ArgMatches<'_>) -> Result<Job, ArgsFault>
-    ensures job { IfOk result (λ job.
-        option_and_then job_of (subcommand_rows_of matches.now) ≡ Some job) }
-    ensures usage { result ≡ Err ArgsFault.Usage
-        → option_and_then job_of (subcommand_rows_of matches.now) ≡ None }
+    ensures { Reads (option_and_then job_of (subcommand_rows_of matches.now)) result }
 {
-    let Some((name, found)) = matches.subcommand() else {
-        return Err(ArgsFault::Usage);
-    };
+    let (name, found) = or_usage(matches.subcommand())?;
     job_named(alloc, name, found)
 }
 
 /// The job of the subcommand of this name.
 pub(crate) fn job_named(alloc: Global, name: &str, found: &ArgMatches<'_>) -> Result<Job, ArgsFault>
-    ensures job { IfOk result (λ job.
-        job_from name.now (values_of (rows_of (found_of found.now))) ≡ Some job) }
-    ensures usage { result ≡ Err ArgsFault.Usage
-        → job_from name.now (values_of (rows_of (found_of found.now))) ≡ None }
+    ensures { Reads (job_from name.now (values_of (rows_of (found_of found.now)))) result }
 {
     match name {
         "run" => Ok(Job::Run(run(alloc, found)?)),
@@ -91,21 +84,12 @@ pub(crate) fn job_named(alloc: Global, name: &str, found: &ArgMatches<'_>) -> Re
 /// `run IMAGE` with its options.
 #[tactic(auto, unfolding(crate::specs::Line::run_from))]
 fn run(alloc: Global, found: &ArgMatches<'_>) -> Result<RunOptions, ArgsFault>
-    ensures run { IfOk result (λ run.
-        run_from (values_of (rows_of (found_of found.now))) ≡ Some run) }
-    ensures usage { result ≡ Err ArgsFault.Usage
-        → run_from (values_of (rows_of (found_of found.now))) ≡ None }
+    ensures { Reads (run_from (values_of (rows_of (found_of found.now)))) result }
 {
     let setup = setup(alloc, found, width(found))?;
-    let Some(cycles) = cycles(found) else {
-        return Err(ArgsFault::Usage);
-    };
-    let Some(dump) = dump(text_of(found, "dump")) else {
-        return Err(ArgsFault::Usage);
-    };
-    let Some(liar) = liar(text_of(found, "liar")) else {
-        return Err(ArgsFault::Usage);
-    };
+    let cycles = or_usage(cycles(found))?;
+    let dump = or_usage(dump(text_of(found, "dump")))?;
+    let liar = or_usage(liar(text_of(found, "liar")))?;
     Ok(RunOptions {
         setup,
         cycles,
@@ -118,42 +102,24 @@ fn run(alloc: Global, found: &ArgMatches<'_>) -> Result<RunOptions, ArgsFault>
 /// `tape IMAGE` with its options.
 #[tactic(auto, unfolding(crate::specs::Line::tape_from))]
 fn tape(alloc: Global, found: &ArgMatches<'_>) -> Result<TapeOptions, ArgsFault>
-    ensures tape { IfOk result (λ tape.
-        tape_from (values_of (rows_of (found_of found.now))) ≡ Some tape) }
-    ensures usage { result ≡ Err ArgsFault.Usage
-        → tape_from (values_of (rows_of (found_of found.now))) ≡ None }
+    ensures { Reads (tape_from (values_of (rows_of (found_of found.now)))) result }
 {
     let setup = setup(alloc, found, width(found))?;
-    let Some(cycles) = cycles(found) else {
-        return Err(ArgsFault::Usage);
-    };
+    let cycles = or_usage(cycles(found))?;
     Ok(TapeOptions { setup, cycles })
 }
 
 /// `duo IMAGE` with its options.
 #[tactic(auto, unfolding(crate::specs::Line::duo_from))]
 fn duo(alloc: Global, found: &ArgMatches<'_>) -> Result<DuoOptions, ArgsFault>
-    ensures duo { IfOk result (λ duo.
-        duo_from (values_of (rows_of (found_of found.now))) ≡ Some duo) }
-    ensures usage { result ≡ Err ArgsFault.Usage
-        → duo_from (values_of (rows_of (found_of found.now))) ≡ None }
+    ensures { Reads (duo_from (values_of (rows_of (found_of found.now)))) result }
 {
     let image = file_of(alloc, found, "IMAGE")?;
-    let Some(room) = room(found) else {
-        return Err(ArgsFault::Usage);
-    };
-    let Some(core) = hart_core(text_of(found, "core")) else {
-        return Err(ArgsFault::Usage);
-    };
-    let Some(config) = config(found, width(found), Some(1)) else {
-        return Err(ArgsFault::Usage);
-    };
-    let Some(cycles) = cycles(found) else {
-        return Err(ArgsFault::Usage);
-    };
-    let Some(dump) = dump(text_of(found, "dump")) else {
-        return Err(ArgsFault::Usage);
-    };
+    let room = or_usage(room(found))?;
+    let core = or_usage(hart_core(text_of(found, "core")))?;
+    let config = or_usage(config(found, width(found), Some(1)))?;
+    let cycles = or_usage(cycles(found))?;
+    let dump = or_usage(dump(text_of(found, "dump")))?;
     Ok(DuoOptions {
         image,
         room,
@@ -164,83 +130,62 @@ fn duo(alloc: Global, found: &ArgMatches<'_>) -> Result<DuoOptions, ArgsFault>
     })
 }
 
+/// What the words ask for, if they are taken.
+pub(crate) fn or_usage<T>(asked: Option<T>) -> Result<T, ArgsFault>
+    ensures { Reads asked result }
+{
+    match asked {
+        Some(value) => Ok(value),
+        None => Err(ArgsFault::Usage),
+    }
+}
+
 /// The name of the file that a positional names.
 fn file_of(alloc: Global, found: &ArgMatches<'_>, id: &str) -> Result<FileName, ArgsFault>
-    ensures name { IfOk result (λ name. values_of (rows_of (found_of found.now)) id.now ≡ Some name) }
-    ensures usage { result ≡ Err ArgsFault.Usage
-        → values_of (rows_of (found_of found.now)) id.now ≡ None }
+    ensures { Reads (values_of (rows_of (found_of found.now)) id.now) result }
 {
-    let Some(name) = text_of(found, id) else {
-        return Err(ArgsFault::Usage);
-    };
+    let name = or_usage(text_of(found, id))?;
     Ok(FileName::new(alloc, name)?)
 }
 
 /// `debug IMAGE COMMANDS` with its options.
 #[tactic(auto, unfolding(crate::specs::Line::debug_from))]
 fn debug(alloc: Global, found: &ArgMatches<'_>) -> Result<DebugOptions, ArgsFault>
-    ensures debug { IfOk result (λ debug.
-        debug_from (values_of (rows_of (found_of found.now))) ≡ Some debug) }
-    ensures usage { result ≡ Err ArgsFault.Usage
-        → debug_from (values_of (rows_of (found_of found.now))) ≡ None }
+    ensures { Reads (debug_from (values_of (rows_of (found_of found.now)))) result }
 {
     let setup = setup(alloc, found, Some(1))?;
-    let Some(commands) = text_of(found, "COMMANDS") else {
-        return Err(ArgsFault::Usage);
-    };
-    Ok(DebugOptions {
-        setup,
-        commands: FileName::new(alloc, commands)?,
-    })
+    let commands = file_of(alloc, found, "COMMANDS")?;
+    Ok(DebugOptions { setup, commands })
 }
 
 /// `migrate IMAGE` with its option.
 #[tactic(auto, unfolding(crate::specs::Line::migrate_from))]
 fn migrate(alloc: Global, found: &ArgMatches<'_>) -> Result<MigrateOptions, ArgsFault>
-    ensures migrate { IfOk result (λ migrate.
-        migrate_from (values_of (rows_of (found_of found.now))) ≡ Some migrate) }
-    ensures usage { result ≡ Err ArgsFault.Usage
-        → migrate_from (values_of (rows_of (found_of found.now))) ≡ None }
+    ensures { Reads (migrate_from (values_of (rows_of (found_of found.now)))) result }
 {
     let image = file_of(alloc, found, "IMAGE")?;
-    let Some(room) = room(found) else {
-        return Err(ArgsFault::Usage);
-    };
+    let room = or_usage(room(found))?;
     Ok(MigrateOptions { image, room })
 }
 
 /// `soak SEED LENGTH`.
 #[tactic(auto, unfolding(crate::specs::Line::soak_from))]
 fn soak(found: &ArgMatches<'_>) -> Result<SoakOptions, ArgsFault>
-    ensures soak { IfOk result (λ soak.
-        soak_from (values_of (rows_of (found_of found.now))) ≡ Some soak) }
-    ensures usage { result ≡ Err ArgsFault.Usage
-        → soak_from (values_of (rows_of (found_of found.now))) ≡ None }
+    ensures { Reads (soak_from (values_of (rows_of (found_of found.now)))) result }
 {
-    let Some(seed) = number_of(found, "SEED", 0, u32::MAX) else {
-        return Err(ArgsFault::Usage);
-    };
-    let Some(instructions) = number_of(found, "LENGTH", 1, LONGEST_SOAK) else {
-        return Err(ArgsFault::Usage);
-    };
+    let seed = or_usage(number_of(found, "SEED", 0, u32::MAX))?;
+    let instructions = or_usage(number_of(found, "LENGTH", 1, LONGEST_SOAK))?;
     Ok(SoakOptions { seed, instructions })
 }
 
 /// `campaign IMAGE LAST` with its option.
 #[tactic(auto, unfolding(crate::specs::Line::campaign_from))]
 fn campaign(alloc: Global, found: &ArgMatches<'_>) -> Result<CampaignOptions, ArgsFault>
-    ensures campaign { IfOk result (λ campaign.
-        campaign_from (values_of (rows_of (found_of found.now))) ≡ Some campaign) }
-    ensures usage { result ≡ Err ArgsFault.Usage
-        → campaign_from (values_of (rows_of (found_of found.now))) ≡ None }
+    ensures { Reads (campaign_from (values_of (rows_of (found_of found.now)))) result }
 {
     let image = file_of(alloc, found, "IMAGE")?;
-    let Some(last) = last_cycle(found) else {
-        return Err(ArgsFault::Usage);
-    };
-    let Some(cycles) = campaign_cycles(found) else {
-        return Err(ArgsFault::Usage);
-    };
+    let last = or_usage(last_cycle(found))?;
+    let cycles = or_usage(campaign_cycles(found))?;
     Ok(CampaignOptions {
         image,
         last,
@@ -252,8 +197,7 @@ fn campaign(alloc: Global, found: &ArgMatches<'_>) -> Result<CampaignOptions, Ar
 fn last_cycle(found: &ArgMatches<'_>) -> Option<LastCycle>
     ensures { result ≡ given_number 1 latest_flip (values_of (rows_of (found_of found.now)) (codes "LAST")) }
 {
-    let number = number_of(found, "LAST", 1, LATEST_FLIP)?;
-    Some(LastCycle::new(number).unwrap())
+    LastCycle::new(number_of(found, "LAST", 1, LATEST_FLIP)?)
 }
 
 /// The cycles of each run of a campaign at most.
@@ -261,13 +205,12 @@ fn campaign_cycles(found: &ArgMatches<'_>) -> Option<CampaignCycles>
     ensures { result ≡ ranged_or 1 most_campaign_cycles default_campaign_cycles
         (values_of (rows_of (found_of found.now)) (codes "cycles")) }
 {
-    let number = number(
+    CampaignCycles::new(number(
         text_of(found, "cycles"),
         1,
         MOST_CAMPAIGN_CYCLES,
         DEFAULT_CAMPAIGN_CYCLES,
-    )?;
-    Some(CampaignCycles::new(number).unwrap())
+    )?)
 }
 
 /// The number from `least` to `most` that a positional spells.
@@ -285,23 +228,13 @@ pub(crate) fn setup(
     found: &ArgMatches<'_>,
     width: Option<u32>,
 ) -> Result<Setup, ArgsFault>
-    ensures setup { IfOk result (λ setup.
-        setup_from width (values_of (rows_of (found_of found.now))) ≡ Some setup) }
+    ensures setup { Reads (setup_from width (values_of (rows_of (found_of found.now)))) result }
     ensures width { IfOk result (λ setup. width ≡ Some setup.config.width) }
-    ensures usage { result ≡ Err ArgsFault.Usage
-        → setup_from width (values_of (rows_of (found_of found.now))) ≡ None }
 {
-    let Some(image) = text_of(found, "IMAGE") else {
-        return Err(ArgsFault::Usage);
-    };
-    let Some(room) = room(found) else {
-        return Err(ArgsFault::Usage);
-    };
-    let Some(config) = config(found, width, port(found)) else {
-        return Err(ArgsFault::Usage);
-    };
+    let room = or_usage(room(found))?;
+    let config = or_usage(config(found, width, port(found)))?;
     Ok(Setup {
-        image: FileName::new(alloc, image)?,
+        image: file_of(alloc, found, "IMAGE")?,
         room,
         core: core(alloc, text_of(found, "core"), text_of(found, "tape"))?,
         script: name_of(alloc, text_of(found, "script"))?,

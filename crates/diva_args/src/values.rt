@@ -1,5 +1,6 @@
 // The values of options as cores, numbers, parts of memory and places of voting lanes.
 ghost use Rattle.std.specs.Prelude.{◌≡◌, ◌≤◌, IfOk, IfSome, None, Some, option_map};
+ghost use Rattle.diva_args.specs.Fault.{Reads};
 ghost use Rattle.diva_args.specs.Values.{core_named, core_of, dump_of, dump_range_of, hart_core_named, hart_core_of, liar_of, number_in_range};
 ghost use Rattle.diva_args.specs.Values.{place_numbered, ranged_or};
 
@@ -18,10 +19,7 @@ pub(crate) fn core(
     name: Option<&str>,
     tape: Option<&str>,
 ) -> Result<CoreChoice, ArgsFault>
-    ensures core { IfOk result (λ core. core_of (option_map (λ text. text.now) name.entry)
-        (option_map (λ text. text.now) tape.entry) ≡ Some core) }
-    ensures usage { result ≡ Err ArgsFault.Usage → core_of (option_map (λ text. text.now) name.entry)
-        (option_map (λ text. text.now) tape.entry) ≡ None }
+    ensures { Reads (core_of (option_map (λ text. text.now) name.entry) (option_map (λ text. text.now) tape.entry)) result }
 {
     match (name, tape) {
         (None, None) => Ok(CoreChoice::Own),

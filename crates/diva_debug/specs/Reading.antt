@@ -1,11 +1,12 @@
 -- The commands of a text, or its first fault. A line's words are read from the left, each by a rule that gives what the first
 -- word says, or the kind of its fault.
 -- Cited by `commands`.
-use Rattle.std.specs.Prelude.{ℕ, ◌-◌, ◌^◌, min, List, codes, Option, None, Result, Err, if◌then◌else◌}
+use Rattle.std.specs.Prelude.{ℕ, ◌-◌, ◌^◌, min, List, codes, Option, None, Result, Ok, Err, if◌then◌else◌}
 use Rattle.std.specs.Str.{bytes_eq}
 use Rattle.diva_outside.specs.Items.{items_of}
 use Rattle.diva_outside.specs.Lines.{LineFault}
 use Rattle.diva_outside.specs.NextWords.{and_no_more, hex_in, number_in, with_first}
+use Rattle.diva_outside.specs.Steps.{and_then}
 use Rattle.diva_outside.specs.Text.{Text}
 use Rattle.diva_debug.specs.declared.command.Command.{Command}
 use Rattle.diva_debug.specs.declared.command.Command.TheVariants.{Step, Until, Back, Reg, Mem, Why}
@@ -15,23 +16,17 @@ use Rattle.diva_debug.specs.Kinds.{kind_of, command_kind_number}
 
 -- ---- one command
 
--- after step: K
-unfoldable pub step_in : List Text → Result Command Kind
-step_in words =
+-- after step or back: K
+unfoldable pub count_in : List Text → Result ℕ Kind
+count_in words =
     with_first (number_in kind_of 1 1000000) words (λ k words.
-    and_no_more kind_of (Step k) words)
+    and_no_more kind_of k words)
 
 -- after until: PC
 unfoldable pub until_in : List Text → Result Command Kind
 until_in words =
     with_first (hex_in kind_of) words (λ pc words.
     and_no_more kind_of (Until pc) words)
-
--- after back: K
-unfoldable pub back_in : List Text → Result Command Kind
-back_in words =
-    with_first (number_in kind_of 1 1000000) words (λ k words.
-    and_no_more kind_of (Back k) words)
 
 -- after reg: N
 unfoldable pub reg_in : List Text → Result Command Kind
@@ -53,9 +48,9 @@ mem_in words =
 -- a command by its first word, and the others
 unfoldable pub command_in : Text → List Text → Result Command Kind
 command_in word words =
-    if bytes_eq word (codes "step") then step_in words
+    if bytes_eq word (codes "step") then and_then (count_in words) (λ k. Ok (Step k))
     else (if bytes_eq word (codes "until") then until_in words
-    else (if bytes_eq word (codes "back") then back_in words
+    else (if bytes_eq word (codes "back") then and_then (count_in words) (λ k. Ok (Back k))
     else (if bytes_eq word (codes "reg") then reg_in words
     else (if bytes_eq word (codes "mem") then mem_in words
     else (if bytes_eq word (codes "why") then and_no_more kind_of Why words

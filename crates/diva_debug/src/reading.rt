@@ -3,7 +3,8 @@ ghost use Rattle.std.specs.Prelude.{◌≡◌, ◌≤◌, length, IfOk, IfErr, O
 ghost use Rattle.std.specs.List.{All};
 ghost use Rattle.diva_outside.specs.TextFaults.{IsFirstFault};
 ghost use Rattle.diva_debug.specs.Moves.{IsShort};
-ghost use Rattle.diva_debug.specs.Reading.{back_in, command_in, commands_of, mem_in, most_bytes, reg_in, step_in, until_in};
+ghost use Rattle.diva_debug.specs.Ranges.{IsStepCount};
+ghost use Rattle.diva_debug.specs.Reading.{command_in, commands_of, count_in, mem_in, most_bytes, reg_in, until_in};
 
 use crate::command::Command;
 use crate::fault::{CommandFault, Kind};
@@ -58,11 +59,11 @@ fn command_in(word: &[u8], words: &mut LineWords<'_>) -> Result<Command, Kind>
     ensures short { IfOk result IsShort }
 {
     if is_word(word, b"step") {
-        step_in(words)
+        Ok(Command::Step(count_in(words)?))
     } else if is_word(word, b"until") {
         until_in(words)
     } else if is_word(word, b"back") {
-        back_in(words)
+        Ok(Command::Back(count_in(words)?))
     } else if is_word(word, b"reg") {
         reg_in(words)
     } else if is_word(word, b"mem") {
@@ -75,15 +76,15 @@ fn command_in(word: &[u8], words: &mut LineWords<'_>) -> Result<Command, Kind>
     }
 }
 
-/// After `step`: K.
-#[tactic(auto, unfolding(crate::specs::Reading::step_in))]
-fn step_in(words: &mut LineWords<'_>) -> Result<Command, Kind>
-    ensures command { result ≡ step_in words.old }
-    ensures short { IfOk result IsShort }
+/// After `step` or `back`: K.
+#[tactic(auto, unfolding(crate::specs::Reading::count_in))]
+fn count_in(words: &mut LineWords<'_>) -> Result<StepCount, Kind>
+    ensures count { result ≡ count_in words.old }
+    ensures range { IfOk result IsStepCount }
 {
     let count = words.number(1, 1_000_000)?;
     words.end()?;
-    Ok(Command::Step(StepCount::new(count).unwrap()))
+    Ok(StepCount::new(count).unwrap())
 }
 
 /// After `until`: PC.
@@ -95,17 +96,6 @@ fn until_in(words: &mut LineWords<'_>) -> Result<Command, Kind>
     let pc = words.hex()?;
     words.end()?;
     Ok(Command::Until(pc))
-}
-
-/// After `back`: K.
-#[tactic(auto, unfolding(crate::specs::Reading::back_in))]
-fn back_in(words: &mut LineWords<'_>) -> Result<Command, Kind>
-    ensures command { result ≡ back_in words.old }
-    ensures short { IfOk result IsShort }
-{
-    let count = words.number(1, 1_000_000)?;
-    words.end()?;
-    Ok(Command::Back(StepCount::new(count).unwrap()))
 }
 
 /// After `reg`: N.

@@ -46,13 +46,9 @@ fn of_registers(op: Op, rd: u8, rs1: u8, rs2: u8) -> Instr
 pub(crate) fn of_immediate(op: Op, rd: u8, rs1: u8, imm: i32) -> Instr
     ensures { result ≡ of_immediate op rd rs1 imm }
 {
-    let rs2 = 0;
     Instr {
-        op,
-        rd,
-        rs1,
-        rs2,
         imm,
+        ..of_registers(op, rd, rs1, 0)
     }
 }
 
@@ -60,12 +56,8 @@ pub(crate) fn of_immediate(op: Op, rd: u8, rs1: u8, imm: i32) -> Instr
 pub(crate) fn of_sources(op: Op, rs1: u8, rs2: u8, imm: i32) -> Instr
     ensures { result ≡ of_sources op rs1 rs2 imm }
 {
-    let rd = 0;
     Instr {
-        op,
-        rd,
-        rs1,
-        rs2,
         imm,
+        ..of_registers(op, 0, rs1, rs2)
     }
 }

@@ -5,6 +5,8 @@ use Rattle.std.specs.Int.{to_le_bytes, w32}
 use Rattle.diva_isa.specs.State.{State, reg_of}
 use Rattle.diva_isa.specs.Step.{record_of, steps}
 use Rattle.diva_isa.specs.declared.record.Record.{Record}
+use Rattle.diva_core.specs.declared.differences.Field.{Field}
+use Rattle.diva_core.specs.declared.flushes.Cause.TheVariants.{Differs, Silent}
 use Rattle.diva_core.specs.declared.flushes.FlushRow.{FlushRow}
 use Rattle.diva_core.specs.Timed.{Timed, PendingClaim, default_config, new_timed}
 use Rattle.diva_core.specs.Cycle.{cycle_of}
@@ -90,6 +92,14 @@ pub record Summary : Type 0 where
 -- the summary of a machine
 abbrev pub summary_of : Timed → Summary
 summary_of m = record { end = m.arch.end; count = m.count; cycles = m.cycles; flushes = m.under.log.flushes; silent = m.under.log.silent; rows = m.under.log.rows }
+
+-- the row of a flush in a cycle, after so many committed instructions: a field was claimed otherwise than was due
+abbrev pub differed : (cycle at : ℕ) → Field → (claimed due : ℕ) → FlushRow
+differed cycle at field claimed due = record { cycle = cycle; at = at; cause = Differs (record { field = field; claimed = claimed; due = due }) }
+
+-- the same, where nothing was claimed for as many cycles as the watchdog's limit
+abbrev pub was_silent : (cycle at limit : ℕ) → FlushRow
+was_silent cycle at limit = record { cycle = cycle; at = at; cause = Silent limit }
 
 -- the cycle in which a pending claim was accepted
 abbrev pub cycle_accepted : PendingClaim → ℕ

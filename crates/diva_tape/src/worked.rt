@@ -5,9 +5,10 @@
 //! The machine's numbers are 2 claims accepted and judged in a cycle, 16 pending, 4 owed
 //! stores, a watchdog's limit of 64 cycles and a port that takes a store in each cycle, where no
 //! others are given.
+#![tactic(auto, unfolding(diva_decode::specs::Table::row_of, diva_isa::specs::Step::record_of, diva_isa::specs::Step::apply, diva_isa::specs::Step::step, diva_core::specs::Cycle::cycle_under, diva_core::specs::Cycle::commits_under, diva_core::specs::Cycle::accepts, diva_core::specs::Cycle::watched, diva_core::specs::Cycle::drained, diva_core::specs::Cycle::flushed, diva_core::specs::Cycle::committed, diva_core::specs::Cycle::puts_store, diva_core::specs::Difference::first_difference))]
+
 ghost use Rattle.std.specs.Prelude.{◌≡◌, [], ◌∷◌};
 ghost use Rattle.diva_core.specs.declared.differences.Field.TheVariants.{Pc, Word, Value};
-ghost use Rattle.diva_core.specs.declared.flushes.Cause.TheVariants.{Differs, Silent};
 ghost use Rattle.diva_core.specs.Timed.{default_config, new_timed};
 ghost use Rattle.diva_isa.specs.declared.trap.Trap.TheVariants.{InstructionMisaligned, InstructionAccessFault, LoadMisaligned};
 ghost use Rattle.diva_isa.specs.State.{reg_of};
@@ -15,7 +16,7 @@ ghost use Rattle.diva_isa.specs.End.{halt, trap};
 ghost use Rattle.diva_isa.specs.Step.{record_of, step, steps};
 ghost use Rattle.diva_tape.specs.Lists.{lockstep_list, silent_list};
 ghost use Rattle.diva_tape.specs.Scalar.{scalar_list};
-ghost use Rattle.diva_tape.specs.Programs.{led_by, summary_of, acceptances, commitments, registers};
+ghost use Rattle.diva_tape.specs.Programs.{led_by, summary_of, differed, was_silent, acceptances, commitments, registers};
 ghost use Rattle.diva_tape.specs.Programs.{these_lists, hushed, flipped_first, second_twice, eight_at_once, two_at_once, second_wrong, late_and_wrong, stale_word};
 ghost use Rattle.diva_tape.specs.Programs.{three_instructions, jump_to_itself, one_word, misaligned_load_outside, jump_to_six, write_to_x0, division_by_zero, least_by_minus_one, store_then_load, store_over_next_word, two_stores};
 
@@ -91,15 +92,7 @@ pub fn a_store_over_the_next_word()
 /// A core that fetched before that store claims the old word, which flushes.
 pub fn a_stale_word_flushes()
     ensures summary { summary_of (led_by (these_lists stale_word) 20 (new_timed default_config store_over_next_word))
-        ≡ record {
-          end = halt 0;
-          count = 4;
-          cycles = 16;
-          flushes = 1;
-          silent = 0;
-          rows =
-              record { cycle = 10; at = 3; cause = Differs (record { field = Word; claimed = 0x00000013; due = 0x00000073 }) } ∷ [];
-        } }
+        ≡ record { end = halt 0; count = 4; cycles = 16; flushes = 1; silent = 0; rows = differed 10 3 Word 0x00000013 0x00000073 ∷ [] } }
 {}
 
 /// Two stores commit in one cycle where four may be owed. Where one may, the second waits a cycle.
@@ -125,17 +118,7 @@ pub fn a_slow_port_holds_a_store()
     ensures wrong { commitments (these_lists second_wrong) 160 (new_timed (record default_config { stores = 1; port = 6 }) two_stores)
         ≡ 7 ∷ 13 ∷ 83 ∷ 153 ∷ [] }
     ensures flushed { summary_of (led_by (these_lists second_wrong) 160 (new_timed (record default_config { stores = 1; port = 6 }) two_stores))
-        ≡ record {
-          end = halt 0;
-          count = 4;
-          cycles = 153;
-          flushes = 3;
-          silent = 2;
-          rows =
-              record { cycle = 7; at = 1; cause = Differs (record { field = Value; claimed = 1; due = 0 }) }
-              ∷ record { cycle = 77; at = 2; cause = Silent 64 }
-              ∷ record { cycle = 147; at = 3; cause = Silent 64 } ∷ [];
-        } }
+        ≡ record { end = halt 0; count = 4; cycles = 153; flushes = 3; silent = 2; rows = differed 7 1 Value 1 0 ∷ was_silent 77 2 64 ∷ was_silent 147 3 64 ∷ [] } }
 {}
 
 // ---- right claims
@@ -181,15 +164,7 @@ pub fn a_flipped_value_flushes()
     ensures committed { commitments flipped_first 30 (new_timed default_config three_instructions)
         ≡ 13 ∷ 20 ∷ 27 ∷ [] }
     ensures summary { summary_of (led_by flipped_first 30 (new_timed default_config three_instructions))
-        ≡ record {
-          end = halt 0;
-          count = 3;
-          cycles = 27;
-          flushes = 1;
-          silent = 0;
-          rows =
-              record { cycle = 7; at = 0; cause = Differs (record { field = Value; claimed = 4; due = 5 }) } ∷ [];
-        } }
+        ≡ record { end = halt 0; count = 3; cycles = 27; flushes = 1; silent = 0; rows = differed 7 0 Value 4 5 ∷ [] } }
     ensures state { (led_by flipped_first 30 (new_timed default_config three_instructions)).arch
         ≡ steps 3 three_instructions }
 {}
@@ -197,15 +172,7 @@ pub fn a_flipped_value_flushes()
 /// A right claim that comes twice commits once, and flushes the second time.
 pub fn a_claim_made_twice_flushes()
     ensures summary { summary_of (led_by (these_lists second_twice) 20 (new_timed default_config three_instructions))
-        ≡ record {
-          end = halt 0;
-          count = 3;
-          cycles = 14;
-          flushes = 1;
-          silent = 0;
-          rows =
-              record { cycle = 8; at = 2; cause = Differs (record { field = Pc; claimed = 4; due = 8 }) } ∷ [];
-        } }
+        ≡ record { end = halt 0; count = 3; cycles = 14; flushes = 1; silent = 0; rows = differed 8 2 Pc 4 8 ∷ [] } }
 {}
 
 /// A wrong claim that is judged in the very cycle in which the watchdog would flush: the claim is the
@@ -214,17 +181,7 @@ pub fn a_wrong_claim_comes_before_the_watchdog()
     ensures committed { commitments (these_lists late_and_wrong) 70 (new_timed (record default_config { limit = 16 }) three_instructions)
         ≡ 22 ∷ 44 ∷ 66 ∷ [] }
     ensures summary { summary_of (led_by (these_lists late_and_wrong) 70 (new_timed (record default_config { limit = 16 }) three_instructions))
-        ≡ record {
-          end = halt 0;
-          count = 3;
-          cycles = 66;
-          flushes = 3;
-          silent = 2;
-          rows =
-              record { cycle = 16; at = 0; cause = Differs (record { field = Value; claimed = 4; due = 5 }) }
-              ∷ record { cycle = 38; at = 1; cause = Silent 16 }
-              ∷ record { cycle = 60; at = 2; cause = Silent 16 } ∷ [];
-        } }
+        ≡ record { end = halt 0; count = 3; cycles = 66; flushes = 3; silent = 2; rows = differed 16 0 Value 4 5 ∷ was_silent 38 1 16 ∷ was_silent 60 2 16 ∷ [] } }
 {}
 
 // ---- silence
@@ -235,17 +192,7 @@ pub fn three_instructions_in_silence()
     ensures committed { commitments silent_list 220 (new_timed default_config three_instructions)
         ≡ 70 ∷ 140 ∷ 210 ∷ [] }
     ensures summary { summary_of (led_by silent_list 220 (new_timed default_config three_instructions))
-        ≡ record {
-          end = halt 0;
-          count = 3;
-          cycles = 210;
-          flushes = 3;
-          silent = 3;
-          rows =
-              record { cycle = 64; at = 0; cause = Silent 64 }
-              ∷ record { cycle = 134; at = 1; cause = Silent 64 }
-              ∷ record { cycle = 204; at = 2; cause = Silent 64 } ∷ [];
-        } }
+        ≡ record { end = halt 0; count = 3; cycles = 210; flushes = 3; silent = 3; rows = was_silent 64 0 64 ∷ was_silent 134 1 64 ∷ was_silent 204 2 64 ∷ [] } }
     ensures state { (led_by silent_list 220 (new_timed default_config three_instructions)).arch
         ≡ steps 3 three_instructions }
 {}
@@ -253,29 +200,11 @@ pub fn three_instructions_in_silence()
 /// A program that never ends goes on in silence too.
 pub fn a_jump_to_itself_in_silence()
     ensures summary { summary_of (led_by silent_list 140 (new_timed default_config jump_to_itself))
-        ≡ record {
-          end = 0;
-          count = 2;
-          cycles = 140;
-          flushes = 2;
-          silent = 2;
-          rows =
-              record { cycle = 64; at = 0; cause = Silent 64 }
-              ∷ record { cycle = 134; at = 1; cause = Silent 64 } ∷ [];
-        } }
+        ≡ record { end = 0; count = 2; cycles = 140; flushes = 2; silent = 2; rows = was_silent 64 0 64 ∷ was_silent 134 1 64 ∷ [] } }
 {}
 
 /// A core falls silent for 200 cycles, and then goes on where the machine is.
 pub fn a_silence_of_200_cycles()
     ensures summary { summary_of (led_by (hushed 5 204 scalar_list) 300 (new_timed default_config jump_to_itself))
-        ≡ record {
-          end = 0;
-          count = 96;
-          cycles = 300;
-          flushes = 2;
-          silent = 2;
-          rows =
-              record { cycle = 74; at = 4; cause = Silent 64 }
-              ∷ record { cycle = 144; at = 5; cause = Silent 64 } ∷ [];
-        } }
+        ≡ record { end = 0; count = 96; cycles = 300; flushes = 2; silent = 2; rows = was_silent 74 4 64 ∷ was_silent 144 5 64 ∷ [] } }
 {}

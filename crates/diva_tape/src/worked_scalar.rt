@@ -1,4 +1,6 @@
 //! Runs under the core `Scalar`, call by call, that were worked out by hand. Each function has no body, as in `worked`.
+#![tactic(auto, unfolding(diva_decode::specs::Table::row_of, diva_isa::specs::Step::record_of, diva_isa::specs::Step::apply, diva_isa::specs::Step::step, diva_core::specs::Cycle::cycle_under, diva_core::specs::Cycle::commits_under, diva_core::specs::Cycle::accepts, diva_core::specs::Cycle::watched, diva_core::specs::Cycle::drained, diva_core::specs::Cycle::flushed, diva_core::specs::Cycle::committed, diva_core::specs::Cycle::puts_store, diva_core::specs::Difference::first_difference, diva_ahead::specs::Effects::done_by, diva_ahead::specs::Ahead::taken_over, diva_ahead::specs::Ahead::trimmed, diva_ahead::specs::Ahead::with_record, crate::specs::Scalar::scalar_call))]
+
 ghost use Rattle.std.specs.Prelude.{◌≡◌, [], ◌∷◌};
 ghost use Rattle.diva_isa.specs.End.{halt};
 ghost use Rattle.diva_tape.specs.Programs.{Driven, new_driven, registers, summary_of, turns_of};

@@ -1,7 +1,7 @@
 // The lines of the program's text, each with its line feed.
 ghost use Rattle.std.specs.Prelude.{◌≡◌, ◌+◌, ◌*◌, ◌%◌, ◌^◌, ◌<◌, ◌≤◌, [], ◌++◌, length, codes};
 ghost use Rattle.std.specs.Fmt.{decimal};
-ghost use Rattle.diva_trace.specs.Lines.{commit_line, fields_text, cause_text, flush_line, end_line, end_line_of, end_text, count_line, cycles_line, flushed_line, flushes_line, hart_line, runs_line, same_line, silent_line, soak_line, soak_core_name, output_line, out_line, register_text, registers_line, pc_line, byte_text, mem_line};
+ghost use Rattle.diva_trace.specs.Lines.{commit_line, fields_text, cause_text, flush_line, end_line, end_line_of, end_text, count_line, cycles_line, flushes_line, hart_line, soak_line, soak_core_name, output_line, out_line, register_text, registers_line, pc_line, byte_text, mem_line};
 
 use crate::report::SoakCore;
 use diva_core::{Cause, Field, FlushRow, View};
@@ -172,38 +172,6 @@ pub fn soak_line(core: SoakCore, count: u64, cycles: u64, flushes: u64) -> Line
     line
 }
 
-/// The number of runs of a campaign.
-#[tactic(auto, unfolding(crate::specs::Lines::runs_line))]
-pub fn runs_line(n: u32) -> Line
-    ensures { result ≡ runs_line n }
-{
-    number_line(b"runs ", u64::from(n))
-}
-
-/// The number of those that left what the first run left.
-#[tactic(auto, unfolding(crate::specs::Lines::same_line))]
-pub fn same_line(n: u32) -> Line
-    ensures { result ≡ same_line n }
-{
-    number_line(b"same ", u64::from(n))
-}
-
-/// The number of those with a flush.
-#[tactic(auto, unfolding(crate::specs::Lines::flushed_line))]
-pub fn flushed_line(n: u32) -> Line
-    ensures { result ≡ flushed_line n }
-{
-    number_line(b"flushed ", u64::from(n))
-}
-
-/// The number of those with a silent one.
-#[tactic(auto, unfolding(crate::specs::Lines::silent_line))]
-pub fn silent_line(n: u32) -> Line
-    ensures { result ≡ silent_line n }
-{
-    number_line(b"silent ", u64::from(n))
-}
-
 /// The name of a core of `soak`.
 fn soak_core_name(core: SoakCore) -> &'static str
     ensures name { result.now ≡ soak_core_name core }
@@ -231,7 +199,7 @@ pub(crate) fn output_len_line(n: u64) -> Line
 }
 
 /// A name of at most 80 bytes, and a number.
-fn number_line(name: &[u8], n: u64) -> Line
+pub(crate) fn number_line(name: &[u8], n: u64) -> Line
     requires { length name.now ≤ 80 }
     ensures { result ≡ name.now ++ decimal n ++ codes "\n" }
 {

@@ -6,9 +6,8 @@ ghost use Rattle.diva_outside.specs.Sink.{Puts};
 ghost use Rattle.diva_trace.specs.Text.{commits_text, rows_text, summary_text, output_text, registers_text, dump_text, tally_text, text_in, text_of, IsReportOf};
 
 use crate::lines::{
-    count_line, cycles_line, end_line_of, fill_commit, flush_line, flushed_line, flushes_line,
-    mem_line, out_line, output_len_line, pc_line, registers_line, runs_line, same_line,
-    silent_line,
+    count_line, cycles_line, end_line_of, fill_commit, flush_line, flushes_line, mem_line,
+    number_line, out_line, output_len_line, pc_line, registers_line,
 };
 use crate::report::{Dump, Report, Tally};
 use diva_core::{FlushRow, View};
@@ -136,16 +135,17 @@ pub fn write_summary<S: Sink>(report: &Report<'_>, sink: &mut S) -> Result<(), S
 }
 
 /// Puts what is counted of the runs of a campaign. Where a put fails, a prefix of that text was appended.
+#[tactic(auto, unfolding(crate::specs::Lines::runs_line, crate::specs::Lines::same_line, crate::specs::Lines::flushed_line, crate::specs::Lines::silent_line))]
 pub fn write_tally<S: Sink>(tally: &Tally, sink: &mut S) -> Result<(), SinkFailed>
     ensures { Puts (tally_text tally.now)
         (S.contents sink.old) (S.contents sink.new) (S.faults sink.old) (S.faults sink.new) result }
 {
     put_lines(
         &[
-            runs_line(tally.runs),
-            same_line(tally.same),
-            flushed_line(tally.flushed),
-            silent_line(tally.silent),
+            number_line(b"runs ", u64::from(tally.runs)),
+            number_line(b"same ", u64::from(tally.same)),
+            number_line(b"flushed ", u64::from(tally.flushed)),
+            number_line(b"silent ", u64::from(tally.silent)),
         ],
         sink,
     )
