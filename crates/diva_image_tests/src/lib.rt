@@ -10,6 +10,4 @@
 #![tactic(auto)]
 
 #[cfg(test)]
-mod executables;
-#[cfg(test)]
-mod images;
+mod tests;

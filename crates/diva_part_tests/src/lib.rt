@@ -17,20 +17,4 @@
 #![tactic(auto)]
 
 #[cfg(test)]
-mod commits;
-#[cfg(test)]
-mod counts;
-#[cfg(test)]
-mod memory;
-#[cfg(test)]
-mod numbers;
-#[cfg(test)]
-mod plain;
-#[cfg(test)]
-mod queue;
-#[cfg(test)]
-mod stages;
-#[cfg(test)]
-mod vectors;
-#[cfg(test)]
-mod words;
+mod tests;

@@ -1,9 +1,43 @@
-//! Small programs, the image files that they are, and the records of one of them: what tests of several crates begin with.
+//! What tests of several crates begin with: small programs, the image files that they are, the records of one of them and the lines of
+//! registers; `cores` has cores of the tests' own.
 #![tactic(auto)]
 
+mod cores;
+
+pub use cores::{Counting, Lists, Misled};
+use diva_core::{Cause, Diff, Field, FlushRow, Told};
 use diva_isa::Record;
 use std::alloc::{AllocError, Global};
+use std::fmt::Write;
 use std::test::Fail;
+
+/// An array of rows of a type, each written as one that it is like and the fields in which it differs.
+#[macro_export]
+macro_rules! rows {
+    ($row:ident: $($like:ident { $($field:ident: $value:expr),* })*) => {
+        [$($row { $($field: $value,)* ..$like }),*]
+    };
+}
+
+/// An array that stays as it is laid out: several of its items may share a line.
+#[macro_export]
+macro_rules! laid {
+    ($($item:tt)*) => { [$($item)*] };
+}
+
+/// A program of these words, in 64 bytes.
+#[macro_export]
+macro_rules! program {
+    ($($word:expr),* $(,)?) => { $crate::Program { size: 64, words: &[$($word),*] } };
+}
+
+/// A record of these numbers, in the order of a tape: pc, word, src1, src2, addr, value, next and end.
+#[macro_export]
+macro_rules! record {
+    [$pc:expr, $word:expr, $src1:expr, $src2:expr, $addr:expr, $value:expr, $next:expr, $end:expr] => {
+        Record { pc: $pc, word: $word, src1: $src1, src2: $src2, addr: $addr, value: $value, next: $next, end: $end }
+    };
+}
 
 /// A program that lies at 0, and is entered there.
 #[derive(Clone, Copy)]
@@ -15,10 +49,7 @@ pub struct Program {
 }
 
 /// `addi x1, x0, 5`, `addi x17, x0, 93` and `ecall`, which halts with status 0.
-pub const FIVE: Program = Program {
-    size: 64,
-    words: &[0x0050_0093, 0x05d0_0893, 0x0000_0073],
-};
+pub const FIVE: Program = program![0x00500093, 0x05d00893, 0x00000073];
 
 /// The image file of `FIVE`.
 pub const FIVE_FILE: [u8; 36] = [
@@ -33,87 +64,46 @@ pub const FIVE_SEGMENTED: [u8; 44] = [
 ];
 
 /// A record whose fields are all 0.
-pub const NOTHING: Record = Record {
-    pc: 0,
-    word: 0,
-    src1: 0,
-    src2: 0,
-    addr: 0,
-    value: 0,
-    next: 0,
-    end: 0,
-};
+pub const NOTHING: Record = record![0, 0, 0, 0, 0, 0, 0, 0];
 
 /// The record of the first instruction of `FIVE`, `addi x1, x0, 5`.
-pub const ADDS: Record = Record {
-    word: 0x0050_0093,
-    value: 5,
-    next: 4,
-    ..NOTHING
-};
+pub const ADDS: Record = record![0, 0x00500093, 0, 0, 0, 5, 4, 0];
 
 /// The record of the second, `addi x17, x0, 93`.
-pub const ASKS: Record = Record {
-    pc: 4,
-    word: 0x05d0_0893,
-    value: 93,
-    next: 8,
-    ..NOTHING
-};
+pub const ASKS: Record = record![4, 0x05d00893, 0, 0, 0, 93, 8, 0];
 
 /// The record of the third, `ecall`: it reads x17 and x10, and ends.
-pub const HALTS: Record = Record {
-    pc: 8,
-    word: 0x0000_0073,
-    src1: 93,
-    next: 8,
-    end: 256,
-    ..NOTHING
+pub const HALTS: Record = record![8, 0x00000073, 93, 0, 0, 0, 8, 256];
+
+/// The flush where the value of the first claim of `FIVE` is wrong, 4 in place of 5: the claim of cycle 1 is judged in cycle 7.
+pub const WRONG_VALUE: FlushRow = FlushRow {
+    cycle: 7,
+    at: 0,
+    cause: Cause::Differs(Diff {
+        field: Field::Value,
+        claimed: 4,
+        due: 5,
+    }),
 };
 
 /// Two stores of x0, to 32 and 36, and the halt.
-pub const TWO_STORES: Program = Program {
-    size: 64,
-    words: &[0x0200_2023, 0x0200_2223, 0x05d0_0893, 0x0000_0073],
-};
+pub const TWO_STORES: Program = program![0x02002023, 0x02002223, 0x05d00893, 0x00000073];
 
 /// Four stores of x0, to 32, 36, 40 and 44, and the halt.
-pub const FOUR_STORES: Program = Program {
-    size: 64,
-    words: &[
-        0x0200_2023,
-        0x0200_2223,
-        0x0200_2423,
-        0x0200_2623,
-        0x05d0_0893,
-        0x0000_0073,
-    ],
-};
+pub const FOUR_STORES: Program = program![
+    0x02002023, 0x02002223, 0x02002423, 0x02002623, 0x05d00893, 0x00000073
+];
 
 /// `rdinstret x1`, `rdinstret x2`, and the halt: no instruction is before the first read, and one before the second.
-pub const TWO_READS: Program = Program {
-    size: 64,
-    words: &[0xc020_20f3, 0xc020_2173, 0x05d0_0893, 0x0000_0073],
-};
+pub const TWO_READS: Program = program![0xc02020f3, 0xc0202173, 0x05d00893, 0x00000073];
 
 /// `addi x1, x0, -1`, `rdinstreth x1`, which reads 0, `rdinstret x0` of 2 instructions, `rdinstret x2` of 3, and the halt.
-pub const THREE_READS: Program = Program {
-    size: 64,
-    words: &[
-        0xfff0_0093,
-        0xc820_20f3,
-        0xc020_2073,
-        0xc020_2173,
-        0x05d0_0893,
-        0x0000_0073,
-    ],
-};
+pub const THREE_READS: Program = program![
+    0xfff00093, 0xc82020f3, 0xc0202073, 0xc0202173, 0x05d00893, 0x00000073
+];
 
 /// `jal x0, 0`, which goes on for ever.
-pub const LOOP: Program = Program {
-    size: 64,
-    words: &[0x0000_006f],
-};
+pub const LOOP: Program = program![0x0000006f];
 
 /// The image file of a program.
 pub fn image_file(alloc: Global, program: Program) -> Result<Vec<u8>, Fail> {
@@ -159,4 +149,36 @@ pub fn altered(
         *old = byte;
     }
     Ok(altered)
+}
+
+/// The eight lines of the registers, of which these are not 0.
+pub fn registers_text(alloc: Global, set: &[(u8, u32)]) -> Result<String, Fail> {
+    let mut text = String::new(alloc);
+    for n in 0..32 {
+        let value = set
+            .iter()
+            .find(|(reg, _)| *reg == n)
+            .map_or(0, |(_, value)| *value);
+        let end = if n % 4 == 3 { "\n" } else { " " };
+        write!(text, "x{n} {value:08x}{end}")?;
+    }
+    Ok(text)
+}
+
+/// What a core is told but for the cycle: the count, pc, the epoch, how many claims are pending, the room, idle, whether a claim is due,
+/// and whether the machine has ended.
+pub type Numbers = (u64, u32, u64, u32, u32, u32, bool, bool);
+
+/// The numbers that a core is told.
+pub fn numbers(told: Told) -> Numbers {
+    (
+        told.count,
+        told.pc,
+        told.epoch,
+        told.pending,
+        told.room,
+        told.idle,
+        told.due,
+        told.ended,
+    )
 }

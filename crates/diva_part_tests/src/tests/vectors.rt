@@ -15,23 +15,12 @@ use std::process::Abort;
 
 /// The first operands of the grids: the edges of bytes, halves and words.
 const FIRSTS: [u32; 13] = [
-    0x0000_0000,
-    0x0000_0001,
-    0x0000_0002,
-    0x0000_001f,
-    0x0000_0020,
-    0x0000_00ff,
-    0x0000_7fff,
-    0x0000_8000,
-    0x7fff_ffff,
-    0x8000_0000,
-    0x8000_0001,
-    0xffff_fffe,
-    0xffff_ffff,
+    0x00000000, 0x00000001, 0x00000002, 0x0000001f, 0x00000020, 0x000000ff, 0x00007fff, 0x00008000,
+    0x7fffffff, 0x80000000, 0x80000001, 0xfffffffe, 0xffffffff,
 ];
 
 /// The second operands of the branches.
-const COMPARED: [u32; 5] = [0, 1, 0x7fff_ffff, 0x8000_0000, 0xffff_ffff];
+const COMPARED: [u32; 5] = [0, 1, 0x7fffffff, 0x80000000, 0xffffffff];
 
 /// The results of one operation.
 struct Sheet {
@@ -72,9 +61,9 @@ fn results_of_an_emulator(rt: HostRuntime) {
     compare(
         &rt,
         &REGISTERS,
-        &[0, 1, 0x1f, 0x7fff_ffff, 0x8000_0000, 0xffff_ffff],
+        &[0, 1, 0x1f, 0x7fffffff, 0x80000000, 0xffffffff],
     );
-    compare(&rt, &IMMEDIATES, &[0, 0xffff_ffff, 0x7ff, 0xffff_f800]);
+    compare(&rt, &IMMEDIATES, &[0, 0xffffffff, 0x7ff, 0xfffff800]);
     compare(&rt, &SHIFTS, &[0, 1, 0x1f]);
 }
 
