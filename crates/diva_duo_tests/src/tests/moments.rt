@@ -1,13 +1,14 @@
 // All that is seen of two harts, between some cycles of a run.
 ghost use Rattle.std.specs.Prelude.{◌<◌};
 
-use crate::harts::{
+use crate::tests::harts::{
     DRAIN_0, DRAIN_1, Flush, GO_0, GO_1, compare_flushes, duo_of, tape_core, word_at,
 };
-use diva_core::{Field, Told};
+use diva_core::Field;
 use diva_duo::{Action, Drive, Duo, drive2};
 use diva_isa::End;
 use diva_tape::TapeCore;
+use diva_test_programs::{Numbers, laid, numbers};
 use std::process::Abort;
 use std::test::Fail;
 
@@ -25,10 +26,6 @@ const FIRST: &[u8] = b"\
 const SECOND: &[u8] =
     b"0 100893 0 0 0 1 4 0\n4 73 1 1 0 1 8 0\n\n\n\n\n\n\n8 150093 1 0 0 2 c 0 ; c 2102823 0 2 30 2 10 0";
 
-/// What a core is told but for the cycle: the count, pc, the epoch, how many claims are pending, the room, idle, whether a claim
-/// is due, and whether the hart has ended.
-type Numbers = (u64, u32, u64, u32, u32, u32, bool, bool);
-
 /// What is seen behind so many cycles.
 struct Moment {
     cycles: u32,
@@ -41,103 +38,31 @@ struct Moment {
     flushes: [&'static [Flush]; 2],
 }
 
-static MOMENTS: [Moment; 6] = [
+static MOMENTS: [Moment; 6] = laid! {
     // At the beginning.
-    Moment {
-        cycles: 0,
-        last: &[],
-        told: [
-            (0, 0, 0, 0, 2, 0, false, false),
-            (0, 0, 0, 0, 2, 0, false, false),
-        ],
-        ends: [End::GoesOn, End::GoesOn],
-        output: [b"", b""],
-        word: (0, [0, 0]),
-        flushes: [&[], &[]],
-    },
+    Moment { cycles: 0, last: &[], told: [(0, 0, 0, 0, 2, 0, false, false), (0, 0, 0, 0, 2, 0, false, false)],
+        ends: [End::GoesOn, End::GoesOn], output: [b"", b""], word: (0, [0, 0]), flushes: [&[], &[]] },
     // Hart 0's load has been flushed, and its store is owed: hart 0 alone sees it.
-    Moment {
-        cycles: 9,
-        last: &[GO_0],
-        told: [
-            (4, 16, 1, 0, 0, 0, false, false),
-            (2, 8, 0, 2, 2, 1, false, false),
-        ],
-        ends: [End::GoesOn, End::GoesOn],
-        output: [b"\x00", b"\x01"],
-        word: (0, [1, 0]),
-        flushes: [&[(9, 4, Some((Field::Value, 9, 1)))], &[]],
-    },
+    Moment { cycles: 9, last: &[GO_0], told: [(4, 16, 1, 0, 0, 0, false, false), (2, 8, 0, 2, 2, 1, false, false)],
+        ends: [End::GoesOn, End::GoesOn], output: [b"\x00", b"\x01"], word: (0, [1, 0]),
+        flushes: [&[(9, 4, Some((Field::Value, 9, 1)))], &[]] },
     // The checker's own load has committed, and hart 1's store is owed.
-    Moment {
-        cycles: 15,
-        last: &[GO_0, GO_1, GO_1],
-        told: [
-            (5, 20, 1, 0, 2, 0, false, false),
-            (4, 16, 0, 0, 2, 0, false, false),
-        ],
-        ends: [End::GoesOn, End::GoesOn],
-        output: [b"\x00", b"\x01"],
-        word: (1, [1, 2]),
-        flushes: [&[(9, 4, Some((Field::Value, 9, 1)))], &[]],
-    },
+    Moment { cycles: 15, last: &[GO_0, GO_1, GO_1], told: [(5, 20, 1, 0, 2, 0, false, false), (4, 16, 0, 0, 2, 0, false, false)],
+        ends: [End::GoesOn, End::GoesOn], output: [b"\x00", b"\x01"], word: (1, [1, 2]),
+        flushes: [&[(9, 4, Some((Field::Value, 9, 1)))], &[]] },
     // Hart 0 has ended. Nothing of hart 1 is pending, and a claim is due.
-    Moment {
-        cycles: 24,
-        last: &[],
-        told: [
-            (7, 24, 1, 0, 0, 0, false, true),
-            (4, 16, 0, 0, 2, 9, true, false),
-        ],
-        ends: [End::Halt(0), End::GoesOn],
-        output: [b"\x00", b"\x01"],
-        word: (2, [2, 2]),
-        flushes: [&[(9, 4, Some((Field::Value, 9, 1)))], &[]],
-    },
+    Moment { cycles: 24, last: &[], told: [(7, 24, 1, 0, 0, 0, false, true), (4, 16, 0, 0, 2, 9, true, false)],
+        ends: [End::Halt(0), End::GoesOn], output: [b"\x00", b"\x01"], word: (2, [2, 2]),
+        flushes: [&[(9, 4, Some((Field::Value, 9, 1)))], &[]] },
     // Its watchdog flushes.
-    Moment {
-        cycles: 31,
-        last: &[],
-        told: [
-            (7, 24, 1, 0, 0, 0, false, true),
-            (4, 16, 1, 0, 0, 16, false, false),
-        ],
-        ends: [End::Halt(0), End::GoesOn],
-        output: [b"\x00", b"\x01"],
-        word: (2, [2, 2]),
-        flushes: [&[(9, 4, Some((Field::Value, 9, 1)))], &[(31, 4, None)]],
-    },
+    Moment { cycles: 31, last: &[], told: [(7, 24, 1, 0, 0, 0, false, true), (4, 16, 1, 0, 0, 16, false, false)],
+        ends: [End::Halt(0), End::GoesOn], output: [b"\x00", b"\x01"], word: (2, [2, 2]),
+        flushes: [&[(9, 4, Some((Field::Value, 9, 1)))], &[(31, 4, None)]] },
     // Both have ended, and nothing is owed.
-    Moment {
-        cycles: 81,
-        last: &[GO_1],
-        told: [
-            (7, 24, 1, 0, 0, 0, false, true),
-            (7, 24, 3, 0, 0, 0, false, true),
-        ],
-        ends: [End::Halt(0), End::Halt(1)],
-        output: [b"\x00", b"\x01"],
-        word: (2, [2, 2]),
-        flushes: [
-            &[(9, 4, Some((Field::Value, 9, 1)))],
-            &[(31, 4, None), (53, 5, None), (75, 6, None)],
-        ],
-    },
-];
-
-/// What a core is told but for the cycle.
-fn numbers(told: Told) -> Numbers {
-    (
-        told.count,
-        told.pc,
-        told.epoch,
-        told.pending,
-        told.room,
-        told.idle,
-        told.due,
-        told.ended,
-    )
-}
+    Moment { cycles: 81, last: &[GO_1], told: [(7, 24, 1, 0, 0, 0, false, true), (7, 24, 3, 0, 0, 0, false, true)],
+        ends: [End::Halt(0), End::Halt(1)], output: [b"\x00", b"\x01"], word: (2, [2, 2]),
+        flushes: [&[(9, 4, Some((Field::Value, 9, 1)))], &[(31, 4, None), (53, 5, None), (75, 6, None)]] },
+};
 
 /// Drives two harts until so many cycles have run.
 fn drive_to(

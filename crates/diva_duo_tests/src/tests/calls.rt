@@ -1,7 +1,7 @@
 // Two harts on given lists, action by action.
 mod tables;
 
-use crate::harts::{GO_0, GO_1, compare_flushes, duo_of, tape_core, word_at};
+use crate::tests::harts::{GO_0, GO_1, compare_flushes, duo_of, tape_core, word_at};
 use diva_duo::{Action, Drive, Duo, drive2};
 use std::alloc::Global;
 use std::process::Abort;

@@ -1,11 +1,11 @@
 // Cores of the tests' own.
 use diva_core::{Claim, Claims, Core, Told, View};
-use diva_tape::{Lockstep, Scalar};
+use diva_tape::Scalar;
 
 /// Hands over what `Scalar` would in some calls, as many as its plan has for the cycle. Of the first loads, until a flush, it
 /// claims the values that are foretold.
 #[derive(Drop)]
-pub(crate) struct Planned<'a> {
+pub(super) struct Planned<'a> {
     /// For each cycle, how many claims are handed over at most: past the end as many as for the last.
     pub plan: &'a [u8],
     /// The values of the first loads; of those behind them it claims what it sees.
@@ -69,22 +69,5 @@ impl Core for Planned<'_> {
                 self.hand_over_next(&meanwhile, view, out);
             }
         }
-    }
-}
-
-/// Counts its calls, and hands over what `Lockstep` does.
-#[derive(Clone, Copy, Debug)]
-pub(crate) struct Counting {
-    pub calls: u64,
-}
-
-impl Core for Counting {
-    ghost use Rattle.std.specs.Prelude.{⊤};
-
-    ghost gives = { λ before told state list after. ⊤ };
-
-    fn cycle(&mut self, told: &Told, view: &View<'_>, out: &mut Claims) {
-        self.calls = self.calls.saturating_add(1);
-        Lockstep.cycle(told, view, out);
     }
 }

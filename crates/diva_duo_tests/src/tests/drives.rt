@@ -1,8 +1,10 @@
 // Budgets of a drive, and the cores that it asks.
-use crate::cores::Counting;
-use crate::harts::{DRAIN_0, DRAIN_1, GO_0, USUAL, duo_of};
-use diva_core::{Claim, Claims};
+use crate::tests::harts::{DRAIN_0, DRAIN_1, GO_0, USUAL, duo_of};
+use diva_core::Claims;
 use diva_duo::{Action, Drive, Duo, drive2};
+use diva_isa::Record;
+use diva_tape::Lockstep;
+use diva_test_programs::{Counting, record};
 use std::process::Abort;
 use std::test::Fail;
 
@@ -25,16 +27,7 @@ static DRIVES: [(u64, Drive, u64, &[Action], [u64; 2]); 6] = [
 /// A cycle of harts that are over does nothing, whatever is handed over.
 fn compare_over(rt: &impl Abort, duo: &mut Duo) {
     let mut list = Claims::new();
-    list.push(Claim {
-        pc: 16,
-        word: 0x0000_0073,
-        src1: 93,
-        src2: 0,
-        addr: 0,
-        value: 0,
-        next: 16,
-        end: 256,
-    });
+    list.push(record![16, 0x00000073, 93, 0, 0, 0, 16, 256]);
     assert_eq!(rt; duo.cycles(), 35);
     duo.cycle(&list, &list);
     assert_eq!(rt;
@@ -52,7 +45,10 @@ fn compare_over(rt: &impl Abort, duo: &mut Duo) {
 #[test]
 fn drives_of_a_budget(rt: HostRuntime) -> Result<(), Fail> {
     let mut duo = duo_of(rt.alloc(), 64, &WORDS, USUAL)?;
-    let (mut first, mut second) = (Counting { calls: 0 }, Counting { calls: 0 });
+    let [mut first, mut second] = [Counting {
+        calls: 0,
+        core: Lockstep,
+    }; 2];
     for &(budget, stop, cycles, last, calls) in &DRIVES {
         assert!(rt; duo.cycles() < 100);
         let driven = drive2(&mut duo, &mut first, &mut second, budget);

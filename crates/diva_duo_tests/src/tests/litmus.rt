@@ -1,11 +1,12 @@
 // Small programs whose outcome depends on when each hart goes on.
 ghost use Rattle.std.specs.Prelude.{◌<◌};
 
+mod cores;
 mod shapes;
 mod tables;
 
-use crate::cores::Planned;
-use crate::harts::{duo_of, tape_core, word_at};
+use crate::tests::harts::{duo_of, tape_core, word_at};
+use cores::Planned;
 use diva_core::{Cause, Diff, Field, FlushRow};
 use diva_duo::{Drive, Duo, drive2};
 use diva_tape::{Scalar, TapeCore};
