@@ -3,8 +3,8 @@ use Rattle.std.proofs.Common.{◌≡◌, Bool, true, false, not, refl, sym, ap, 
 use Rattle.diva_vote.specs.declared.lanes.Honest.{Honest}
 use Rattle.diva_vote.specs.Votes.{AtLeastTwo}
 use Rattle.diva_vote.proofs.Polling.{always_by}
-use Rattle.diva_vote_tests.specs.declared.lanes.Alternating.{Alternating}
-use Rattle.diva_vote_tests.proofs.lanes.recall_alternating.Goals as goal
+use Rattle.diva_vote_tests.specs.declared.tests.lanes.Alternating.{Alternating}
+use Rattle.diva_vote_tests.proofs.tests.lanes.recall_alternating.Goals as goal
 
 -- of two that never both lie one is right, and so is a third
 two_by : (lies first second : Bool) {X Y Z : Type 0} → first ≡ lies → second ≡ not first → (first ≡ false → X) → (second ≡ false → Y) → Z → AtLeastTwo X Y Z

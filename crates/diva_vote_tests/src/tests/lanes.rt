@@ -9,25 +9,43 @@ use std::cell::Cell;
 /// What a lane is asked: the stage, and the pc of the claim.
 pub(crate) type Asked = (Stage, u32);
 
-/// Notes what it is asked, the first questions of it, counts all of them, and answers as the checks do.
-#[derive(Clone, Copy, Debug, Drop)]
-pub(crate) struct Noting {
+/// Answers as the checks do, and notes what it is asked. Three such lanes share a cell in which they count that.
+#[derive(Clone, Copy, Drop)]
+pub(crate) struct Witness<'a> {
+    asked: &'a Cell<u32>,
+    place: u32,
     notes: [Asked; 32],
-    calls: usize,
+    /// How often it was asked.
+    pub(crate) calls: usize,
+    /// How often another lane was to be asked in its place.
+    pub(crate) out_of_turn: u32,
+    /// How often `Liar` did not say the lie of its answer.
+    pub(crate) strays: u32,
+    /// How often `Liar` said nothing.
+    pub(crate) denials: u32,
 }
 
-impl Noting {
-    /// A lane that was asked nothing yet.
-    pub(crate) fn new() -> Self {
-        Noting {
+impl<'a> Witness<'a> {
+    /// The lane that is to be asked at this place, from 0 to 2, and was asked nothing yet.
+    pub(crate) fn new(asked: &'a Cell<u32>, place: u32) -> Self {
+        Witness {
+            asked,
+            place,
             notes: [(Stage::Fetch, 0); 32],
             calls: 0,
+            out_of_turn: 0,
+            strays: 0,
+            denials: 0,
         }
     }
 
-    /// How often it was asked.
-    pub(crate) fn calls(&self) -> usize {
-        self.calls
+    /// The lanes of all three places, which share this cell.
+    pub(crate) fn all(asked: &'a Cell<u32>) -> [Self; 3] {
+        [
+            Witness::new(asked, 0),
+            Witness::new(asked, 1),
+            Witness::new(asked, 2),
+        ]
     }
 
     /// What it was asked, in order: its first questions, where there were more than it can note.
@@ -36,7 +54,7 @@ impl Noting {
     }
 }
 
-impl Lane for Noting {
+impl<'a> Lane for Witness<'a> {
     ghost use Rattle.std.specs.Prelude.{⊤};
     ghost use Rattle.diva_vote.specs.Questions.{IsAnswer};
 
@@ -57,87 +75,11 @@ impl Lane for Noting {
             *note = (stage, pending.at(at).claim.pc);
         }
         self.calls = self.calls.saturating_add(1);
-        check(stage, pending, at, view)
-    }
-}
-
-/// Answers as the checks do, and notes how often it is not asked in its turn: three lanes share a cell in which they count what
-/// they are asked.
-#[derive(Drop)]
-pub(crate) struct Queueing<'a> {
-    asked: &'a Cell<u32>,
-    place: u32,
-    strays: u32,
-}
-
-impl<'a> Queueing<'a> {
-    /// The lane that is to be asked at this place, from 0 to 2.
-    pub(crate) fn new(asked: &'a Cell<u32>, place: u32) -> Self {
-        Queueing {
-            asked,
-            place,
-            strays: 0,
-        }
-    }
-
-    /// How often another lane was asked in its place.
-    pub(crate) fn strays(&self) -> u32 {
-        self.strays
-    }
-}
-
-impl<'a> Lane for Queueing<'a> {
-    ghost use Rattle.std.specs.Prelude.{⊤};
-    ghost use Rattle.diva_vote.specs.Questions.{IsAnswer};
-
-    ghost says = { λ before q answer after. IsAnswer q answer };
-
-    ghost honest = { λ lane. ⊤ };
-
-    ghost keeps = { λ lane q answer after honest said. (said, tt) };
-
-    fn judge(
-        &mut self,
-        stage: Stage,
-        pending: &Pending,
-        at: usize,
-        view: &View<'_>,
-    ) -> Option<Diff> {
         let asked = self.asked.get();
         if asked % 3 != self.place {
-            self.strays = self.strays.saturating_add(1);
+            self.out_of_turn = self.out_of_turn.saturating_add(1);
         }
         self.asked.set(asked.wrapping_add(1));
-        check(stage, pending, at, view)
-    }
-}
-
-/// Answers as the checks do, and compares what `Liar` says each time with the lie of that answer.
-#[derive(Clone, Copy, Debug, Drop)]
-pub(crate) struct Watching {
-    /// How often the liar said something else.
-    pub(crate) strays: u32,
-    /// How often it said nothing.
-    pub(crate) denials: u32,
-}
-
-impl Lane for Watching {
-    ghost use Rattle.std.specs.Prelude.{⊤};
-    ghost use Rattle.diva_vote.specs.Questions.{IsAnswer};
-
-    ghost says = { λ before q answer after. IsAnswer q answer };
-
-    ghost honest = { λ lane. ⊤ };
-
-    ghost keeps = { λ lane q answer after honest said. (said, tt) };
-
-    fn judge(
-        &mut self,
-        stage: Stage,
-        pending: &Pending,
-        at: usize,
-        view: &View<'_>,
-    ) -> Option<Diff> {
         let right = check(stage, pending, at, view);
         let said = Liar.judge(stage, pending, at, view);
         if said != lie(right) {

@@ -1,5 +1,6 @@
 // Of which three answers which one is taken, and what is counted of them.
 use diva_core::{Diff, Field};
+use diva_test_programs::laid;
 use diva_vote::{Ballot, Outvoted, vote};
 use std::test::Fail;
 
@@ -46,52 +47,24 @@ const DUE: Answer = Some(Diff {
 
 /// The answers of three lanes, and the one that is taken. By the rule it is the one that two give at least; where all differ, it
 /// is the first.
-static VOTES: [(Answer, Answer, Answer, Answer); 39] = [
+static VOTES: [(Answer, Answer, Answer, Answer); 39] = laid! {
     // All are equal.
-    (NONE, NONE, NONE, NONE),
-    (PC, PC, PC, PC),
-    (VALUE, VALUE, VALUE, VALUE),
+    (NONE, NONE, NONE, NONE), (PC, PC, PC, PC), (VALUE, VALUE, VALUE, VALUE),
     // Two find nothing.
-    (NONE, NONE, PC, NONE),
-    (NONE, PC, NONE, NONE),
-    (PC, NONE, NONE, NONE),
-    (NONE, NONE, VALUE, NONE),
-    (NONE, VALUE, NONE, NONE),
+    (NONE, NONE, PC, NONE), (NONE, PC, NONE, NONE), (PC, NONE, NONE, NONE), (NONE, NONE, VALUE, NONE), (NONE, VALUE, NONE, NONE),
     (VALUE, NONE, NONE, NONE),
     // Two find the same.
-    (PC, PC, NONE, PC),
-    (PC, NONE, PC, PC),
-    (NONE, PC, PC, PC),
-    (PC, PC, VALUE, PC),
-    (PC, VALUE, PC, PC),
-    (VALUE, PC, PC, PC),
-    (VALUE, VALUE, NONE, VALUE),
-    (VALUE, NONE, VALUE, VALUE),
-    (NONE, VALUE, VALUE, VALUE),
-    (VALUE, VALUE, PC, VALUE),
-    (VALUE, PC, VALUE, VALUE),
-    (PC, VALUE, VALUE, VALUE),
+    (PC, PC, NONE, PC), (PC, NONE, PC, PC), (NONE, PC, PC, PC), (PC, PC, VALUE, PC), (PC, VALUE, PC, PC), (VALUE, PC, PC, PC),
+    (VALUE, VALUE, NONE, VALUE), (VALUE, NONE, VALUE, VALUE), (NONE, VALUE, VALUE, VALUE), (VALUE, VALUE, PC, VALUE),
+    (VALUE, PC, VALUE, VALUE), (PC, VALUE, VALUE, VALUE),
     // All differ.
-    (NONE, PC, VALUE, NONE),
-    (NONE, VALUE, PC, NONE),
-    (PC, NONE, VALUE, PC),
-    (PC, VALUE, NONE, PC),
-    (VALUE, NONE, PC, VALUE),
+    (NONE, PC, VALUE, NONE), (NONE, VALUE, PC, NONE), (PC, NONE, VALUE, PC), (PC, VALUE, NONE, PC), (VALUE, NONE, PC, VALUE),
     (VALUE, PC, NONE, VALUE),
     // Two of those that differ have two of the field and the two numbers in common.
-    (VALUE, NEXT, NONE, VALUE),
-    (NONE, VALUE, NEXT, NONE),
-    (NEXT, NONE, VALUE, NEXT),
-    (VALUE, CLAIMED, NONE, VALUE),
-    (NONE, VALUE, CLAIMED, NONE),
-    (CLAIMED, NONE, VALUE, CLAIMED),
-    (VALUE, DUE, NONE, VALUE),
-    (NONE, VALUE, DUE, NONE),
-    (DUE, NONE, VALUE, DUE),
-    (PC, VALUE, DUE, PC),
-    (DUE, CLAIMED, VALUE, DUE),
-    (VALUE, NEXT, VALUE, VALUE),
-];
+    (VALUE, NEXT, NONE, VALUE), (NONE, VALUE, NEXT, NONE), (NEXT, NONE, VALUE, NEXT), (VALUE, CLAIMED, NONE, VALUE),
+    (NONE, VALUE, CLAIMED, NONE), (CLAIMED, NONE, VALUE, CLAIMED), (VALUE, DUE, NONE, VALUE), (NONE, VALUE, DUE, NONE),
+    (DUE, NONE, VALUE, DUE), (PC, VALUE, DUE, PC), (DUE, CLAIMED, VALUE, DUE), (VALUE, NEXT, VALUE, VALUE),
+};
 
 /// Each row of the table is what the vote gives.
 #[test]

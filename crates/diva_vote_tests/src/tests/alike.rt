@@ -1,16 +1,18 @@
 // Two machines, of which one is voted on: what they show, cycle by cycle.
 ghost use Rattle.diva_vote.specs.Polls.{AlwaysTwoAreRight};
-ghost use Rattle.diva_vote.specs.Votes.{AtLeastTwo};
 
-use crate::cores::{AnyCore, Kind};
-use crate::lanes::{Alternating, ODD, Watching, field_by, next_number, recall_alternating};
-use crate::programs::{PRODUCTS, PRODUCTS_COUNT, PRODUCTS_OUTPUT, SIZE, machine_of};
-use diva_core::{Claims, Core, Told};
+use crate::tests::lanes::{Alternating, ODD, Witness, field_by, next_number, recall_alternating};
+use crate::tests::machines::{
+    AnyCore, Kind, PRODUCTS, PRODUCTS_COUNT, PRODUCTS_OUTPUT, SIZE, machine_of,
+};
+use diva_core::{Claims, Core};
 use diva_faults::{Faulty, Script};
 use diva_isa::End;
 use diva_machine::{Config, Machine, turn, turn_voted};
+use diva_test_programs::numbers;
 use diva_vote::{Honest, Lane, recall_two_honest};
 use std::alloc::Global;
+use std::cell::Cell;
 use std::process::Abort;
 use std::test::Fail;
 
@@ -28,20 +30,6 @@ struct Run<'a> {
     cycles: u64,
     /// How many flushes come.
     flushes: u64,
-}
-
-/// What a core is told but for the cycle.
-fn numbers(told: Told) -> (u64, u32, u64, u32, u32, u32, bool, bool) {
-    (
-        told.count,
-        told.pc,
-        told.epoch,
-        told.pending,
-        told.room,
-        told.idle,
-        told.due,
-        told.ended,
-    )
 }
 
 /// Compares what two machines show, but for the pending claims, the registers and memory.
@@ -185,28 +173,16 @@ fn compare_run<A: Lane, B: Lane, L: Lane>(
     Ok(())
 }
 
-/// The same with lanes two of which are honest.
-fn compare_honest<A: Lane, B: Lane, L: Lane>(
-    rt: &impl Abort,
-    alloc: Global,
-    run: &Run<'_>,
-    a: &mut A,
-    b: &mut B,
-    l: &mut L,
-) -> Result<(), Fail>
-    requires { AtLeastTwo (A.honest a.old) (B.honest b.old) (L.honest l.old) }
-{
-    recall_two_honest(a, b, l);
-    compare_run(rt, alloc, run, a, b, l)
-}
-
 /// Puts each lane that is not to be believed in each of the three places.
 fn compare_lanes(rt: &impl Abort, alloc: Global, run: &Run<'_>) -> Result<(), Fail> {
     for odd in &ODD {
         let [mut first, mut second, mut third] = [*odd; 3];
-        compare_honest(rt, alloc, run, &mut first, &mut Honest, &mut Honest)?;
-        compare_honest(rt, alloc, run, &mut Honest, &mut second, &mut Honest)?;
-        compare_honest(rt, alloc, run, &mut Honest, &mut Honest, &mut third)?;
+        recall_two_honest(&first, &Honest, &Honest);
+        compare_run(rt, alloc, run, &mut first, &mut Honest, &mut Honest)?;
+        recall_two_honest(&Honest, &second, &Honest);
+        compare_run(rt, alloc, run, &mut Honest, &mut second, &mut Honest)?;
+        recall_two_honest(&Honest, &Honest, &third);
+        compare_run(rt, alloc, run, &mut Honest, &mut Honest, &mut third)?;
     }
     Ok(())
 }
@@ -216,11 +192,10 @@ fn compare_alternating(rt: &impl Abort, alloc: Global, run: &Run<'_>) -> Result<
     let (mut first, mut second) = (Alternating { lies: true }, Alternating { lies: false });
     recall_alternating(&first, &second, &Honest);
     compare_run(rt, alloc, run, &mut first, &mut second, &mut Honest)?;
-    let mut watching = Watching {
-        strays: 0,
-        denials: 0,
-    };
-    compare_honest(rt, alloc, run, &mut Honest, &mut Honest, &mut watching)?;
+    let asked = Cell::new(0);
+    let mut watching = Witness::new(&asked, 2);
+    recall_two_honest(&Honest, &Honest, &watching);
+    compare_run(rt, alloc, run, &mut Honest, &mut Honest, &mut watching)?;
     assert_eq!(rt; watching.strays, 0, "{}", run.name);
     assert_eq!(rt; watching.denials > 0, run.flushes > 0, "{}", run.name);
     Ok(())
