@@ -5,7 +5,7 @@ use Rattle.std.proofs.Math.Nat.{mul-le-mul_right}
 use Rattle.diva_core.specs.Timed.{Config, depth}
 use Rattle.diva_debug.specs.Moves.{IsShort}
 use Rattle.diva_debug.specs.Sessions.{machine_of}
-use Rattle.diva_call_tests.proofs.sessions.compare.Goals as goal
+use Rattle.diva_call_tests.proofs.tests.sessions.compare.Goals as goal
 
 pub reply-line-requires : goal.reply-line-requires
 reply-line-requires g c =

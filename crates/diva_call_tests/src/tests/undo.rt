@@ -4,12 +4,11 @@ ghost use Rattle.diva_core.specs.Undone.{CanUndo};
 
 mod tables;
 
-use crate::cores::Misled;
 use diva_core::{Claims, Core};
 use diva_isa::{Undo, undo_of};
 use diva_machine::{Config, Drive, Machine, drive, turn};
 use diva_tape::{Lockstep, Scalar};
-use diva_test_programs::image_file;
+use diva_test_programs::{Misled, image_file};
 use std::alloc::Global;
 use std::process::Abort;
 use std::test::Fail;
@@ -139,7 +138,10 @@ fn instructions_that_are_taken_back(rt: HostRuntime) -> Result<(), Fail> {
         match row.leader {
             Leader::Lockstep => compare_row(&rt, alloc, &mut Lockstep, row)?,
             Leader::Scalar => compare_row(&rt, alloc, &mut Scalar::new(alloc)?, row)?,
-            Leader::Misled(cycle) => compare_row(&rt, alloc, &mut Misled { cycle }, row)?,
+            Leader::Misled(cycle) => {
+                let core = Lockstep;
+                compare_row(&rt, alloc, &mut Misled { cycle, core }, row)?;
+            }
         }
     }
     Ok(())

@@ -1,11 +1,10 @@
 // Several claims in a cycle, right and wrong ones, and what the machine makes of them.
 mod tables;
 
-use crate::cores::Lists;
 use diva_core::{Claims, Diff};
 use diva_isa::Record;
 use diva_machine::{Config, Machine, turn};
-use diva_test_programs::image_file;
+use diva_test_programs::{Lists, image_file};
 use std::alloc::Global;
 use std::process::Abort;
 use std::test::Fail;

@@ -1,11 +1,15 @@
 // Calls of a machine's parts, and of a machine that is driven.
 ghost use Rattle.std.specs.Prelude.{◌≡◌, ◌≤◌, IfOk};
 
-use crate::cores::{Late, Misled, Prompted};
-use diva_core::{Cause, Core, Diff, Field, FlushRow};
+mod cores;
+
+use cores::{Late, Prompted};
+use diva_core::{Cause, Core, FlushRow};
 use diva_machine::{Config, Drive, End, Machine, Reach, drive, drive_to};
 use diva_tape::{Lockstep, Silent};
-use diva_test_programs::{FIVE, FIVE_FILE, FOUR_STORES, LOOP, Program, image_file};
+use diva_test_programs::{
+    FIVE, FIVE_FILE, FOUR_STORES, LOOP, Misled, Program, WRONG_VALUE, image_file,
+};
 use std::alloc::Global;
 use std::process::Abort;
 use std::test::Fail;
@@ -56,22 +60,17 @@ fn compare_end(rt: &impl Abort, m: &Machine, driven: Drive, cycles: u64, flush: 
 /// commits in cycle 22, and claims follow in cycles 23 and 30.
 #[test]
 fn flushes_to_the_cycle(rt: HostRuntime) -> Result<(), Fail> {
-    let wrong = FlushRow {
-        cycle: 7,
-        at: 0,
-        cause: Cause::Differs(Diff {
-            field: Field::Value,
-            claimed: 4,
-            due: 5,
-        }),
-    };
     let silent = FlushRow {
         cycle: 16,
         at: 0,
         cause: Cause::Silent(16),
     };
     let alloc = rt.alloc();
-    drives_to(&rt, alloc, 64, &mut Misled { cycle: 1 }, 27, Some(wrong))?;
+    let mut misled = Misled {
+        cycle: 1,
+        core: Lockstep,
+    };
+    drives_to(&rt, alloc, 64, &mut misled, 27, Some(WRONG_VALUE))?;
     drives_to(&rt, alloc, 16, &mut Late { first: 10 }, 30, None)?;
     drives_to(&rt, alloc, 16, &mut Late { first: 11 }, 36, Some(silent))
 }

@@ -19,30 +19,9 @@ fn image_of_one_instruction(rt: HostRuntime) -> Result<(), Fail> {
 /// The first 24 words of the seed 7, of all kinds but one twice. A program in Python worked them out, which puts each word together
 /// from the manual's formats.
 static OF_SEVEN: [u32; 24] = [
-    0x4031_8433,
-    0x5580_2183,
-    0x0251_6433,
-    0x7540_2203,
-    0x0cf1_0213,
-    0x2420_2823,
-    0x0070_c433,
-    0x4302_0213,
-    0x5ea2_0293,
-    0x1a40_2383,
-    0x4e00_2383,
-    0x0210_e1b3,
-    0x0234_02b3,
-    0x0240_e233,
-    0x0273_63b3,
-    0x2610_2423,
-    0x0e30_2223,
-    0x0213_81b3,
-    0x0261_83b3,
-    0x3030_2423,
-    0x0051_4433,
-    0x0253_83b3,
-    0x4bb4_0313,
-    0x0054_4463,
+    0x40318433, 0x55802183, 0x02516433, 0x75402203, 0x0cf10213, 0x24202823, 0x0070c433, 0x43020213,
+    0x5ea20293, 0x1a402383, 0x4e002383, 0x0210e1b3, 0x023402b3, 0x0240e233, 0x027363b3, 0x26102423,
+    0x0e302223, 0x021381b3, 0x026183b3, 0x30302423, 0x00514433, 0x025383b3, 0x4bb40313, 0x00544463,
 ];
 
 #[test]

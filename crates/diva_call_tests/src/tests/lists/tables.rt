@@ -2,7 +2,7 @@
 use diva_core::{Cause, Claim, Diff, Field, FlushRow};
 use diva_isa::Record;
 use diva_machine::End;
-use diva_test_programs::{ADDS, ASKS, FIVE, HALTS, LOOP, NOTHING, Program, TWO_STORES};
+use diva_test_programs::{ADDS, ASKS, FIVE, HALTS, LOOP, Program, TWO_STORES, record, rows};
 
 /// A run of one program, each cycle by what is handed over in it.
 pub(super) struct Row {
@@ -27,39 +27,16 @@ pub(super) struct Row {
 }
 
 /// `jal x0, 0` of `LOOP`: its value is the address behind it, though x0 takes none.
-const JUMPS: Record = Record {
-    word: 0x0000_006f,
-    value: 4,
-    ..NOTHING
-};
+const JUMPS: Record = record![0, 0x0000006f, 0, 0, 0, 4, 0, 0];
 
 /// The record of the first store of `TWO_STORES`.
-const STORES: Record = Record {
-    word: 0x0200_2023,
-    addr: 32,
-    next: 4,
-    ..NOTHING
-};
+const STORES: Record = record![0, 0x02002023, 0, 0, 32, 0, 4, 0];
 
-const STORES_NEXT: Record = Record {
-    pc: 4,
-    word: 0x0200_2223,
-    addr: 36,
-    next: 8,
-    ..NOTHING
-};
+const STORES_NEXT: Record = record![4, 0x02002223, 0, 0, 36, 0, 8, 0];
 
-const ASKS_THEN: Record = Record {
-    pc: 8,
-    next: 12,
-    ..ASKS
-};
+const ASKS_THEN: Record = record![8, 0x05d00893, 0, 0, 0, 93, 12, 0];
 
-const HALTS_THEN: Record = Record {
-    pc: 12,
-    next: 12,
-    ..HALTS
-};
+const HALTS_THEN: Record = record![12, 0x00000073, 93, 0, 0, 0, 12, 256];
 
 /// A claim of cycle c is ready from cycle c + 6 on. So those of cycle 1 are judged in 7, and those
 /// of cycle 2 in 8. The second store finds the one place taken in cycle 7 and waits, and nothing
@@ -117,131 +94,38 @@ const BEHIND_IT: Diff = Diff {
     due: 94,
 };
 
-pub(super) static ROWS: [Row; 5] = [
-    ONE_PLACE,
+pub(super) static ROWS: [Row; 5] = rows! { Row:
+    ONE_PLACE {}
     // With four places both stores commit in cycle 7, and the other two in cycle 8.
-    Row {
-        name: "two stores and four places",
-        stores: 4,
-        cycles: 8,
+    ONE_PLACE { name: "two stores and four places", stores: 4, cycles: 8,
         commits: &[(7, &[STORES, STORES_NEXT]), (8, &[ASKS_THEN, HALTS_THEN])],
-        pending: &[(7, &[(ASKS_THEN, 2), (HALTS_THEN, 2)]), (8, &[])],
-        ..ONE_PLACE
-    },
+        pending: &[(7, &[(ASKS_THEN, 2), (HALTS_THEN, 2)]), (8, &[])] }
     // There is room for two in cycle 1 and, with two pending of sixteen, in cycle 2: six of the
     // eight are dropped each time. The second claim of cycle 2 is pending when the first of them
     // ends the machine, and is dropped then.
-    Row {
-        name: "more than there is room for",
-        program: FIVE,
-        width: 2,
-        window: 16,
-        stores: 4,
-        lists: &[
-            (1, &[ADDS, ASKS, ADDS, ADDS, ADDS, ADDS, ADDS, ADDS]),
-            (2, &[HALTS; 8]),
-            (3, &[]),
-        ],
-        cycles: 8,
+    ONE_PLACE { name: "more than there is room for", program: FIVE, stores: 4,
+        lists: &[(1, &[ADDS, ASKS, ADDS, ADDS, ADDS, ADDS, ADDS, ADDS]), (2, &[HALTS; 8]), (3, &[])], cycles: 8,
         commits: &[(7, &[ADDS, ASKS]), (8, &[HALTS])],
-        pending: &[
-            (1, &[(ADDS, 1), (ASKS, 1)]),
-            (6, &[(ADDS, 1), (ASKS, 1), (HALTS, 2), (HALTS, 2)]),
-            (7, &[(HALTS, 2), (HALTS, 2)]),
-            (8, &[]),
-        ],
-        verdicts: &[],
-        end: End::Halt(0),
-        count: 3,
-        flush: None,
-    },
+        pending: &[(1, &[(ADDS, 1), (ASKS, 1)]), (6, &[(ADDS, 1), (ASKS, 1), (HALTS, 2), (HALTS, 2)]), (7, &[(HALTS, 2), (HALTS, 2)]), (8, &[])],
+        count: 3 }
     // Eight claims in each cycle, of which four at most are accepted: the window of eight is full
     // after cycle 2. Four commit in cycle 7 and four in cycle 8. In cycle 7 nothing is accepted,
     // since there was no room before it; from cycle 8 on there is room for four again. What is
     // accepted in 8 and 9 commits in 14 and 15.
-    Row {
-        name: "a full window",
-        program: LOOP,
-        width: 4,
-        window: 8,
-        stores: 4,
-        lists: &[(1, &[JUMPS; 8])],
-        cycles: 15,
-        commits: &[
-            (7, &[JUMPS; 4]),
-            (8, &[JUMPS; 4]),
-            (14, &[JUMPS; 4]),
-            (15, &[JUMPS; 4]),
-        ],
-        pending: &[
-            (1, &[(JUMPS, 1); 4]),
-            (7, &[(JUMPS, 2); 4]),
-            (8, &[(JUMPS, 8); 4]),
-            (14, &[(JUMPS, 9); 4]),
-            (15, &[(JUMPS, 15); 4]),
-        ],
-        verdicts: &[],
-        end: End::GoesOn,
-        count: 16,
-        flush: None,
-    },
+    ONE_PLACE { name: "a full window", program: LOOP, width: 4, window: 8, stores: 4, lists: &[(1, &[JUMPS; 8])], cycles: 15,
+        commits: &[(7, &[JUMPS; 4]), (8, &[JUMPS; 4]), (14, &[JUMPS; 4]), (15, &[JUMPS; 4])],
+        pending: &[(1, &[(JUMPS, 1); 4]), (7, &[(JUMPS, 2); 4]), (8, &[(JUMPS, 8); 4]), (14, &[(JUMPS, 9); 4]), (15, &[(JUMPS, 15); 4])],
+        end: End::GoesOn, count: 16 }
     // The second claim of cycle 1 is wrong, as its stage finds at age 4, in cycle 5. In cycle 7 the first commits, and the second flushes
     // at place 1: the two behind it are dropped, and so is what is handed over in cycle 7. The
     // checker's own instruction commits in cycle 13; while it runs there is no room, and none
     // before cycle 13 either. A claim is accepted in each cycle from 14 on, and the one of cycle 14
     // commits in 20 and ends the machine; those of 15 to 19 are dropped.
-    Row {
-        name: "a wrong claim among right ones",
-        program: FIVE,
-        width: 2,
-        window: 16,
-        stores: 4,
-        lists: &[
-            (1, &[ADDS, Claim { value: 94, ..ASKS }]),
-            (2, &[HALTS, HALTS]),
-            (3, &[]),
-            (7, &[HALTS]),
-        ],
-        cycles: 20,
+    ONE_PLACE { name: "a wrong claim among right ones", program: FIVE, stores: 4,
+        lists: &[(1, &[ADDS, Claim { value: 94, ..ASKS }]), (2, &[HALTS, HALTS]), (3, &[]), (7, &[HALTS])], cycles: 20,
         commits: &[(7, &[ADDS]), (13, &[ASKS]), (20, &[HALTS])],
-        pending: &[
-            (
-                6,
-                &[
-                    (ADDS, 1),
-                    (Claim { value: 94, ..ASKS }, 1),
-                    (HALTS, 2),
-                    (HALTS, 2),
-                ],
-            ),
-            (7, &[]),
-            (13, &[]),
-            (
-                19,
-                &[
-                    (HALTS, 14),
-                    (HALTS, 15),
-                    (HALTS, 16),
-                    (HALTS, 17),
-                    (HALTS, 18),
-                    (HALTS, 19),
-                ],
-            ),
-            (20, &[]),
-        ],
-        verdicts: &[
-            (4, 1, None),
-            (5, 1, Some(WRONG)),
-            (6, 0, None),
-            (6, 1, Some(WRONG)),
-            (6, 2, Some(BEHIND_IT)),
-        ],
-        end: End::Halt(0),
-        count: 3,
-        flush: Some(FlushRow {
-            cycle: 7,
-            at: 1,
-            cause: Cause::Differs(WRONG),
-        }),
-    },
-];
+        pending: &[(6, &[(ADDS, 1), (Claim { value: 94, ..ASKS }, 1), (HALTS, 2), (HALTS, 2)]), (7, &[]), (13, &[]),
+            (19, &[(HALTS, 14), (HALTS, 15), (HALTS, 16), (HALTS, 17), (HALTS, 18), (HALTS, 19)]), (20, &[])],
+        verdicts: &[(4, 1, None), (5, 1, Some(WRONG)), (6, 0, None), (6, 1, Some(WRONG)), (6, 2, Some(BEHIND_IT))], count: 3,
+        flush: Some(FlushRow { cycle: 7, at: 1, cause: Cause::Differs(WRONG) }) }
+};

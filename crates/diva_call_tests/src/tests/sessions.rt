@@ -6,7 +6,7 @@ use diva_core::Core;
 use diva_debug::{Session, commands};
 use diva_machine::{Config, Machine};
 use diva_tape::{Scalar, Silent};
-use diva_test_programs::{FIVE, LOOP, Program, image_file};
+use diva_test_programs::{FIVE, LOOP, Program, image_file, laid};
 use std::alloc::Global;
 use std::process::Abort;
 use std::test::Fail;
@@ -25,64 +25,33 @@ struct Back {
 /// `addi x1, x0, 5`, `sw x1, 32(x0)`, and one word that is no instruction.
 const STORES: Program = Program {
     size: 36,
-    words: &[0x0050_0093, 0x0210_2023, 0],
+    words: &[0x00500093, 0x02102023, 0],
 };
 
-static BACK: [Back; 7] = [
+static BACK: [Back; 7] = laid! {
     // As many as are kept.
-    Back {
-        program: FIVE,
-        keep: 4096,
-        commands: "step 2\nback 1\nreg 17\nstep 1\nback 5\nstep 5\nback 1",
-        text: "at 2 pc 00000008\nat 1 pc 00000004\nx17 00000000\nat 2 pc 00000008\nkept 2\n\
-            ended 3 halt 0\nat 2 pc 00000008\n",
-    },
+    Back { program: FIVE, keep: 4096, commands: "step 2\nback 1\nreg 17\nstep 1\nback 5\nstep 5\nback 1",
+        text: "at 2 pc 00000008\nat 1 pc 00000004\nx17 00000000\nat 2 pc 00000008\nkept 2\nended 3 halt 0\nat 2 pc 00000008\n" },
     // To the very start, and to the end again.
-    Back {
-        program: FIVE,
-        keep: 4096,
-        commands: "back 1\nstep 1000000\nback 4\nback 3\nreg 1\nback 1\nuntil 8\nreg 1\nuntil 8",
-        text: "kept 0\nended 3 halt 0\nkept 3\nat 0 pc 00000000\nx1 00000000\nkept 0\n\
-            at 2 pc 00000008\nx1 00000005\nended 3 halt 0\n",
-    },
+    Back { program: FIVE, keep: 4096, commands: "back 1\nstep 1000000\nback 4\nback 3\nreg 1\nback 1\nuntil 8\nreg 1\nuntil 8",
+        text: "kept 0\nended 3 halt 0\nkept 3\nat 0 pc 00000000\nx1 00000000\nkept 0\nat 2 pc 00000008\nx1 00000005\nended 3 halt 0\n" },
     // Room for one: each instruction drops the undo of the one before.
-    Back {
-        program: FIVE,
-        keep: 1,
-        commands: "step 2\nback 2\nback 1\nback 1\nreg 1\nreg 17\nstep 1\nback 1",
-        text: "at 2 pc 00000008\nkept 1\nat 1 pc 00000004\nkept 0\nx1 00000005\nx17 00000000\n\
-            at 2 pc 00000008\nat 1 pc 00000004\n",
-    },
+    Back { program: FIVE, keep: 1, commands: "step 2\nback 2\nback 1\nback 1\nreg 1\nreg 17\nstep 1\nback 1",
+        text: "at 2 pc 00000008\nkept 1\nat 1 pc 00000004\nkept 0\nx1 00000005\nx17 00000000\nat 2 pc 00000008\nat 1 pc 00000004\n" },
     // Room for two: the third drops the first.
-    Back {
-        program: FIVE,
-        keep: 2,
-        commands: "step 3\nback 3\nback 2\nback 1\nstep 5",
-        text: "ended 3 halt 0\nkept 2\nat 1 pc 00000004\nkept 0\nended 3 halt 0\n",
-    },
+    Back { program: FIVE, keep: 2, commands: "step 3\nback 3\nback 2\nback 1\nstep 5",
+        text: "ended 3 halt 0\nkept 2\nat 1 pc 00000004\nkept 0\nended 3 halt 0\n" },
     // More instructions than there is room for.
-    Back {
-        program: LOOP,
-        keep: 4096,
-        commands: "step 5000\nback 1000000\nback 4096\nback 1\nstep 1",
-        text: "at 5000 pc 00000000\nkept 4096\nat 904 pc 00000000\nkept 0\nat 905 pc 00000000\n",
-    },
+    Back { program: LOOP, keep: 4096, commands: "step 5000\nback 1000000\nback 4096\nback 1\nstep 1",
+        text: "at 5000 pc 00000000\nkept 4096\nat 904 pc 00000000\nkept 0\nat 905 pc 00000000\n" },
     // A word that was stored is what it was before, and a trap has not come.
-    Back {
-        program: STORES,
-        keep: 3,
-        commands: "step 2\nmem 20 4\nstep 1\nback 1\nmem 20 4\nback 1\nmem 20 4\nstep 5",
-        text: "at 2 pc 00000008\nmem 00000020 05000000\nended 3 trap 2\nat 2 pc 00000008\n\
-            mem 00000020 05000000\nat 1 pc 00000004\nmem 00000020 00000000\nended 3 trap 2\n",
-    },
+    Back { program: STORES, keep: 3, commands: "step 2\nmem 20 4\nstep 1\nback 1\nmem 20 4\nback 1\nmem 20 4\nstep 5",
+        text: "at 2 pc 00000008\nmem 00000020 05000000\nended 3 trap 2\nat 2 pc 00000008\nmem 00000020 05000000\nat 1 pc 00000004\n\
+            mem 00000020 00000000\nended 3 trap 2\n" },
     // No flush comes where the pipeline runs ahead again.
-    Back {
-        program: FIVE,
-        keep: 4,
-        commands: "step 2\nback 2\nstep 2\nwhy",
-        text: "at 2 pc 00000008\nat 0 pc 00000000\nat 2 pc 00000008\nno flush\n",
-    },
-];
+    Back { program: FIVE, keep: 4, commands: "step 2\nback 2\nstep 2\nwhy",
+        text: "at 2 pc 00000008\nat 0 pc 00000000\nat 2 pc 00000008\nno flush\n" },
+};
 
 /// A machine of one claim a cycle that begins with the program.
 fn machine(alloc: Global, program: Program) -> Result<Machine, Fail>
