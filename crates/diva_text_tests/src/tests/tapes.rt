@@ -1,5 +1,5 @@
 // Tapes that are read, played and written. What is due is taken from the text of the format.
-use crate::cores::list_of;
+use crate::tests::cores::list_of;
 use diva_core::Claim;
 use diva_tape::{Tape, TapeCore, TapeFault, tape_piece};
 use diva_test_programs::ADDS;

@@ -2,6 +2,7 @@
 mod noting;
 
 use diva_outside::{DiskFiles, Files, LoadFault, Sink, SinkFailed, StdSink, What};
+use diva_test_programs::laid;
 use noting::{Disk, Fails, NAME, Opener, Writer, byte_at};
 use std::io::ErrorKind;
 use std::test::Fail as TestFail;
@@ -19,49 +20,17 @@ static LOADS: [(
     Option<LoadFault>,
     (u32, u32),
     Option<u32>,
-); 9] = [
+); 9] = laid! {
     (NAME, 0, &[], None, (1, 0), None),
     (NAME, MOST, &[], None, (1, 0), None),
     (NAME, MOST + 1, &[], Some(LoadFault::TooLong), (1, 0), None),
     ("a", 3, &[], Some(LoadFault::Failed), (0, 1), Some(0)),
     (NAME, 3, &[(1, ErrorKind::Interrupted)], None, (1, 0), None),
-    (
-        NAME,
-        9_000,
-        &[
-            (2, ErrorKind::Interrupted),
-            (3, ErrorKind::Interrupted),
-            (5, ErrorKind::Interrupted),
-        ],
-        None,
-        (1, 0),
-        None,
-    ),
-    (
-        NAME,
-        3,
-        &[(1, ErrorKind::WouldBlock)],
-        Some(LoadFault::Failed),
-        (1, 0),
-        Some(1),
-    ),
-    (
-        NAME,
-        9_000,
-        &[(2, ErrorKind::Interrupted), (3, ErrorKind::TimedOut)],
-        Some(LoadFault::Failed),
-        (1, 0),
-        Some(3),
-    ),
-    (
-        NAME,
-        9_000,
-        &[(3, ErrorKind::Other)],
-        Some(LoadFault::Failed),
-        (1, 0),
-        Some(3),
-    ),
-];
+    (NAME, 9_000, &[(2, ErrorKind::Interrupted), (3, ErrorKind::Interrupted), (5, ErrorKind::Interrupted)], None, (1, 0), None),
+    (NAME, 3, &[(1, ErrorKind::WouldBlock)], Some(LoadFault::Failed), (1, 0), Some(1)),
+    (NAME, 9_000, &[(2, ErrorKind::Interrupted), (3, ErrorKind::TimedOut)], Some(LoadFault::Failed), (1, 0), Some(3)),
+    (NAME, 9_000, &[(3, ErrorKind::Other)], Some(LoadFault::Failed), (1, 0), Some(3)),
+};
 
 /// The file is opened once, by its name and by no other, and read to its end. A read that a signal interrupted is tried again,
 /// and no other that failed.
@@ -91,39 +60,14 @@ fn loads_of_a_disk(rt: HostRuntime) -> Result<(), TestFail> {
 }
 
 /// Which writes fail, what a put of `abcde` and then one of `f` answer, what the writer took, and how many writes there were.
-static PUTS: [(Fails, [Result<(), SinkFailed>; 2], &[u8; 6], u32); 6] = [
+static PUTS: [(Fails, [Result<(), SinkFailed>; 2], &[u8; 6], u32); 6] = laid! {
     (&[], [Ok(()), Ok(())], b"abcdef", 3),
-    (
-        &[(1, ErrorKind::Interrupted)],
-        [Ok(()), Ok(())],
-        b"abcdef",
-        4,
-    ),
-    (
-        &[(2, ErrorKind::Interrupted), (3, ErrorKind::Interrupted)],
-        [Ok(()), Ok(())],
-        b"abcdef",
-        5,
-    ),
-    (
-        &[(1, ErrorKind::WouldBlock)],
-        [Err(SinkFailed), Ok(())],
-        b"f.....",
-        2,
-    ),
-    (
-        &[(2, ErrorKind::BrokenPipe)],
-        [Err(SinkFailed), Ok(())],
-        b"abcf..",
-        3,
-    ),
-    (
-        &[(2, ErrorKind::Interrupted), (3, ErrorKind::TimedOut)],
-        [Err(SinkFailed), Ok(())],
-        b"abcf..",
-        4,
-    ),
-];
+    (&[(1, ErrorKind::Interrupted)], [Ok(()), Ok(())], b"abcdef", 4),
+    (&[(2, ErrorKind::Interrupted), (3, ErrorKind::Interrupted)], [Ok(()), Ok(())], b"abcdef", 5),
+    (&[(1, ErrorKind::WouldBlock)], [Err(SinkFailed), Ok(())], b"f.....", 2),
+    (&[(2, ErrorKind::BrokenPipe)], [Err(SinkFailed), Ok(())], b"abcf..", 3),
+    (&[(2, ErrorKind::Interrupted), (3, ErrorKind::TimedOut)], [Err(SinkFailed), Ok(())], b"abcf..", 4),
+};
 
 /// A write that a signal interrupted is tried again, and no other that failed.
 #[test]

@@ -1,8 +1,8 @@
 // Scripts, and lists under them. What is due is taken from the text of the format.
-use crate::cores::list_of;
+use crate::tests::cores::list_of;
 use diva_core::{Claim, Claims, Core, Field, Told, View};
 use diva_faults::{Change, Faulty, Row, Script, ScriptFault, flip_at};
-use diva_test_programs::NOTHING;
+use diva_test_programs::{NOTHING, laid};
 use std::alloc::{AllocError, Global};
 use std::process::Abort;
 use std::test::Fail;
@@ -11,36 +11,14 @@ use std::test::Fail;
 const BEFORE: &[u8] = b"# \xff\n\nat 1 lane 0 lose\n";
 
 /// Lines with the kind of their fault.
-static FAULTS: [(&str, u8); 28] = [
-    ("foo", 1),
-    ("At 1 hush 1", 1),
-    ("at 1 foo", 1),
-    ("at 1 lane 0 foo 0", 1),
-    ("at 0 hush 3", 2),
-    ("at 1000000001 hush 1", 2),
-    ("at x foo", 2),
-    ("at 1 lane 8 foo", 2),
-    ("at 1 lane 0 flip pc 32", 2),
-    ("at 1 lane 0 set pc 123456789", 2),
-    ("at 1 hush 0", 2),
-    ("at 1 hush 1000000001 1", 2),
-    ("at 1 lane 0 flip rd 32", 3),
-    ("at 1 lane 0 set Pc", 3),
-    ("at", 4),
-    ("at 1", 4),
-    ("at 1 lane", 4),
-    ("at 1 lane 0", 4),
-    ("at 1 lane 0 flip", 4),
-    ("at 1 lane 0 flip pc", 4),
-    ("at 1 lane 0 flip pc 0 0", 4),
-    ("at 1 lane 0 set pc # 0", 4),
-    ("at 1 lane 0 set pc 0 0", 4),
-    ("at 1 lane 0 lose 0", 4),
-    ("at 1 lane 0 double 0", 4),
-    ("at 1 hush", 4),
-    ("at 1 hush 1 1", 4),
+static FAULTS: [(&str, u8); 28] = laid! {
+    ("foo", 1), ("At 1 hush 1", 1), ("at 1 foo", 1), ("at 1 lane 0 foo 0", 1), ("at 0 hush 3", 2), ("at 1000000001 hush 1", 2),
+    ("at x foo", 2), ("at 1 lane 8 foo", 2), ("at 1 lane 0 flip pc 32", 2), ("at 1 lane 0 set pc 123456789", 2), ("at 1 hush 0", 2),
+    ("at 1 hush 1000000001 1", 2), ("at 1 lane 0 flip rd 32", 3), ("at 1 lane 0 set Pc", 3), ("at", 4), ("at 1", 4), ("at 1 lane", 4),
+    ("at 1 lane 0", 4), ("at 1 lane 0 flip", 4), ("at 1 lane 0 flip pc", 4), ("at 1 lane 0 flip pc 0 0", 4), ("at 1 lane 0 set pc # 0", 4),
+    ("at 1 lane 0 set pc 0 0", 4), ("at 1 lane 0 lose 0", 4), ("at 1 lane 0 double 0", 4), ("at 1 hush", 4), ("at 1 hush 1 1", 4),
     ("at 1 lane 8 lose\nfoo", 2),
-];
+};
 
 #[test]
 fn faults_of_a_line(rt: HostRuntime) -> Result<(), Fail> {
@@ -162,18 +140,14 @@ fn rows_of_a_script(rt: HostRuntime) -> Result<(), Fail> {
 }
 
 /// Scripts with the first cycle that a row of theirs touches, and the one behind the last.
-static TOUCHED: [(&str, u64, u64); 6] = [
+static TOUCHED: [(&str, u64, u64); 6] = laid! {
     ("", u64::MAX, 0),
     ("at 7 lane 0 lose", 7, 8),
     ("at 7 hush 3", 7, 10),
     ("at 9 lane 0 lose\nat 2 hush 4\nat 3 lane 1 double", 2, 10),
     ("at 5 hush 1000\nat 900 lane 0 lose", 5, 1005),
-    (
-        "at 1000000000 lane 7 flip pc 1",
-        1_000_000_000,
-        1_000_000_001,
-    ),
-];
+    ("at 1000000000 lane 7 flip pc 1", 1_000_000_000, 1_000_000_001),
+};
 
 #[test]
 fn cycles_that_rows_touch(rt: HostRuntime) -> Result<(), Fail> {
@@ -226,7 +200,7 @@ fn list_under(
 }
 
 /// Scripts, how many claims come before them, a cycle, and the values that are then handed over.
-static LISTS: [(&str, u32, u64, &[u32]); 17] = [
+static LISTS: [(&str, u32, u64, &[u32]); 17] = laid! {
     ("", 2, 1, &[0, 1]),
     ("at 5 lane 0 lose\nat 5 lane 0 set value 7", 3, 5, &[7, 2]),
     ("at 5 lane 0 set value 7\nat 5 lane 0 lose", 3, 5, &[1, 2]),
@@ -235,26 +209,16 @@ static LISTS: [(&str, u32, u64, &[u32]); 17] = [
     ("at 5 lane 0 lose\nat 4 lane 0 double", 3, 6, &[0, 1, 2]),
     ("at 5 lane 0 lose\nat 4 lane 0 double", 3, 3, &[0, 1, 2]),
     ("at 5 lane 3 lose\nat 5 lane 4 double", 3, 5, &[0, 1, 2]),
-    (
-        "at 5 lane 3 double\nat 5 lane 2 double\nat 5 lane 3 flip value 4",
-        3,
-        5,
-        &[0, 1, 2, 18],
-    ),
+    ("at 5 lane 3 double\nat 5 lane 2 double\nat 5 lane 3 flip value 4", 3, 5, &[0, 1, 2, 18]),
     ("at 5 lane 6 double", 7, 5, &[0, 1, 2, 3, 4, 5, 6, 6]),
     ("at 5 lane 6 double", 8, 5, &[0, 1, 2, 3, 4, 5, 6, 7]),
-    (
-        "at 5 lane 7 lose\nat 5 lane 0 double",
-        8,
-        5,
-        &[0, 0, 1, 2, 3, 4, 5, 6],
-    ),
+    ("at 5 lane 7 lose\nat 5 lane 0 double", 8, 5, &[0, 0, 1, 2, 3, 4, 5, 6]),
     ("at 5 hush 1\nat 5 lane 0 double", 1, 5, &[]),
     ("at 9 hush 1\nat 5 hush 10\nat 8 lane 0 double", 1, 4, &[0]),
     ("at 9 hush 1\nat 5 hush 10\nat 8 lane 0 double", 1, 8, &[]),
     ("at 9 hush 1\nat 5 hush 10\nat 8 lane 0 double", 1, 14, &[]),
     ("at 9 hush 1\nat 5 hush 10\nat 8 lane 0 double", 1, 15, &[0]),
-];
+};
 
 #[test]
 fn lists_of_values(rt: HostRuntime) -> Result<(), Fail> {
@@ -274,128 +238,25 @@ fn values_of(alloc: Global, list: &[Claim]) -> Result<Vec<u32>, AllocError> {
     Ok(values)
 }
 
-/// Changes of a claim of zeros, and what they make of it.
-static CHANGED: [(&str, Claim); 16] = [
-    (
-        "flip pc 31",
-        Claim {
-            pc: 0x8000_0000,
-            ..NOTHING
-        },
-    ),
-    (
-        "set pc aB",
-        Claim {
-            pc: 0xab,
-            ..NOTHING
-        },
-    ),
-    (
-        "flip word 31",
-        Claim {
-            word: 0x8000_0000,
-            ..NOTHING
-        },
-    ),
-    (
-        "set word aB",
-        Claim {
-            word: 0xab,
-            ..NOTHING
-        },
-    ),
-    (
-        "flip src1 31",
-        Claim {
-            src1: 0x8000_0000,
-            ..NOTHING
-        },
-    ),
-    (
-        "set src1 aB",
-        Claim {
-            src1: 0xab,
-            ..NOTHING
-        },
-    ),
-    (
-        "flip src2 31",
-        Claim {
-            src2: 0x8000_0000,
-            ..NOTHING
-        },
-    ),
-    (
-        "set src2 aB",
-        Claim {
-            src2: 0xab,
-            ..NOTHING
-        },
-    ),
-    (
-        "flip addr 31",
-        Claim {
-            addr: 0x8000_0000,
-            ..NOTHING
-        },
-    ),
-    (
-        "set addr aB",
-        Claim {
-            addr: 0xab,
-            ..NOTHING
-        },
-    ),
-    (
-        "flip value 31",
-        Claim {
-            value: 0x8000_0000,
-            ..NOTHING
-        },
-    ),
-    (
-        "set value aB",
-        Claim {
-            value: 0xab,
-            ..NOTHING
-        },
-    ),
-    (
-        "flip next 31",
-        Claim {
-            next: 0x8000_0000,
-            ..NOTHING
-        },
-    ),
-    (
-        "set next aB",
-        Claim {
-            next: 0xab,
-            ..NOTHING
-        },
-    ),
-    (
-        "flip end 31",
-        Claim {
-            end: 0x8000_0000,
-            ..NOTHING
-        },
-    ),
-    (
-        "set end aB",
-        Claim {
-            end: 0xab,
-            ..NOTHING
-        },
-    ),
-];
+/// The fields by their names in a script, each with a claim of zeros in which it has a number.
+fn claims_with(number: u32) -> [(&'static str, Claim); 8] {
+    laid! {
+        ("pc", Claim { pc: number, ..NOTHING }), ("word", Claim { word: number, ..NOTHING }),
+        ("src1", Claim { src1: number, ..NOTHING }), ("src2", Claim { src2: number, ..NOTHING }),
+        ("addr", Claim { addr: number, ..NOTHING }), ("value", Claim { value: number, ..NOTHING }),
+        ("next", Claim { next: number, ..NOTHING }), ("end", Claim { end: number, ..NOTHING }),
+    }
+}
 
+/// A claim of zeros in which the highest bit of a field is flipped, or which has another number there.
 #[test]
 fn every_field(rt: HostRuntime) -> Result<(), Fail> {
-    for &(change, due) in &CHANGED {
-        let script = format!(in rt.alloc(); "at 1 lane 0 {change}")?;
-        let list = list_under(&rt, rt.alloc(), script.as_str(), 1, 1)?;
-        assert_eq!(rt; list.as_slice(), [due].as_slice(), "{change}");
+    for (change, word, number) in [("flip", "31", 0x8000_0000), ("set", "aB", 0xab)] {
+        for (field, due) in claims_with(number) {
+            let script = format!(in rt.alloc(); "at 1 lane 0 {change} {field} {word}")?;
+            let list = list_under(&rt, rt.alloc(), script.as_str(), 1, 1)?;
+            assert_eq!(rt; list.as_slice(), [due].as_slice(), "{change} {field}");
+        }
     }
     Ok(())
 }
