@@ -1,6 +1,6 @@
 //! Tests of the whole program: command lines over files and a sink in memory, with the status and the text that are due.
 //!
-//! - `cores`: a core that claims a wrong value once, one that counts its calls, and one whose first claim is given;
+//! - `cores`: a core that claims a wrong value once, and one that counts its calls;
 //! - `runs`: the runs. `runs/tables` has the programs that are run, `runs/pipelined` those that are run ahead of the checker,
 //!   `runs/tapes` tapes that are played, written and refused, `runs/ports` stores that memory takes in some cycles only, `runs/staged`
 //!   tapes whose claims are checked while older ones are pending, `runs/scripts` scripts that are refused, `runs/traces` commit lines,

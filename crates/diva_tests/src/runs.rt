@@ -22,17 +22,18 @@ mod tapes;
 mod texts;
 mod traces;
 
-use crate::cores::{Counting, Differing, Flipped};
+use crate::cores::{counting, flipped};
 use diva_cli::{pipeline_top, top};
 use diva_core::Core;
+use diva_isa::Record;
 use diva_outside::{Fail as SinkFail, MemFile, MemFiles, MemSink, What};
-use diva_test_programs::{FIVE_FILE, Program, image_file};
+use diva_test_programs::{ASKS, FIVE_FILE, HALTS, Lists, Program, image_file, registers_text};
 use noting::{Load, NotingFiles, NotingSink};
 use std::alloc::{AllocError, Global};
 use std::process::Abort;
 use std::test::Fail;
 use tables::{CHATTER, DIFFERING, FULL, ROWS, Row, TRAPS};
-use texts::{registers_text, text_due};
+use texts::text_due;
 
 /// The bytes that a sink takes, more than any of these runs writes.
 const ROOM: usize = 1 << 18;
@@ -109,7 +110,7 @@ fn image_files(alloc: Global, image: &[u8]) -> Result<Outside, AllocError> {
     Ok(Outside::sound(alloc, Vec::from_slice(alloc, image)?))
 }
 
-/// Runs the program as `compare_by` does, with `Flipped` as its own core.
+/// Runs the program as `compare_by` does, with `flipped` as its own core.
 fn compare(
     rt: &impl Abort,
     line: &str,
@@ -117,7 +118,7 @@ fn compare(
     status: u8,
     text: &str,
 ) -> Result<(), Fail> {
-    compare_by(rt, &mut Flipped, line, outside, status, text)
+    compare_by(rt, &mut flipped(), line, outside, status, text)
 }
 
 /// Compares status and text where nothing is run. Gives the loads.
@@ -135,7 +136,7 @@ fn compare_unasked(
 
 /// What the program answers where nothing is run: its own core is not asked, and all that is written is one put.
 fn run_unasked(rt: &impl Abort, line: &str, outside: Outside) -> Result<Answer, Fail> {
-    let mut core = Counting { calls: 0 };
+    let mut core = counting();
     let answer = run_program(&mut core, line, outside)?;
     assert_eq!(rt; core.calls, 0, "{line}");
     let whole = answer.text.len();
@@ -182,10 +183,24 @@ struct Answer {
 /// Runs the program on a command line, in which an empty word is written `''`.
 fn run_program<C: Core>(core: &mut C, line: &str, outside: Outside) -> Result<Answer, Fail> {
     let alloc = outside.alloc;
+    let words = words_of(alloc, line)?;
+    let (mut files, mut sink) = files_and_sink(outside)?;
+    let status = run_words(alloc, &words, &mut files, &mut sink, core);
+    answer_from(alloc, status, files, &sink)
+}
+
+/// The words of a line, in which an empty word is written `''`.
+fn words_of(alloc: Global, line: &str) -> Result<Vec<&str>, Fail> {
     let mut words = Vec::new(alloc);
     for word in line.split(' ').filter(|word| !word.is_empty()) {
         words.push(if word == "''" { "" } else { word })?;
     }
+    Ok(words)
+}
+
+/// The files that are there, and the sink.
+fn files_and_sink(outside: Outside) -> Result<(NotingFiles, NotingSink), Fail> {
+    let alloc = outside.alloc;
     let absent = outside.absent;
     let mut there = Vec::new(alloc);
     for (what, bytes) in [
@@ -199,10 +214,18 @@ fn run_program<C: Core>(core: &mut C, line: &str, outside: Outside) -> Result<An
             there.push(MemFile::new(String::from_str(alloc, file_name(what))?, bytes))?;
         }
     }
-    let mut files = NotingFiles::new(alloc, MemFiles::new(there, outside.load_fails));
+    let files = NotingFiles::new(alloc, MemFiles::new(there, outside.load_fails));
     let sink = MemSink::new(alloc, outside.room, outside.put_fails)?;
-    let mut sink = NotingSink::new(alloc, sink)?;
-    let status = run_words(alloc, &words, &mut files, &mut sink, core);
+    Ok((files, NotingSink::new(alloc, sink)?))
+}
+
+/// What the program has answered with this status.
+fn answer_from(
+    alloc: Global,
+    status: u8,
+    files: NotingFiles,
+    sink: &NotingSink,
+) -> Result<Answer, Fail> {
     let puts = sink.puts().ok_or("a put was not noted")?;
     Ok(Answer {
         status,
@@ -255,7 +278,7 @@ fn programs_that_run(rt: HostRuntime) -> Result<(), Fail> {
 /// Runs the program on each row, and compares status and text.
 fn compare_rows(rt: &impl Abort, alloc: Global, rows: &[Row]) -> Result<(), Fail> {
     for row in rows {
-        compare_row(rt, alloc, &mut Flipped, row)?;
+        compare_row(rt, alloc, &mut flipped(), row)?;
     }
     Ok(())
 }
@@ -325,7 +348,13 @@ fn fields_that_differ(rt: HostRuntime) -> Result<(), Fail> {
         let text = format!(in alloc;
             "flush 7 at 0 {field} {due}\n{counts}{registers}pc 00000008\n"
         )?;
-        let mut core = Differing { claim };
+        let lists: [(u64, &[Record]); 4] = [
+            (1, &[claim]),
+            (2, &[]),
+            (14, &[ASKS, HALTS]),
+            (15, &[]),
+        ];
+        let mut core = Lists { lists: &lists };
         let outside = five_files(alloc)?;
         compare_by(&rt, &mut core, "run a.diva", outside, 0, text.as_str())?;
     }

@@ -11,20 +11,4 @@
 #![tactic(auto)]
 
 #[cfg(test)]
-mod args;
-#[cfg(test)]
-mod asm;
-#[cfg(test)]
-mod commands;
-#[cfg(test)]
-mod cores;
-#[cfg(test)]
-mod disk;
-#[cfg(test)]
-mod outside;
-#[cfg(test)]
-mod run_texts;
-#[cfg(test)]
-mod scripts;
-#[cfg(test)]
-mod tapes;
+mod tests;

@@ -1,10 +1,9 @@
 //! Tests of three lanes that vote, by themselves and in the place of a machine's checks.
 //!
 //! - `votes`: of which three answers which one is taken, and what is counted of them;
-//! - `lanes`: lanes that answer as the checks do, and note what they are asked, when, or what a liar says; and lanes that are not to be
+//! - `lanes`: lanes that answer as the checks do, and note what they are asked, when, and what a liar says; and lanes that are not to be
 //!   believed, of which two may lie in turn;
-//! - `cores`: the cores of these tests, one type for all of them;
-//! - `programs`: a small program, and machines that begin with words;
+//! - `machines`: a small program, machines that begin with words, and one type for all their cores;
 //! - `runs`: short runs: how often each lane is asked, of what and in which order, cycle by cycle, also where a claim is wrong or is
 //!   dropped, and how often each is outvoted;
 //! - `alike`: longer runs of two machines, of which one is voted on, and one lane in three answers anything, or two lie in turn: both
@@ -16,14 +15,4 @@
 #![tactic(auto)]
 
 #[cfg(test)]
-mod alike;
-#[cfg(test)]
-mod cores;
-#[cfg(test)]
-mod lanes;
-#[cfg(test)]
-mod programs;
-#[cfg(test)]
-mod runs;
-#[cfg(test)]
-mod votes;
+mod tests;

@@ -3,26 +3,15 @@ use super::sessions::with_commands;
 use super::{compare, compare_by};
 use diva_ooo::Ooo;
 use diva_outside::What;
-use diva_test_programs::{FIVE, Program};
+use diva_test_programs::{FIVE, Program, program};
 use std::test::Fail;
 
 /// Stores of each width, a put and a halt: `lui x5, 0x89abc`, `addi x5, x5, 1246`, `sw x5, 48(x0)`, `sh x5, 52(x0)`,
 /// `sb x5, 57(x0)`, `addi x17, x0, 1`, `addi x10, x0, 65`, `ecall`, `addi x17, x0, 93`, `ecall`.
-const OVERWRITES: Program = Program {
-    size: 64,
-    words: &[
-        0x89ab_c2b7,
-        0x4de2_8293,
-        0x0250_2823,
-        0x0250_1a23,
-        0x0250_0ca3,
-        0x0010_0893,
-        0x0410_0513,
-        0x0000_0073,
-        0x05d0_0893,
-        0x0000_0073,
-    ],
-};
+const OVERWRITES: Program = program![
+    0x89abc2b7, 0x4de28293, 0x02502823, 0x02501a23, 0x02500ca3, 0x00100893, 0x04100513, 0x00000073,
+    0x05d00893, 0x00000073
+];
 
 /// Forth, back over each store, over the put, over the end and to the very start, and forth again.
 const COMMANDS: &str = "\

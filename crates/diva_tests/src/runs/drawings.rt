@@ -1,8 +1,8 @@
 // Runs that are drawn: in text, and as a log for a viewer.
-use crate::cores::Counting;
+use super::{Answer, answer_from, compare_answer, files_and_sink, five_files, words_of};
+use crate::cores::counting;
 use diva_cli::pipeline_top;
-use diva_outside::{MemFile, MemFiles, MemSink};
-use diva_test_programs::FIVE_FILE;
+use diva_outside::What;
 use std::alloc::Global;
 use std::test::Fail;
 
@@ -171,36 +171,24 @@ cycle                       1  2
 ];
 
 /// What the program answers on a row.
-fn answer(alloc: Global, row: &Drawn) -> Result<(u8, Vec<u8>), Fail> {
-    let mut words = Vec::new(alloc);
-    for word in row.line.split(' ').filter(|word| !word.is_empty()) {
-        words.push(word)?;
-    }
+fn answer(alloc: Global, row: &Drawn) -> Result<Answer, Fail> {
+    let mut words = words_of(alloc, row.line)?;
     if !row.script.is_empty() {
         words.push("--script")?;
         words.push("a.script")?;
     }
-    let mut there = Vec::new(alloc);
-    for (name, bytes) in [("a.diva", &FIVE_FILE[..]), ("a.script", row.script)] {
-        there.push(MemFile::new(
-            String::from_str(alloc, name)?,
-            Vec::from_slice(alloc, bytes)?,
-        ))?;
-    }
-    let mut files = MemFiles::new(there, Vec::new(alloc));
-    let mut sink = MemSink::new(alloc, 1 << 16, Vec::new(alloc))?;
-    let mut core = Counting { calls: 0 };
-    let status = pipeline_top(alloc, &words, &mut files, &mut sink, &mut core);
-    Ok((status, Vec::from_slice(alloc, sink.bytes())?))
+    let outside = five_files(alloc)?.with(What::Script, row.script)?;
+    let (mut files, mut sink) = files_and_sink(outside)?;
+    let status = pipeline_top(alloc, &words, &mut files, &mut sink, &mut counting());
+    answer_from(alloc, status, files, &sink)
 }
 
 #[test]
 fn runs_that_are_drawn(rt: HostRuntime) -> Result<(), Fail> {
     let alloc = rt.alloc();
     for row in &ROWS {
-        let (status, text) = answer(alloc, row)?;
-        assert_eq!(rt; status, row.status, "{}", row.line);
-        assert_eq!(rt; str::from_utf8(&text)?, row.text, "{}", row.line);
+        let answer = answer(alloc, row)?;
+        compare_answer(&rt, row.line, &answer, row.status, row.text)?;
     }
     Ok(())
 }

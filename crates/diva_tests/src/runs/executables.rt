@@ -2,15 +2,14 @@
 pub(super) mod files;
 
 use super::campaigns::FIRST_CYCLE;
-use super::harts::PAIR_TEXT;
-use super::refusals::USAGE;
+use super::harts::{FIVE_PAIR, pair_text};
 use super::tables::{CORES, Row};
 use super::texts::text_due;
 use super::{FIVE_TEXT, Outside, compare, compare_unasked, image_files, run_program};
-use crate::cores::Flipped;
+use crate::cores::flipped;
 use diva_ooo::Ooo;
 use diva_outside::What;
-use diva_test_programs::FIVE_FILE;
+use diva_test_programs::{FIVE_FILE, file_of, laid};
 use files::{GAP, HIGH, ODD, OUTSIDE, ROOM, THREE, WRITES};
 use std::alloc::{AllocError, Global};
 use std::fmt::Write;
@@ -28,33 +27,17 @@ const COMMANDS: &[u8] = b"step 2\nreg 17\nstep 5\n";
 const REPLIES: &str = "at 2 pc 0001005c\nx17 0000005d\nended 3 halt 0\n";
 
 /// What is written of them behind the registers, by the options and by the file. Up to there it is what is written of `FIVE`.
-static THREE_RUNS: [(&str, &[u8], &str); 7] = [
+static THREE_RUNS: [(&str, &[u8], &str); 7] = laid! {
     ("", &THREE, "pc 0001005c\n"),
     ("--room 64", &THREE, "pc 0001005c\n"),
     // Memory ends behind the third word, or behind the room.
-    (
-        "--dump 1005c:8",
-        &THREE,
-        "pc 0001005c\nmem 0001005c 73000000........\n",
-    ),
-    (
-        "--room 4 --dump 1005c:12",
-        &THREE,
-        "pc 0001005c\nmem 0001005c 7300000000000000........\n",
-    ),
+    ("--dump 1005c:8", &THREE, "pc 0001005c\nmem 0001005c 73000000........\n"),
+    ("--room 4 --dump 1005c:12", &THREE, "pc 0001005c\nmem 0001005c 7300000000000000........\n"),
     // Behind the memory of an image there is no room.
     ("--room 64", &FIVE_FILE, "pc 00000008\n"),
-    (
-        "--dump 3c:8",
-        &FIVE_FILE,
-        "pc 00000008\nmem 0000003c 00000000........\n",
-    ),
-    (
-        "--room 64 --dump 3c:8",
-        &FIVE_FILE,
-        "pc 00000008\nmem 0000003c 00000000........\n",
-    ),
-];
+    ("--dump 3c:8", &FIVE_FILE, "pc 00000008\nmem 0000003c 00000000........\n"),
+    ("--room 64 --dump 3c:8", &FIVE_FILE, "pc 00000008\nmem 0000003c 00000000........\n"),
+};
 
 #[test]
 fn three_instructions(rt: HostRuntime) -> Result<(), Fail> {
@@ -80,7 +63,7 @@ pub(super) fn three_text(alloc: Global) -> Result<String, Fail> {
 
 /// What two harts write of them: what they write of `FIVE` but for the pc.
 pub(super) fn pair_of_three(alloc: Global) -> Result<String, Fail> {
-    Ok(PAIR_TEXT.replace(alloc, "pc 00000008", "pc 0001005c")?)
+    Ok(pair_text(alloc, &FIVE_PAIR)?.replace(alloc, "pc 00000008", "pc 0001005c")?)
 }
 
 #[test]
@@ -192,40 +175,12 @@ static MIGRATED: [(&str, &[u8], [u32; 7]); 4] = [
 fn images_of_executables(rt: HostRuntime) -> Result<(), Fail> {
     let alloc = rt.alloc();
     for &(line, file, numbers) in &MIGRATED {
-        let mut due = Vec::from_slice(alloc, b"DIVA")?;
-        for number in numbers {
-            due.extend_from_slice(&number.to_le_bytes())?;
-        }
-        due.extend_from_slice(&FIVE_FILE[24..])?;
-        let answer = run_program(&mut Flipped, line, image_files(alloc, file)?)?;
+        let [version, base, size, entry, count, addr, len] = numbers;
+        let header = [version, base, size, entry, count];
+        let due = file_of(alloc, header, &[(addr, len)], &FIVE_FILE[24..])?;
+        let answer = run_program(&mut flipped(), line, image_files(alloc, file)?)?;
         assert_eq!(rt; answer.status, 0, "{line}");
         assert_eq!(rt; answer.text.as_slice(), due.as_slice(), "{line}");
-    }
-    Ok(())
-}
-
-/// Words that are not a valid command line.
-static MISUSED: [&str; 14] = [
-    "run a.diva --room 2",
-    "run a.diva --room 16777216",
-    "duo a.diva --room 2",
-    "duo a.diva --room 16777216",
-    "tape a.diva --room 2",
-    "tape a.diva --room 16777216",
-    "debug a.diva a.commands --room 2",
-    "debug a.diva a.commands --room 16777216",
-    "migrate a.diva --room 2",
-    "migrate a.diva --room 16777216",
-    "dis a.diva --room 4",
-    "asm a.commands --room 4",
-    "soak 1 1 --room 4",
-    "campaign a.diva 1 --room 4",
-];
-
-#[test]
-fn rooms_that_are_misused(rt: HostRuntime) -> Result<(), Fail> {
-    for &line in &MISUSED {
-        compare_unasked(&rt, line, with_commands(rt.alloc(), &THREE)?, 2, USAGE)?;
     }
     Ok(())
 }
@@ -257,12 +212,12 @@ fn three_instructions_that_are_refused(rt: HostRuntime) -> Result<(), Fail> {
 }
 
 /// Executables with the room that each is given, and what is written of their fault.
-static REFUSED: [(&[u8], u32, &str); 4] = [
+static REFUSED: [(&[u8], u32, &str); 4] = laid! {
     (&HIGH, 228, "refused image 29 at 0\n"),
     (&GAP, 16_777_212, "refused image 29 at 0\n"),
     (&GAP, 16_740_356, "refused image 29 at 0\n"),
     (&ROOM, 0, "refused image 30 at 24\n"),
-];
+};
 
 #[test]
 fn rooms_that_are_refused(rt: HostRuntime) -> Result<(), Fail> {
@@ -284,17 +239,11 @@ fn rooms_that_are_refused(rt: HostRuntime) -> Result<(), Fail> {
 
 /// Executables with the room that each is given, the status, and the lines of end, count and output. Those that halt and have no room
 /// ended so after as many instructions in `qemu-riscv32`, an emulator that is independent of this repository.
-static RUNS: [(&str, &[u8], u32, u8, &str); 13] = [
+static RUNS: [(&str, &[u8], u32, u8, &str); 13] = laid! {
     ("three", &THREE, 0, 0, "end halt 0\ncount 3\noutput 0\n"),
     ("three", &THREE, 64, 0, "end halt 0\ncount 3\noutput 0\n"),
     ("gap", &GAP, 0, 0, "end halt 120\ncount 526\noutput 0\n"),
-    (
-        "gap",
-        &GAP,
-        16_740_352,
-        0,
-        "end halt 120\ncount 526\noutput 0\n",
-    ),
+    ("gap", &GAP, 16_740_352, 0, "end halt 120\ncount 526\noutput 0\n"),
     ("odd", &ODD, 0, 0, "end halt 44\ncount 14\noutput 0\n"),
     ("odd", &ODD, 16, 0, "end halt 44\ncount 14\noutput 0\n"),
     ("room", &ROOM, 4, 3, "end trap 2\ncount 1\noutput 0\n"),
@@ -304,7 +253,7 @@ static RUNS: [(&str, &[u8], u32, u8, &str); 13] = [
     ("outside", &OUTSIDE, 0, 3, "end trap 5\ncount 3\noutput 0\n"),
     ("outside", &OUTSIDE, 4, 0, "end halt 3\ncount 6\noutput 0\n"),
     ("writes", &WRITES, 0, 0, "end halt 11\ncount 10\noutput 0\n"),
-];
+};
 
 /// The lines of end, count and output.
 fn lasting_lines(alloc: Global, text: &str) -> Result<String, Fail> {

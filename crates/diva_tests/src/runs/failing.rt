@@ -3,21 +3,21 @@ use super::campaigns::{FIRST_CYCLE, ONE_CYCLE, TRAPPED};
 use super::drawings::{self, LOGGED};
 use super::executables::files::THREE;
 use super::executables::{pair_of_three, three_text};
-use super::harts::{PAIR_TEXT, PAIRS, pair_text};
+use super::harts::{FIVE_PAIR, PAIRS, pair_text};
 use super::noting::Load;
 use super::refusals::USAGE;
 use super::sessions::{STEPS_COMMANDS, STEPS_TEXT};
-use super::soaks::{FLIPPED_LINES, LEFT};
+use super::soaks::{FLIPPED_LINES, soaked_text};
 use super::sources::{FIVE_LISTING, FIVE_SOURCE};
 use super::tables::ROWS;
 use super::tapes::{FLOODED, IN_LOCKSTEP};
 use super::texts::text_due;
 use super::traces::FIVE_TRACE;
 use super::{Answer, FIVE_TEXT, Outside, compare_unasked, file_name, image_files, run_program};
-use crate::cores::{Counting, Flipped};
+use crate::cores::{counting, flipped};
 use diva_core::Core;
 use diva_outside::{Fail as SinkFail, What};
-use diva_test_programs::{FIVE_FILE, FIVE_SEGMENTED, image_file};
+use diva_test_programs::{FIVE_FILE, FIVE_SEGMENTED, image_file, laid};
 use std::alloc::Global;
 use std::process::Abort;
 use std::test::Fail;
@@ -29,46 +29,25 @@ type Loaded = (&'static [u8], usize, &'static str);
 static IMAGES: [Loaded; 2] = [(&FIVE_FILE, 35, "8 at 35"), (&THREE, 84, "27 at 52")];
 
 /// Command lines, and the kinds of the files that they load, in order.
-static LOADS: [(&str, &[What]); 17] = [
+static LOADS: [(&str, &[What]); 17] = laid! {
     ("run a.diva", &[What::Image]),
     ("run a.diva --script a.script", &[What::Image, What::Script]),
-    (
-        "run a.diva --liar 1 --core tape --tape a.tape --script a.script",
-        &[What::Image, What::Script, What::Tape],
-    ),
-    (
-        "log a.diva --core tape --tape a.tape --script a.script",
-        &[What::Image, What::Script, What::Tape],
-    ),
-    (
-        "draw a.diva --liar 2 --core tape --tape a.tape --script a.script",
-        &[What::Image, What::Script, What::Tape],
-    ),
-    (
-        "run a.diva --core tape --tape a.tape",
-        &[What::Image, What::Tape],
-    ),
-    (
-        "run a.diva --core tape --tape a.tape --script a.script",
-        &[What::Image, What::Script, What::Tape],
-    ),
+    ("run a.diva --liar 1 --core tape --tape a.tape --script a.script", &[What::Image, What::Script, What::Tape]),
+    ("log a.diva --core tape --tape a.tape --script a.script", &[What::Image, What::Script, What::Tape]),
+    ("draw a.diva --liar 2 --core tape --tape a.tape --script a.script", &[What::Image, What::Script, What::Tape]),
+    ("run a.diva --core tape --tape a.tape", &[What::Image, What::Tape]),
+    ("run a.diva --core tape --tape a.tape --script a.script", &[What::Image, What::Script, What::Tape]),
     ("tape a.diva", &[What::Image]),
     ("duo a.diva", &[What::Image]),
-    (
-        "tape a.diva --core tape --tape a.tape --script a.script",
-        &[What::Image, What::Script, What::Tape],
-    ),
+    ("tape a.diva --core tape --tape a.tape --script a.script", &[What::Image, What::Script, What::Tape]),
     ("debug a.diva a.commands", &[What::Image, What::Commands]),
-    (
-        "debug a.diva a.commands --core tape --tape a.tape --script a.script",
-        &[What::Image, What::Script, What::Tape, What::Commands],
-    ),
+    ("debug a.diva a.commands --core tape --tape a.tape --script a.script", &[What::Image, What::Script, What::Tape, What::Commands]),
     ("asm a.s", &[What::Source]),
     ("dis a.diva", &[What::Image]),
     ("migrate a.diva", &[What::Image]),
     ("soak 1 1", &[]),
     ("campaign a.diva 1", &[What::Image]),
-];
+};
 
 /// Each file is loaded once, in order, and no other.
 #[test]
@@ -76,7 +55,7 @@ fn loads_in_order(rt: HostRuntime) -> Result<(), Fail> {
     let alloc = rt.alloc();
     for &(image, ..) in &IMAGES {
         for &(line, files) in &LOADS {
-            let answer = run_program(&mut Flipped, line, image_files(alloc, image)?)?;
+            let answer = run_program(&mut flipped(), line, image_files(alloc, image)?)?;
             assert_eq!(rt; answer.status, 0, "{line}");
             compare_loads(&rt, line, &answer.loads, files);
         }
@@ -159,10 +138,9 @@ fn stops_at(
 }
 
 /// Command lines, with the status and the text that are due where no put fails.
-static TEXTS: [(&str, u8, &str); 8] = [
+static TEXTS: [(&str, u8, &str); 7] = [
     ("run a.diva --core lockstep", 0, FIVE_TEXT),
     ("run a.diva --core lockstep --liar 1", 0, FIVE_TEXT),
-    ("duo a.diva --core lockstep", 0, PAIR_TEXT),
     ("debug a.diva a.commands --core scalar", 0, STEPS_TEXT),
     ("dis a.diva", 0, FIVE_LISTING),
     ("run", 2, USAGE),
@@ -183,17 +161,13 @@ fn puts_that_fail(rt: HostRuntime) -> Result<(), Fail> {
     ] {
         compare_lines(&rt, alloc, &FIVE_FILE, line, 0, trace.as_str())?;
     }
-    let campaign = text_due(alloc, &FIRST_CYCLE)?;
-    compare_lines(
-        &rt,
-        alloc,
-        &FIVE_FILE,
-        FIRST_CYCLE.line,
-        0,
-        campaign.as_str(),
-    )?;
-    let soaked = format!(in alloc; "{FLIPPED_LINES}{LEFT}")?;
-    compare_lines(&rt, alloc, &FIVE_FILE, "soak 1 1", 0, soaked.as_str())?;
+    for (line, text) in [
+        (FIVE_PAIR.line, pair_text(alloc, &FIVE_PAIR)?),
+        (FIRST_CYCLE.line, text_due(alloc, &FIRST_CYCLE)?),
+        ("soak 1 1", soaked_text(alloc, FLIPPED_LINES)?),
+    ] {
+        compare_lines(&rt, alloc, &FIVE_FILE, line, 0, text.as_str())?;
+    }
     for (line, status, tape) in [
         ("tape a.diva --core lockstep", 0, IN_LOCKSTEP),
         ("tape a.diva --core flood --cycles 1", 4, FLOODED),
@@ -285,7 +259,7 @@ fn pieces_of_long_rows(rt: HostRuntime) -> Result<(), Fail> {
     let alloc = rt.alloc();
     let line = "draw a.diva --core silent --watchdog 1024 --cycles 2060";
     for (call, status, puts) in [(3, 9, 3), (6, 4, 5)] {
-        let answer = run_cut(alloc, &mut Flipped, &FIVE_FILE, line, call, 0)?;
+        let answer = run_cut(alloc, &mut flipped(), &FIVE_FILE, line, call, 0)?;
         let due = PIECES.get(..puts).ok_or("too many")?;
         assert_eq!(rt; answer.status, status, "{line}");
         assert_eq!(rt; answer.puts.as_slice(), due, "{line}");
@@ -351,13 +325,13 @@ fn compare_puts(
         for takes in [0, 1, piece.len().saturating_sub(1)] {
             let mut due = written.clone()?;
             due.extend_from_slice(piece.get(..takes).ok_or("the piece is empty")?)?;
-            let answer = run_cut(alloc, &mut Flipped, image, line, call, takes)?;
+            let answer = run_cut(alloc, &mut flipped(), image, line, call, takes)?;
             compare_put(rt, line, &answer, 9, &due, &puts);
         }
         written.extend_from_slice(piece)?;
     }
     let call = puts.len() as u64 + 1;
-    let answer = run_cut(alloc, &mut Flipped, image, line, call, 0)?;
+    let answer = run_cut(alloc, &mut flipped(), image, line, call, 0)?;
     compare_put(rt, line, &answer, status, &written, &puts);
     Ok(())
 }
@@ -401,30 +375,17 @@ fn run_cut<C: Core>(
 /// 15 it has a claim and so two puts. `step 2` ends in cycle 14, and `step 5` in 21. A log begins before the first cycle, and has one
 /// put in each, and one more where an instruction commits. A drawing has an instruction where it commits, and
 /// the scale at the end.
-static CALLS: [(&str, &[u64]); 9] = [
+static CALLS: [(&str, &[u64]); 9] = laid! {
     ("run a.diva --core own", &[21, 21]),
     ("run a.diva --core own --liar 1", &[21, 21]),
     ("run a.diva --core own --trace", &[7, 14, 21, 21, 21]),
-    (
-        "run a.diva --core own --trace --liar 2",
-        &[7, 14, 21, 21, 21],
-    ),
-    (
-        "log a.diva --core own",
-        &[
-            0, 1, 2, 3, 4, 5, 6, 7, 7, 8, 9, 10, 11, 12, 13, 14, 14, 15, 16, 17, 18, 19, 20, 21, 21,
-        ],
-    ),
+    ("run a.diva --core own --trace --liar 2", &[7, 14, 21, 21, 21]),
+    ("log a.diva --core own", &[0, 1, 2, 3, 4, 5, 6, 7, 7, 8, 9, 10, 11, 12, 13, 14, 14, 15, 16, 17, 18, 19, 20, 21, 21]),
     ("draw a.diva --core own --liar 0", &[7, 14, 21, 21]),
-    (
-        "tape a.diva --core own",
-        &[
-            1, 1, 2, 3, 4, 5, 6, 7, 8, 8, 9, 10, 11, 12, 13, 14, 15, 15, 16, 17, 18, 19, 20, 21,
-        ],
-    ),
+    ("tape a.diva --core own", &[1, 1, 2, 3, 4, 5, 6, 7, 8, 8, 9, 10, 11, 12, 13, 14, 15, 15, 16, 17, 18, 19, 20, 21]),
     ("debug a.diva a.commands --core own", &[14, 14, 14, 21]),
     ("soak 1 1", &[28, 28]),
-];
+};
 
 /// A core is not asked behind a put that failed.
 #[test]
@@ -433,7 +394,7 @@ fn calls_before_a_put_that_fails(rt: HostRuntime) -> Result<(), Fail> {
     for &(line, calls) in &CALLS {
         for (place, &due) in calls.iter().enumerate() {
             let call = place as u64 + 1;
-            let mut core = Counting { calls: 0 };
+            let mut core = counting();
             let answer = run_cut(alloc, &mut core, &FIVE_FILE, line, call, 0)?;
             assert_eq!(rt; (answer.status, core.calls), (9, due), "{line}, put {call}");
         }

@@ -1,8 +1,7 @@
 // Runs on two harts over one memory.
-use super::texts::registers_text;
 use super::{Outside, compare, five_files, run_program};
-use crate::cores::Counting;
-use diva_test_programs::{FIVE, Program, image_file};
+use crate::cores::counting;
+use diva_test_programs::{FIVE, Program, image_file, program, registers_text, rows};
 use std::alloc::Global;
 use std::fmt::Write;
 use std::test::Fail;
@@ -32,53 +31,30 @@ struct Hart {
     pc: u32,
 }
 
-/// What `FIVE` writes where each hart claims one by one, to the letter.
-pub(super) const PAIR_TEXT: &str = "\
-cycles 21
-hart 0
-end halt 0
-count 3
-flushes 0 silent 0
-output 0
-x0 00000000 x1 00000005 x2 00000000 x3 00000000
-x4 00000000 x5 00000000 x6 00000000 x7 00000000
-x8 00000000 x9 00000000 x10 00000000 x11 00000000
-x12 00000000 x13 00000000 x14 00000000 x15 00000000
-x16 00000000 x17 0000005d x18 00000000 x19 00000000
-x20 00000000 x21 00000000 x22 00000000 x23 00000000
-x24 00000000 x25 00000000 x26 00000000 x27 00000000
-x28 00000000 x29 00000000 x30 00000000 x31 00000000
-pc 00000008
-hart 1
-end halt 1
-count 3
-flushes 0 silent 0
-output 0
-x0 00000000 x1 00000005 x2 00000000 x3 00000000
-x4 00000000 x5 00000000 x6 00000000 x7 00000000
-x8 00000000 x9 00000000 x10 00000001 x11 00000000
-x12 00000000 x13 00000000 x14 00000000 x15 00000000
-x16 00000000 x17 0000005d x18 00000000 x19 00000000
-x20 00000000 x21 00000000 x22 00000000 x23 00000000
-x24 00000000 x25 00000000 x26 00000000 x27 00000000
-x28 00000000 x29 00000000 x30 00000000 x31 00000000
-pc 00000008
-";
+/// `FIVE` where each hart claims one by one.
+pub(super) const FIVE_PAIR: Pair = Pair {
+    line: "duo a.diva --core lockstep",
+    program: FIVE,
+    status: 0,
+    cycles: 21,
+    counts: ["count 3\nflushes 0 silent 0\noutput 0\n"; 2],
+    first: Hart {
+        end: "halt 0",
+        registers: &[(1, 5), (17, 0x5d)],
+        pc: 8,
+    },
+    second: Hart {
+        end: "halt 1",
+        registers: &[(1, 5), (10, 1), (17, 0x5d)],
+        pc: 8,
+    },
+    memory: "",
+};
 
 /// Each hart stores 1 in its slot, at 32 or 36, fences, and loads what the other stored.
-const FENCED: Program = Program {
-    size: 64,
-    words: &[
-        0x0010_0093,
-        0x0025_1293,
-        0x4050_0333,
-        0x0212_a023,
-        0x0ff0_000f,
-        0x0243_2103,
-        0x05d0_0893,
-        0x0000_0073,
-    ],
-};
+const FENCED: Program = program![
+    0x00100093, 0x00251293, 0x40500333, 0x0212a023, 0x0ff0000f, 0x02432103, 0x05d00893, 0x00000073
+];
 
 /// The lines of numbers and output of a hart of `FENCED` that is claimed one by one.
 const NO_FLUSH: &str = "count 8\nflushes 0 silent 0\noutput 0\n";
@@ -103,145 +79,42 @@ const FENCED_PAIR: Pair = Pair {
     },
     second: Hart {
         end: "halt 1",
-        registers: &[
-            (1, 1),
-            (2, 1),
-            (5, 4),
-            (6, 0xffff_fffc),
-            (10, 1),
-            (17, 0x5d),
-        ],
+        registers: &[(1, 1), (2, 1), (5, 4), (6, 0xfffffffc), (10, 1), (17, 0x5d)],
         pc: 28,
     },
     memory: "",
 };
 
-pub(super) static PAIRS: [Pair; 9] = [
-    FENCED_PAIR,
+pub(super) static PAIRS: [Pair; 10] = rows! { Pair:
+    FIVE_PAIR {}
+    FENCED_PAIR {}
     // Slots of a word each, in shared memory.
-    Pair {
-        line: "duo a.diva --dump 20:16 --core lockstep --stores 1",
-        memory: "mem 00000020 01000000010000000000000000000000\n",
-        ..FENCED_PAIR
-    },
+    FENCED_PAIR { line: "duo a.diva --dump 20:16 --core lockstep --stores 1", memory: "mem 00000020 01000000010000000000000000000000\n" }
     // Memory's last 8 bytes, and 8 behind it.
-    Pair {
-        line: "duo a.diva --core lockstep --dump 38:16 --room 64",
-        memory: "mem 00000038 0000000000000000................\n",
-        ..FENCED_PAIR
-    },
+    FENCED_PAIR { line: "duo a.diva --core lockstep --dump 38:16 --room 64", memory: "mem 00000038 0000000000000000................\n" }
     // The load is claimed in cycle 6 with what shared memory has, and judged in cycle 12, behind the other's store.
-    Pair {
-        line: "duo a.diva",
-        cycles: 26,
-        counts: [ONE_FLUSH, ONE_FLUSH],
-        ..FENCED_PAIR
-    },
+    FENCED_PAIR { line: "duo a.diva", cycles: 26, counts: [ONE_FLUSH, ONE_FLUSH] }
     // Each instruction commits 70 cycles behind the one before.
-    Pair {
-        line: "duo a.diva --core silent",
-        cycles: 560,
-        counts: [EIGHT_SILENT, EIGHT_SILENT],
-        ..FENCED_PAIR
-    },
+    FENCED_PAIR { line: "duo a.diva --core silent", cycles: 560, counts: [EIGHT_SILENT, EIGHT_SILENT] }
     // `ebreak` traps on both harts.
-    Pair {
-        line: "duo a.diva --core lockstep",
-        program: Program {
-            size: 64,
-            words: &[0x0010_0073],
-        },
-        status: 3,
-        cycles: 7,
-        counts: [
-            "count 1\nflushes 0 silent 0\noutput 0\n",
-            "count 1\nflushes 0 silent 0\noutput 0\n",
-        ],
-        first: Hart {
-            end: "trap 3",
-            registers: &[],
-            pc: 0,
-        },
-        second: Hart {
-            end: "trap 3",
-            registers: &[(10, 1)],
-            pc: 0,
-        },
-        memory: "",
-    },
+    FENCED_PAIR { program: program![0x00100073], status: 3, cycles: 7,
+        counts: ["count 1\nflushes 0 silent 0\noutput 0\n", "count 1\nflushes 0 silent 0\noutput 0\n"],
+        first: Hart { end: "trap 3", registers: &[], pc: 0 }, second: Hart { end: "trap 3", registers: &[(10, 1)], pc: 0 } }
     // `bne x10, x0, 12`: hart 0 halts, and hart 1 traps at once.
-    Pair {
-        line: "duo a.diva --core scalar",
-        program: Program {
-            size: 64,
-            words: &[0x0005_1663, 0x05d0_0893, 0x0000_0073, 0x0010_0073],
-        },
-        status: 3,
-        cycles: 9,
-        counts: [
-            "count 3\nflushes 0 silent 0\noutput 0\n",
-            "count 2\nflushes 0 silent 0\noutput 0\n",
-        ],
-        first: Hart {
-            end: "halt 0",
-            registers: &[(17, 0x5d)],
-            pc: 8,
-        },
-        second: Hart {
-            end: "trap 3",
-            registers: &[(10, 1)],
-            pc: 12,
-        },
-        memory: "",
-    },
+    FENCED_PAIR { line: "duo a.diva --core scalar",
+        program: program![0x00051663, 0x05d00893, 0x00000073, 0x00100073], status: 3, cycles: 9,
+        counts: ["count 3\nflushes 0 silent 0\noutput 0\n", "count 2\nflushes 0 silent 0\noutput 0\n"],
+        first: Hart { end: "halt 0", registers: &[(17, 0x5d)], pc: 8 }, second: Hart { end: "trap 3", registers: &[(10, 1)], pc: 12 } }
     // `beq x10, x0, 8`: hart 0 halts, and hart 1 jumps to where it is for ever.
-    Pair {
-        line: "duo a.diva --cycles 100",
-        program: Program {
-            size: 64,
-            words: &[0x0005_0463, 0x0000_006f, 0x05d0_0893, 0x0000_0073],
-        },
-        status: 4,
-        cycles: 100,
-        counts: [
-            "count 3\nflushes 0 silent 0\noutput 0\n",
-            "count 94\nflushes 0 silent 0\noutput 0\n",
-        ],
-        first: Hart {
-            end: "halt 0",
-            registers: &[(17, 0x5d)],
-            pc: 12,
-        },
-        second: Hart {
-            end: "none",
-            registers: &[(10, 1)],
-            pc: 4,
-        },
-        memory: "",
-    },
+    FENCED_PAIR { line: "duo a.diva --cycles 100", program: program![0x00050463, 0x0000006f, 0x05d00893, 0x00000073],
+        status: 4, cycles: 100, counts: ["count 3\nflushes 0 silent 0\noutput 0\n", "count 94\nflushes 0 silent 0\noutput 0\n"],
+        first: Hart { end: "halt 0", registers: &[(17, 0x5d)], pc: 12 }, second: Hart { end: "none", registers: &[(10, 1)], pc: 4 } }
     // Both halts are of cycle 21.
-    Pair {
-        line: "duo a.diva --core lockstep --cycles 20",
-        program: FIVE,
-        status: 4,
-        cycles: 20,
-        counts: [
-            "count 2\nflushes 0 silent 0\noutput 0\n",
-            "count 2\nflushes 0 silent 0\noutput 0\n",
-        ],
-        first: Hart {
-            end: "none",
-            registers: &[(1, 5), (17, 0x5d)],
-            pc: 8,
-        },
-        second: Hart {
-            end: "none",
-            registers: &[(1, 5), (10, 1), (17, 0x5d)],
-            pc: 8,
-        },
-        memory: "",
-    },
-];
+    FENCED_PAIR { line: "duo a.diva --core lockstep --cycles 20", program: FIVE, status: 4, cycles: 20,
+        counts: ["count 2\nflushes 0 silent 0\noutput 0\n", "count 2\nflushes 0 silent 0\noutput 0\n"],
+        first: Hart { end: "none", registers: &[(1, 5), (17, 0x5d)], pc: 8 },
+        second: Hart { end: "none", registers: &[(1, 5), (10, 1), (17, 0x5d)], pc: 8 } }
+};
 
 /// The whole text of a run on two harts.
 pub(super) fn pair_text(alloc: Global, pair: &Pair) -> Result<String, Fail> {
@@ -262,13 +135,6 @@ pub(super) fn pair_text(alloc: Global, pair: &Pair) -> Result<String, Fail> {
 #[test]
 fn programs_on_two_harts(rt: HostRuntime) -> Result<(), Fail> {
     let alloc = rt.alloc();
-    compare(
-        &rt,
-        "duo a.diva --core lockstep",
-        five_files(alloc)?,
-        0,
-        PAIR_TEXT,
-    )?;
     for pair in &PAIRS {
         let outside = Outside::sound(alloc, image_file(alloc, pair.program)?);
         let text = pair_text(alloc, pair)?;
@@ -280,7 +146,7 @@ fn programs_on_two_harts(rt: HostRuntime) -> Result<(), Fail> {
 /// Each hart has a core of its own: the one that the program is handed is not asked.
 #[test]
 fn cores_of_two_harts(rt: HostRuntime) -> Result<(), Fail> {
-    let mut core = Counting { calls: 0 };
+    let mut core = counting();
     let answer = run_program(&mut core, "duo a.diva", five_files(rt.alloc())?)?;
     assert_eq!(rt; (answer.status, core.calls), (0, 0));
     Ok(())

@@ -2,7 +2,9 @@
 use super::hostile::{OUTCOMES, spoiling_script};
 use super::tables::{CORES, ROWS};
 use super::texts::text_due;
-use super::{Answer, FIVE_TEXT, Outside, ROOM, compare, file_name, five_files, run_program};
+use super::{
+    Answer, FIVE_TEXT, Outside, ROOM, compare, file_name, five_files, run_program, words_of,
+};
 use diva_args::{Job, read_pipeline_words, read_words};
 use diva_cli::{LanePair, Lanes, work};
 use diva_core::{Diff, Pending, View};
@@ -80,7 +82,7 @@ fn compare_places(
     Ok(())
 }
 
-/// Each core, and each core under a script that spoils a claim of each of the first 4,096 cycles.
+/// Each core, and each core under a script that spoils a claim of each cycle.
 #[test]
 fn no_text_tells_of_a_liar(rt: HostRuntime) -> Result<(), Fail> {
     let alloc = rt.alloc();
@@ -133,10 +135,7 @@ fn new_pair() -> LanePair<Counter> {
 
 /// The job that a command line over the files of `FIVE` asks for.
 fn job_of(alloc: Global, line: &str) -> Result<Job, Fail> {
-    let mut words = Vec::new(alloc);
-    for word in line.split(' ') {
-        words.push(word)?;
-    }
+    let words = words_of(alloc, line)?;
     if line.starts_with("log") || line.starts_with("draw") {
         Ok(read_pipeline_words(alloc, &words)?)
     } else {

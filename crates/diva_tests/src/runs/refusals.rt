@@ -1,7 +1,7 @@
 // What is not run.
 use super::{Outside, compare_unasked, five_files};
 use diva_outside::What;
-use diva_test_programs::{FIVE_FILE, altered};
+use diva_test_programs::{FIVE_FILE, altered, laid};
 use std::alloc::Global;
 use std::process::Abort;
 use std::test::Fail;
@@ -12,49 +12,15 @@ usage: diva run|tape|duo IMAGE, debug IMAGE COMMANDS, asm SRC, dis|migrate IMAGE
 ";
 
 /// Words that are not a valid command line.
-static MISUSED: [&str; 41] = [
-    "",
-    "run",
-    "run a.diva --width 5",
-    "run a.diva --port 7",
-    "run a.diva --window 1",
-    "run a.diva --liar 3",
-    "tape a.diva --liar 0",
-    "walk a.diva",
-    "run a.diva --core tape",
-    "run a.diva --tape a.tape",
-    "tape a.diva --dump 0:4",
-    "tape a.diva --trace",
-    "duo",
-    "duo a.diva --core own",
-    "duo a.diva --port 1",
-    "duo a.diva --trace",
-    "duo a.diva --script a.script",
-    "duo a.diva --tape a.tape",
-    "debug a.diva",
-    "debug a.diva a.commands --width 2",
-    "asm",
-    "asm a.s --core own",
-    "dis a.diva b.diva",
-    "migrate",
-    "migrate a.diva b.diva",
-    "soak",
-    "soak 1",
-    "soak 1 0",
-    "soak 1 65537",
-    "soak 4294967296 1",
-    "soak 1 1 1",
-    "soak 1 1 --core own",
-    "soak 1 1 --cycles 9",
-    "campaign",
-    "campaign a.diva",
-    "campaign a.diva 0",
-    "campaign a.diva 33",
-    "campaign a.diva 1 1",
-    "campaign a.diva 1 --cycles 0",
-    "campaign a.diva 1 --cycles 100001",
-    "campaign a.diva 1 --core lockstep",
-];
+static MISUSED: [&str; 41] = laid! {
+    "", "run", "run a.diva --width 5", "run a.diva --port 7", "run a.diva --window 1", "run a.diva --liar 3", "tape a.diva --liar 0",
+    "walk a.diva", "run a.diva --core tape", "run a.diva --tape a.tape", "tape a.diva --dump 0:4", "tape a.diva --trace", "duo",
+    "duo a.diva --core own", "duo a.diva --port 1", "duo a.diva --trace", "duo a.diva --script a.script", "duo a.diva --tape a.tape",
+    "debug a.diva", "debug a.diva a.commands --width 2", "asm", "asm a.s --core own", "dis a.diva b.diva", "migrate",
+    "migrate a.diva b.diva", "soak", "soak 1", "soak 1 0", "soak 1 65537", "soak 4294967296 1", "soak 1 1 1", "soak 1 1 --core own",
+    "soak 1 1 --cycles 9", "campaign", "campaign a.diva", "campaign a.diva 0", "campaign a.diva 33", "campaign a.diva 1 1",
+    "campaign a.diva 1 --cycles 0", "campaign a.diva 1 --cycles 100001", "campaign a.diva 1 --core lockstep",
+};
 
 /// No file is loaded.
 #[test]
@@ -69,25 +35,13 @@ fn lines_that_are_misused(rt: HostRuntime) -> Result<(), Fail> {
 
 /// Command lines that name files that are not there, with their statuses and texts. A name may be any word: the last four are
 /// odd ones.
-static NOT_RUN: [(&str, u8, &str); 16] = [
+static NOT_RUN: [(&str, u8, &str); 16] = laid! {
     ("run b.diva", 8, "unreadable image\n"),
     ("run a.diva --script b.script", 8, "unreadable script\n"),
     ("run b.diva --script b.script", 8, "unreadable image\n"),
-    (
-        "run a.script --script b.script",
-        5,
-        "refused image 1 at 0\n",
-    ),
-    (
-        "run a.diva --core tape --tape b.tape",
-        8,
-        "unreadable tape\n",
-    ),
-    (
-        "tape a.diva --core tape --tape b.tape --script b.script",
-        8,
-        "unreadable script\n",
-    ),
+    ("run a.script --script b.script", 5, "refused image 1 at 0\n"),
+    ("run a.diva --core tape --tape b.tape", 8, "unreadable tape\n"),
+    ("tape a.diva --core tape --tape b.tape --script b.script", 8, "unreadable script\n"),
     ("migrate b.diva", 8, "unreadable image\n"),
     ("tape b.diva", 8, "unreadable image\n"),
     ("duo b.diva", 8, "unreadable image\n"),
@@ -98,7 +52,7 @@ static NOT_RUN: [(&str, u8, &str); 16] = [
     ("run -", 8, "unreadable image\n"),
     ("run -- -x", 8, "unreadable image\n"),
     ("run --width 2 -- -x", 8, "unreadable image\n"),
-];
+};
 
 #[test]
 fn lines_that_are_not_run(rt: HostRuntime) -> Result<(), Fail> {

@@ -2,7 +2,7 @@
 use super::refusals::compare_refused;
 use super::sources::FIVE_LISTING;
 use super::{FIVE_TEXT, Outside, compare, run_unasked};
-use diva_test_programs::{FIVE_FILE, FIVE_SEGMENTED, altered, file_of};
+use diva_test_programs::{FIVE_FILE, FIVE_SEGMENTED, altered, file_of, laid};
 use std::alloc::Global;
 use std::process::Abort;
 use std::test::Fail;
@@ -21,16 +21,10 @@ fn segments_that_are_run_and_listed(rt: HostRuntime) -> Result<(), Fail> {
 }
 
 /// The image of `FIVE` in version 2 with another length and one byte changed, and the kind and the place of its fault.
-static REFUSED: [(usize, usize, u8, u8, u32); 8] = [
-    (24, 0, b'D', 11, 24),
-    (31, 0, b'D', 11, 31),
-    (32, 0, b'D', 8, 32),
-    (43, 0, b'D', 8, 43),
-    (45, 0, b'D', 9, 44),
-    (44, 4, 3, 3, 4),
-    (44, 20, 17, 10, 20),
-    (44, 28, 0, 12, 24),
-];
+static REFUSED: [(usize, usize, u8, u8, u32); 8] = laid! {
+    (24, 0, b'D', 11, 24), (31, 0, b'D', 11, 31), (32, 0, b'D', 8, 32), (43, 0, b'D', 8, 43), (45, 0, b'D', 9, 44), (44, 4, 3, 3, 4),
+    (44, 20, 17, 10, 20), (44, 28, 0, 12, 24),
+};
 
 #[test]
 fn segments_that_are_refused(rt: HostRuntime) -> Result<(), Fail> {

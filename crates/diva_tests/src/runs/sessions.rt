@@ -1,6 +1,6 @@
 // Sessions: commands, and the replies to them.
 use super::{Outside, compare, compare_unasked};
-use diva_test_programs::{FIVE, FIVE_FILE, LOOP, Program, image_file};
+use diva_test_programs::{FIVE, FIVE_FILE, LOOP, Program, image_file, rows};
 use std::alloc::Global;
 use std::test::Fail;
 
@@ -28,64 +28,27 @@ const STEPS: Session = Session {
     text: STEPS_TEXT,
 };
 
-static SESSIONS: [Session; 8] = [
-    STEPS,
+static SESSIONS: [Session; 8] = rows! { Session:
+    STEPS {}
     // Each instruction commits 6 cycles after a flush, and 64 cycles later comes the next one: 64 and 70, 134 and 140,
     // 204 and 210.
-    Session {
-        options: "--core silent",
-        commands: "step 2\nwhy",
-        text: "at 2 pc 00000008\nflush 134 at 1 silent 64\n",
-        ..STEPS
-    },
-    Session {
-        options: "--core silent --watchdog 16",
-        commands: "step 3\nwhy",
-        text: "ended 3 halt 0\nflush 60 at 2 silent 16\n",
-        ..STEPS
-    },
+    STEPS { options: "--core silent", commands: "step 2\nwhy", text: "at 2 pc 00000008\nflush 134 at 1 silent 64\n" }
+    STEPS { options: "--core silent --watchdog 16", commands: "step 3\nwhy", text: "ended 3 halt 0\nflush 60 at 2 silent 16\n" }
     // The first claim of the core that is handed in is wrong.
-    Session {
-        options: "",
-        commands: "step 1\nwhy\nreg 1",
-        text: "at 1 pc 00000004\nflush 7 at 0 value claimed 00000004 due 00000005\nx1 00000005\n",
-        ..STEPS
-    },
+    STEPS { options: "", commands: "step 1\nwhy\nreg 1",
+        text: "at 1 pc 00000004\nflush 7 at 0 value claimed 00000004 due 00000005\nx1 00000005\n" }
     // Memory ends at 40. The third command stands at its pc, so it steps on, to the end.
-    Session {
-        options: "--core lockstep",
-        commands: "until 8 # the call\n\nmem 30 32\nuntil 8\n",
-        text: "at 2 pc 00000008\n\
-            mem 00000030 00000000000000000000000000000000................................\n\
-            ended 3 halt 0\n",
-        ..STEPS
-    },
+    STEPS { options: "--core lockstep", commands: "until 8 # the call\n\nmem 30 32\nuntil 8\n",
+        text: "at 2 pc 00000008\nmem 00000030 00000000000000000000000000000000................................\nended 3 halt 0\n" }
     // Each command at the end.
-    Session {
-        options: "--core lockstep",
-        commands: "step 1000000\nstep 1\nuntil 0\nreg 17\nmem 0 4\nwhy",
-        text: "ended 3 halt 0\nended 3 halt 0\nended 3 halt 0\nx17 0000005d\n\
-            mem 00000000 93005000\nno flush\n",
-        ..STEPS
-    },
+    STEPS { options: "--core lockstep", commands: "step 1000000\nstep 1\nuntil 0\nreg 17\nmem 0 4\nwhy",
+        text: "ended 3 halt 0\nended 3 halt 0\nended 3 halt 0\nx17 0000005d\nmem 00000000 93005000\nno flush\n" }
     // A jump to itself: one step at least, and 100,000 at most.
-    Session {
-        options: "--core scalar",
-        program: LOOP,
-        commands: "until 0\nuntil 4\nstep 3",
-        text: "at 1 pc 00000000\nfar 100001 pc 00000000\nat 100004 pc 00000000\n",
-    },
+    STEPS { program: LOOP, commands: "until 0\nuntil 4\nstep 3", text: "at 1 pc 00000000\nfar 100001 pc 00000000\nat 100004 pc 00000000\n" }
     // No instruction.
-    Session {
-        options: "--core scalar",
-        program: Program {
-            size: 4,
-            words: &[0],
-        },
-        commands: "step 2\nmem fffffff0 16",
-        text: "ended 1 trap 2\nmem fffffff0 ................................\n",
-    },
-];
+    STEPS { program: Program { size: 4, words: &[0] }, commands: "step 2\nmem fffffff0 16",
+        text: "ended 1 trap 2\nmem fffffff0 ................................\n" }
+};
 
 /// An image and commands.
 pub(super) fn with_commands(

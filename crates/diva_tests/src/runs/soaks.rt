@@ -1,8 +1,9 @@
 // Images of seeds, each run under two cores.
 use super::{Outside, compare_by};
-use crate::cores::Flipped;
+use crate::cores::flipped;
 use diva_core::Core;
 use diva_ooo::Ooo;
+use diva_test_programs::registers_text;
 use std::alloc::Global;
 use std::process::Abort;
 use std::test::Fail;
@@ -26,20 +27,11 @@ scalar count 4 cycles 10 flushes 0
 own count 4 cycles 34 flushes 1
 ";
 
-/// What both runs leave.
-pub(super) const LEFT: &str = "\
-end halt 0
-output 0
-x0 00000000 x1 00000000 x2 00000000 x3 00000000
-x4 00000000 x5 00000000 x6 00000000 x7 00000000
-x8 00000000 x9 00000000 x10 00000000 x11 00000000
-x12 00000000 x13 00000000 x14 00000000 x15 00000000
-x16 00000000 x17 0000005d x18 00000000 x19 00000000
-x20 00000000 x21 00000000 x22 00000000 x23 00000000
-x24 00000000 x25 00000000 x26 00000000 x27 00000000
-x28 00000000 x29 00000000 x30 00000000 x31 00000000
-pc 0000080c
-";
+/// The whole text: the lines of both runs, and what both leave.
+pub(super) fn soaked_text(alloc: Global, lines: &str) -> Result<String, Fail> {
+    let registers = registers_text(alloc, &[(17, 0x5d)])?;
+    Ok(format!(in alloc; "{lines}end halt 0\noutput 0\n{registers}pc 0000080c\n")?)
+}
 
 /// No file is there, and a load would fail.
 fn without_files(alloc: Global) -> Result<Outside, Fail> {
@@ -52,7 +44,7 @@ fn without_files(alloc: Global) -> Result<Outside, Fail> {
 fn seeds_that_soak(rt: HostRuntime) -> Result<(), Fail> {
     let alloc = rt.alloc();
     compare_soak(&rt, alloc, &mut Ooo::new(alloc)?, LINES)?;
-    compare_soak(&rt, alloc, &mut Flipped, FLIPPED_LINES)
+    compare_soak(&rt, alloc, &mut flipped(), FLIPPED_LINES)
 }
 
 /// Compares what is written with this core as the program's own: the lines of both runs, and what is left.
@@ -62,13 +54,7 @@ fn compare_soak<C: Core>(
     core: &mut C,
     lines: &str,
 ) -> Result<(), Fail> {
-    let text = format!(in alloc; "{lines}{LEFT}")?;
-    compare_by(
-        rt,
-        core,
-        "soak 1 1",
-        without_files(alloc)?,
-        0,
-        text.as_str(),
-    )
+    let text = soaked_text(alloc, lines)?;
+    let outside = without_files(alloc)?;
+    compare_by(rt, core, "soak 1 1", outside, 0, text.as_str())
 }

@@ -1,7 +1,7 @@
 // Sources that are assembled, images that are listed, and what is refused of both.
 use super::{Outside, compare, run_program};
-use crate::cores::Flipped;
-use diva_test_programs::{FIVE_FILE, Program, image_file};
+use crate::cores::flipped;
+use diva_test_programs::{FIVE_FILE, Program, image_file, program};
 use std::alloc::Global;
 use std::test::Fail;
 
@@ -21,7 +21,7 @@ const BOTH_WAYS_SOURCE: &[u8] = b"a: j b\nb: bne x1, x0, a";
 /// The program of that source, whose size is the least that holds its words.
 const BOTH_WAYS: Program = Program {
     size: 8,
-    words: &[0x0040_006f, 0xfe00_9ee3],
+    words: &[0x0040006f, 0xfe009ee3],
 };
 
 /// A source and no image.
@@ -39,7 +39,7 @@ fn sources_that_are_assembled(rt: HostRuntime) -> Result<(), Fail> {
         (FIVE_SOURCE, Vec::from_slice(alloc, &FIVE_FILE)?),
         (BOTH_WAYS_SOURCE, image_file(alloc, BOTH_WAYS)?),
     ] {
-        let answer = run_program(&mut Flipped, "asm a.s", with_source(alloc, source)?)?;
+        let answer = run_program(&mut flipped(), "asm a.s", with_source(alloc, source)?)?;
         assert_eq!(rt; answer.status, 0);
         assert_eq!(rt; answer.text.as_slice(), file.as_slice());
     }
@@ -50,13 +50,7 @@ fn sources_that_are_assembled(rt: HostRuntime) -> Result<(), Fail> {
 fn images_that_are_listed(rt: HostRuntime) -> Result<(), Fail> {
     let alloc = rt.alloc();
     // The payload of the last one ends within its second word, behind which are zeros.
-    let mut cut = image_file(
-        alloc,
-        Program {
-            size: 64,
-            words: &[0x0000_0013, 0x0000_0073],
-        },
-    )?;
+    let mut cut = image_file(alloc, program![0x00000013, 0x00000073])?;
     cut.truncate(29);
     if let Some(length) = cut.get_mut(20) {
         *length = 5;
@@ -72,16 +66,7 @@ fn images_that_are_listed(rt: HostRuntime) -> Result<(), Fail> {
             cut,
             "00000000 00000013 addi x0, x0, 0\n00000004 00000073 ecall\n",
         ),
-        (
-            image_file(
-                alloc,
-                Program {
-                    size: 64,
-                    words: &[],
-                },
-            )?,
-            "",
-        ),
+        (image_file(alloc, program![])?, ""),
     ] {
         compare(&rt, "dis a.diva", Outside::sound(alloc, file), 0, text)?;
     }

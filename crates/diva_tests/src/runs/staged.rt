@@ -2,7 +2,7 @@
 use super::tables::{ONE_BY_ONE, OVER_THE_NEXT, Row};
 use super::texts::text_due;
 use super::{Outside, compare, compare_rows};
-use diva_test_programs::{Program, image_file};
+use diva_test_programs::{Program, image_file, program, rows};
 use std::fmt::Write;
 use std::test::Fail;
 
@@ -18,88 +18,33 @@ const OVERWRITTEN: Row = Row {
     ..ONE_BY_ONE
 };
 
-static ROWS: [Row; 5] = [
-    OVERWRITTEN,
+static ROWS: [Row; 5] = rows! { Row:
+    OVERWRITTEN {}
     // The last claim is of the word that was there before: it flushes, and the checker's own ECALL commits in
     // cycle 13.
-    Row {
-        tape: b"\
-0 7300093 0 0 0 73 4 0 ; 4 5d00893 0 0 0 5d 8 0 ; 8 102623 0 73 c 73 c 0 ; c 13 0 0 0 0 10 0",
-        counts: "\
-flush 7 at 3 word claimed 00000013 due 00000073
-end halt 0
-count 4
-cycles 13
-flushes 1 silent 0
-output 0
-",
-        ..OVERWRITTEN
-    },
+    OVERWRITTEN { tape: b"0 7300093 0 0 0 73 4 0 ; 4 5d00893 0 0 0 5d 8 0 ; 8 102623 0 73 c 73 c 0 ; c 13 0 0 0 0 10 0",
+        counts: "flush 7 at 3 word claimed 00000013 due 00000073\nend halt 0\ncount 4\ncycles 13\nflushes 1 silent 0\noutput 0\n" }
     // Three claims that are wrong stand behind the halt, one in its list and two in the next: it ends the
     // machine in cycle 8, and nobody judges them.
-    Row {
-        line: "run a.diva --core tape --tape a.tape",
-        tape: b"\
-0 500093 0 0 0 5 4 0 ; 4 5d00893 0 0 0 5d 8 0
-8 73 5d 0 0 0 8 100 ; 8 13 0 0 0 0 c 0
-c 13 0 0 0 0 10 0 ; 0 1 2 3 4 5 6 7
-",
-        counts: "end halt 0\ncount 3\ncycles 8\nflushes 0 silent 0\noutput 0\n",
-        ..ONE_BY_ONE
-    },
+    ONE_BY_ONE { line: "run a.diva --core tape --tape a.tape",
+        tape: b"0 500093 0 0 0 5 4 0 ; 4 5d00893 0 0 0 5d 8 0\n8 73 5d 0 0 0 8 100 ; 8 13 0 0 0 0 c 0\nc 13 0 0 0 0 10 0 ; 0 1 2 3 4 5 6 7\n",
+        counts: "end halt 0\ncount 3\ncycles 8\nflushes 0 silent 0\noutput 0\n" }
     // addi x1, x0, 5 is claimed to give 6, and addi x2, x1, 1 behind it to read that 6: the first alone
     // flushes, in cycle 7, and commits in 13 by the checker. The claims of cycle 14 and 15 commit in 20 and 21.
-    Row {
-        line: "run a.diva --core tape --tape a.tape",
-        tape: b"\
-0 500093 0 0 0 6 4 0 ; 4 108113 6 0 0 7 8 0\n\n\n\n\n\n\n\n\n\n\n\n\n\
-4 108113 5 0 0 6 8 0 ; 8 5d00893 0 0 0 5d c 0
-c 73 5d 0 0 0 c 100
-",
-        program: Program {
-            size: 64,
-            words: &[0x0050_0093, 0x0010_8113, 0x05d0_0893, 0x0000_0073],
-        },
-        counts: "\
-flush 7 at 0 value claimed 00000006 due 00000005
-end halt 0
-count 4
-cycles 21
-flushes 1 silent 0
-output 0
-",
-        registers: &[(1, 5), (2, 6), (17, 0x5d)],
-        rest: "pc 0000000c\n",
-        ..ONE_BY_ONE
-    },
+    ONE_BY_ONE { line: "run a.diva --core tape --tape a.tape",
+        tape: b"0 500093 0 0 0 6 4 0 ; 4 108113 6 0 0 7 8 0\n\n\n\n\n\n\n\n\n\n\n\n\n4 108113 5 0 0 6 8 0 ; 8 5d00893 0 0 0 5d c 0\n\
+            c 73 5d 0 0 0 c 100\n",
+        program: program![0x00500093, 0x00108113, 0x05d00893, 0x00000073],
+        counts: "flush 7 at 0 value claimed 00000006 due 00000005\nend halt 0\ncount 4\ncycles 21\nflushes 1 silent 0\noutput 0\n",
+        registers: &[(1, 5), (2, 6), (17, 0x5d)], rest: "pc 0000000c\n" }
     // addi x1, x0, 85; sh x1, 34(x0) over the upper half of 44332211, which lw x2, 32(x0) then loads; the
     // halt. Four claims commit in cycle 7, and the halt in 8.
-    Row {
-        line: "run a.diva --core tape --tape a.tape --width 4 --dump 20:4",
-        tape: b"\
-0 5500093 0 0 0 55 4 0 ; 4 2101123 0 55 22 55 8 0 ; 8 2002103 0 0 20 552211 c 0 ; c 5d00893 0 0 0 5d 10 0
-10 73 5d 0 0 0 10 100
-",
-        program: Program {
-            size: 64,
-            words: &[
-                0x0550_0093,
-                0x0210_1123,
-                0x0200_2103,
-                0x05d0_0893,
-                0x0000_0073,
-                0,
-                0,
-                0,
-                0x4433_2211,
-            ],
-        },
-        counts: "end halt 0\ncount 5\ncycles 8\nflushes 0 silent 0\noutput 0\n",
-        registers: &[(1, 0x55), (2, 0x0055_2211), (17, 0x5d)],
-        rest: "pc 00000010\nmem 00000020 11225500\n",
-        ..ONE_BY_ONE
-    },
-];
+    ONE_BY_ONE { line: "run a.diva --core tape --tape a.tape --width 4 --dump 20:4",
+        tape: b"0 5500093 0 0 0 55 4 0 ; 4 2101123 0 55 22 55 8 0 ; 8 2002103 0 0 20 552211 c 0 ; c 5d00893 0 0 0 5d 10 0\n10 73 5d 0 0 0 10 100\n",
+        program: program![0x05500093, 0x02101123, 0x02002103, 0x05d00893, 0x00000073, 0, 0, 0, 0x44332211],
+        counts: "end halt 0\ncount 5\ncycles 8\nflushes 0 silent 0\noutput 0\n", registers: &[(1, 0x55), (2, 0x00552211), (17, 0x5d)],
+        rest: "pc 00000010\nmem 00000020 11225500\n" }
+};
 
 #[test]
 fn claims_behind_pending_ones(rt: HostRuntime) -> Result<(), Fail> {
@@ -110,22 +55,9 @@ fn claims_behind_pending_ones(rt: HostRuntime) -> Result<(), Fail> {
 const COUNTER: Program = Program {
     size: 72,
     words: &[
-        0x0400_2223,
-        0x0400_2223,
-        0x0400_2223,
-        0x0400_2223,
-        0x0400_2223,
-        0x0400_2223,
-        0x0400_2223,
-        0x0400_2223,
-        0x0400_2223,
-        0x0400_2223,
-        0x0400_2223,
-        0x0400_2223,
-        0x0400_2083,
-        0x0010_8093,
-        0x0410_2023,
-        0xff5f_f06f,
+        0x04002223, 0x04002223, 0x04002223, 0x04002223, 0x04002223, 0x04002223, 0x04002223,
+        0x04002223, 0x04002223, 0x04002223, 0x04002223, 0x04002223, 0x04002083, 0x00108093,
+        0x04102023, 0xff5ff06f,
     ],
 };
 

@@ -1,8 +1,10 @@
 // Tapes that are played, written, and refused.
 use super::tables::{ONE_BY_ONE, Row};
 use super::{Outside, compare, compare_rows, run_program};
-use crate::cores::Flipped;
-use diva_test_programs::{FIVE_FILE, LOOP, Program, THREE_READS, TWO_STORES, image_file};
+use crate::cores::flipped;
+use diva_test_programs::{
+    FIVE_FILE, LOOP, THREE_READS, TWO_STORES, image_file, laid, program, rows,
+};
 use std::test::Fail;
 
 /// `TWO_STORES`, of which two instructions are claimed in each of the first two cycles.
@@ -19,88 +21,42 @@ pub(super) const STORES: Row = Row {
     ..ONE_BY_ONE
 };
 
-static ROWS: [Row; 7] = [
-    STORES,
+static ROWS: [Row; 7] = rows! { Row:
+    STORES {}
     // With one place in the store queue, cycle 7 commits the first store only, and 8 the second and the
     // third instruction.
-    Row {
-        line: "run a.diva --core tape --tape a.tape --stores 1",
-        counts: "end halt 0\ncount 4\ncycles 9\nflushes 0 silent 0\noutput 0\n",
-        ..STORES
-    },
+    STORES { line: "run a.diva --core tape --tape a.tape --stores 1",
+        counts: "end halt 0\ncount 4\ncycles 9\nflushes 0 silent 0\noutput 0\n" }
     // A wrong claim of cycle 10 is judged in cycle 16, in which the watchdog would bark too.
-    Row {
-        line: "run a.diva --core tape --tape a.tape --watchdog 16",
-        tape: b"\n\n\n\n\n\n\n\n\n0 500093 0 0 0 4 4 0",
-        counts: "\
-flush 16 at 0 value claimed 00000004 due 00000005
-flush 38 at 1 silent 16
-flush 60 at 2 silent 16
-end halt 0
-count 3
-cycles 66
-flushes 3 silent 2
-output 0
-",
-        ..ONE_BY_ONE
-    },
+    ONE_BY_ONE { line: "run a.diva --core tape --tape a.tape --watchdog 16", tape: b"\n\n\n\n\n\n\n\n\n0 500093 0 0 0 4 4 0",
+        counts: "flush 16 at 0 value claimed 00000004 due 00000005\nflush 38 at 1 silent 16\nflush 60 at 2 silent 16\nend halt 0\ncount 3\n\
+            cycles 66\nflushes 3 silent 2\noutput 0\n" }
     // Lists of eight where there is room for two: the other six are dropped.
-    Row {
-        line: "run a.diva --core tape --tape a.tape",
-        tape: b"\
-0 500093 0 0 0 5 4 0;4 5d00893 0 0 0 5D 8 0;0 500093 0 0 0 5 4 0;0 500093 0 0 0 5 4 0;\
-0 500093 0 0 0 5 4 0;0 500093 0 0 0 5 4 0;0 500093 0 0 0 5 4 0;0 500093 0 0 0 5 4 0
-8 73 5d 0 0 0 8 100;8 73 5d 0 0 0 8 100;8 73 5d 0 0 0 8 100;8 73 5d 0 0 0 8 100;\
-8 73 5d 0 0 0 8 100;8 73 5d 0 0 0 8 100;8 73 5d 0 0 0 8 100;8 73 5d 0 0 0 8 100 # the end
-",
-        counts: "end halt 0\ncount 3\ncycles 8\nflushes 0 silent 0\noutput 0\n",
-        ..ONE_BY_ONE
-    },
+    ONE_BY_ONE { line: "run a.diva --core tape --tape a.tape",
+        tape: b"0 500093 0 0 0 5 4 0;4 5d00893 0 0 0 5D 8 0;0 500093 0 0 0 5 4 0;0 500093 0 0 0 5 4 0;\
+            0 500093 0 0 0 5 4 0;0 500093 0 0 0 5 4 0;0 500093 0 0 0 5 4 0;0 500093 0 0 0 5 4 0\n\
+            8 73 5d 0 0 0 8 100;8 73 5d 0 0 0 8 100;8 73 5d 0 0 0 8 100;8 73 5d 0 0 0 8 100;\
+            8 73 5d 0 0 0 8 100;8 73 5d 0 0 0 8 100;8 73 5d 0 0 0 8 100;8 73 5d 0 0 0 8 100 # the end\n",
+        counts: "end halt 0\ncount 3\ncycles 8\nflushes 0 silent 0\noutput 0\n" }
     // A tape under a script: its first claim is wrong, and is put right.
-    Row {
-        line: "run a.diva --core tape --tape a.tape --script a.script",
-        script: b"at 1 lane 0 set value 5",
+    ONE_BY_ONE { line: "run a.diva --core tape --tape a.tape --script a.script", script: b"at 1 lane 0 set value 5",
         tape: b"0 500093 0 0 0 4 4 0\n4 5d00893 0 0 0 5d 8 0\n8 73 5d 0 0 0 8 100\n",
-        counts: "end halt 0\ncount 3\ncycles 9\nflushes 0 silent 0\noutput 0\n",
-        ..ONE_BY_ONE
-    },
+        counts: "end halt 0\ncount 3\ncycles 9\nflushes 0 silent 0\noutput 0\n" }
     // The read of x2 has 3 instructions before it, and is claimed to have 4. Cycle 7 commits two claims; cycle 8 commits the read to
     // x0 and judges that one. The checker's own commits in cycle 14, and the claims of cycle 15 in 21.
-    Row {
-        line: "run a.diva --core tape --tape a.tape",
-        tape: b"\
-0 fff00093 0 0 0 ffffffff 4 0 ; 4 c82020f3 0 0 0 0 8 0
-8 c0202073 0 0 0 2 c 0 ; c c0202173 0 0 0 4 10 0\n\n\n\n\n\n\n\n\n\n\n\n\n\
-10 5d00893 0 0 0 5d 14 0 ; 14 73 5d 0 0 0 14 100
-",
+    ONE_BY_ONE { line: "run a.diva --core tape --tape a.tape",
+        tape: b"0 fff00093 0 0 0 ffffffff 4 0 ; 4 c82020f3 0 0 0 0 8 0\n8 c0202073 0 0 0 2 c 0 ; c c0202173 0 0 0 4 10 0\n\n\n\n\n\n\n\n\n\n\n\
+            \n\n10 5d00893 0 0 0 5d 14 0 ; 14 73 5d 0 0 0 14 100\n",
         program: THREE_READS,
-        counts: "\
-flush 8 at 3 value claimed 00000004 due 00000003
-end halt 0
-count 6
-cycles 21
-flushes 1 silent 0
-output 0
-",
-        registers: &[(2, 3), (17, 0x5d)],
-        rest: "pc 00000014\n",
-        ..ONE_BY_ONE
-    },
+        counts: "flush 8 at 3 value claimed 00000004 due 00000003\nend halt 0\ncount 6\ncycles 21\nflushes 1 silent 0\noutput 0\n",
+        registers: &[(2, 3), (17, 0x5d)], rest: "pc 00000014\n" }
     // addi x17, x0, 93; the halt; rdinstret x1. The read is claimed behind the halt, as if that went on: it is dropped with the
     // end, and is no instruction of the machine.
-    Row {
-        line: "run a.diva --core tape --tape a.tape",
+    ONE_BY_ONE { line: "run a.diva --core tape --tape a.tape",
         tape: b"0 5d00893 0 0 0 5d 4 0 ; 4 73 5d 0 0 0 4 100\n8 c02020f3 0 0 0 2 c 0",
-        program: Program {
-            size: 64,
-            words: &[0x05d0_0893, 0x0000_0073, 0xc020_20f3],
-        },
-        counts: "end halt 0\ncount 2\ncycles 7\nflushes 0 silent 0\noutput 0\n",
-        registers: &[(17, 0x5d)],
-        rest: "pc 00000004\n",
-        ..ONE_BY_ONE
-    },
-];
+        program: program![0x05d00893, 0x00000073, 0xc02020f3],
+        counts: "end halt 0\ncount 2\ncycles 7\nflushes 0 silent 0\noutput 0\n", registers: &[(17, 0x5d)], rest: "pc 00000004\n" }
+};
 
 #[test]
 fn tapes_that_are_played(rt: HostRuntime) -> Result<(), Fail> {
@@ -201,9 +157,9 @@ fn tapes_that_are_replayed(rt: HostRuntime) -> Result<(), Fail> {
     };
     let command = "a.diva --core scalar --script a.script --cycles 300";
     let line = format!(in alloc; "tape {command}")?;
-    let tape = run_program(&mut Flipped, line.as_str(), outside(Vec::new(alloc))?)?;
+    let tape = run_program(&mut flipped(), line.as_str(), outside(Vec::new(alloc))?)?;
     let line = format!(in alloc; "run {command}")?;
-    let run = run_program(&mut Flipped, line.as_str(), outside(Vec::new(alloc))?)?;
+    let run = run_program(&mut flipped(), line.as_str(), outside(Vec::new(alloc))?)?;
     assert_eq!(rt; tape.status, run.status);
     compare(
         &rt,
@@ -227,21 +183,19 @@ at 251 lane 0 set src1 7
 #[test]
 fn tapes_that_are_refused(rt: HostRuntime) -> Result<(), Fail> {
     let alloc = rt.alloc();
-    let rows: [(&[u8], &str); 9] = [
-        (b"0 1 2", "2 at 1"),
-        (b"0 1 2 3 4 5 6 g", "1 at 1"),
-        (b"0 1 2 3 4 5 6 000000007", "1 at 1"),
-        (b"0 1 2 3 4 5 6 7 8", "2 at 1"),
-        (b";", "2 at 1"),
-        (b"0 1 2 3 4 5 6 7 ;", "2 at 1"),
-        (
-            b"0 0 0 0 0 0 0 0;0 0 0 0 0 0 0 0;0 0 0 0 0 0 0 0;0 0 0 0 0 0 0 0;0 0 0 0 0 0 0 0;\
-0 0 0 0 0 0 0 0;0 0 0 0 0 0 0 0;0 0 0 0 0 0 0 0;0 0 0 0 0 0 0 0",
-            "3 at 1",
-        ),
-        (b"# \xff ;\n\n0 1 2 3 4 5 6 7 # ;\n;0 x", "1 at 4"),
-        (b"0 1 2 3 4 5 6\n\xff", "2 at 1"),
-    ];
+    let rows: [(&[u8], &str); 9] = laid! {
+    (b"0 1 2", "2 at 1"),
+    (b"0 1 2 3 4 5 6 g", "1 at 1"),
+    (b"0 1 2 3 4 5 6 000000007", "1 at 1"),
+    (b"0 1 2 3 4 5 6 7 8", "2 at 1"),
+    (b";", "2 at 1"),
+    (b"0 1 2 3 4 5 6 7 ;", "2 at 1"),
+    (b"0 0 0 0 0 0 0 0;0 0 0 0 0 0 0 0;0 0 0 0 0 0 0 0;0 0 0 0 0 0 0 0;\
+            0 0 0 0 0 0 0 0;0 0 0 0 0 0 0 0;0 0 0 0 0 0 0 0;0 0 0 0 0 0 0 0;0 0 0 0 0 0 0 0",
+        "3 at 1"),
+    (b"# \xff ;\n\n0 1 2 3 4 5 6 7 # ;\n;0 x", "1 at 4"),
+    (b"0 1 2 3 4 5 6\n\xff", "2 at 1"),
+};
     for (tape, fault) in rows {
         let outside = Outside {
             tape: Vec::from_slice(alloc, tape)?,

@@ -1,7 +1,6 @@
 // Runs with commit lines.
-use super::texts::registers_text;
 use super::{FIVE_TEXT, Outside, compare, five_files};
-use diva_test_programs::{Program, image_file};
+use diva_test_programs::{Program, image_file, registers_text};
 use std::test::Fail;
 
 /// The commit lines of `FIVE`, whoever claims it.
