@@ -170,7 +170,8 @@ fn two_lanes_lie_in_turn(rt: HostRuntime) -> Result<(), Fail> {
     Ok(())
 }
 
-/// Of three lanes the first is asked first, the second next, and the third last.
+/// Of three lanes the first is asked first, the second next, and the third last, each as often as a row has questions: in the first row 12
+/// times, once for each claim and stage. A machine that asks none about a claim in which an earlier stage found a difference asks less often.
 #[test]
 fn in_which_order_lanes_are_asked(rt: HostRuntime) -> Result<(), Fail> {
     let alloc = rt.alloc();
@@ -181,7 +182,7 @@ fn in_which_order_lanes_are_asked(rt: HostRuntime) -> Result<(), Fail> {
         compare_run(&rt, alloc, run, [0; 3], &mut a, &mut b, &mut l)?;
         let out_of_turn = [a.out_of_turn, b.out_of_turn, l.out_of_turn];
         assert_eq!(rt; out_of_turn, [0; 3], "{}", run.name);
-        assert_eq!(rt; asked.get() as usize, 3 * run.asked.len(), "{}", run.name);
+        assert_eq!(rt; [a.calls, b.calls, l.calls], [run.asked.len(); 3], "{}", run.name);
     }
     Ok(())
 }
