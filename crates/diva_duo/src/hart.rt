@@ -222,9 +222,8 @@ impl Hart {
         if !self.settle(memory, decoded, &due).is_committed() {
             return false;
         }
-        let goes_on = self.arch.goes_on();
-        self.under.leave_front(goes_on);
-        goes_on
+        self.under.leave_front(&self.arch);
+        self.arch.goes_on()
     }
 
     /// Judges at most `n` ready claims, oldest first.

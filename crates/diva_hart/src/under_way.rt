@@ -145,14 +145,14 @@ impl UnderWay {
 
     /// Takes out the front claim, which has committed, and all others if that ended the hart.
     #[inline(always)]
-    pub fn leave_front(&mut self, goes_on: bool)
+    pub fn leave_front(&mut self, hart: &HartArch)
         requires { 0 < length self.old.pending.items }
         ensures { self.new ≡ record self.old {
-          pending = buffer (if goes_on then drop 1 self.old.pending.items else []) self.old.pending.capacity;
+          pending = buffer (if hart.now.state.end == 0 then drop 1 self.old.pending.items else []) self.old.pending.capacity;
         } }
     {
         self.pending.pop();
-        if !goes_on {
+        if !hart.goes_on() {
             self.pending.clear();
         }
     }

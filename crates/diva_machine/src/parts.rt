@@ -244,22 +244,23 @@ impl Parts {
         answer
     }
 
-    /// Takes out the front claim, which has committed, and all others where that ended the machine.
+    /// Takes out the front claim, which has committed, and all others where that ended the machine. Whether the machine goes on.
     #[inline(always)]
-    fn leave_front(&mut self)
+    fn leave_front(&mut self) -> bool
         requires there { 0 < length self.old.entries }
         requires passed { 0 < self.old.passed }
-        ensures { self.new ≡ left (goes_on self.old.timed.arch) self.old }
+        ensures answer { result ≡ goes_on self.old.timed.arch }
+        ensures left { self.new ≡ left (goes_on self.old.timed.arch) self.old }
     {
-        let goes_on = self.arch.goes_on();
-        self.under.leave_front(goes_on);
-        if goes_on {
-            self.passed -= 1;
-            self.future.leave(self.arch.regs());
-        } else {
+        self.under.leave_front(self.arch.own());
+        if !self.arch.goes_on() {
             self.passed = 0;
             self.future.reset(self.arch.regs());
+            return false;
         }
+        self.passed -= 1;
+        self.future.leave(self.arch.regs());
+        true
     }
 
     /// Judges the front claim, which is ready: whether it committed and the machine goes on, so that another may be judged.
@@ -289,8 +290,7 @@ impl Parts {
         if !self.settle_front().is_committed() {
             return false;
         }
-        self.leave_front();
-        self.arch.goes_on()
+        self.leave_front()
     }
 
     /// Judges at most `n` ready claims, oldest first.

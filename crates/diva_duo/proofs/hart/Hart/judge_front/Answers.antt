@@ -1,4 +1,4 @@
-use Rattle.std.proofs.Common.{◌≡◌, true, false, refl, ap, sym, ◌∙◌, subst, arith}
+use Rattle.std.proofs.Common.{◌≡◌, ◌==◌, true, false, refl, ap, sym, ◌∙◌, subst, arith}
 use Rattle.diva_core.specs.Cycle.{committed, past_front}
 use Rattle.diva_commit.specs.Committing.{is_committed}
 use Rattle.diva_hart.specs.Inner.{JudgesFront}
@@ -58,11 +58,11 @@ returns-clause-judges c =
     ap (timed c.args.cycles mem) c.self-2.view_is ∙ c.settle.ensures.timed c.args.cycles done in
     let past : timed c.args.cycles mem (with c.leave_front.new.self) ≡ past_front (timed c.args.cycles mem h) =
     ap (λ (u : UnderWay). timed c.args.cycles mem (with u)) c.leave_front.ensures
-    ∙ past_is mem h c.args.cycles c.requires.owed c.requires.running (with own.under) c.due_of-decoded.result.0 here settled own.under.pending.items refl c.goes_on-goes_on.result c.goes_on-goes_on.ensures in
+    ∙ past_is mem h c.args.cycles c.requires.owed c.requires.running (with own.under) c.due_of-decoded.result.0 here settled own.under.pending.items refl (own.arch.state.end == 0) refl in
     equal_commits mem h c.args.cycles c.requires.owed c.requires.running c.self.inside.under.pending.items c.in-Some.front.now (sym c.in-Some.ensures)
     (ap (λ (x : Hart). x.under.pending) (sym c.self.view_is)) (omega arith) c.due_of-decoded.result.0 here
     _ c.first_difference.ensures.first c.in_default-first_difference.is c.due_of-decoded.result.1 c.due_of-decoded.ensures.decoded
-    (sym c.fence_waits.ensures ∙ c.if-fence_waits.false) (ap is_committed (sym c.settle.ensures.answer) ∙ done) _ c.goes_on-goes_on.result past c.goes_on-goes_on.ensures
+    (sym c.fence_waits.ensures ∙ c.if-fence_waits.false) (ap is_committed (sym c.settle.ensures.answer) ∙ done) _ c.goes_on.result past c.goes_on.ensures
 
 pub returns-clause-buffer : goal.returns-clause-buffer
 returns-clause-buffer c =
