@@ -1,12 +1,11 @@
 -- Operands and texts that run out.
 use Rattle.std.proofs.Common.{◌≡◌, ◌<◌, ℕ, List, [], ◌∷◌, length, false, refl, arith}
-use Rattle.std.specs.Prelude.{Ok, Some}
+use Rattle.std.specs.Prelude.{Some}
 use Rattle.std.proofs.lemmas.List.{length-map}
 use Rattle.std.proofs.lemmas.List.Splits.{length-slice_split}
 use Rattle.diva_asm.specs.Texts.{operand_texts}
-use Rattle.diva_asm.specs.Statements.{have_shapes, with_operands}
+use Rattle.diva_asm.specs.Statements.{have_shapes}
 use Rattle.diva_asm.specs.declared.operand.Operand.{Operand}
-use Rattle.diva_asm.specs.declared.operands.Operands.{Operands}
 
 pub no_texts : (operands : List Operand) → 0 < length operands → have_shapes operands [] ≡ false
 unfolding have_shapes
@@ -20,8 +19,3 @@ more_texts (text ∷ texts) h = refl
 
 pub texts_left : (text : List ℕ) → have_shapes [] (operand_texts (Some text)) ≡ false
 texts_left text = more_texts (operand_texts (Some text)) (rw length-map (omega (arith, length-slice_split {X = ℕ})))
-
-pub nothing_read : (operands : List Operand) (v : Operands) → with_operands operands [] v ≡ Ok v
-unfolding with_operands
-nothing_read [] v = refl
-nothing_read (operand ∷ operands) v = refl

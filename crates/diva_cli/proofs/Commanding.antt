@@ -16,7 +16,6 @@ use Rattle.diva_core.specs.declared.flushes.FlushRow.{FlushRow}
 use Rattle.diva_core.proofs.Legging.{AreLegs-more, AreLegs-run, IsHistory-core, IsLeg-history, undone_all_cycles}
 use Rattle.diva_core.proofs.Steps.{steps-add}
 use Rattle.diva_core.proofs.Turning.{IsHistory-run, length-lists_of}
-use Rattle.diva_core.specs.Machine.{most_config}
 use Rattle.diva_machine.specs.Counts.{StopsAtOnce}
 use Rattle.diva_machine.specs.Drives.{Drives}
 use Rattle.diva_outside.specs.Sink.{AppendsPast, Puts}
@@ -32,7 +31,6 @@ use Rattle.diva_cli.specs.Changes.{change, sink_change}
 use Rattle.diva_cli.specs.Cuts.{BeforeLast}
 use Rattle.diva_cli.specs.Replies.{AreLed, IsMoved, LeadsBy, StandsAt, at_start, cycles_of, keep, newest_after, next_standing, replies_of}
 use Rattle.diva_cli.specs.Tasks.{IsReplied, Plays}
-use Rattle.diva_cli.specs.Wanted.{file_limit}
 
 -- ---- where commands lead
 
@@ -44,11 +42,6 @@ behind start (command ∷ commands) w = behind start commands (next_standing sta
 behind-more : (start : State) (done : List Command) (c : Command) (w : Standing) → behind start (done ++ c ∷ []) w ≡ next_standing start c (behind start done w)
 behind-more start [] c w = refl
 behind-more start (d ∷ done) c w = behind-more start done c (next_standing start d w)
-
-led-stands : (start : State) (done : List Command) (w : Standing) (m : Timed) (parts : List Part) → AreLed start done w m parts → StandsAt start (behind start done w) (run_parts m parts)
-led-stands start [] w m parts r = subst (λ (ps : List Part). StandsAt start w (run_parts m ps)) (sym r.0) r.1
-led-stands start (c ∷ done) w m [] r = absurd r
-led-stands start (c ∷ done) w m (part ∷ parts) r = led-stands start done (next_standing start c w) (run_part m part) parts r.1.1
 
 -- one command more
 led-more : (start : State) (done : List Command) (c : Command) (w : Standing) (m : Timed) (parts : List Part) (part : Part)
@@ -499,10 +492,4 @@ cycles-fit cycles before n len most limit limit' bound so_far short same all few
     let q : most * (limit + depth) ≤ 1000000 * (limit + depth) = mul-le-mul_right (limit + depth) few in
     let r : (n + 1) * (1000000 * (limit + depth)) ≡ n * (1000000 * (limit + depth)) + 1000000 * (limit + depth) = grind arith in
     let s : most * (limit' + depth) ≡ most * (limit + depth) = ap (λ k. most * (k + depth)) same in
-    omega arith
-
--- a new machine has cycles for all commands of a file
-pub file-fits : (cycles n limit : ℕ) → cycles ≡ 0 → n ≤ file_limit → limit ≤ most_config.limit → cycles + cycles_of n limit ≤ 2 ^ 60
-file-fits cycles n limit none few small =
-    let p : n * (1000000 * (limit + depth)) ≤ file_limit * (1000000 * (limit + depth)) = mul-le-mul_right (1000000 * (limit + depth)) few in
     omega arith

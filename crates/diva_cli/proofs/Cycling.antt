@@ -3,7 +3,6 @@ use Rattle.diva_cli.proofs.Polling.{asked_over-more}
 use Rattle.diva_machine.specs.Asked.{asked_of, asked_over}
 use Rattle.diva_vote.specs.Questions.{Question}
 use Rattle.std.proofs.Common.{◌≡◌, ◌≤◌, ◌<◌, ℕ, ◌+◌, ◌-◌, ◌*◌, ◌^◌, List, [], ◌∷◌, ◌++◌, length, Option, Result, Ok, Err, OnOk, OnErr, true, false, refl, ap, sym, ◌∙◌, append_assoc, append-nil, arith, subst}
-use Rattle.std.proofs.Math.Nat.{mul-le-mul_right}
 use Rattle.std.proofs.lemmas.Bool.{true≢false}
 use Rattle.std.proofs.lemmas.List.Elements.{All-nil, All-push}
 use Rattle.std.specs.List.{All}
@@ -160,12 +159,6 @@ writes_performs gives text says m core contents faults s s' n budget last after 
     go : (r : Result (Unit {0}) SinkFailed) → OnOk r (goes_on last.arch ≡ true → n ≡ budget) → OnOk r (goes_on last.arch ≡ true → length (lists_of w.turns.history) ≡ budget)
     go (Ok u) all = λ on. (let x = all on in let l = long in omega arith)
     go (Err e) all = tt
-
--- the number of an instruction has room in 64 bits
-pub numbers_fit : (m : Timed) → IsMachine m → m.cycles ≤ 2 ^ 60 → m.count < 2 ^ 64
-numbers_fit m inv c =
-    let w : m.config.width * m.cycles ≤ 4 * m.cycles = mul-le-mul_right m.cycles inv.config.width_high in
-    let n = inv.count in omega arith
 
 pub ended : (last : Timed) (n budget : ℕ) → goes_on last.arch ≡ false → goes_on last.arch ≡ true → n ≡ budget
 ended last n budget off on = absurd (true≢false (sym on ∙ off))

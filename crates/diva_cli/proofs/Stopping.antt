@@ -94,15 +94,6 @@ stops_since contents b0 b1 now ws (Refused what kind place) same s =
 
 -- ---- the files of a machine
 
--- it stops at the image
-pub at_image : (contents : Contents) (setup : Setup) (f0 f1 : What → ℕ) (stop : Stop) → ((w : What) → w ≢ Image → f1 w ≡ f0 w)
-    → Stops contents f0 f1 (file_with setup.room Image setup.image ∷ []) stop
-    → Stops contents f0 f1 (machine_files setup) stop
-at_image contents setup f0 f1 stop others s =
-    stops_front contents f0 f1 (file_with setup.room Image setup.image ∷ []) (file_if Script setup.script ++ file_if TapeFile (tape_name setup.core)) stop
-    (uncounted_both f0 f1 (file_if Script setup.script) (file_if TapeFile (tape_name setup.core))
-    (uncounted_if f0 f1 Script setup.script (others Script (λ e. cc))) (uncounted_if f0 f1 TapeFile (tape_name setup.core) (others TapeFile (λ e. cc)))) s
-
 module _ (contents : Contents) (setup : Setup) (image : Layout) (h : Holds contents (file_with setup.room Image setup.image) (λ bytes. image_in setup.room bytes ≡ image)) where
   -- it stops at the script
   pub at_script : (contents1 : Contents) (f0 f1 f2 : What → ℕ) (stop : Stop) → contents1 ≡ contents
@@ -130,12 +121,6 @@ module _ (contents : Contents) (setup : Setup) (image : Layout) (h : Holds conte
       (subst (λ (t : Contents). Stops t f1 f2 (file_if TapeFile (tape_name setup.core)) stop) same2 s)))
 
 -- ---- the files of a session
-
--- it stops at one of the machine's files
-pub at_machine : (contents : Contents) (options : DebugOptions) (f0 f1 : What → ℕ) (stop : Stop) → f1 Commands ≡ f0 Commands
-    → Stops contents f0 f1 (machine_files options.setup) stop
-    → Stops contents f0 f1 (session_files options) stop
-at_machine contents options f0 f1 stop none s = stops_front contents f0 f1 (machine_files options.setup) (file Commands options.commands ∷ []) stop (none, tt) s
 
 -- the files of a machine can be used, and it stops at the commands
 pub at_commands : (contents contents1 : Contents) (options : DebugOptions) (bytes : FileBytes) (f0 f1 f2 : What → ℕ) (stop : Stop) → AreSound contents (machine_files options.setup) bytes

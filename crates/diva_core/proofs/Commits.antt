@@ -1,11 +1,9 @@
 -- Claims that commit, by their number and the state.
-use Rattle.std.proofs.Common.{◌≡◌, ℕ, zero, suc, ◌+◌, ◌-◌, ◌≤◌, List, [], ◌∷◌, ◌++◌, length, Some, refl, ap, ◌∙◌, sym, ◌⊎◌, inl, inr, arith}
+use Rattle.std.proofs.Common.{◌≡◌, ℕ, zero, suc, ◌+◌, ◌-◌, ◌≤◌, List, [], ◌∷◌, ◌++◌, length, Some, refl, ◌∙◌, ◌⊎◌, inl, inr, arith}
 use Rattle.diva_isa.specs.State.{State}
-use Rattle.diva_isa.specs.declared.record.Record.{Record}
-use Rattle.diva_isa.specs.Step.{record_of, step, steps}
+use Rattle.diva_isa.specs.Step.{record_of, step}
 use Rattle.diva_core.specs.Timed.{Timed, PendingClaim, depth}
 use Rattle.diva_core.specs.Headline.{dues, AreClaims, ByClaims, BySolo}
-use Rattle.diva_core.proofs.Steps.{steps-shift}
 
 -- k claims, each the record of its state and accepted six or more cycles before, lead from those that waited to the rest
 abbrev pub Commits : ℕ → State → ℕ → List PendingClaim → List PendingClaim → Type 0
@@ -23,11 +21,6 @@ pub record CommitsItself (m last : Timed) : Type 0 where
   pub since : m.under.solo ≡ Some start
   pub sixth : m.cycles + 1 ≡ start + depth
   pub one : last.count ≡ m.count + 1
-
--- one due record more
-pub dues-more : (k : ℕ) (s : State) → dues k s ++ record_of (steps k s) ∷ [] ≡ dues (suc k) s
-dues-more zero s = refl
-dues-more (suc k) s = ap (λ (xs : List Record). record_of s ∷ xs) (ap (λ t. dues k (step s) ++ record_of t ∷ []) (sym (steps-shift k s)) ∙ dues-more k (step s))
 
 pub length-dues : (k : ℕ) (s : State) → length (dues k s) ≡ k
 length-dues zero s = refl

@@ -1,7 +1,7 @@
 -- What a difference says, and what none says.
 use Rattle.std.specs.Prelude.{IfSome}
 use Rattle.std.proofs.Common.{◌≡◌, Bool, true, false, ◌==◌, List, [], ◌∷◌, Option, Some, None, refl, sym, subst, cond}
-use Rattle.std.proofs.lemmas.Bool.{eqb-true, eqb-false, eq-eqb}
+use Rattle.std.proofs.lemmas.Bool.{eqb-true, eqb-false}
 use Rattle.std.proofs.lemmas.Option.{none-some, same_Some}
 use Rattle.diva_isa.specs.declared.record.Record.{Record}
 use Rattle.diva_core.specs.declared.differences.Field.{Field}
@@ -32,10 +32,6 @@ in-some (f ∷ fs) p r d e =
     unless-some (field_of f p == field_of f r) (difference_in fs p r) (record { field = f; claimed = field_of f p; due = field_of f r }) d (IsDifference p r) e
     (in-some fs p r d)
     (λ other. record { claims = refl; dues = refl; differ = eqb-false _ _ other })
-
-pub in-same : (fs : List Field) (r : Record) → difference_in fs r r ≡ None
-in-same [] r = refl
-in-same (f ∷ fs) r = rw (eq-eqb (field_of f r) (field_of f r) refl) (in-same fs r)
 
 same : (p r : Record) → AreSame all_fields p r → p ≡ r
 same p r (a, (b, (c, (d, (e, (f, (g, (h, k)))))))) = λ i. record { pc = a i; word = b i; src1 = c i; src2 = d i; addr = e i; value = f i; next = g i; end = h i }

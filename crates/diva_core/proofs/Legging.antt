@@ -43,10 +43,6 @@ AreLegs-more gives m core [] mid between leg h one =
 AreLegs-more gives m core (first ∷ legs) mid between leg h one =
     (h.0, AreLegs-more gives (run_part m (part_of first)) (core_after core first) legs mid between leg h.1 one)
 
-pub run_parts-more : (m : Timed) (parts : List Part) (part : Part) → run_parts m (parts ++ part ∷ []) ≡ run_part (run_parts m parts) part
-run_parts-more m [] part = refl
-run_parts-more m (first ∷ parts) part = run_parts-more (run_part m first) parts part
-
 -- ---- instructions that are taken back
 
 pub undone_all_stays : (m : Timed) (undos : List Undo) → IsMachine m → CanUndoAll m undos → IsMachine (undone_all m undos)
@@ -77,16 +73,6 @@ undone_all_calm m (u ∷ undos) inv can calm =
 abbrev pub IsGood : Timed → Part → Type 0
 IsGood m (Handed lists) = Unit {0}
 IsGood m (TakenBack undos) = CanUndoAll m undos
-
-leg_good : {C : Type 0} (gives : Meaning C) (m : Timed) (core : C) (leg : Leg C) → IsLeg gives m core leg → IsGood m (part_of leg)
-leg_good gives m core (Turned history) h = tt
-leg_good gives m core (WentBack undos) h = h
-
-pub AreLegs-good : {C : Type 0} (gives : Meaning C) (m : Timed) (core : C) (legs : List (Leg C)) (last : Timed) (final : C)
-    → AreLegs gives m core legs last final → EachPart IsGood m (map part_of legs)
-AreLegs-good gives m core [] last final h = tt
-AreLegs-good gives m core (leg ∷ legs) last final h =
-    (leg_good gives m core leg h.0, AreLegs-good gives (run_part m (part_of leg)) (core_after core leg) legs last final h.1)
 
 part_stays : (m : Timed) (part : Part) → IsMachine m → IsGood m part → IsMachine (run_part m part)
 part_stays m (Handed lists) inv good = run-stays m lists inv

@@ -118,10 +118,6 @@ commit_by m list inv =
     by-cases (λ n. CommitsClaims m n ⊎ CommitsItself m n) m list inv (λ on c. commit-cases m list _ c)
     (λ off. inl (record { rest = m.under.pending; commits = (let e : m.count - m.count ≡ 0 = omega arith in rw e refl) }))
 
--- nothing commits where nothing changes
-pub none_commits : (m : Timed) → CommitsClaims m m ⊎ CommitsItself m m
-none_commits m = inl (record { rest = m.under.pending; commits = (let e : m.count - m.count ≡ 0 = omega arith in rw e refl) })
-
 -- the records of a cycle's commits
 pub records_by : (m : Timed) (list : List Record) → IsMachine m → ByClaims m (dues ((cycle_of m list).count - m.count) m.arch) ⊎ BySolo m (dues ((cycle_of m list).count - m.count) m.arch)
 records_by m list inv = commits-records m (cycle_of m list) (commit_by m list inv)

@@ -3,11 +3,11 @@ use Rattle.std.proofs.Common.{◌≡◌, ◌+◌, ◌/◌, ◌≤◌, List, ap, 
 use Rattle.diva_isa.specs.State.{State}
 use Rattle.diva_isa.specs.declared.record.Record.{Record}
 use Rattle.diva_isa.specs.Step.{steps}
-use Rattle.diva_core.specs.Timed.{Config, new_timed, depth}
+use Rattle.diva_core.specs.Timed.{Config, new_timed}
 use Rattle.diva_core.specs.Cycle.{run_of}
 use Rattle.diva_core.specs.Machine.{IsMachine, IsConfig}
-use Rattle.diva_core.specs.Headline.{Rises, HasPace}
-use Rattle.diva_core.proofs.Progressing.{run-stays, run-rises, run-config, run-undos, has_pace}
+use Rattle.diva_core.specs.Headline.{Rises}
+use Rattle.diva_core.proofs.Progressing.{run-rises}
 
 -- so it begins with a state to which no instruction has led
 pub new-machine : (z : Config) (s : State) → IsConfig z → s.instret ≡ 0 → IsMachine (new_timed z s)
@@ -18,8 +18,3 @@ pub headline : (z : Config) (s : State) (lists : List (List Record)) → IsConfi
 headline z s lists ok none =
     let r : Rises (new_timed z s) (run_of (new_timed z s) lists) = run-rises (new_timed z s) lists (new-machine z s ok none) in
     r.stepped ∙ ap (λ k. steps k s) (omega arith)
-
-pub pace_of_run : (z : Config) (s : State) (lists : List (List Record)) → IsConfig z → s.instret ≡ 0 → (run_of (new_timed z s) lists).cycles / (z.limit + depth) ≤ (run_of (new_timed z s) lists).count
-pace_of_run z s lists ok none =
-    let p : HasPace (run_of (new_timed z s) lists) = has_pace _ (run-stays (new_timed z s) lists (new-machine z s ok none)) in
-    rw (run-config (new_timed z s) lists (new-machine z s ok none)) at p (run-undos (new_timed z s) lists (new-machine z s ok none))

@@ -108,10 +108,6 @@ module _ (n : ℕ) (r last : Rewindable) (b : GoesBack n r last) where
           room = omega arith;
         }
 
--- none
-pub back_none : (r : Rewindable) → GoesBack 0 r r
-back_none r = record { can = tt; undone = refl; shows = refl; left = refl }
-
 -- the newest
 module _ (r : Rewindable) (u : Undo) (is : IsRewindable r) where
   newest : (rows : List Undo) → slice_get rows 0 ≡ Some u → take 1 rows ≡ u ∷ []

@@ -1,6 +1,6 @@
 -- What a command makes of a machine with its undos.
 use Rattle.std.proofs.Common.{◌≡◌, ℕ, ◌+◌, ◌-◌, ◌*◌, ◌≤◌, ◌⊎◌, inl, inr, false, refl, ap, sym, ◌∙◌, subst, arith}
-use Rattle.std.specs.Prelude.{nat_le, if◌then◌else◌}
+use Rattle.std.specs.Prelude.{if◌then◌else◌}
 use Rattle.std.proofs.Math.Nat.{mul-le-mul_right}
 use Rattle.std.proofs.lemmas.Bool.{cases_lt, le-leb, lt-leb, true≢false}
 use Rattle.diva_isa.specs.State.{State}
@@ -72,13 +72,6 @@ led-on gives (Mem range) r core last final on d = d
 led-on gives Why r core last final on d = d
 
 -- ---- back
-
-fits_back : (k kept : ℕ) → (if nat_le k kept then k else 0) ≤ kept
-fits_back k kept =
-    elim (cases_lt kept k) [
-      | inl few ↦ rw (lt-leb k kept few) (omega arith)
-      | inr enough ↦ rw (le-leb k kept enough) enough
-    ]
 
 module _ (k : ℕ) (r last : Rewindable) (is : IsRewindable r) (b : IsBack k r last) where
   goes : k ≤ kept_of r → GoesBack k r last

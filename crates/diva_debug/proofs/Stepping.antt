@@ -1,36 +1,12 @@
 -- How far the instructions go.
 use Rattle.std.proofs.Common.{◌≡◌, ◌≢◌, ℕ, zero, suc, ◌≤◌, ◌<◌, ◌+◌, ◌-◌, ◌*◌, Bool, true, false, refl, ap, sym, ◌∙◌, arith, subst, ◌⊎◌, inl, inr}
-use Rattle.std.proofs.Math.Nat.{mul-le-mul_right}
 use Rattle.std.proofs.lemmas.Bool.{cases_Bool, true≢false, eqb-true, and_parts}
 use Rattle.diva_isa.specs.State.{State, goes_on}
 use Rattle.diva_isa.specs.Step.{step, steps}
 use Rattle.diva_core.specs.Timed.{Timed}
-use Rattle.diva_core.specs.Headline.{Rises}
 use Rattle.diva_core.proofs.Steps.{steps-add, steps-shift}
 use Rattle.diva_machine.specs.Counts.{StopsAtOnce}
-use Rattle.diva_machine.specs.declared.ends.Reach.{Reach}
-use Rattle.diva_machine.specs.declared.ends.Reach.TheVariants.{Reached, Ended, Budget}
 use Rattle.diva_debug.specs.Moves.{Moves, stands_at, steps_in, steps_until}
-
--- a drive that had cycles enough
-pub reached_or_ended : {A B : Type 0} (r : Reach) → (r ≡ Reached → A) → (r ≡ Ended → B) → r ≢ Budget → A ⊎ B
-reached_or_ended Reached f g h = inl (f refl)
-reached_or_ended Ended f g h = inr (g refl)
-reached_or_ended Budget f g h = absurd (h refl)
-
--- it moved by one instruction: it went on, so it did not end before
-pub moves-one :
-    (m last : Timed) → Rises m last → goes_on m.arch ≡ true
-    → (last.count ≡ m.count + 1) ⊎ ((last.count < m.count + 1) × (goes_on last.arch ≡ false))
-    → Moves 1 m last
-moves-one m last r on (inl e) =
-    let one : last.count - m.count ≡ 1 = omega arith in
-    record { count = e; arch = r.stepped ∙ ap (λ n. steps n m.arch) one }
-moves-one m last r on (inr e) =
-    let up = r.counted in
-    let short = e.0 in
-    let none : last.count - m.count ≡ 0 = omega arith in
-    absurd (true≢false (sym on ∙ ap goes_on (sym (r.stepped ∙ ap (λ n. steps n m.arch) none)) ∙ e.1))
 
 -- ---- as many as there are
 
@@ -73,9 +49,6 @@ until-most (suc k) pc s =
       ]
     ]
 
-pub more-cycles : (i k per : ℕ) → i < k → (i + 1) * per ≤ k * per
-more-cycles i k per h = mul-le-mul_right per (omega arith)
-
 pub Moves-then : (a b : ℕ) (m mid last : Timed) → Moves a m mid → Moves b mid last → Moves (a + b) m last
 Moves-then a b m mid last v w =
     let c = v.count in
@@ -106,13 +79,6 @@ at-once-then m mid last up a (inr b) = inr ((let more = b.0 in omega arith), b.1
 
 pub moved-up : (n : ℕ) (m last : Timed) → Moves n m last → m.count ≤ last.count
 moved-up n m last v = let c = v.count in omega arith
-
--- a command's cycles fit where those of all that are left do
-pub cycles_fit : (cycles before at len most per bound : ℕ) → cycles ≤ before + at * (1000000 * per) → at < len → before + len * (1000000 * per) ≤ bound → most ≤ 1000000 → cycles + most * per ≤ bound
-cycles_fit cycles before at len most per bound so_far short all few =
-    let p = more-cycles at len (1000000 * per) short in
-    let q : most * per ≤ 1000000 * per = mul-le-mul_right per few in
-    omega arith
 
 -- `far` is told exactly where as many instructions as there may be were stepped
 far-step : (k pc : ℕ) (s : State) (there : Bool) → goes_on s ≡ true → stands_at pc (step s) ≡ there

@@ -1,7 +1,7 @@
 -- Texts that are written one behind the other, on their way to a sink.
-use Rattle.std.proofs.Common.{◌≡◌, ◌++◌, ℕ, List, [], Option, Result, Ok, Err, ◌∙◌, ap, sym, subst, append_assoc, append-nil}
+use Rattle.std.proofs.Common.{◌≡◌, ◌++◌, ℕ, List, [], Option, Result, Ok, Err, ◌∙◌, ap, sym, subst, append_assoc}
 use Rattle.diva_outside.specs.Sink.{Puts}
-use Rattle.diva_outside.proofs.Sinks.{puts_cut, puts_nothing, puts_then}
+use Rattle.diva_outside.proofs.Sinks.{puts_cut, puts_then}
 use Rattle.diva_drawing.specs.Pieces.{Passes}
 
 -- it is a put of what was taken, or of all
@@ -12,12 +12,6 @@ taken_put text held left c0 c1 f0 f1 p = record { later = p.later; ok = p.ok; un
 pub cut_put : {E : Type 0} (text held left : List ℕ) (c0 c1 : Option (List ℕ)) (f0 f1 : ℕ) (e : E)
     → Passes text held left c0 c1 f0 f1 (Err e) → Puts (held ++ text) c0 c1 f0 f1 (Err e)
 cut_put text held left c0 c1 f0 f1 e p = record { later = p.later; ok = tt; uncounted = tt; part = p.part; failed = p.failed }
-
--- nothing was written
-pub passes_nothing : {E : Type 0} (held : List ℕ) (c : Option (List ℕ)) (f : ℕ) → Passes {E = E} [] held held c c f f (Ok tt)
-passes_nothing {E = E} held c f =
-    let none = puts_nothing {E = E} c f in
-    record { later = none.later; taken = []; whole = append-nil held; ok = none.ok; uncounted = none.uncounted; part = tt; failed = tt }
 
 -- what is held, and what the sink took before, are what was held and written
 behind : (a b held mid taken : List ℕ) → held ++ a ≡ taken ++ mid → held ++ (a ++ b) ≡ taken ++ (mid ++ b)

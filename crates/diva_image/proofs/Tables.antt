@@ -133,13 +133,6 @@ placed-last least most [] last p = (p.1, p.2)
 placed-last least most (s ∷ front) last p =
     let ih = placed-last (behind s) most front last p.3 in (omega arith, ih.1)
 
--- those from a place on
-pub placed-drop : (least most i : ℕ) (ss : List Segment) → ArePlaced least most ss → ArePlaced least most (drop i ss)
-placed-drop least most zero ss p = p
-placed-drop least most (suc i) [] p = tt
-placed-drop least most (suc i) (s ∷ rest) p =
-    placed-wider (behind s) least most most (drop i rest) (omega arith) (omega arith) (placed-drop (behind s) most i rest p.3)
-
 -- the first fault, one segment after another
 pub one_fault : (least most place : ℕ) (ss : List Segment) (i : ℕ) (d : Segment) → i < length ss → is_between least most (get_or ss i d) ≡ false
     → segment_fault least most place (drop i ss) ≡ Some (record { kind = 12; place = place })

@@ -58,11 +58,6 @@ pub put_all_length : (m : Bytes) (at : ℕ) (bs : List ℕ) → length (put_all 
 put_all_length m at [] = refl
 put_all_length m at (b ∷ bs) = put_all_length (put m at b) (at + 1) bs ∙ put_length m at b
 
--- what is inside stays inside
-pub put_all_inside : (m : Bytes) (at : ℕ) (bs : List ℕ) (a n : ℕ) → IsInside m a n → IsInside (put_all m at bs) a n
-put_all_inside m at bs a n h =
-    record { from = omega (arith, put_all_base m at bs); to = omega (arith, put_all_base m at bs, put_all_length m at bs) }
-
 -- ---- each byte
 
 -- a byte of memory with a newer one over it, where there is one

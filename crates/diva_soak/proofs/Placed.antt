@@ -103,9 +103,6 @@ word_here pre rest w a below at =
     number_more (from_zero (pre ++ xs)) 3 a (w % 2 ^ 8) (w / 2 ^ 8 % 2 ^ 8 + 2 ^ 8 * (w / 2 ^ 16 % 2 ^ 8 + 2 ^ 8 * (w / 2 ^ 24 % 2 ^ 8 + 2 ^ 8 * 0))) b0 n2
     ∙ ap Some (whole w below)
 
-length_word : (w : ℕ) → length (to_le_bytes w32 w) ≡ 4
-length_word w = refl
-
 -- each word of a list stands in memory at its place
 number_placed : (words pre : List ℕ) (i w a : ℕ) → AreWords words → slice_get words i ≡ Some w → a ≡ length pre + 4 * i → number_at (from_zero (pre ++ words_as_bytes words)) 4 a ≡ Some w
 number_placed [] pre i w a are e at = absurd (none-some _ e)

@@ -1,5 +1,5 @@
 -- The list of a line, as it is read part by part.
-use Rattle.std.proofs.Common.{◌≡◌, ◌≤◌, ℕ, Bool, true, false, ◌||◌, nat_lt, nat_le, List, [], ◌∷◌, ◌++◌, length, refl, ap, sym, arith, append_assoc, append-nil, length-append}
+use Rattle.std.proofs.Common.{◌≡◌, ◌≤◌, ℕ, Bool, true, false, ◌||◌, nat_lt, nat_le, List, [], ◌∷◌, ◌++◌, length, refl, ap, sym, arith, append_assoc, length-append}
 use Rattle.std.specs.Prelude.{Option, Some, None, option_map, Result, Ok, Err, if◌then◌else◌}
 use Rattle.std.specs.Option.{ok_or}
 use Rattle.std.proofs.lemmas.Bool.Decides.{nat_tests}
@@ -11,7 +11,7 @@ use Rattle.diva_outside.specs.Words.{words_of}
 use Rattle.diva_tape.specs.declared.fault.Kind.{Kind}
 use Rattle.diva_tape.specs.declared.fault.Kind.TheVariants.{Word, NumberCount, ClaimCount}
 use Rattle.diva_tape.specs.LineParts.{claim_in}
-use Rattle.diva_tape.specs.Tapes.{all_by, list_from, record_from}
+use Rattle.diva_tape.specs.Tapes.{all_by, record_from}
 
 abbrev pub numbers_in : Text → Option (List ℕ)
 numbers_in part = all_by hex_of (words_of part)
@@ -36,25 +36,6 @@ with_parts list is_miscounted is_overfull parts =
 
 either : (n : ℕ) (list : List Record) → (if nat_le n 8 then Ok list else Err ClaimCount) ≡ (if nat_lt 8 n then Err ClaimCount else Ok list)
 either n list = grind (arith, nat_tests)
-
-by_records : (claims : Option (List Record)) → and_then (ok_or claims NumberCount) (λ list. if nat_le (length list) 8 then Ok list else Err ClaimCount) ≡ with_records [] false claims
-by_records None = refl
-by_records (Some claims) = either (length claims) claims
-
-by_numbers : (numbers : Option (List (List ℕ)))
-    → and_then (ok_or numbers Word) (λ numbers. and_then (ok_or (all_by record_from numbers) NumberCount) (λ list. if nat_le (length list) 8 then Ok list else Err ClaimCount))
-    ≡ and_then (ok_or numbers Word) (with_numbers [] false false)
-by_numbers None = refl
-by_numbers (Some numbers) = by_records (all_by record_from numbers)
-
-pub parts-first : (parts : List Text) → list_from parts ≡ with_parts [] false false parts
-unfolding list_from
-parts-first parts = by_numbers (all_by numbers_in parts)
-
-pub parts-last : (list : List Record) → length list ≤ 8 → with_parts list false false [] ≡ Ok list
-parts-last list few =
-    let none : nat_lt 8 (length list) ≡ false = grind (arith, nat_tests) in
-    rw (append-nil list, none) refl
 
 -- ---- one part more
 

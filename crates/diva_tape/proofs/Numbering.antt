@@ -17,13 +17,6 @@ pub record IsRead (total left : List Text) (numbers : List ℕ) (count : ℕ) (i
   pub kept : take count numbers ≡ take 8 read
   pub over : is_over ≡ nat_lt 8 (length read)
 
-none_read : (xs : Option (List ℕ)) → xs ≡ option_map (λ more. [] ++ more) xs
-none_read None = refl
-none_read (Some xs) = refl
-
-pub read-none : (words : List Text) (numbers : List ℕ) → IsRead words words numbers 0 false
-read-none words numbers = record { read = []; same = none_read (all_by hex_of words); most = omega arith; kept = refl; over = refl }
-
 one_more : (read : List ℕ) (n : ℕ) (xs : Option (List ℕ)) → option_map (λ more. read ++ more) (option_map (λ ys. n ∷ ys) xs) ≡ option_map (λ more. (read ++ n ∷ []) ++ more) xs
 one_more read n None = refl
 one_more read n (Some xs) = ap Some (sym (append_assoc read (n ∷ []) xs))

@@ -7,9 +7,7 @@ use Rattle.diva_core.specs.declared.differences.Diff.{Diff}
 use Rattle.diva_vote.specs.declared.votes.Ballot.{Ballot}
 use Rattle.diva_vote.specs.declared.votes.Outvoted.{Outvoted}
 use Rattle.diva_vote.specs.Questions.{IsAnswer, Question, Saying}
-use Rattle.diva_vote.specs.Votes.{IsMajority, vote_of}
 use Rattle.diva_vote.specs.Polls.{AlwaysTwoAreRight, ArePolledAndCounted, Poll, SaidAll, TwoAreRight, outvoted_after}
-use Rattle.diva_vote.proofs.Voting.{two_lead}
 
 -- ---- one lane
 
@@ -27,12 +25,6 @@ stays_honest says honest keeps answer before after (poll ∷ rest) said h =
     stays_honest says honest keeps answer said.0 after rest said.1.1 (keeps before poll.question (answer poll.ballot) said.0 h said.1.0).1
 
 -- ---- three lanes
-
--- where two of three answers are right, so is the vote
-pub vote_is_right : (q : Question) (ballot : Ballot) → IsMajority ballot.first ballot.second ballot.third (vote_of ballot)
-    → TwoAreRight (record { question = q; ballot = ballot }) → IsAnswer q (vote_of ballot)
-vote_is_right q ballot majority two = λ on agrees.
-    majority.two _ (two_lead (λ a. a on agrees) (λ b. b on agrees) (λ l. l on agrees) two)
 
 counted_more : (xs ys : List Poll) (counts : Outvoted) → outvoted_after counts (xs ++ ys) ≡ outvoted_after (outvoted_after counts xs) ys
 counted_more [] ys counts = refl

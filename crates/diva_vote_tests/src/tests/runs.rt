@@ -182,7 +182,12 @@ fn in_which_order_lanes_are_asked(rt: HostRuntime) -> Result<(), Fail> {
         compare_run(&rt, alloc, run, [0; 3], &mut a, &mut b, &mut l)?;
         let out_of_turn = [a.out_of_turn, b.out_of_turn, l.out_of_turn];
         assert_eq!(rt; out_of_turn, [0; 3], "{}", run.name);
-        assert_eq!(rt; [a.calls, b.calls, l.calls], [run.asked.len(); 3], "{}", run.name);
+        assert_eq!(rt;
+            [a.calls, b.calls, l.calls],
+            [run.asked.len(); 3],
+            "{}",
+            run.name
+        );
     }
     Ok(())
 }
