@@ -1,5 +1,5 @@
 -- The lines of the program's text, each with its line feed.
--- Cited by the calls of the same names, as `commit_line` and `flush_line`; what is counted of a campaign by `write_tally`.
+-- Cited by the calls of the same names, as `commit_line` and `flush_line`; in `Text.antt`, for `write_tally`.
 use Rattle.std.specs.Prelude.{ℕ, ◌+◌, List, ◌++◌, slice_index, codes, Option, Some, None}
 use Rattle.std.specs.Fmt.{decimal}
 use Rattle.std.specs.List.{flat_map, range_with_len}

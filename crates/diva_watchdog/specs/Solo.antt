@@ -1,5 +1,5 @@
 -- Since when an instruction runs solo.
--- Cited by `UnderWay::tick` of diva_hart.
+-- Cited in `UnderWay.antt` of diva_hart, for `UnderWay::told` and `tick`.
 use Rattle.std.specs.Prelude.{ℕ, Option, Some, None}
 use Rattle.diva_watchdog.specs.declared.recover.Recover.{Recover}
 use Rattle.diva_watchdog.specs.declared.recover.Recover.TheVariants.{Running, Solo}
