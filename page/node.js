@@ -2,7 +2,7 @@
 //
 // usage: node page/node.js                            ends with status 0 if this node can run such a module, or else with 1
 //        node page/node.js PAGE diva WORDS..          as `diva`
-//        node page/node.js PAGE diva_pipeline WORDS.. as `diva_pipeline`, which is the program of the page
+//        node page/node.js PAGE diva_lab WORDS.. as `diva_lab`, which is the program of the page
 //        node page/node.js PAGE picture WORDS..       the picture of `log WORDS..`, as a text
 "use strict";
 const fs = require("fs");
@@ -76,16 +76,17 @@ function ownWords(words) {
   return words.length === 0 ? [] : whole.slice(-words.length).map((word) => Buffer.from(word, "latin1"));
 }
 
-/** The usage line of a program, from the source of both. */
+/** The usage line of a program, from its source. */
 function usageLine(program) {
-  const source = fs.readFileSync(path.join(__dirname, "../crates/diva_cli/src/lines.rt"), "utf8");
+  const file = { diva: "lines", diva_lab: "lab" }[program];
+  const source = fs.readFileSync(path.join(__dirname, `../crates/diva_cli/src/${file}.rt`), "utf8");
   return Buffer.from(source.match(`b"(usage: ${program} [^"]*)\\\\n"`)[1] + "\n");
 }
 
-/** Runs the page's program as `diva`: it is `diva_pipeline`, which does the same but for two commands more and its own usage line. */
+/** Runs the page's program as `diva`: it is `diva_lab`, which does the same but for two commands more and its own usage line. */
 function runAsDiva(module, words) {
   const isOfDiva = !["log", "draw"].includes(String(words[0]));
-  const theirs = usageLine("diva_pipeline");
+  const theirs = usageLine("diva_lab");
   return runProgram(module, isOfDiva ? words : [], disk, (piece) => put(theirs.equals(piece) ? usageLine("diva") : piece));
 }
 
@@ -100,7 +101,7 @@ function putPicture(module, words) {
 const [page, program, ...words] = process.argv.slice(2);
 const ways = {
   diva: (module) => runAsDiva(module, ownWords(words)),
-  diva_pipeline: (module) => runProgram(module, ownWords(words), disk, put),
+  diva_lab: (module) => runProgram(module, ownWords(words), disk, put),
   picture: (module) => putPicture(module, words),
 };
 if (!canRun()) process.exitCode = 1;

@@ -6,7 +6,7 @@ ghost use Rattle.diva_args.specs.declared.job.CoreChoice.TheVariants.{Own};
 ghost use Rattle.diva_cli.specs.Changes.{change};
 ghost use Rattle.diva_cli.specs.Runs.{HasRun};
 ghost use Rattle.diva_cli.specs.SoakTexts.{HasSoaked};
-ghost use Rattle.diva_cli.specs.Wanted.{FileBytes};
+ghost use Rattle.diva_process.specs.Programs.{FileBytes};
 ghost use Rattle.diva_ooo.specs.Ooo.{IsOooCall, Ooo, new_ooo};
 
 use diva_cli::laws::own_run_is_determined;

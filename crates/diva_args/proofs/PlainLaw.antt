@@ -10,12 +10,13 @@ use Rattle.clap.specs.Simple.{Shape, argument_words, built}
 use Rattle.clap.proofs.WalkLemmas.{both}
 use Rattle.diva_core.specs.Timed.{default_config}
 use Rattle.diva_args.specs.Command.{Leaf, asm, campaign, debug, dis, diva, draw, duo, leaves, log, migrate, run, soak, tape}
-use Rattle.diva_args.specs.Drawn.{pipeline_job_from, pipeline_job_on, pipeline_of}
+use Rattle.diva_args.specs.Lab.{lab_job_from, lab_job_on, lab_of}
 use Rattle.diva_args.specs.Line.{command_of, config_from, config_with, cycles_from, job_from, room_from, run_from, run_with, setup_from, setup_with, taken, values_of}
-use Rattle.diva_args.specs.Options.{default_cycles, most_cycles}
+use Rattle.diva_args.specs.Options.{RunOptions, default_cycles, most_cycles}
 use Rattle.diva_args.specs.Plain.{IsPlainLine, PlainLine, Use, are_distinct, flagged, given_by, given_in, has_text, is_plain_word, is_use_of, job_on, name_of, names_in, use_words, value_in, valued, values_in}
 use Rattle.diva_args.specs.Values.{core_of, dump_of, is_set_by, liar_of, ranged_or, room_behind, number_or}
 use Rattle.diva_args.specs.declared.job.Job.TheVariants.{Run}
+use Rattle.diva_args.specs.declared.lab.LabJob.TheVariants.{Diva}
 use Rattle.diva_args.proofs.PlainSteps.{Stands, first_given, given_row}
 use Rattle.diva_args.proofs.PlainFlags.{flag_kept, value_kept, with_flags}
 use Rattle.diva_args.proofs.PlainOptions.{Given, Places, apart_at, are_apart, built_rules, has_first, has_later, is_name, line_end, serves}
@@ -46,7 +47,7 @@ pub record IsSound (l : Leaf) : Type 0 where
   pub named : (list_all is_name l.options && list_all is_name l.flags && are_apart l.options l.positionals && are_apart l.flags l.options
       && are_apart l.flags l.positionals && are_distinct l.positionals) ≡ true
   pub same : (f g : Text → Option Text) → SameValues l.flags f g → job_from l.name f ≡ job_from l.name g
-  pub drawn_same : (f g : Text → Option Text) → SameValues l.flags f g → pipeline_job_from l.name f ≡ pipeline_job_from l.name g
+  pub lab_same : (f g : Text → Option Text) → SameValues l.flags f g → lab_job_from l.name f ≡ lab_job_from l.name g
 
 run_same : (f g : Text → Option Text) → SameValues run.flags f g → run_from f ≡ run_from g
 unfolding run_from setup_from room_from config_from cycles_from
@@ -64,7 +65,7 @@ run_sound = record {
   places = (refl, refl, refl, tt);
   named = refl;
   same = λ f g s. ap (option_map Run) (run_same f g s);
-  drawn_same = λ f g s. ap (option_map Run) (run_same f g s);
+  lab_same = λ f g s. ap (λ (r : Option RunOptions). option_map Diva (option_map Run r)) (run_same f g s);
 }
 
 -- a row without flags
@@ -76,7 +77,7 @@ sound_without_flags l none enters places named = record {
   places = places;
   named = named;
   same = λ f g s. ap (job_from l.name) (one_source f g (subst (λ (flags : List Text). SameValues flags f g) none s));
-  drawn_same = λ f g s. ap (pipeline_job_from l.name) (one_source f g (subst (λ (flags : List Text). SameValues flags f g) none s));
+  lab_same = λ f g s. ap (lab_job_from l.name) (one_source f g (subst (λ (flags : List Text). SameValues flags f g) none s));
 }
 
 each_sound : (l : Leaf) → Contains leaves l → IsSound l
@@ -159,10 +160,10 @@ line_at : (l : Leaf) (rest : List Text) (gs : Given) → IsSound l → PlainLeve
 unfolding command_of
 line_at l rest gs sound level = rw (taken_at l rest gs sound level) (sound.same _ _ (same_values l.flags gs))
 
-pipeline_at : (l : Leaf) (rest : List Text) (gs : Given) → IsSound l → PlainLevel l rest (map given_row gs)
-    → pipeline_of (l.name ∷ rest) ≡ pipeline_job_from l.name (value_in gs)
-unfolding pipeline_of
-pipeline_at l rest gs sound level = rw (taken_at l rest gs sound level) (sound.drawn_same _ _ (same_values l.flags gs))
+lab_at : (l : Leaf) (rest : List Text) (gs : Given) → IsSound l → PlainLevel l rest (map given_row gs)
+    → lab_of (l.name ∷ rest) ≡ lab_job_from l.name (value_in gs)
+unfolding lab_of
+lab_at l rest gs sound level = rw (taken_at l rest gs sound level) (sound.lab_same _ _ (same_values l.flags gs))
 
 start : (s : Shape) → Stands s nothing_held []
 start s = record { rows_are = refl; passes = refl }
@@ -189,8 +190,8 @@ plain_line words line plain =
     let sound = each_sound line.command plain.listed in
     ap command_of plain.spelled ∙ line_at line.command _ (given_in line) sound (level_at line words plain sound)
 
--- the same for the program that draws runs
-pub plain_pipeline_line : (words : List Text) (line : PlainLine) → IsPlainLine words line → pipeline_of words ≡ pipeline_job_on line
-plain_pipeline_line words line plain =
+-- the same for the workbench
+pub plain_lab_line : (words : List Text) (line : PlainLine) → IsPlainLine words line → lab_of words ≡ lab_job_on line
+plain_lab_line words line plain =
     let sound = each_sound line.command plain.listed in
-    ap pipeline_of plain.spelled ∙ pipeline_at line.command _ (given_in line) sound (level_at line words plain sound)
+    ap lab_of plain.spelled ∙ lab_at line.command _ (given_in line) sound (level_at line words plain sound)

@@ -99,7 +99,7 @@ draw = record {
   flags = [];
 }
 
--- the commands of `diva`, and behind them those that draw runs, for which only the program that draws runs has a job
+-- the commands of `diva`, and after them those for which only the workbench has a job
 abbrev pub leaves : List Leaf
 leaves = run ∷ tape ∷ duo ∷ debug ∷ asm ∷ dis ∷ migrate ∷ soak ∷ campaign ∷ log ∷ draw ∷ []
 

@@ -2,7 +2,7 @@
 pub mod Command
 pub mod Fault
 pub mod Line
-pub mod Drawn
+pub mod Lab
 pub mod Options
 pub mod Plain
 pub mod Values

@@ -1,6 +1,6 @@
 -- A plain line: a command, its positionals in order, then options and flags in any order, each at most once and an option
 -- with its value as the next word, where no positional and no value is empty or begins with `-`.
--- Cited by `read_words` and `read_pipeline_words`.
+-- Cited by `read_words` and `read_lab_words`.
 use Rattle.std.specs.Prelude.{◌≡◌, ◌==◌, Bool, true, false, not, ◌&&◌, List, [], ◌∷◌, ◌++◌, length, map}
 use Rattle.std.specs.Prelude.{Option, Some, None, codes, if◌then◌else◌}
 use Rattle.std.specs.List.{Contains, flat_map, list_all, list_any, zip}

@@ -18,7 +18,7 @@ pub(crate) struct Leaf {
     flags: &'static [&'static str],
 }
 
-/// The commands of `diva`, and behind them those that draw runs.
+/// The commands of `diva`, and after them those of the workbench alone.
 static LEAVES: [Leaf; 11] = [
     Leaf {
         name: "run",

@@ -41,9 +41,6 @@ pub enum Job {
     /// `campaign IMAGE LAST`: runs an image once as it is, and then once for each bit of each field of the claim of each
     /// cycle up to `LAST`, with that bit flipped; and counts what became of these runs.
     Campaign(CampaignOptions),
-    /// `log IMAGE` and `draw IMAGE` of the program that draws runs: runs an image, and shows what becomes of each claim in each
-    /// cycle.
-    Draw(DrawOptions),
 }
 
 /// What commands have in common that run an image: the image, the memory that follows what an executable loads, the core,
@@ -104,29 +101,6 @@ impl Model for RunOptions {
     ghost view = { λ r. record { setup = r.setup; cycles = r.cycles; trace = r.trace; dump = r.dump; liar = r.liar } };
 
     ghost invariant = { λ r. IsBudget r.cycles };
-}
-
-/// `log IMAGE` or `draw IMAGE`, with the options of `run` but `--trace` and `--dump`; `draw` with two more.
-#[derive(Debug, Drop)]
-pub struct DrawOptions {
-    /// The run.
-    pub run: RunOptions,
-    /// How it is drawn.
-    pub format: Format,
-}
-
-/// How a run is drawn.
-#[derive(Clone, Copy, Debug, PartialEq, Eq)]
-pub enum Format {
-    /// `log`: as a log for the Konata viewer.
-    Log,
-    /// `draw`: as a drawing in text, of some cycles. Cycles count from 1.
-    Drawing {
-        /// `--from`: the first of them, 1 to 1,000,000,000; 1 by default.
-        from: u64,
-        /// `--to`: the last of them, `from` to 1,000,000,000, which is by default as late as a run can last.
-        to: u64,
-    },
 }
 
 /// `tape IMAGE` with its options.

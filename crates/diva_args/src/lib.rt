@@ -3,7 +3,8 @@
 //! The commands, their words and their options stand in one table, in the code and in the definitions; `clap` reads
 //! the words by it. The rules on the values of options, such as the range of a number, are this crate's own.
 //!
-//! - `read`: `read_words`, from words to a job. `drawn`: `read_pipeline_words`, the same for the program that draws runs.
+//! - `read`: `read_words`, from words to a job. `lab`: `read_lab_words`, the same for the workbench, which has
+//!   commands of its own besides.
 //! - `command`: the table of commands, and `clap`'s command of it.
 //! - `values`: the values of options as cores, numbers, parts of memory and places of voting lanes.
 //! - `job`: `Job` and its parts, whose types keep the ranges of the numbers. `campaign`: those of the command `campaign`.
@@ -11,28 +12,28 @@
 //! - `fault`: `ArgsFault`, why there is no job.
 //!
 //! `specs/Line.antt` says which job the words ask for, over the table of commands (`Command`) and the rules on values (`Values`);
-//! `specs/Drawn.antt` the same of the program that draws runs. `specs/Options.antt` has what contracts see of a job, with the ranges
+//! `specs/Lab.antt` the same of the workbench. `specs/Options.antt` has what contracts see of a job, with the ranges
 //! of its numbers, `specs/Fault.antt` why there is none, and `specs/Plain.antt` what a plain line is. `Table` is for private
 //! contracts alone.
 #![tactic(auto)]
 
 mod campaign;
 mod command;
-mod drawn;
 mod fault;
 mod file_name;
 mod job;
+mod lab;
 mod ranged;
 mod read;
 mod values;
 
 pub use campaign::{CampaignCycles, CampaignOptions, LastCycle};
-pub use drawn::read_pipeline_words;
 pub use fault::ArgsFault;
 pub use file_name::FileName;
 pub use job::{
-    CoreChoice, DebugOptions, DrawOptions, DumpRange, DuoOptions, Format, HartCore, Job, LanePlace,
-    MigrateOptions, RunOptions, Setup, SoakOptions, TapeOptions,
+    CoreChoice, DebugOptions, DumpRange, DuoOptions, HartCore, Job, LanePlace, MigrateOptions,
+    RunOptions, Setup, SoakOptions, TapeOptions,
 };
+pub use lab::{DrawOptions, Format, LabJob, read_lab_words};
 pub use ranged::Ranged;
 pub use read::read_words;

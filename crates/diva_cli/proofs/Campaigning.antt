@@ -24,21 +24,24 @@ use Rattle.diva_faults.specs.declared.rows.Row.{Row}
 use Rattle.diva_tape.specs.Lists.{IsLockstepCall, lockstep_list}
 use Rattle.diva_args.specs.declared.campaign.CampaignOptions.{CampaignOptions}
 use Rattle.diva_args.specs.declared.job.Job.TheVariants.{Campaign}
-use Rattle.diva_cli.specs.declared.stop.Failure.TheVariants.{Cut}
+use Rattle.diva_process.specs.declared.stop.Failure.TheVariants.{Cut}
 use Rattle.diva_cli.specs.declared.campaign.CampaignRuns.{CampaignRuns}
 use Rattle.diva_cli.specs.CampaignTexts.{AreAllSame, HasCampaign, IsCampaignRun, campaign_setup, campaign_start, campaign_tally, first_run, ruled, run_under}
 use Rattle.diva_vote.specs.Questions.{Question}
-use Rattle.diva_cli.specs.Changes.{PutsTo, SinkChange, asking, change}
+use Rattle.diva_outside.specs.Sink.{PutsTo, LentSink}
+use Rattle.diva_cli.specs.Changes.{asking, change}
 use Rattle.diva_cli.specs.Driven.{scripted_rule}
-use Rattle.diva_cli.specs.Parts.{AreCampaignRuns, WritesText, no_lanes}
+use Rattle.diva_cli.specs.Parts.{AreCampaignRuns, no_lanes}
+use Rattle.diva_process.specs.Writing.{WritesText}
 use Rattle.diva_cli.specs.Runs.{EndsWith, IsWhole, end_status}
 use Rattle.diva_cli.specs.Tasks.{DrivesFor}
-use Rattle.diva_cli.specs.Wanted.{FileBytes}
+use Rattle.diva_process.specs.Programs.{FileBytes}
 use Rattle.diva_trace.specs.Text.{campaign_text}
 use Rattle.diva_cli.proofs.Counting.{all_same, same_by_state}
 use Rattle.diva_cli.proofs.Running.{ends_with}
 use Rattle.diva_cli.proofs.Sessions.{run_from_start}
 use Rattle.diva_cli.proofs.Soaking.{sizes_fit}
+use Rattle.diva_cli.specs.Program.{work_of}
 
 -- ---- under a rule
 
@@ -144,7 +147,7 @@ module _ {C : Type 0} (gives : Meaning C) (options : CampaignOptions) (start : S
 
 -- ---- what is written of them
 
-module _ {C S : Type 0} (gives : Meaning C) (options : CampaignOptions) (bytes : FileBytes) (core : C) (sink : SinkChange S) (runs : CampaignRuns)
+module _ {C S : Type 0} (gives : Meaning C) (options : CampaignOptions) (bytes : FileBytes) (core : C) (sink : LentSink S) (runs : CampaignRuns)
     (are : AreCampaignRuns options bytes runs) where
   abbrev start : State
   start = campaign_start bytes
@@ -169,8 +172,8 @@ module _ {C S : Type 0} (gives : Meaning C) (options : CampaignOptions) (bytes :
       says (Err put) is = tt
 
   pub wrote_campaign : (status : ℕ) → status ≡ end_status (end_of runs.first.timed.arch.end) → PutsTo {E = SinkFailed} sink text (Ok tt)
-      → WritesText gives (Campaign options) bytes (asking core core no_lanes) sink (Ok status)
-  wrote_campaign status is put = record { text = text; means = means (Ok status) is; lanes = refl; written = record { appended = put.ok; uncounted = put.uncounted } }
+      → WritesText (work_of gives (asking core core no_lanes)) (Campaign options) bytes sink (Ok status)
+  wrote_campaign status is put = record { text = text; means = record { means = means (Ok status) is; lanes = refl }; written = record { appended = put.ok; uncounted = put.uncounted } }
 
-  pub cut_campaign : (e : SinkFailed) → PutsTo sink text (Err e) → WritesText gives (Campaign options) bytes (asking core core no_lanes) sink (Err Cut)
-  cut_campaign e put = record { rose = put.failed; put = []; text = text; means = means (Err []) tt; lanes = refl; written = past_nothing (sink.contents sink.before) (sink.contents sink.after) text put.part }
+  pub cut_campaign : (e : SinkFailed) → PutsTo sink text (Err e) → WritesText (work_of gives (asking core core no_lanes)) (Campaign options) bytes sink (Err Cut)
+  cut_campaign e put = record { rose = put.failed; put = []; text = text; means = record { means = means (Err []) tt; lanes = refl }; written = past_nothing sink text put.part }

@@ -18,7 +18,7 @@ use Rattle.diva_core.proofs.Steps.{steps-add}
 use Rattle.diva_core.proofs.Turning.{IsHistory-run, length-lists_of}
 use Rattle.diva_machine.specs.Counts.{StopsAtOnce}
 use Rattle.diva_machine.specs.Drives.{Drives}
-use Rattle.diva_outside.specs.Sink.{AppendsPast, Puts}
+use Rattle.diva_outside.specs.Sink.{TakesPast, PutsTo, SinkAccount, LentSink}
 use Rattle.diva_outside.specs.declared.sink.SinkFailed.{SinkFailed}
 use Rattle.diva_outside.proofs.Sinks.{puts_nothing, puts_past, puts_then}
 use Rattle.diva_debug.specs.Moves.{Moves, Standing, goes_back, standing_after, steps_by}
@@ -27,7 +27,8 @@ use Rattle.diva_debug.specs.Rewindable.{GoesBack, IsLed, Rewindable, session_ori
 use Rattle.diva_debug.specs.Undos.{origin_of}
 use Rattle.diva_debug.specs.declared.command.Command.{Command}
 use Rattle.diva_debug.specs.declared.command.Command.TheVariants.{Step, Until, Reg, Mem, Why, Back}
-use Rattle.diva_cli.specs.Changes.{change, sink_change}
+use Rattle.diva_cli.specs.Changes.{change}
+use Rattle.diva_outside.specs.Lent.{lent}
 use Rattle.diva_cli.specs.Cuts.{BeforeLast}
 use Rattle.diva_cli.specs.Replies.{AreLed, IsMoved, LeadsBy, StandsAt, at_start, cycles_of, keep, newest_after, next_standing, replies_of}
 use Rattle.diva_cli.specs.Tasks.{IsReplied, Plays}
@@ -313,12 +314,12 @@ nil-left commands done (x ∷ rest) e n = absurd (let l : length commands ≡ le
 -- ---- what was replied so far: to n commands
 
 -- where the sink failed, it did so at the last of these replies
-abbrev pub CutAt : List Command → Timed → List Part → (old new : Option (List ℕ)) → Type 0
-CutAt done m parts old new =
-    BeforeLast done (λ earlier. AppendsPast old new (replies_of m.arch earlier at_start (newest_after m parts)) (replies_of m.arch done at_start (newest_after m parts)))
+abbrev pub CutAt : {S : Type 0} → List Command → Timed → List Part → LentSink S → Type 0
+CutAt done m parts sink =
+    BeforeLast done (λ earlier. TakesPast sink (replies_of m.arch earlier at_start (newest_after m parts)) (replies_of m.arch done at_start (newest_after m parts)))
 
-pub record RepliesSoFar {C : Type 0} (gives : Meaning C) (commands : List Command) (n : ℕ) (m : Timed) (core : C) (r : Rewindable) (after : C)
-    (old new : Option (List ℕ)) (before now : ℕ) (result : Result (Unit {0}) SinkFailed) : Type 0 where
+pub record RepliesSoFar {C S : Type 0} (gives : Meaning C) (commands : List Command) (n : ℕ) (m : Timed) (core : C) (r : Rewindable) (after : C)
+    (sink : LentSink S) (result : Result (Unit {0}) SinkFailed) : Type 0 where
   pub legs : List (Leg C)
   pub good : AreLegs gives m core legs r.machine.timed after
   pub each : r.machine.timed.cycles ≡ m.cycles + length (handed_in (map part_of legs))
@@ -328,13 +329,13 @@ pub record RepliesSoFar {C : Type 0} (gives : Meaning C) (commands : List Comman
   pub many : length done ≡ n
   pub led : AreLed m.arch done at_start m (map part_of legs)
   pub stands : StandsSo m.arch (behind m.arch done at_start) r
-  pub put : Puts (replies_of m.arch done at_start (newest_after m (map part_of legs))) old new before now result
-  pub cut : OnErr result (CutAt done m (map part_of legs) old new)
+  pub put : PutsTo sink (replies_of m.arch done at_start (newest_after m (map part_of legs))) result
+  pub cut : OnErr result (CutAt done m (map part_of legs) sink)
 
-pub replies_none : {C : Type 0} (gives : Meaning C) (commands : List Command) (r : Rewindable) (core : C) (old : Option (List ℕ)) (before : ℕ)
+pub replies_none : {C S : Type 0} (gives : Meaning C) (commands : List Command) (r : Rewindable) (core : C) (account : S → SinkAccount) (old : S)
     → r.machine.timed.count ≡ 0 → r.undos ≡ [] → r.keep ≡ keep
-    → RepliesSoFar gives commands 0 r.machine.timed core r core old old before before (Ok tt)
-replies_none gives commands r core old before new none keeps =
+    → RepliesSoFar gives commands 0 r.machine.timed core r core (lent account old old) (Ok tt)
+replies_none gives commands r core account old new none keeps =
     let at : StandsAt r.machine.timed.arch at_start r.machine.timed = record { counted = new; stepped = refl } in
     record {
       legs = [];
@@ -352,19 +353,19 @@ replies_none gives commands r core old before new none keeps =
         within = omega arith;
         keeps = keeps;
       };
-      put = puts_nothing old before;
+      put = puts_nothing account old;
       cut = tt;
     }
   where
     origin_none : (undos : List Undo) → undos ≡ [] → origin_of r.machine.timed.arch undos ≡ r.machine.timed.arch
     origin_none undos e = ap (origin_of r.machine.timed.arch) e
 
-module _ {C : Type 0} (gives : Meaning C) (commands : List Command) (n : ℕ) (m : Timed) (core : C) (r : Rewindable) (between : C) (old now new : Option (List ℕ)) (f g h : ℕ)
+module _ {C S : Type 0} (gives : Meaning C) (commands : List Command) (n : ℕ) (m : Timed) (core : C) (r : Rewindable) (between : C) (account : S → SinkAccount) (old now new : S)
     (c : Command) (last : Rewindable) (after : C) (line : List ℕ) (result : Result (Unit {0}) SinkFailed)
-    (s : RepliesSoFar gives commands n m core r between old now f g (Ok tt))
+    (s : RepliesSoFar gives commands n m core r between (lent account old now) (Ok tt))
     (at : slice_get commands n ≡ Some c) (d : Done gives c r between last after)
     (is : line ≡ reply_at c (kept_of r) last.machine.timed.count last.machine.timed.arch last.machine.timed.under.log.newest)
-    (puts : Puts line now new g h result) where
+    (puts : PutsTo (lent account now new) line result) where
   abbrev w : Standing
   w = behind m.arch s.done at_start
 
@@ -412,22 +413,22 @@ module _ {C : Type 0} (gives : Meaning C) (commands : List Command) (n : ℕ) (m
       ap (replies_of m.arch s.done at_start) (newest-more m parts (part_of one.leg))
       ∙ replies-front m.arch s.done at_start m parts ((run_part (run_parts m parts) (part_of one.leg)).under.log.newest ∷ []) s.led
 
-  put_it : Puts reply now new g h result
-  put_it = subst (λ (x : List ℕ). Puts x now new g h result) told puts
+  put_it : PutsTo (lent account now new) reply result
+  put_it = subst (λ (x : List ℕ). PutsTo (lent account now new) x result) told puts
 
-  broke : (e : Result (Unit {0}) SinkFailed) → Puts reply now new g h e → OnErr e (CutAt (s.done ++ c ∷ []) m (parts ++ part_of one.leg ∷ []) old new)
+  broke : (e : Result (Unit {0}) SinkFailed) → PutsTo (lent account now new) reply e → OnErr e (CutAt (s.done ++ c ∷ []) m (parts ++ part_of one.leg ∷ []) (lent account old new))
   broke (Ok u) p = tt
   broke (Err e) p =
       record {
         earlier = s.done;
         last = c;
         in_order = refl;
-        holds = subst (λ (x : List ℕ). AppendsPast old new x (replies_of m.arch (s.done ++ c ∷ []) at_start (newest_after m (parts ++ part_of one.leg ∷ [])))) (sym before_it)
-            (subst (λ (x : List ℕ). AppendsPast old new (replies_of m.arch s.done at_start (newest_after m parts)) x) (sym text)
-            (puts_past (replies_of m.arch s.done at_start (newest_after m parts)) reply old now new f g h e s.put p));
+        holds = subst (λ (x : List ℕ). TakesPast (lent account old new) x (replies_of m.arch (s.done ++ c ∷ []) at_start (newest_after m (parts ++ part_of one.leg ∷ [])))) (sym before_it)
+            (subst (λ (x : List ℕ). TakesPast (lent account old new) (replies_of m.arch s.done at_start (newest_after m parts)) x) (sym text)
+            (puts_past account (replies_of m.arch s.done at_start (newest_after m parts)) reply old now new e s.put p));
       }
 
-  pub replies_more : RepliesSoFar gives commands (n + 1) m core last after old new f h result
+  pub replies_more : RepliesSoFar gives commands (n + 1) m core last after (lent account old new) result
   replies_more =
       record {
         legs = s.legs ++ one.leg ∷ [];
@@ -442,19 +443,19 @@ module _ {C : Type 0} (gives : Meaning C) (commands : List Command) (n : ℕ) (m
         many = rw length-append (let e = s.many in omega arith);
         led = subst (AreLed m.arch (s.done ++ c ∷ []) at_start m) (sym all_parts) led_all;
         stands = subst (λ (v : Standing). StandsSo m.arch v last) (sym (behind-more m.arch s.done c at_start)) stands;
-        put = subst (λ (ps : List Part). Puts (replies_of m.arch (s.done ++ c ∷ []) at_start (newest_after m ps)) old new f h result) (sym all_parts)
-            (subst (λ (x : List ℕ). Puts x old new f h result) (sym text)
-            (puts_then (replies_of m.arch s.done at_start (newest_after m parts)) reply old now new f g h result s.put put_it));
-        cut = subst (λ (ps : List Part). OnErr result (CutAt (s.done ++ c ∷ []) m ps old new)) (sym all_parts) (broke result put_it);
+        put = subst (λ (ps : List Part). PutsTo (lent account old new) (replies_of m.arch (s.done ++ c ∷ []) at_start (newest_after m ps)) result) (sym all_parts)
+            (subst (λ (x : List ℕ). PutsTo (lent account old new) x result) (sym text)
+            (puts_then account (replies_of m.arch s.done at_start (newest_after m parts)) reply old now new result s.put put_it));
+        cut = subst (λ (ps : List Part). OnErr result (CutAt (s.done ++ c ∷ []) m ps (lent account old new))) (sym all_parts) (broke result put_it);
       }
 
 pub replied :
-    {C S : Type 0} (gives : Meaning C) (commands : List Command) (n : ℕ) (m : Timed) (core : C) (r : Rewindable) (after : C) (contents : S → Option (List ℕ)) (faults : S → ℕ) (s s' : S) (result : Result (Unit {0}) SinkFailed)
-    → RepliesSoFar gives commands n m core r after (contents s) (contents s') (faults s) (faults s') result
+    {C S : Type 0} (gives : Meaning C) (commands : List Command) (n : ℕ) (m : Timed) (core : C) (r : Rewindable) (after : C) (account : S → SinkAccount) (s s' : S) (result : Result (Unit {0}) SinkFailed)
+    → RepliesSoFar gives commands n m core r after (lent account s s') result
     → r.machine.timed.cycles ≤ m.cycles + cycles_of n m.config.limit
     → OnOk result (n ≡ length commands)
-    → Plays gives (change m r.machine.timed) (change core after) (λ parts. IsReplied commands m parts (sink_change contents faults s s') result)
-replied gives commands n m core r after contents faults old new result s within all =
+    → Plays gives (change m r.machine.timed) (change core after) (λ parts. IsReplied commands m parts (lent account s s') result)
+replied gives commands n m core r after account old new result s within all =
     record {
       legs = s.legs;
       good = s.good;

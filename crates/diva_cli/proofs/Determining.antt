@@ -18,11 +18,10 @@ use Rattle.diva_faults.specs.Lists.{scripted}
 use Rattle.diva_trace.specs.Lines.{end_line_of, soak_line}
 use Rattle.diva_trace.specs.Text.{output_text, registers_text, soak_text, text_of}
 use Rattle.diva_trace.specs.declared.report.SoakCore.{SoakCore}
-use Rattle.diva_trace.specs.declared.report.SoakCore.TheVariants as soak_core
 use Rattle.diva_args.specs.Options.{RunOptions, Setup, SoakOptions}
 use Rattle.diva_args.specs.declared.job.CoreChoice.{CoreChoice}
 use Rattle.diva_args.specs.declared.job.CoreChoice.TheVariants.{Own}
-use Rattle.diva_cli.specs.Wanted.{FileBytes}
+use Rattle.diva_process.specs.Programs.{FileBytes}
 use Rattle.diva_cli.specs.Determined.{IsDetermined}
 use Rattle.diva_cli.specs.Changes.{change}
 use Rattle.diva_cli.specs.Driven.{AreHanded, ByLegs}
@@ -32,6 +31,7 @@ use Rattle.diva_cli.specs.SoakTexts.{HasSoaked, soak_cycles, soak_setup, soak_st
 use Rattle.diva_cli.proofs.Handing.{one_leg_turns}
 use Rattle.diva_cli.proofs.Running.{shown_whole}
 use Rattle.diva_cli.proofs.Sessions.{read_off}
+use Rattle.diva_trace.specs.declared.report.SoakCore.TheVariants as soak_core
 
 module _ {C : Type 0} (gives : Meaning C) (determined : IsDetermined gives) where
   -- the turns of two histories that were not broken off

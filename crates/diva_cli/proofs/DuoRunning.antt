@@ -1,5 +1,5 @@
 -- A run of two harts, each under a new core of a kind.
-use Rattle.std.proofs.Common.{◌≡◌, ◌↔◌, ◌≤◌, ◌+◌, ◌==◌, ◌⊎◌, ℕ, zero, suc, Bool, true, false, List, [], ◌∷◌, length, refl, ap, sym, ◌∙◌, subst, arith, inl, inr}
+use Rattle.std.proofs.Common.{◌≡◌, ◌↔◌, ◌≤◌, ◌+◌, ◌==◌, ◌⊎◌, ℕ, zero, suc, Bool, true, false, List, [], ◌∷◌, length, refl, ap, sym, ◌∙◌, subst, arith, inl, inr, Result, Ok, Err, IfOk}
 use Rattle.std.specs.Bool.{⊤}
 use Rattle.std.proofs.lemmas.Bool.{cases_Bool, true≢false}
 use Rattle.diva_isa.specs.State.{State}
@@ -19,19 +19,21 @@ use Rattle.diva_tape.specs.Lists.{IsLockstepCall}
 use Rattle.diva_tape.specs.Scalar.{IsScalarCall, new_scalar}
 use Rattle.diva_args.specs.declared.job.HartCore.{HartCore}
 use Rattle.diva_args.specs.declared.job.HartCore.TheVariants.{Scalar, Lockstep, Silent}
-use Rattle.std.proofs.Common.{Result, Ok, Err, IfOk}
 use Rattle.diva_outside.specs.Text.{Text}
 use Rattle.diva_outside.specs.declared.sink.SinkFailed.{SinkFailed}
 use Rattle.diva_outside.proofs.Sinks.{past_nothing}
 use Rattle.diva_args.specs.Options.{DuoOptions}
 use Rattle.diva_args.specs.declared.job.Job.TheVariants.{Duo as Command}
-use Rattle.diva_cli.specs.declared.duo.HartCores.TheVariants as cores
-use Rattle.diva_cli.specs.declared.stop.Failure.TheVariants.{Cut}
-use Rattle.diva_cli.specs.Changes.{PutsTo, SinkChange, change, asking}
-use Rattle.diva_cli.specs.Wanted.{FileBytes}
+use Rattle.diva_process.specs.declared.stop.Failure.TheVariants.{Cut}
+use Rattle.diva_outside.specs.Sink.{PutsTo, LentSink}
+use Rattle.diva_cli.specs.Changes.{change, asking}
+use Rattle.diva_process.specs.Programs.{FileBytes}
 use Rattle.diva_cli.specs.Runs.{shown_dump}
 use Rattle.diva_cli.specs.DuoTexts.{HasDuo, IsDuoRun, call_at, call_by, duo_start, duo_status, duo_text, duo_under, hart_call}
-use Rattle.diva_cli.specs.Parts.{WritesText, new_cores, no_lanes}
+use Rattle.diva_process.specs.Writing.{WritesText}
+use Rattle.diva_cli.specs.Parts.{new_cores, no_lanes}
+use Rattle.diva_cli.specs.Program.{work_of}
+use Rattle.diva_cli.specs.declared.duo.HartCores.TheVariants as cores
 
 over_cycle : (d : Duo) (a b : List Record) → is_over d ≡ true → duo_cycle_of d a b ≡ d
 unfolding duo_cycle_of
@@ -139,7 +141,7 @@ of_silents Silent cycles d last e r = r
 
 -- ---- what is written of it
 
-module _ {C S : Type 0} (gives : Meaning C) (options : DuoOptions) (bytes : FileBytes) (core : C) (sink : SinkChange S) (last : Duo)
+module _ {C S : Type 0} (gives : Meaning C) (options : DuoOptions) (bytes : FileBytes) (core : C) (sink : LentSink S) (last : Duo)
     (run : IsDuoRun options.core options.cycles (duo_start options bytes) last) where
   abbrev text : Text
   text = duo_text last (shown_dump options.dump)
@@ -147,8 +149,8 @@ module _ {C S : Type 0} (gives : Meaning C) (options : DuoOptions) (bytes : File
   means : (ended : Result ℕ Text) → IfOk ended (λ s. s ≡ duo_status last) → HasDuo options bytes (change core core) ended text
   means ended status = record { last = last; run = run; lines = refl; status = status; unasked = refl }
 
-  pub wrote_duo : (status : ℕ) → status ≡ duo_status last → PutsTo {E = SinkFailed} sink text (Ok tt) → WritesText gives (Command options) bytes (asking core core no_lanes) sink (Ok status)
-  wrote_duo status is put = record { text = text; means = means (Ok status) is; lanes = refl; written = record { appended = put.ok; uncounted = put.uncounted } }
+  pub wrote_duo : (status : ℕ) → status ≡ duo_status last → PutsTo {E = SinkFailed} sink text (Ok tt) → WritesText (work_of gives (asking core core no_lanes)) (Command options) bytes sink (Ok status)
+  wrote_duo status is put = record { text = text; means = record { means = means (Ok status) is; lanes = refl }; written = record { appended = put.ok; uncounted = put.uncounted } }
 
-  pub cut_duo : (e : SinkFailed) → PutsTo sink text (Err e) → WritesText gives (Command options) bytes (asking core core no_lanes) sink (Err Cut)
-  cut_duo e put = record { rose = put.failed; put = []; text = text; means = means (Err []) tt; lanes = refl; written = past_nothing (sink.contents sink.before) (sink.contents sink.after) text put.part }
+  pub cut_duo : (e : SinkFailed) → PutsTo sink text (Err e) → WritesText (work_of gives (asking core core no_lanes)) (Command options) bytes sink (Err Cut)
+  cut_duo e put = record { rose = put.failed; put = []; text = text; means = record { means = means (Err []) tt; lanes = refl }; written = past_nothing sink text put.part }

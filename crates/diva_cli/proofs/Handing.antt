@@ -1,4 +1,6 @@
 -- Legs of a core under a script, and legs as parts that are handed to a machine.
+use Rattle.diva_outside.specs.Lent.{lent}
+use Rattle.diva_outside.specs.Sink.{SinkAccount}
 use Rattle.diva_machine.specs.Asked.{asked_over}
 use Rattle.diva_vote.specs.Questions.{Question}
 use Rattle.std.proofs.Common.{◌≡◌, ◌↔◌, ℕ, ◌+◌, ◌≤◌, ◌==◌, true, false, List, [], ◌∷◌, Option, Ok, refl, sym, ◌∙◌, ap, subst, arith, length, length-append, map}
@@ -18,14 +20,18 @@ use Rattle.diva_faults.specs.declared.rows.Row.{Row}
 use Rattle.diva_faults.specs.Lists.{scripted}
 use Rattle.diva_faults.specs.Spoiled.{spoiled, spoiled_call, inside, lent_name, rows_in}
 use Rattle.diva_faults.proofs.Legging.{legs_none, legs_spoiled}
+use Rattle.diva_tape.specs.Lists.{lockstep_list, silent_list, flood_list, echo_list}
+use Rattle.diva_tape.specs.Noise.{noise_call}
+use Rattle.diva_tape.specs.Scalar.{IsScalarCall}
+use Rattle.diva_tape.specs.TapeCalls.{tape_call}
 use Rattle.diva_hart.specs.declared.ends.Drive.{Drive}
 use Rattle.diva_hart.specs.declared.ends.Drive.TheVariants.{Ended, Budget}
 use Rattle.diva_cli.specs.declared.driving.CoreInUse.{CoreInUse}
-use Rattle.diva_cli.specs.declared.driving.CoreInUse.TheVariants.{Own}
-use Rattle.diva_cli.specs.Changes.{change, sink_change}
+use Rattle.diva_cli.specs.declared.driving.CoreInUse.TheVariants.{Own, Lockstep, Scalar, Silent, Flood, Echo, Noise, Tape as OfTape}
+use Rattle.diva_cli.specs.Changes.{Change, change}
 use Rattle.diva_cli.specs.Driven.{ByLegs, ByOther, ByRule, scripted_rule}
 use Rattle.diva_cli.specs.Runs.{ByTurns, LegsAreTurns}
-use Rattle.diva_cli.specs.Tasks.{AreHandedBy, DrivesFor, IsOnePart, IsQuiet, Performs, Plays, PlaysBy}
+use Rattle.diva_cli.specs.Tasks.{AreHandedBy, DrivesFor, IsOnePart, IsQuiet, Plays, PlaysBy}
 
 -- ---- under a script
 
@@ -69,6 +75,14 @@ plays_faulty gives script m core f last final after this lent rows ends p =
       done = subst this (sym l.same) p.done;
     }
 
+-- what holds of the parts can be said otherwise
+pub plays_so :
+    {D : Type 0} (gives : Meaning D) (m : Timed) (core : D) (last : Timed) (after : D) (this that : List Part → Type 0)
+    → ((parts : List Part) → this parts → that parts)
+    → Plays gives (change m last) (change core after) this
+    → Plays gives (change m last) (change core after) that
+plays_so gives m core last after this that so p = record { legs = p.legs; good = p.good; each = p.each; done = so _ p.done }
+
 -- ---- turns are legs of one part
 
 one_leg_good : {D : Type 0} (gives : Meaning D) (m last : Timed) (core after : D) (t : Turns gives m core last after)
@@ -82,14 +96,15 @@ one_leg gives m last core after t = record { legs = Turned t.history ∷ []; goo
 
 pub plays_turns :
     {D : Type 0} (gives : Meaning D) (m : Timed) (core : D) (last : Timed) (after : D) (this : List (List Record) → Type 0)
-    → Performs gives (change m last) (change core after) this
+    (t : Turns gives m core last after)
+    → this (lists_of t.history)
     → Plays gives (change m last) (change core after) (IsOnePart this)
-plays_turns gives m core last after this p =
+plays_turns gives m core last after this t done =
     record {
-      legs = Turned p.turns.history ∷ [];
-      good = one_leg_good gives m last core after p.turns;
-      each = (let e = p.turns.each in let l = length-lists_of p.turns.history in let a = length-append (lists_of p.turns.history) [] in omega arith);
-      done = record { lists = lists_of p.turns.history; one = refl; done = p.done };
+      legs = Turned t.history ∷ [];
+      good = one_leg_good gives m last core after t;
+      each = (let e = t.each in let l = length-lists_of t.history in let a = length-append (lists_of t.history) [] in omega arith);
+      done = record { lists = lists_of t.history; one = refl; done = done };
     }
 
 -- legs of one part are turns
@@ -125,25 +140,21 @@ pub drives_for :
 drives_for gives m core last after budget Ended this t asked most ends runs = record { turns = t; asked = asked; most = most; whole = λ on. absurd (true≢false (sym on ∙ ends.0 refl)) }
 drives_for gives m core last after budget Budget this t asked most ends runs = record { turns = t; asked = asked; most = most; whole = λ on. (runs.0 refl).0 }
 
-pub performs_quiet :
-    {D S : Type 0} (gives : Meaning D) (budget : ℕ) (m : Timed) (core : D) (last : Timed) (after : D) (contents : S → Option (List ℕ)) (faults : S → ℕ) (s : S) (this : List Question → Type 0)
+pub plays_quiet :
+    {D S : Type 0} (gives : Meaning D) (budget : ℕ) (m : Timed) (core : D) (last : Timed) (after : D) (account : S → SinkAccount) (s : S) (this : List Question → Type 0)
     → DrivesFor gives budget (change m last) (change core after) this
-    → Performs gives (change m last) (change core after) (λ lists. IsQuiet budget (change m last) lists (sink_change contents faults s s) (Ok tt) × this (asked_over m lists))
-performs_quiet gives budget m core last after contents faults s this d =
+    → Plays gives (change m last) (change core after) (IsOnePart (λ lists. IsQuiet budget (change m last) lists (lent account s s) (Ok tt) × this (asked_over m lists)))
+plays_quiet gives budget m core last after account s this d =
     let l = length-lists_of d.turns.history in
-    record {
-      turns = d.turns;
-      done = (
-        record {
-          most = (let e = d.turns.each in let w = d.most in omega arith);
-          whole = λ on. (let e = d.turns.each in let w = d.whole on in omega arith);
-          never_fails = refl;
-          contents = refl;
-          faults = refl;
-        },
-        d.asked,
-      );
-    }
+    plays_turns gives m core last after _ d.turns (
+      record {
+        most = (let e = d.turns.each in let w = d.most in omega arith);
+        whole = λ on. (let e = d.turns.each in let w = d.whole on in omega arith);
+        never_fails = refl;
+        unput = refl;
+      },
+      d.asked,
+    )
 
 -- ---- a line for each core
 
@@ -184,3 +195,37 @@ pub plays_own :
     → PlaysBy gives Own script (change m last) (change core after) this
 plays_own gives script m last core after this p =
     plays_by gives gives script m last core core after this p Own after (record { legs = p.legs; good = p.good; in_order = refl })
+
+-- no turn was taken
+pub unplayed : {C : Type 0} (gives : Meaning C) (used : CoreInUse) (script : List Row) (m : Timed) (core : C) (this : List (List Record) → Type 0) → this []
+    → PlaysBy gives used script (change m m) (change core core) (IsOnePart this)
+unplayed {C} gives used script m core this done =
+    record { parts = Handed [] ∷ []; ran = refl; each = omega arith; handed = handed used; done = record { lists = []; one = refl; done = done } }
+  where
+    none : {D : Type 0} (its : Meaning D) (first : D) → ByLegs its (change m m) (change first first) (Handed [] ∷ [])
+    none its first = one_leg its m m first first (record { history = []; good = (refl, refl); each = omega arith })
+
+    ruled : (rule : Timed → List Record) → ByRule rule m (change core core) (Handed [] ∷ [])
+    ruled rule = record { follows = (tt, tt); same = refl }
+
+    other : {D : Type 0} (its : Meaning D) (first : D) → ByOther its first script (change m m) (change core core) (Handed [] ∷ [])
+    other its first = record { final = first; by = none (spoiled script its) first; same = refl }
+
+    handed : (u : CoreInUse) → AreHandedBy gives u script (change m m) (change core core) (Handed [] ∷ [])
+    handed Own = none (spoiled script gives) core
+    handed Lockstep = ruled (scripted_rule script lockstep_list)
+    handed (Scalar first) = other IsScalarCall first
+    handed Silent = ruled (scripted_rule script silent_list)
+    handed Flood = ruled (scripted_rule script flood_list)
+    handed Echo = ruled (scripted_rule script echo_list)
+    handed (Noise first) = other noise_call first
+    handed (OfTape tape) = other tape_call tape
+
+-- what holds of the lists of one part can be said otherwise
+pub plays_by_so :
+    {C : Type 0} (gives : Meaning C) (used : CoreInUse) (script : List Row) (machine : Change Timed) (core : Change C) (this that : List (List Record) → Type 0)
+    → ((lists : List (List Record)) → this lists → that lists)
+    → PlaysBy gives used script machine core (IsOnePart this)
+    → PlaysBy gives used script machine core (IsOnePart that)
+plays_by_so gives used script machine core this that so p =
+    record { parts = p.parts; ran = p.ran; each = p.each; handed = p.handed; done = record { lists = p.done.lists; one = p.done.one; done = so p.done.lists p.done.done } }

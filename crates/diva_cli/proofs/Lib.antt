@@ -1,8 +1,7 @@
 -- The lemmas of this crate.
 pub mod Handing
 pub mod Scripting
-pub mod Cycling
-pub mod DrawRunning
+pub mod Seeing
 pub mod Pieces
 pub mod Polling
 pub mod Running
@@ -10,12 +9,13 @@ pub mod Replaying
 pub mod Stopping
 pub mod Unfailing
 pub mod Preparing
+pub mod Ending
 pub mod Working
+pub mod DrawRunning
+pub mod LabWorking
 pub mod Alone
 pub mod Listing
 pub mod Migrating
-pub mod Completing
-pub mod Refusing
 pub mod Determining
 pub mod Commanding
 pub mod Sessions

@@ -9,7 +9,9 @@ use Rattle.diva_hart.specs.Start.{start_of}
 use Rattle.diva_args.specs.Options.{DebugOptions, Setup}
 use Rattle.diva_cli.specs.declared.loading.Ready.{Ready}
 use Rattle.diva_cli.specs.declared.loading.SessionReady.{SessionReady}
-use Rattle.diva_cli.specs.Wanted.{AreSound, FileBytes, file, file_if, file_with, machine_files, tape_name}
+use Rattle.diva_process.specs.Stops.{AreSound}
+use Rattle.diva_process.specs.Programs.{FileBytes}
+use Rattle.diva_cli.specs.Wanted.{file, file_if, file_rules, file_with, machine_files, tape_name}
 use Rattle.diva_cli.specs.Parts.{AreCommands, Holds, HoldsRows, HoldsCore, HoldsReady, HoldsSession}
 use Rattle.diva_cli.proofs.Stopping.{sound_both, sound_if}
 
@@ -49,12 +51,12 @@ abbrev with_commands : FileBytes → List ℕ → FileBytes
 with_commands bytes commands Commands = commands
 with_commands bytes commands what = bytes what
 
-machine_sound : (contents : Contents) (setup : Setup) (bytes : FileBytes) (commands : List ℕ) → AreSound contents (machine_files setup) bytes
-    → AreSound contents (machine_files setup) (with_commands bytes commands)
+machine_sound : (contents : Contents) (setup : Setup) (bytes : FileBytes) (commands : List ℕ) → AreSound file_rules contents (machine_files setup) bytes
+    → AreSound file_rules contents (machine_files setup) (with_commands bytes commands)
 machine_sound contents setup bytes commands s = (s.0, go setup.script (tape_name setup.core) s.1)
   where
-    go : (script tape : Option (List ℕ)) → AreSound contents (file_if Script script ++ file_if TapeFile tape) bytes
-        → AreSound contents (file_if Script script ++ file_if TapeFile tape) (with_commands bytes commands)
+    go : (script tape : Option (List ℕ)) → AreSound file_rules contents (file_if Script script ++ file_if TapeFile tape) bytes
+        → AreSound file_rules contents (file_if Script script ++ file_if TapeFile tape) (with_commands bytes commands)
     go None None s = tt
     go None (Some t) s = (s.0, tt)
     go (Some x) None s = (s.0, tt)

@@ -1,6 +1,6 @@
 -- A tape of all that was handed over drives the machine to the same end.
-use Rattle.std.proofs.Common.{◌≡◌, ℕ, zero, suc, ◌+◌, ◌≤◌, Bool, true, false, List, [], ◌∷◌, ◌++◌, length, Option, Some, Result, Ok, Err, IsOk, OnOk, OnErr, refl, sym, ◌∙◌, ap, append-nil, subst, arith, None}
-use Rattle.std.specs.List.{All}
+use Rattle.std.proofs.Common.{◌≡◌, ℕ, zero, suc, ◌+◌, ◌≤◌, Bool, true, false, List, [], ◌∷◌, ◌++◌, length, map, Option, Some, Result, Ok, Err, IsOk, OnOk, OnErr, refl, sym, ◌∙◌, ap, append-nil, subst, arith, None}
+use Rattle.std.specs.List.{All, concat}
 use Rattle.diva_isa.specs.End.{end_of}
 use Rattle.diva_isa.specs.State.{State, goes_on}
 use Rattle.diva_isa.specs.declared.record.Record.{Record}
@@ -26,17 +26,23 @@ use Rattle.diva_args.specs.declared.job.CoreChoice.{CoreChoice}
 use Rattle.diva_args.specs.declared.job.Job.TheVariants.{Tape}
 use Rattle.diva_trace.specs.Text.{text_of}
 use Rattle.diva_cli.specs.declared.loading.Ready.{Ready}
-use Rattle.diva_cli.specs.Changes.{LanesAsked, asking, PutsTo, SinkChange, TakesPast, change}
-use Rattle.diva_cli.specs.Wanted.{FileBytes, tape_name}
+use Rattle.diva_cli.specs.Changes.{Change, LanesAsked, asking, change}
+use Rattle.diva_outside.specs.Sink.{PutsTo, LentSink, TakesPast}
+use Rattle.diva_process.specs.Programs.{FileBytes}
+use Rattle.diva_cli.specs.Wanted.{tape_name}
 use Rattle.diva_cli.specs.Cuts.{BeforeLast}
 use Rattle.diva_cli.specs.Driven.{AreHanded, ByCalls, scripted_lists}
 use Rattle.diva_cli.specs.Runs.{IsReadOff, IsRunOfFiles, IsWhole, HasRun, end_status, asked_trace, shown_dump}
 use Rattle.diva_cli.specs.Sessions.{AreRows, AreLists, start_in}
 use Rattle.diva_cli.specs.TapeTexts.{IsHandedFor, IsReplay}
-use Rattle.diva_cli.specs.Tasks.{IsOnePart, IsWritten, PlaysBy, cycles_text, tape_line}
-use Rattle.diva_cli.specs.Parts.{IsReady, WritesWhole, WritesPart}
+use Rattle.diva_cli.specs.Tasks.{IsOnePart, PlaysBy}
+use Rattle.diva_cli.specs.Watched.{IsWatched, Seen, Watching, seen_over, tape_lines}
+use Rattle.diva_cli.proofs.Seeing.{concat_of, cut_of}
+use Rattle.diva_cli.specs.Parts.{IsReady}
+use Rattle.diva_process.specs.Writing.{WritesWhole, WritesPart}
 use Rattle.diva_cli.proofs.Running.{ends_with, run_each, run_from_new, run_of_files, run_whole, shown_whole}
 use Rattle.diva_cli.proofs.Sessions.{read_off}
+use Rattle.diva_cli.specs.Program.{work_of}
 
 -- ---- lists of a tape, and then empty ones
 
@@ -161,20 +167,43 @@ module _ (options : TapeOptions) (bytes : FileBytes) (lists : List (List Record)
 
 -- ---- what is written of a run by `tape`
 
-tape_lines : (m : Timed) (lists : List (List Record)) → cycles_text tape_line m lists ≡ tape_text lists
-tape_lines m [] = refl
-tape_lines m (list ∷ lists) = ap (λ (t : List ℕ). list_text list ++ t) (tape_lines (cycle_of m list) lists)
+abbrev line_of : Seen → List ℕ
+line_of seen = list_text seen.list
 
-module _ {C S : Type 0} (gives : Meaning C) (options : TapeOptions) (bytes : FileBytes) (ready : Ready) (core : C) (last : Timed) (after : C)
-    (cycles : ℕ) (sink : SinkChange S) (result : Result (Unit {0}) SinkFailed)
+lines_are : (m : Timed) (lists : List (List Record)) → concat (map line_of (seen_over m lists)) ≡ tape_text lists
+lines_are m [] = refl
+lines_are m (list ∷ lists) = ap (λ (t : List ℕ). list_text list ++ t) (lines_are (cycle_of m list) lists)
+
+module _ {W S : Type 0} (w : Change W) (says : List Record → Type 0) (cycles : ℕ) (m last : Timed) (lists : List (List Record)) (sink : LentSink S) (result : Result (Unit {0}) SinkFailed)
+    (d : IsWatched tape_lines says cycles (change m last) w lists sink result) where
+  abbrev lines : Watching W
+  lines = tape_lines
+
+  lines_put : PutsTo sink (tape_text lists) result
+  lines_put = subst (λ (x : List ℕ). PutsTo sink x result) (concat_of lines line_of (λ before seen after text is. is) w.before w.after m lists d.texts d.are ∙ lines_are m lists) d.put
+
+  lines_cut : (e : SinkFailed) → result ≡ Err e → BeforeLast lists (λ earlier. TakesPast sink (tape_text earlier) (tape_text lists))
+  lines_cut e err =
+      let c : BeforeLast d.texts (λ earlier. TakesPast sink (concat earlier) (concat d.texts)) = subst (λ (r : Result (Unit {0}) SinkFailed). OnErr r (BeforeLast d.texts (λ earlier. TakesPast sink (concat earlier) (concat d.texts)))) err d.cut in
+      let b = cut_of lines line_of (λ before seen after text is. is) w.before w.after m lists d.texts _ d.are c in
+      record {
+        earlier = b.earlier;
+        last = b.last;
+        in_order = b.in_order;
+        holds = subst (λ (x : List ℕ). TakesPast sink x (tape_text lists)) (lines_are m b.earlier)
+            (subst (λ (x : List ℕ). TakesPast sink (concat (map line_of (seen_over m b.earlier))) x) (lines_are m lists) b.holds);
+      }
+
+module _ {C W S : Type 0} (gives : Meaning C) (options : TapeOptions) (bytes : FileBytes) (ready : Ready) (core : C) (last : Timed) (after : C)
+    (w : Change W) (cycles : ℕ) (sink : LentSink S) (result : Result (Unit {0}) SinkFailed)
     (y : cycles ≡ options.cycles) (fits : IsConfig options.setup.config)
     (is : IsReady options.setup bytes ready) (lanes : LanesAsked) (unasked : lanes None []) (that : List (List Record) → Type 0)
     (p : PlaysBy gives ready.core ready.script (change ready.machine.timed last) (change core after)
-    (IsOnePart (λ lists. IsWritten tape_line IsList cycles (change ready.machine.timed last) lists sink result × that lists))) where
+    (IsOnePart (λ lists. IsWatched tape_lines IsList cycles (change ready.machine.timed last) w lists sink result × that lists))) where
   abbrev lists : List (List Record)
   lists = p.done.lists
 
-  abbrev done : IsWritten tape_line IsList cycles (change ready.machine.timed last) lists sink result
+  abbrev done : IsWatched tape_lines IsList cycles (change ready.machine.timed last) w lists sink result
   done = p.done.done.0
 
   few : length lists ≤ options.cycles
@@ -184,9 +213,9 @@ module _ {C S : Type 0} (gives : Meaning C) (options : TapeOptions) (bytes : Fil
   of_files = run_of_files gives options.setup options.cycles bytes ready core last after fits is _ p few
 
   puts : PutsTo sink (tape_text lists) result
-  puts = subst (λ (t : List ℕ). PutsTo sink t result) (tape_lines ready.machine.timed lists) done.put
+  puts = lines_put w IsList cycles ready.machine.timed last lists sink result done
 
-  pub wrote_tape : (status : ℕ) → status ≡ end_status (end_of last.arch.end) → result ≡ Ok tt → WritesWhole gives (Tape options) bytes (asking core after lanes) sink status
+  pub wrote_tape : (status : ℕ) → status ≡ end_status (end_of last.arch.end) → result ≡ Ok tt → WritesWhole (work_of gives (asking core after lanes)) (Tape options) bytes sink status
   wrote_tape status says ok =
       let all : goes_on last.arch ≡ true → length lists ≡ cycles = subst (λ (r : Result (Unit {0}) SinkFailed). OnOk r (goes_on last.arch ≡ true → length lists ≡ cycles)) ok done.whole in
       let are : All IsList lists = subst (λ (r : Result (Unit {0}) SinkFailed). OnOk r (All IsList lists)) ok done.said in
@@ -197,41 +226,42 @@ module _ {C S : Type 0} (gives : Meaning C) (options : TapeOptions) (bytes : Fil
       record {
         text = tape_text lists;
         means = record {
-          last = last;
-          of_files = of_files;
-          lines = refl;
-          whole = record {
-            whole = whole;
-            ended = ends_with options.setup options.cycles (start_in options.setup bytes) last status whole says;
-            reads = reads;
-            again = same_machine options bytes lists last ran_new each few whole;
-            replays = λ replay its_bytes r core' after' status' shown run asked.
-                same_text options bytes lists last ran_new each few whole gives (tape_text lists) reads replay its_bytes r core' after' status' shown run asked;
+          means = record {
+            last = last;
+            of_files = of_files;
+            lines = refl;
+            whole = record {
+              whole = whole;
+              ended = ends_with options.setup options.cycles (start_in options.setup bytes) last status whole says;
+              reads = reads;
+              again = same_machine options bytes lists last ran_new each few whole;
+              replays = λ replay its_bytes r core' after' status' shown run asked.
+                  same_text options bytes lists last ran_new each few whole gives (tape_text lists) reads replay its_bytes r core' after' status' shown run asked;
+            };
+            cut = tt;
           };
-          cut = tt;
+          lanes = unasked;
         };
-        lanes = unasked;
         written = (let q = subst (λ (r : Result (Unit {0}) SinkFailed). PutsTo sink (tape_text lists) r) ok puts in record { appended = q.ok; uncounted = q.uncounted });
       }
 
-  pub cut_tape : (e : SinkFailed) → result ≡ Err e → WritesPart gives (Tape options) bytes (asking core after lanes) sink
+  pub cut_tape : (e : SinkFailed) → result ≡ Err e → WritesPart (work_of gives (asking core after lanes)) (Tape options) bytes sink
   cut_tape e err =
       let q = subst (λ (r : Result (Unit {0}) SinkFailed). PutsTo sink (tape_text lists) r) err puts in
-      let b : BeforeLast lists (λ earlier. TakesPast sink (cycles_text tape_line ready.machine.timed earlier) (cycles_text tape_line ready.machine.timed lists)) =
-      subst (λ (r : Result (Unit {0}) SinkFailed). OnErr r (BeforeLast lists (λ earlier. TakesPast sink (cycles_text tape_line ready.machine.timed earlier) (cycles_text tape_line ready.machine.timed lists))))
-      err done.cut in
+      let b = lines_cut w IsList cycles ready.machine.timed last lists sink result done e err in
       record {
         rose = q.failed;
         put = tape_text b.earlier;
         text = tape_text lists;
         means = record {
-          last = last;
-          of_files = of_files;
-          lines = refl;
-          whole = tt;
-          cut = record { earlier = b.earlier; last = b.last; in_order = b.in_order; holds = refl };
+          means = record {
+            last = last;
+            of_files = of_files;
+            lines = refl;
+            whole = tt;
+            cut = record { earlier = b.earlier; last = b.last; in_order = b.in_order; holds = refl };
+          };
+          lanes = unasked;
         };
-        lanes = unasked;
-        written = subst (λ (x : List ℕ). TakesPast sink x (tape_text lists)) (tape_lines ready.machine.timed b.earlier)
-            (subst (λ (x : List ℕ). TakesPast sink (cycles_text tape_line ready.machine.timed b.earlier) x) (tape_lines ready.machine.timed lists) b.holds);
+        written = b.holds;
       }

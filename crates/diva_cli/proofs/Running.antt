@@ -19,7 +19,8 @@ use Rattle.diva_core.proofs.Outcomes.{rises}
 use Rattle.diva_core.proofs.Progressing.{run-rises}
 use Rattle.diva_hart.proofs.Dues.{dues-add, length-dues}
 use Rattle.diva_core.proofs.Ending.{same_end}
-use Rattle.diva_outside.specs.Sink.{AppendsPast, Puts}
+use Rattle.diva_outside.specs.Lent.{lent}
+use Rattle.diva_outside.specs.Sink.{TakesPast, PutsTo, LentSink, SinkAccount}
 use Rattle.diva_outside.specs.declared.sink.SinkFailed.{SinkFailed}
 use Rattle.diva_outside.proofs.Sinks.{puts_nothing, puts_past, puts_then}
 use Rattle.diva_args.specs.Options.{Setup, RunOptions, DumpRange}
@@ -28,17 +29,20 @@ use Rattle.diva_trace.specs.Text.{commits_text, text_of, trace_of}
 use Rattle.diva_trace.proofs.Numbered.{commits_text-append, commits_text-none}
 use Rattle.diva_cli.specs.declared.loading.Ready.{Ready}
 use Rattle.diva_machine.specs.Asked.{asked_over}
-use Rattle.diva_cli.specs.Changes.{LanesAsked, SinkChange, asking, change, sink_change}
+use Rattle.diva_cli.specs.Changes.{Change, LanesAsked, asking, change}
 use Rattle.diva_cli.specs.Texts.{AsksInRun}
-use Rattle.diva_cli.specs.Wanted.{FileBytes}
+use Rattle.diva_process.specs.Programs.{FileBytes}
 use Rattle.diva_cli.specs.Cuts.{BeforeLast}
 use Rattle.diva_cli.specs.Driven.{AreHanded}
 use Rattle.diva_cli.specs.Runs.{IsRunOfFiles, IsWhole, EndsWith, HasRun, end_status, asked_trace, shown_dump}
 use Rattle.diva_cli.specs.Sessions.{start_in}
-use Rattle.diva_cli.specs.declared.tasks.Task.{Task}
-use Rattle.diva_cli.specs.Tasks.{Does, IsOnePart, PlaysBy, cycles_text, liar_of, run_task, trace_lines}
-use Rattle.diva_cli.specs.Parts.{IsReady, WritesWhole, WritesPart}
+use Rattle.diva_cli.specs.Tasks.{IsOnePart, IsQuiet, IsRun, PlaysBy, commits_if}
+use Rattle.diva_cli.specs.Watched.{IsWatched, Seen, commit_lines}
+use Rattle.diva_cli.specs.Parts.{IsReady}
+use Rattle.diva_process.specs.Writing.{WritesWhole, WritesPart}
+use Rattle.diva_cli.proofs.Seeing.{concat_of, cut_of}
 use Rattle.diva_cli.proofs.Sessions.{each_new, handed_new, ran_new, run_from_start}
+use Rattle.diva_cli.specs.Program.{work_of}
 
 -- ---- a run over files
 
@@ -95,12 +99,8 @@ ends_with setup cycles start last status whole is =
 
 -- ---- what is written of it, with commit lines or without
 
-abbrev commits_if : (trace : Bool) → Timed → List (List Record) → List ℕ
-commits_if false m lists = []
-commits_if true m lists = cycles_text trace_lines m lists
-
 -- the commit lines of cycles one behind the other
-trace-cycles : (lists : List (List Record)) (m : Timed) → IsMachine m → cycles_text trace_lines m lists ≡ commits_text m.count (dues ((run_of m lists).count - m.count) m.arch)
+trace-cycles : (lists : List (List Record)) (m : Timed) → IsMachine m → commits_if true m lists ≡ commits_text m.count (dues ((run_of m lists).count - m.count) m.arch)
 trace-cycles [] m inv =
     let none : m.count - m.count ≡ 0 = omega arith in
     sym (ap (λ k. commits_text m.count (dues k m.arch)) none ∙ commits_text-none m.count)
@@ -127,43 +127,34 @@ trace-run z s lists last true ok none ran =
     trace-cycles lists (new_timed z s) (new-machine z s ok none)
     ∙ ap (λ k. commits_text 0 (dues k s)) (let e = ap (λ (m : Timed). m.count) ran in omega arith)
 
--- where the sink failed, it did so among the commit lines
-abbrev CutLines : (trace : Bool) → Timed → List (List Record) → (old new : Option (List ℕ)) → Type 0
-CutLines trace m lists old new =
-    (trace ≡ true) × BeforeLast lists (λ earlier. AppendsPast old new (cycles_text trace_lines m earlier) (cycles_text trace_lines m lists))
+-- a machine was driven that nobody watched
+pub runs_quiet : {S : Type 0} (cycles : ℕ) (m last : Timed) (lists : List (List Record)) (sink : LentSink S) (result : Result (Unit {0}) SinkFailed)
+    → IsQuiet cycles (change m last) lists sink result → IsRun false cycles (change m last) lists sink result
+runs_quiet cycles m last lists sink result q =
+    rw q.never_fails (record {
+      most = q.most;
+      whole = q.whole;
+      put = subst (λ s. PutsTo {E = SinkFailed} (lent sink.account sink.before s) [] (Ok tt)) (sym q.unput) (puts_nothing sink.account sink.before);
+      cut = tt;
+    })
 
--- a machine was driven, and its commit lines were put if they are asked for
-record Went (trace : Bool) (cycles : ℕ) (m : Timed) (lists : List (List Record)) (last : Timed) (old new : Option (List ℕ)) (before now : ℕ)
-    (result : Result (Unit {0}) SinkFailed) : Type 0 where
-  most : length lists ≤ cycles
-  whole : OnOk result (goes_on last.arch ≡ true → length lists ≡ cycles)
-  put : Puts (commits_if trace m lists) old new before now result
-  cut : OnErr result (CutLines trace m lists old new)
+-- or its commit lines were written
+abbrev lines_of : Seen → List ℕ
+lines_of seen = commits_text seen.first seen.committed
 
 on_err : {A E : Type 0} {P Q : Type 0} (r : Result A E) → (P → Q) → OnErr r P → OnErr r Q
 on_err (Ok a) f h = tt
 on_err (Err e) f h = f h
 
-went : {S : Type 0} (trace : Bool) (cycles : ℕ) (liar : Option LanePlace) (m : Timed) (lists : List (List Record)) (last : Timed) (sink : SinkChange S) (result : Result (Unit {0}) SinkFailed)
-    → Does (run_task trace cycles liar) (change m last) lists sink result
-    → Went trace cycles m lists last (sink.contents sink.before) (sink.contents sink.after) (sink.faults sink.before) (sink.faults sink.after) result
-went false cycles liar m lists last sink result q =
+pub runs_written : {W S : Type 0} (cycles : ℕ) (m last : Timed) (w : Change W) (says : List Record → Type 0) (lists : List (List Record)) (sink : LentSink S) (result : Result (Unit {0}) SinkFailed)
+    → IsWatched commit_lines says cycles (change m last) w lists sink result → IsRun true cycles (change m last) lists sink result
+runs_written {W} cycles m last w says lists sink result d =
     record {
-      most = q.most;
-      whole = subst (λ (r : Result (Unit {0}) SinkFailed). OnOk r (goes_on last.arch ≡ true → length lists ≡ cycles)) (sym q.never_fails) q.whole;
-      put = subst (λ (r : Result (Unit {0}) SinkFailed). Puts [] (sink.contents sink.before) (sink.contents sink.after) (sink.faults sink.before) (sink.faults sink.after) r) (sym q.never_fails)
-          (subst (λ (c : Option (List ℕ)). Puts {E = SinkFailed} [] (sink.contents sink.before) c (sink.faults sink.before) (sink.faults sink.after) (Ok tt)) (sym q.contents)
-          (subst (λ f. Puts {E = SinkFailed} [] (sink.contents sink.before) (sink.contents sink.before) (sink.faults sink.before) f (Ok tt)) (sym q.faults)
-          (puts_nothing (sink.contents sink.before) (sink.faults sink.before))));
-      cut = subst (λ (r : Result (Unit {0}) SinkFailed). OnErr r (CutLines false m lists (sink.contents sink.before) (sink.contents sink.after))) (sym q.never_fails) tt;
+      most = d.most;
+      whole = d.whole;
+      put = subst (λ (x : List ℕ). PutsTo sink x result) (concat_of {W = W} commit_lines lines_of (λ before seen after text is. is) w.before w.after m lists d.texts d.are) d.put;
+      cut = on_err result (λ b. (refl, cut_of {W = W} commit_lines lines_of (λ before seen after text is. is) w.before w.after m lists d.texts _ d.are b)) d.cut;
     }
-went true cycles liar m lists last sink result w =
-    record { most = w.most; whole = w.whole; put = w.put; cut = on_err result (λ b. (refl, b)) w.cut }
-
--- the liar's place, with commit lines or without
-its_liar : (trace : Bool) (cycles : ℕ) (liar : Option LanePlace) → liar_of (run_task trace cycles liar) ≡ liar
-its_liar true cycles liar = refl
-its_liar false cycles liar = refl
 
 -- ---- the text of a run, where its commit lines were all put if they are asked for
 
@@ -178,49 +169,28 @@ shown_whole gives options bytes core after ended text h asked =
     ]
 
 module _ {C S : Type 0} (gives : Meaning C) (options : RunOptions) (bytes : FileBytes) (ready : Ready) (core : C) (last : Timed) (after : C)
-    (trace : Bool) (cycles : ℕ) (liar : Option LanePlace) (dump : Option DumpRange) (contents : S → Option (List ℕ)) (faults : S → ℕ) (s0 s1 s2 : S) (result : Result (Unit {0}) SinkFailed)
+    (trace : Bool) (cycles : ℕ) (liar : Option LanePlace) (dump : Option DumpRange) (account : S → SinkAccount) (s0 s1 s2 : S) (result : Result (Unit {0}) SinkFailed)
     (t : trace ≡ options.trace) (y : cycles ≡ options.cycles) (v : liar ≡ options.liar) (d : dump ≡ options.dump) (fits : IsConfig options.setup.config)
-    (is : IsReady options.setup bytes ready) (task : Task) (task_is : task ≡ run_task trace cycles liar) (lanes : LanesAsked)
+    (is : IsReady options.setup bytes ready) (lanes : LanesAsked)
     (p : PlaysBy gives ready.core ready.script (change ready.machine.timed last) (change core after)
-    (IsOnePart (λ lists. Does task (change ready.machine.timed last) lists (sink_change contents faults s0 s1) result
-    × lanes (liar_of task) (asked_over ready.machine.timed lists)))) where
+    (IsOnePart (λ lists. IsRun trace cycles (change ready.machine.timed last) lists (lent account s0 s1) result
+    × lanes liar (asked_over ready.machine.timed lists)))) where
   abbrev lists : List (List Record)
   lists = p.done.lists
-
-  -- the sink before the run, behind the commit lines, and at the end
-  abbrev old : Option (List ℕ)
-  old = contents s0
-
-  abbrev mid : Option (List ℕ)
-  mid = contents s1
-
-  abbrev new : Option (List ℕ)
-  new = contents s2
-
-  abbrev before : ℕ
-  before = faults s0
-
-  abbrev between : ℕ
-  between = faults s1
-
-  abbrev now : ℕ
-  now = faults s2
 
   abbrev run_text : List ℕ
   run_text = asked_trace options.trace (start_in options.setup bytes) last.count ++ text_of last (shown_dump options.dump)
 
-  w : Went trace cycles ready.machine.timed lists last old mid before between result
-  w =
-      went trace cycles liar ready.machine.timed lists last (sink_change contents faults s0 s1) result
-      (subst (λ (k : Task). Does k (change ready.machine.timed last) lists (sink_change contents faults s0 s1) result) task_is p.done.done.0)
+  abbrev w : IsRun trace cycles (change ready.machine.timed last) lists (lent account s0 s1) result
+  w = p.done.done.0
 
   ran : last ≡ run_of (new_timed options.setup.config (start_in options.setup bytes)) lists
   ran = run_from_new gives options.setup options.cycles bytes ready core last after fits is _ p
 
-  puts_trace : Puts (asked_trace options.trace (start_in options.setup bytes) last.count) old mid before between result
+  puts_trace : PutsTo (lent account s0 s1) (asked_trace options.trace (start_in options.setup bytes) last.count) result
   puts_trace =
-      subst (λ (b : Bool). Puts (asked_trace b (start_in options.setup bytes) last.count) old mid before between result) t
-      (subst (λ (x : List ℕ). Puts x old mid before between result)
+      subst (λ (b : Bool). PutsTo (lent account s0 s1) (asked_trace b (start_in options.setup bytes) last.count) result) t
+      (subst (λ (x : List ℕ). PutsTo (lent account s0 s1) x result)
       (ap (λ (m : Timed). commits_if trace m lists) is.begun ∙ trace-run options.setup.config (start_in options.setup bytes) lists last trace fits refl ran) w.put)
 
   abbrev of_files : IsRunOfFiles gives options.setup options.cycles bytes (change core after) last
@@ -235,44 +205,45 @@ module _ {C S : Type 0} (gives : Meaning C) (options : RunOptions) (bytes : File
   asks : AsksInRun options.setup options.liar bytes lists lanes
   asks =
       subst (λ (m : Timed). lanes options.liar (asked_over m lists)) is.begun
-      (subst (λ (l : Option LanePlace). lanes l (asked_over ready.machine.timed lists)) (ap (λ (k : Task). liar_of k) task_is ∙ its_liar trace cycles liar ∙ v) p.done.done.1)
+      (subst (λ (l : Option LanePlace). lanes l (asked_over ready.machine.timed lists)) v p.done.done.1)
 
-  both : result ≡ Ok tt → (r : Result (Unit {0}) SinkFailed) → Puts (text_of last (shown_dump dump)) mid new between now r → Puts run_text old new before now r
+  both : result ≡ Ok tt → (r : Result (Unit {0}) SinkFailed) → PutsTo (lent account s1 s2) (text_of last (shown_dump dump)) r → PutsTo (lent account s0 s2) run_text r
   both ok r puts =
-      puts_then _ _ old mid new before between now r (subst (λ (x : Result (Unit {0}) SinkFailed). Puts (asked_trace options.trace (start_in options.setup bytes) last.count) old mid before between x) ok puts_trace)
-      (subst (λ (x : Option DumpRange). Puts (text_of last (shown_dump x)) mid new between now r) d puts)
+      puts_then account _ _ s0 s1 s2 r (subst (λ (x : Result (Unit {0}) SinkFailed). PutsTo (lent account s0 s1) (asked_trace options.trace (start_in options.setup bytes) last.count) x) ok puts_trace)
+      (subst (λ (x : Option DumpRange). PutsTo (lent account s1 s2) (text_of last (shown_dump x)) r) d puts)
 
   -- what was put before the text that shows the machine
-  past : result ≡ Ok tt → (e : SinkFailed) → Puts (text_of last (shown_dump dump)) mid new between now (Err e)
-      → AppendsPast old new (asked_trace options.trace (start_in options.setup bytes) last.count) run_text
+  past : result ≡ Ok tt → (e : SinkFailed) → PutsTo (lent account s1 s2) (text_of last (shown_dump dump)) (Err e)
+      → TakesPast (lent account s0 s2) (asked_trace options.trace (start_in options.setup bytes) last.count) run_text
   past ok e puts =
-      puts_past _ _ old mid new before between now e (subst (λ (x : Result (Unit {0}) SinkFailed). Puts (asked_trace options.trace (start_in options.setup bytes) last.count) old mid before between x) ok puts_trace)
-      (subst (λ (x : Option DumpRange). Puts (text_of last (shown_dump x)) mid new between now (Err e)) d puts)
+      puts_past account _ _ s0 s1 s2 e (subst (λ (x : Result (Unit {0}) SinkFailed). PutsTo (lent account s0 s1) (asked_trace options.trace (start_in options.setup bytes) last.count) x) ok puts_trace)
+      (subst (λ (x : Option DumpRange). PutsTo (lent account s1 s2) (text_of last (shown_dump x)) (Err e)) d puts)
 
-  pub wrote_run : result ≡ Ok tt → (status : ℕ) → status ≡ end_status (end_of last.arch.end) → Puts {E = SinkFailed} (text_of last (shown_dump dump)) mid new between now (Ok tt)
-      → WritesWhole gives (Run options) bytes (asking core after lanes) (sink_change contents faults s0 s2) status
+  pub wrote_run : result ≡ Ok tt → (status : ℕ) → status ≡ end_status (end_of last.arch.end) → PutsTo {E = SinkFailed} (lent account s1 s2) (text_of last (shown_dump dump)) (Ok tt)
+      → WritesWhole (work_of gives (asking core after lanes)) (Run options) bytes (lent account s0 s2) status
   wrote_run ok status says puts =
       record {
         text = run_text;
         means = record {
-          last = last;
-          of_files = of_files;
-          written = inl (record { whole = whole_ok ok; says = ends_with options.setup options.cycles (start_in options.setup bytes) last status (whole_ok ok) says; lines = refl; cut = tt });
+          means = record {
+            last = last;
+            of_files = of_files;
+            written = inl (record { whole = whole_ok ok; says = ends_with options.setup options.cycles (start_in options.setup bytes) last status (whole_ok ok) says; lines = refl; cut = tt });
+          };
+          lanes = asks;
         };
-        lanes = asks;
         written = (let q = both ok (Ok tt) puts in record { appended = q.ok; uncounted = q.uncounted });
       }
 
-  pub cut_run : result ≡ Ok tt → (e : SinkFailed) → Puts (text_of last (shown_dump dump)) mid new between now (Err e)
-      → WritesPart gives (Run options) bytes (asking core after lanes) (sink_change contents faults s0 s2)
+  pub cut_run : result ≡ Ok tt → (e : SinkFailed) → PutsTo (lent account s1 s2) (text_of last (shown_dump dump)) (Err e)
+      → WritesPart (work_of gives (asking core after lanes)) (Run options) bytes (lent account s0 s2)
   cut_run ok e puts =
       let q = both ok (Err e) puts in
       record {
         rose = q.failed;
         put = asked_trace options.trace (start_in options.setup bytes) last.count;
         text = run_text;
-        means = record { last = last; of_files = of_files; written = inl (record { whole = whole_ok ok; says = tt; lines = refl; cut = refl }) };
-        lanes = asks;
+        means = record { means = record { last = last; of_files = of_files; written = inl (record { whole = whole_ok ok; says = tt; lines = refl; cut = refl }) }; lanes = asks };
         written = past ok e puts;
       }
 
@@ -280,17 +251,19 @@ module _ {C S : Type 0} (gives : Meaning C) (options : RunOptions) (bytes : File
   start = new_timed options.setup.config (start_in options.setup bytes)
 
   -- where the sink failed among the commit lines
-  cut_lines : (e : SinkFailed) → result ≡ Err e → CutLines trace start lists old mid
-  cut_lines e err =
-      subst (λ (m : Timed). CutLines trace m lists old mid) is.begun
-      (subst (λ (r : Result (Unit {0}) SinkFailed). OnErr r (CutLines trace ready.machine.timed lists old mid)) err w.cut)
+  abbrev CutLines : Timed → Type 0
+  CutLines m = (trace ≡ true) × BeforeLast lists (λ earlier. TakesPast (lent account s0 s1) (commits_if true m earlier) (commits_if true m lists))
 
-  lines_to : (lists : List (List Record)) (m : Timed) → m ≡ run_of start lists → cycles_text trace_lines start lists ≡ trace_of (start_in options.setup bytes) m.count
+  cut_lines : (e : SinkFailed) → result ≡ Err e → CutLines start
+  cut_lines e err =
+      subst CutLines is.begun (subst (λ (r : Result (Unit {0}) SinkFailed). OnErr r (CutLines ready.machine.timed)) err w.cut)
+
+  lines_to : (lists : List (List Record)) (m : Timed) → m ≡ run_of start lists → commits_if true start lists ≡ trace_of (start_in options.setup bytes) m.count
   lines_to lists m ran = trace-run options.setup.config (start_in options.setup bytes) lists m true fits refl ran
 
-  pub cut_trace : (e : SinkFailed) → result ≡ Err e → WritesPart gives (Run options) bytes (asking core after lanes) (sink_change contents faults s0 s1)
+  pub cut_trace : (e : SinkFailed) → result ≡ Err e → WritesPart (work_of gives (asking core after lanes)) (Run options) bytes (lent account s0 s1)
   cut_trace e err =
-      let q = subst (λ (x : Result (Unit {0}) SinkFailed). Puts (asked_trace options.trace (start_in options.setup bytes) last.count) old mid before between x) err puts_trace in
+      let q = subst (λ (x : Result (Unit {0}) SinkFailed). PutsTo (lent account s0 s1) (asked_trace options.trace (start_in options.setup bytes) last.count) x) err puts_trace in
       let c = cut_lines e err in
       let b = c.1 in
       let put : List ℕ = trace_of (start_in options.setup bytes) (run_of start b.earlier).count in
@@ -299,15 +272,17 @@ module _ {C S : Type 0} (gives : Meaning C) (options : RunOptions) (bytes : File
         put = put;
         text = trace_of (start_in options.setup bytes) last.count;
         means = record {
-          last = last;
-          of_files = of_files;
-          written = inr (record {
-            traced = sym t ∙ c.0;
-            lines = refl;
-            cut = record { earlier = b.earlier; last = b.last; in_order = b.in_order; holds = refl };
-          });
+          means = record {
+            last = last;
+            of_files = of_files;
+            written = inr (record {
+              traced = sym t ∙ c.0;
+              lines = refl;
+              cut = record { earlier = b.earlier; last = b.last; in_order = b.in_order; holds = refl };
+            });
+          };
+          lanes = asks;
         };
-        lanes = asks;
-        written = subst (λ (x : List ℕ). AppendsPast old mid x (trace_of (start_in options.setup bytes) last.count)) (lines_to b.earlier (run_of start b.earlier) refl)
-            (subst (λ (x : List ℕ). AppendsPast old mid (cycles_text trace_lines start b.earlier) x) (lines_to lists last ran) b.holds);
+        written = subst (λ (x : List ℕ). TakesPast (lent account s0 s1) x (trace_of (start_in options.setup bytes) last.count)) (lines_to b.earlier (run_of start b.earlier) refl)
+            (subst (λ (x : List ℕ). TakesPast (lent account s0 s1) (commits_if true start b.earlier) x) (lines_to lists last ran) b.holds);
       }

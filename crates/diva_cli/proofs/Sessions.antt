@@ -1,6 +1,7 @@
 -- Parts as what is handed to a machine, and what holds of a session, of which a run is one.
-use Rattle.std.proofs.Common.{◌≡◌, ◌⊎◌, ℕ, suc, ◌+◌, ◌*◌, ◌≤◌, ◌/◌, List, [], ◌∷◌, ◌++◌, length, map, Result, Ok, Err, OnOk, OnErr, IfOk, IfErr, refl, sym, ◌∙◌, ap, append-nil, arith, subst, inl, inr}
+use Rattle.std.proofs.Common.{◌≡◌, ◌⊎◌, ℕ, suc, ◌+◌, ◌*◌, ◌≤◌, ◌/◌, List, [], ◌∷◌, ◌++◌, length, map, None, Result, Ok, Err, OnOk, OnErr, IfOk, IfErr, refl, sym, ◌∙◌, ap, append-nil, arith, subst, inl, inr}
 use Rattle.std.proofs.Math.Nat.{div-mul-le_self}
+use Rattle.diva_outside.specs.Sink.{PutsTo, LentSink}
 use Rattle.diva_isa.specs.State.{State}
 use Rattle.diva_isa.specs.Step.{steps}
 use Rattle.diva_isa.specs.declared.record.Record.{Record}
@@ -37,7 +38,6 @@ use Rattle.diva_tape.proofs.Returning.{scalar_legs, scalar_legs_right}
 use Rattle.diva_tape.proofs.Righting.{rule_right}
 use Rattle.diva_args.specs.Options.{DebugOptions, Setup}
 use Rattle.diva_args.specs.declared.job.CoreChoice.{CoreChoice}
-use Rattle.diva_args.specs.declared.job.CoreChoice.TheVariants as choice
 use Rattle.diva_args.specs.declared.job.Job.TheVariants.{Debug}
 use Rattle.diva_debug.specs.Moves.{Standing}
 use Rattle.diva_debug.specs.declared.command.Command.{Command}
@@ -46,17 +46,20 @@ use Rattle.diva_outside.specs.declared.sink.SinkFailed.{SinkFailed}
 use Rattle.diva_cli.specs.declared.driving.CoreInUse.{CoreInUse}
 use Rattle.diva_cli.specs.declared.loading.Ready.{Ready}
 use Rattle.diva_cli.specs.declared.loading.SessionReady.{SessionReady}
-use Rattle.diva_cli.specs.Changes.{PutsTo, SinkChange, change, asking}
+use Rattle.diva_cli.specs.Changes.{LanesAsked, change, asking}
 use Rattle.diva_cli.specs.Cuts.{BeforeLast}
 use Rattle.diva_cli.specs.DebugTexts.{HasReplies}
 use Rattle.diva_cli.specs.Driven.{AreHanded, ByCalls, ByOther, IsDriven, scripted_lists, scripted_rule}
-use Rattle.diva_cli.specs.Parts.{IsReady, IsSession, WritesPart, WritesWhole, core_for, no_lanes}
+use Rattle.diva_cli.specs.Parts.{IsReady, IsSession, core_for}
+use Rattle.diva_process.specs.Writing.{WritesPart, WritesWhole}
 use Rattle.diva_cli.specs.Replies.{AreLed, IsMoved, IsTakenBack, LeadsBy, at_start, cycles_of, newest_after, next_standing, replies_of}
 use Rattle.diva_cli.specs.Runs.{IsRunFrom, RunsAreReadOff}
 use Rattle.diva_cli.specs.Sessions.{IsSessionFrom, IsSessionOfFiles, IsUnflushed, start_in}
 use Rattle.diva_cli.specs.Tasks.{AreHandedBy, IsReplied, PlaysBy}
-use Rattle.diva_cli.specs.Wanted.{FileBytes}
+use Rattle.diva_process.specs.Programs.{FileBytes}
 use Rattle.diva_cli.proofs.Commanding.{CutAt}
+use Rattle.diva_cli.specs.Program.{work_of}
+use Rattle.diva_args.specs.declared.job.CoreChoice.TheVariants as choice
 
 -- ---- a core that goes by its calls alone
 
@@ -293,16 +296,17 @@ module _ {C : Type 0} (gives : Meaning C) (setup : Setup) (bytes : FileBytes) (r
 -- ---- the replies of a session
 
 module _ {C S : Type 0} (gives : Meaning C) (options : DebugOptions) (bytes : FileBytes) (session : SessionReady) (core : C) (last : Timed) (after : C)
-    (sink : SinkChange S) (result : Result (Unit {0}) SinkFailed)
+    (sink : LentSink S) (result : Result (Unit {0}) SinkFailed)
     (fits : IsConfig options.setup.config) (is : IsSession options bytes session) (commands : List Command) (same : commands ≡ session.commands.items)
-    (begun : Timed) (new : begun ≡ session.ready.machine.timed)
+    (begun : Timed) (new : begun ≡ session.ready.machine.timed) (lanes : LanesAsked)
     (played : PlaysBy gives session.ready.core session.ready.script (change begun last) (change core after)
-    (λ parts. IsReplied commands begun parts sink result)) where
+    (λ parts. IsReplied commands begun parts sink result × lanes None [])) where
   abbrev p : PlaysBy gives session.ready.core session.ready.script (change session.ready.machine.timed last) (change core after)
       (λ parts. IsReplied commands session.ready.machine.timed parts sink result)
   p =
       subst (λ (m : Timed). PlaysBy gives session.ready.core session.ready.script (change m last) (change core after)
-      (λ parts. IsReplied commands m parts sink result)) new played
+      (λ parts. IsReplied commands m parts sink result)) new
+      (record { parts = played.parts; ran = played.ran; each = played.each; handed = played.handed; done = played.done.0 })
 
   abbrev start : State
   start = start_in options.setup bytes
@@ -363,27 +367,25 @@ module _ {C S : Type 0} (gives : Meaning C) (options : DebugOptions) (bytes : Fi
   puts : PutsTo sink text result
   puts = subst (λ (m : Timed). PutsTo sink (replies_of m.arch p.done.done at_start (newest_after m p.parts)) result) is.ready.begun p.done.put
 
-  pub wrote_replies : result ≡ Ok tt → WritesWhole gives (Debug options) bytes (asking core after no_lanes) sink 0
+  pub wrote_replies : result ≡ Ok tt → WritesWhole (work_of gives (asking core after lanes)) (Debug options) bytes sink 0
   wrote_replies ok =
       record {
         text = text;
-        means = has_replies (Ok 0) (refl, subst (λ (r : Result (Unit {0}) SinkFailed). OnOk r (p.done.left ≡ [])) ok p.done.whole) tt;
-        lanes = refl;
+        means = record { means = has_replies (Ok 0) (refl, subst (λ (r : Result (Unit {0}) SinkFailed). OnOk r (p.done.left ≡ [])) ok p.done.whole) tt; lanes = played.done.1 };
         written = (let q = subst (λ (r : Result (Unit {0}) SinkFailed). PutsTo sink text r) ok puts in record { appended = q.ok; uncounted = q.uncounted });
       }
 
-  pub cut_replies : (e : SinkFailed) → result ≡ Err e → WritesPart gives (Debug options) bytes (asking core after no_lanes) sink
+  pub cut_replies : (e : SinkFailed) → result ≡ Err e → WritesPart (work_of gives (asking core after lanes)) (Debug options) bytes sink
   cut_replies e err =
       let q = subst (λ (r : Result (Unit {0}) SinkFailed). PutsTo sink text r) err puts in
-      let b : CutAt p.done.done first p.parts (sink.contents sink.before) (sink.contents sink.after) =
-      subst (λ (m : Timed). CutAt p.done.done m p.parts (sink.contents sink.before) (sink.contents sink.after)) is.ready.begun
-      (subst (λ (r : Result (Unit {0}) SinkFailed). OnErr r (CutAt p.done.done session.ready.machine.timed p.parts (sink.contents sink.before) (sink.contents sink.after))) err p.done.cut) in
+      let b : CutAt p.done.done first p.parts sink =
+      subst (λ (m : Timed). CutAt p.done.done m p.parts sink) is.ready.begun
+      (subst (λ (r : Result (Unit {0}) SinkFailed). OnErr r (CutAt p.done.done session.ready.machine.timed p.parts sink)) err p.done.cut) in
       let put : List ℕ = replies_of start b.earlier at_start (newest_after first p.parts) in
       record {
         rose = q.failed;
         put = put;
         text = text;
-        means = has_replies (Err put) tt (record { earlier = b.earlier; last = b.last; in_order = b.in_order; holds = refl });
-        lanes = refl;
+        means = record { means = has_replies (Err put) tt (record { earlier = b.earlier; last = b.last; in_order = b.in_order; holds = refl }); lanes = played.done.1 };
         written = b.holds;
       }

@@ -30,13 +30,16 @@ use Rattle.diva_args.specs.Options.{SoakOptions, longest_soak}
 use Rattle.diva_args.specs.declared.job.CoreChoice.{CoreChoice}
 use Rattle.diva_args.specs.declared.job.CoreChoice.TheVariants.{Own, Scalar}
 use Rattle.diva_args.specs.declared.job.Job.TheVariants.{Soak}
-use Rattle.diva_cli.specs.Changes.{PutsTo, SinkChange, change, asking}
-use Rattle.diva_cli.specs.Wanted.{FileBytes}
+use Rattle.diva_outside.specs.Sink.{PutsTo, LentSink}
+use Rattle.diva_cli.specs.Changes.{change, asking}
+use Rattle.diva_process.specs.Programs.{FileBytes}
 use Rattle.diva_cli.specs.SoakTexts.{HasSoaked, IsSoakRun, soak_cycles, soak_setup, soak_start}
 use Rattle.diva_cli.specs.Driven.{AreHanded, ByLegs}
-use Rattle.diva_cli.specs.Parts.{Soaks, WritesPart, WritesWhole, no_lanes}
+use Rattle.diva_cli.specs.Parts.{Soaks, no_lanes}
+use Rattle.diva_process.specs.Writing.{WritesPart, WritesWhole}
 use Rattle.diva_cli.proofs.Handing.{drives_for, one_leg}
 use Rattle.diva_cli.proofs.Sessions.{handed_for, run_from_start}
+use Rattle.diva_cli.specs.Program.{work_of}
 
 pub sizes_fit : IsConfig default_config
 sizes_fit = record {
@@ -156,7 +159,7 @@ scalar_run gives options core last ahead few s =
 
 module _ {C S : Type 0} (gives : Meaning C) (options : SoakOptions) (bytes : FileBytes) (core : C) (ahead : Ahead) (first second : Timed) (after : C)
     (few : options.instructions ≤ longest_soak) (one : Soaks IsScalarCall options (change new_scalar ahead) first) (two : Soaks gives options (change core after) second)
-    (sink : SinkChange S) where
+    (sink : LentSink S) where
   abbrev first_end : (first.arch ≡ steps (table_halts options few).after (soak_start options)) × (first.count ≡ (table_halts options few).after)
   first_end = at_end IsScalarCall options new_scalar first ahead few one
 
@@ -181,8 +184,8 @@ module _ {C S : Type 0} (gives : Meaning C) (options : SoakOptions) (bytes : Fil
     whole = whole;
   }
 
-  pub wrote_soaked : PutsTo {E = SinkFailed} sink (soak_text first second) (Ok tt) → WritesWhole gives (Soak options) bytes (asking core after no_lanes) sink 0
-  wrote_soaked put = record { text = soak_text first second; means = means (Ok 0) refl; lanes = refl; written = record { appended = put.ok; uncounted = put.uncounted } }
+  pub wrote_soaked : PutsTo {E = SinkFailed} sink (soak_text first second) (Ok tt) → WritesWhole (work_of gives (asking core after no_lanes)) (Soak options) bytes sink 0
+  wrote_soaked put = record { text = soak_text first second; means = record { means = means (Ok 0) refl; lanes = refl }; written = record { appended = put.ok; uncounted = put.uncounted } }
 
-  pub cut_soaked : (e : SinkFailed) → PutsTo sink (soak_text first second) (Err e) → WritesPart gives (Soak options) bytes (asking core after no_lanes) sink
-  cut_soaked e put = record { rose = put.failed; put = []; text = soak_text first second; means = means (Err []) tt; lanes = refl; written = past_nothing (sink.contents sink.before) (sink.contents sink.after) (soak_text first second) put.part }
+  pub cut_soaked : (e : SinkFailed) → PutsTo sink (soak_text first second) (Err e) → WritesPart (work_of gives (asking core after no_lanes)) (Soak options) bytes sink
+  cut_soaked e put = record { rose = put.failed; put = []; text = soak_text first second; means = record { means = means (Err []) tt; lanes = refl }; written = past_nothing sink (soak_text first second) put.part }

@@ -9,7 +9,7 @@ use Rattle.diva_args.specs.declared.job.LanePlace.{LanePlace}
 use Rattle.diva_cli.specs.Changes.{Change}
 use Rattle.diva_cli.specs.Runs.{HasRun, IsBrokenOff, IsShown}
 use Rattle.diva_cli.specs.Sessions.{start_in}
-use Rattle.diva_cli.specs.Wanted.{FileBytes}
+use Rattle.diva_process.specs.Programs.{FileBytes}
 
 written_with_liar : (options : RunOptions) (liar : Option LanePlace) (start : State) (lists : List (List Record)) (last : Timed) (ended : Result ℕ (List ℕ)) (text : List ℕ)
     → IsShown options start last ended text ⊎ IsBrokenOff options start lists last ended text

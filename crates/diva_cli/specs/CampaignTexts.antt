@@ -22,7 +22,7 @@ use Rattle.diva_args.specs.declared.job.CoreChoice.TheVariants.{Lockstep}
 use Rattle.diva_trace.specs.declared.report.Tally.{Tally}
 use Rattle.diva_trace.specs.Text.{campaign_text}
 use Rattle.diva_cli.specs.Changes.{Change}
-use Rattle.diva_cli.specs.Wanted.{FileBytes}
+use Rattle.diva_process.specs.Programs.{FileBytes}
 use Rattle.diva_cli.specs.Driven.{scripted_rule}
 use Rattle.diva_cli.specs.Runs.{EndsWith, IsRunFrom, IsWhole}
 

@@ -9,7 +9,7 @@ use Rattle.diva_args.specs.Options.{DebugOptions}
 use Rattle.diva_debug.specs.Reading.{commands_of}
 use Rattle.diva_debug.specs.declared.command.Command.{Command}
 use Rattle.diva_cli.specs.Changes.{Change}
-use Rattle.diva_cli.specs.Wanted.{FileBytes}
+use Rattle.diva_process.specs.Programs.{FileBytes}
 use Rattle.diva_cli.specs.Sessions.{IsSessionOfFiles, start_in}
 use Rattle.diva_cli.specs.Cuts.{BeforeLast}
 use Rattle.diva_cli.specs.Replies.{AreLed, at_start, cycles_of, newest_after, replies_of}

@@ -1,21 +1,21 @@
--- The text of `log` and of `draw`, the commands of the program that draws runs: what becomes of each claim in each cycle, told from what
+-- The text of `log` and of `draw`, the commands of the workbench: what becomes of each claim in each cycle, told from what
 -- is seen of the machine before it and behind it.
--- Cited in `Texts.antt`, for `pipeline_top`.
+-- Cited in `Lab.antt`, for `lab_top`.
 use Rattle.std.specs.Prelude.{◌≡◌, ◌⊎◌, ◌+◌, List, [], ◌∷◌, ◌++◌, ℕ, Result, Err, IfOk, IfErr}
 use Rattle.diva_outside.specs.Text.{Text}
 use Rattle.diva_isa.specs.State.{State}
 use Rattle.diva_isa.specs.declared.record.Record.{Record}
 use Rattle.diva_core.specs.History.{Meaning}
 use Rattle.diva_core.specs.Timed.{Timed, new_timed}
-use Rattle.diva_args.specs.declared.job.DrawOptions.{DrawOptions}
-use Rattle.diva_args.specs.declared.job.Format.{Format}
-use Rattle.diva_args.specs.declared.job.Format.TheVariants.{Log, Drawing}
+use Rattle.diva_args.specs.declared.lab.DrawOptions.{DrawOptions}
+use Rattle.diva_args.specs.declared.lab.Format.{Format}
+use Rattle.diva_args.specs.declared.lab.Format.TheVariants.{Log, Drawing}
 use Rattle.diva_drawing.specs.Drawing.{drawn_cycle, drawn_end}
 use Rattle.diva_drawing.specs.Log.{log_begin, log_cycle}
 use Rattle.diva_drawing.specs.Rows.{Pen, begun_rows}
 use Rattle.diva_drawing.specs.Snapshot.{AreSnapshots, IsSnapshot, Snapshot}
 use Rattle.diva_cli.specs.Changes.{Change}
-use Rattle.diva_cli.specs.Wanted.{FileBytes}
+use Rattle.diva_process.specs.Programs.{FileBytes}
 use Rattle.diva_cli.specs.Cuts.{BeforeLast}
 use Rattle.diva_cli.specs.Runs.{EndsWith, IsRunOfFiles, IsWhole}
 use Rattle.diva_cli.specs.Sessions.{start_in}

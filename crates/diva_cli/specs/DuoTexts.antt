@@ -25,7 +25,7 @@ use Rattle.diva_args.specs.declared.job.HartCore.TheVariants.{Scalar, Lockstep, 
 use Rattle.diva_trace.specs.declared.report.Dump.{Dump}
 use Rattle.diva_trace.specs.Text.{harts_text}
 use Rattle.diva_cli.specs.Changes.{Change}
-use Rattle.diva_cli.specs.Wanted.{FileBytes}
+use Rattle.diva_process.specs.Programs.{FileBytes}
 use Rattle.diva_cli.specs.Runs.{end_status, shown_dump}
 
 -- ---- the run

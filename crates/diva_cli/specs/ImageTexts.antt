@@ -12,7 +12,7 @@ use Rattle.diva_hart.specs.Start.{start_of}
 use Rattle.diva_asm.specs.Listing.{listing_of}
 use Rattle.diva_asm.specs.Sources.{source_of}
 use Rattle.diva_cli.specs.Changes.{Change}
-use Rattle.diva_cli.specs.Wanted.{FileBytes}
+use Rattle.diva_process.specs.Programs.{FileBytes}
 
 -- the core stays as it was, and the status is 0 where the text was written whole
 pub record IsAlone {C : Type 0} (core : Change C) (ended : Result ℕ Text) : Type 0 where

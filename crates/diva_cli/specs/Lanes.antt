@@ -1,5 +1,5 @@
 -- The lanes that are asked where an option says that one lies, and what they are asked.
--- Cited by `work`, `Lanes::own`, `top` and `pipeline_top`.
+-- Cited by `work`, `Lanes::own`, `top` and `lab_top`.
 use Rattle.std.specs.Prelude.{◌≡◌, List, [], ◌∷◌, Option, Some, None}
 use Rattle.diva_core.specs.declared.differences.Diff.{Diff}
 use Rattle.diva_args.specs.declared.job.LanePlace.{LanePlace}

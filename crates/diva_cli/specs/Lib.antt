@@ -1,10 +1,8 @@
 -- What the contracts of this crate cite.
-pub mod Asked
 pub mod Changes
 pub mod Lanes
 pub mod Lines
 pub mod Wanted
-pub mod Stops
 pub mod Driven
 pub mod Sessions
 pub mod Cuts
@@ -16,11 +14,11 @@ pub mod ImageTexts
 pub mod SoakTexts
 pub mod DuoTexts
 pub mod CampaignTexts
-pub mod DrawTexts
 pub mod Texts
-pub mod Answers
-pub mod Statuses
-pub mod Promises
+pub mod Watched
+pub mod DrawTexts
+pub mod Program
+pub mod Lab
 pub mod Sure
 pub mod Determined
 -- what only private contracts cite

@@ -1,12 +1,10 @@
 -- What the parts of the program promise one another.
 -- Only private contracts of this crate cite this: a reader of its promises can pass over it.
-use Rattle.std.specs.Prelude.{◌≡◌, ◌≤◌, ℕ, true, List, length, Option, Some, None, Result, Ok, Err, IfOk, IfErr}
+use Rattle.std.specs.Prelude.{◌≡◌, ◌≤◌, ℕ, true, List, length, Option, Some, None, Ok}
 use Rattle.std.specs.List.{All}
 use Rattle.diva_outside.specs.Files.{Contents}
-use Rattle.diva_outside.specs.Text.{Text}
 use Rattle.diva_outside.specs.declared.files.What.{What}
 use Rattle.diva_outside.specs.declared.text_fault.TextFault.{TextFault}
-use Rattle.diva_outside.specs.declared.text_fault.TextFault.TheVariants as text
 use Rattle.diva_outside.specs.declared.files.What.TheVariants.{Script, Tape as TapeFile, Commands}
 use Rattle.diva_isa.specs.State.{goes_on}
 use Rattle.diva_isa.specs.declared.record.Record.{Record}
@@ -19,12 +17,7 @@ use Rattle.diva_debug.specs.Moves.{IsShort}
 use Rattle.diva_debug.specs.Reading.{commands_of}
 use Rattle.diva_debug.specs.declared.command.Command.{Command}
 use Rattle.diva_args.specs.declared.job.CoreChoice.{CoreChoice}
-use Rattle.diva_args.specs.declared.job.CoreChoice.TheVariants as choice
-use Rattle.diva_args.specs.declared.fault.ArgsFault.{ArgsFault}
-use Rattle.diva_args.specs.declared.fault.ArgsFault.TheVariants.{Usage, Memory as NoWords}
 use Rattle.diva_args.specs.declared.job.HartCore.{HartCore}
-use Rattle.diva_args.specs.declared.job.HartCore.TheVariants as hart
-use Rattle.diva_args.specs.declared.job.Job.{Job}
 use Rattle.diva_args.specs.declared.campaign.CampaignOptions.{CampaignOptions}
 use Rattle.diva_args.specs.declared.job.Job.TheVariants.{Campaign, Duo}
 use Rattle.diva_cli.specs.declared.campaign.CampaignRuns.{CampaignRuns}
@@ -32,50 +25,43 @@ use Rattle.diva_cli.specs.declared.driving.CoreInUse.{CoreInUse}
 use Rattle.diva_cli.specs.declared.driving.CoreInUse.TheVariants.{Own, Lockstep, Scalar, Silent, Flood, Echo, Noise, Tape}
 use Rattle.diva_cli.specs.declared.duo.DuoReady.{DuoReady}
 use Rattle.diva_cli.specs.declared.duo.HartCores.{HartCores}
-use Rattle.diva_cli.specs.declared.duo.HartCores.TheVariants as cores
 use Rattle.diva_cli.specs.declared.loading.Ready.{Ready}
 use Rattle.diva_cli.specs.declared.loading.SessionReady.{SessionReady}
 use Rattle.diva_cli.specs.declared.soak.SoakReady.{SoakReady}
-use Rattle.diva_cli.specs.declared.stop.Stop.{Stop}
-use Rattle.diva_cli.specs.declared.stop.Stop.TheVariants.{Memory, Unread, Refused}
-use Rattle.diva_cli.specs.declared.stop.Failure.{Failure}
-use Rattle.diva_cli.specs.declared.stop.Failure.TheVariants.{Cut, Memory as NoMemory}
-use Rattle.diva_cli.specs.Asked.{Asked}
-use Rattle.diva_cli.specs.Changes.{Asking, Change, HasFailed, IsUncounted, LanesAsked, SinkChange, Takes, TakesPart, TakesPast, change, core_of}
-use Rattle.diva_cli.specs.Lines.{unreadable_line, refused_line}
-use Rattle.diva_cli.specs.Wanted.{Wanted, FileBytes, HasFault, IsSound, AreSound, file_if, machine_files, session_files, tape_name, wanted}
+use Rattle.diva_process.specs.declared.stop.Stop.{Stop}
+use Rattle.diva_process.specs.declared.stop.Stop.TheVariants.{Memory, Unread, Refused}
+use Rattle.diva_process.specs.Programs.{FileBytes, Wanted}
+use Rattle.diva_process.specs.Stops.{AreSound, IsSound}
+use Rattle.diva_cli.specs.Changes.{Change, LanesAsked}
+use Rattle.diva_cli.specs.Wanted.{file_if, file_rules, first_fault, machine_files, session_files, tape_name, wanted}
 use Rattle.diva_cli.specs.Sessions.{AreRows, AreLists, start_in}
 use Rattle.diva_cli.specs.DuoTexts.{duo_start}
 use Rattle.diva_cli.specs.CampaignTexts.{campaign_start, campaign_tally, first_run}
 use Rattle.diva_cli.specs.SoakTexts.{soak_cycles, soak_start}
-use Rattle.diva_cli.specs.Stops.{StopsAt, IsUnread, StopsLoading}
-use Rattle.diva_cli.specs.Texts.{AsksLanes, HasText}
+use Rattle.diva_outside.specs.declared.text_fault.TextFault.TheVariants as text
+use Rattle.diva_args.specs.declared.job.CoreChoice.TheVariants as choice
+use Rattle.diva_args.specs.declared.job.HartCore.TheVariants as hart
+use Rattle.diva_cli.specs.declared.duo.HartCores.TheVariants as cores
 
 -- ---- loading
-
--- why the loading of these files stopped
-abbrev pub Stops : Contents → (before now : What → ℕ) → List Wanted → Stop → Type 0
-Stops contents before now ws Memory = IsUncounted (change before now)
-Stops contents before now ws (Unread what) = StopsAt contents (IsUnread contents before now (unreadable_line what)) ws
-Stops contents before now ws (Refused what kind place) = StopsAt contents (StopsLoading contents before now (refused_line what kind place)) ws
 
 -- the file is sound, and this holds of its bytes
 pub record Holds (contents : Contents) (w : Wanted) (this : List ℕ → Type 0) : Type 0 where
   pub bytes : List ℕ
-  pub sound : IsSound contents w bytes
+  pub sound : IsSound file_rules contents w bytes
   pub holds : this bytes
 
 -- the same of a file that may not be named: then nothing is said of the file
 pub record HoldsIf (contents : Contents) (what : What) (name : Option (List ℕ)) (this : List ℕ → Type 0) : Type 0 where
   pub bytes : List ℕ
-  pub sound : AreSound contents (file_if what name) (λ _. bytes)
+  pub sound : AreSound file_rules contents (file_if what name) (λ _. bytes)
   pub holds : this bytes
 
 -- the stop says the first fault of a file's bytes; or memory ran out, which says nothing of them
 abbrev pub SaysFault : What → (room : ℕ) → List ℕ → Stop → Type 0
 SaysFault what room bytes Memory = Unit {0}
 SaysFault what room bytes (Unread said) = ⊥
-SaysFault what room bytes (Refused said kind place) = (said ≡ what) × HasFault what room bytes kind place
+SaysFault what room bytes (Refused said kind place) = (said ≡ what) × (first_fault what room bytes ≡ Some (record { kind = kind; place = place }))
 
 -- a file of this kind is refused for the fault of its text; or memory ran out
 abbrev pub stop_of : What → TextFault → Stop
@@ -122,7 +108,7 @@ pub record IsReady (setup : Setup) (bytes : FileBytes) (ready : Ready) : Type 0 
 -- the same, of the bytes of sound files with these names
 pub record HoldsReady (contents : Contents) (setup : Setup) (ready : Ready) : Type 0 where
   pub bytes : FileBytes
-  pub sound : AreSound contents (machine_files setup) bytes
+  pub sound : AreSound file_rules contents (machine_files setup) bytes
   pub is : IsReady setup bytes ready
 
 -- the machine, the script and the core are those of a session's setup, and the commands those of these bytes
@@ -133,7 +119,7 @@ pub record IsSession (options : DebugOptions) (bytes : FileBytes) (session : Ses
 -- the same, of the bytes of sound files with these names
 pub record HoldsSession (contents : Contents) (options : DebugOptions) (session : SessionReady) : Type 0 where
   pub bytes : FileBytes
-  pub sound : AreSound contents (session_files options) bytes
+  pub sound : AreSound file_rules contents (session_files options) bytes
   pub is : IsSession options bytes session
 
 -- both machines are new and begin with the image of the seed, which is not too long, and the core of the first is new
@@ -163,7 +149,7 @@ pub record IsDuoReady (options : DuoOptions) (bytes : FileBytes) (ready : DuoRea
 -- the same, of the bytes of a sound file with the image's name
 pub record HoldsDuo (contents : Contents) (options : DuoOptions) (ready : DuoReady) : Type 0 where
   pub bytes : FileBytes
-  pub sound : AreSound contents (wanted (Duo options)) bytes
+  pub sound : AreSound file_rules contents (wanted (Duo options)) bytes
   pub is : IsDuoReady options bytes ready
 
 -- the runs are those of the image of these bytes
@@ -174,59 +160,11 @@ pub record AreCampaignRuns (options : CampaignOptions) (bytes : FileBytes) (runs
 -- the same, of the bytes of a sound file with the image's name
 pub record HoldsCampaign (contents : Contents) (options : CampaignOptions) (runs : CampaignRuns) : Type 0 where
   pub bytes : FileBytes
-  pub sound : AreSound contents (wanted (Campaign options)) bytes
+  pub sound : AreSound file_rules contents (wanted (Campaign options)) bytes
   pub are : AreCampaignRuns options bytes runs
 
--- ---- writing
-
--- a line was written, with its status; or a prefix of it
-abbrev pub WritesLine : {S : Type 0} → Text → (due : ℕ) → SinkChange S → Result ℕ Failure → Type 0
-WritesLine line due sink (Ok status) = (status ≡ due) × Takes sink line
-WritesLine line due sink (Err Cut) = HasFailed sink × TakesPart sink line
-WritesLine line due sink (Err NoMemory) = ⊥
-
--- the line of a stop was written; and none where memory ran out, where nothing was put to the sink
-abbrev pub WritesStop : {S : Type 0} → Stop → SinkChange S → Result ℕ Failure → Type 0
-WritesStop Memory sink result = (result ≡ Err NoMemory) × (sink.after ≡ sink.before)
-WritesStop (Unread what) sink result = WritesLine (unreadable_line what) 8 sink result
-WritesStop (Refused what kind place) sink result = WritesLine (refused_line what kind place) 5 sink result
-
--- the usage line was written where the words are not a valid command line; and none where memory ran out, where nothing was put to the sink
-abbrev pub WritesMisused : {S : Type 0} → ArgsFault → (usage : Text) → SinkChange S → Result ℕ Failure → Type 0
-WritesMisused Usage usage sink result = WritesLine usage 2 sink result
-WritesMisused NoWords usage sink result = (result ≡ Err NoMemory) × (sink.after ≡ sink.before)
-
-pub record WritesWhole {C S : Type 0} (gives : Meaning C) (job : Job) (bytes : FileBytes) (asks : Asking C) (sink : SinkChange S)
-    (status : ℕ) : Type 0 where
-  pub text : Text
-  pub means : HasText gives job bytes (core_of asks) (Ok status) text
-  pub lanes : AsksLanes gives job bytes (core_of asks) (Ok status) text means asks.lanes
-  pub written : Takes sink text
-
-pub record WritesPart {C S : Type 0} (gives : Meaning C) (job : Job) (bytes : FileBytes) (asks : Asking C) (sink : SinkChange S) : Type 0 where
-  pub rose : HasFailed sink
-  pub put : Text
-  pub text : Text
-  pub means : HasText gives job bytes (core_of asks) (Err put) text
-  pub lanes : AsksLanes gives job bytes (core_of asks) (Err put) text means asks.lanes
-  pub written : TakesPast sink put text
-
--- the text of a job was written, with its status; or a prefix of it
-abbrev pub WritesText : {C S : Type 0} → Meaning C → Job → FileBytes → Asking C → SinkChange S → Result ℕ Failure → Type 0
-WritesText gives job bytes asks sink (Ok status) = WritesWhole gives job bytes asks sink status
-WritesText gives job bytes asks sink (Err Cut) = WritesPart gives job bytes asks sink
-WritesText gives job bytes asks sink (Err NoMemory) = ⊥
-
--- ---- the answer
+-- ---- lanes
 
 -- no lane was asked anything
 abbrev pub no_lanes : LanesAsked
 no_lanes liar asked = liar ≡ None
-
--- what was asked is what was read of the words: a job; or none, which is answered by this line; or memory ran out, which says nothing
--- of the words
-pub record IsRead (asked : Asked) (contents : Contents) (usage : Text) (read : Result Job ArgsFault) : Type 0 where
-  pub files : asked.contents ≡ contents
-  pub line : asked.usage ≡ usage
-  pub job : IfOk read (λ job. asked.job ≡ Some job)
-  pub none : IfErr read (λ fault. fault ≡ Usage → asked.job ≡ None)

@@ -19,7 +19,8 @@ use Rattle.diva_tape.specs.Tapes.{tape_of}
 use Rattle.diva_args.specs.Options.{Setup}
 use Rattle.diva_args.specs.declared.job.CoreChoice.TheVariants.{Lockstep, Scalar}
 use Rattle.diva_cli.specs.Changes.{Change, change}
-use Rattle.diva_cli.specs.Wanted.{FileBytes, tape_name}
+use Rattle.diva_process.specs.Programs.{FileBytes}
+use Rattle.diva_cli.specs.Wanted.{tape_name}
 use Rattle.diva_cli.specs.Driven.{IsDriven}
 
 -- ---- a session

@@ -15,7 +15,7 @@ use Rattle.diva_trace.specs.Text.{text_of}
 use Rattle.diva_args.specs.Options.{RunOptions, TapeOptions}
 use Rattle.diva_args.specs.declared.job.CoreChoice.TheVariants.{Tape as OfTape}
 use Rattle.diva_cli.specs.Changes.{Change, change}
-use Rattle.diva_cli.specs.Wanted.{FileBytes}
+use Rattle.diva_process.specs.Programs.{FileBytes}
 use Rattle.diva_cli.specs.Cuts.{BeforeLast}
 use Rattle.diva_cli.specs.Runs.{IsRunOfFiles, IsWhole, EndsWith, HasRun, asked_trace, shown_dump}
 use Rattle.diva_cli.specs.Sessions.{start_in}

@@ -1,18 +1,19 @@
 -- The text of each command, and how the writing of it ended: with a status where it was written whole (`Ok`). Where the sink
 -- failed, the text is what was to be written by that time, and the end has what of it had been put already (`Err`).
--- Cited by `top`, `pipeline_top` and `top_sure`.
-use Rattle.std.specs.Prelude.{◌≡◌, ◌⊎◌, ℕ, List, [], Option, None, Result}
+-- Cited in `Program.antt`, for `top`.
+use Rattle.std.specs.Prelude.{◌≡◌, ℕ, List, [], Option, None, Result}
 use Rattle.diva_outside.specs.Text.{Text}
 use Rattle.diva_core.specs.History.{Meaning}
 use Rattle.diva_isa.specs.declared.record.Record.{Record}
 use Rattle.diva_args.specs.declared.job.Job.{Job}
-use Rattle.diva_args.specs.declared.job.Job.TheVariants.{Run, Tape, Duo, Debug, Asm, Dis, Migrate, Soak, Campaign, Draw}
+use Rattle.diva_args.specs.declared.job.Job.TheVariants.{Run, Tape, Duo, Debug, Asm, Dis, Migrate, Soak, Campaign}
 use Rattle.diva_cli.specs.Changes.{Change, LanesAsked}
 use Rattle.diva_args.specs.Options.{Setup}
 use Rattle.diva_args.specs.declared.job.LanePlace.{LanePlace}
 use Rattle.diva_core.specs.Timed.{new_timed}
 use Rattle.diva_machine.specs.Asked.{asked_over}
-use Rattle.diva_cli.specs.Wanted.{FileBytes}
+use Rattle.diva_process.specs.Programs.{FileBytes}
+use Rattle.diva_process.specs.Answers.{IsDone}
 use Rattle.diva_cli.specs.Runs.{HasRun}
 use Rattle.diva_cli.specs.Sessions.{start_in}
 use Rattle.diva_cli.specs.TapeTexts.{HasTape}
@@ -21,7 +22,6 @@ use Rattle.diva_cli.specs.ImageTexts.{HasAssembled, HasListing, HasMigrated}
 use Rattle.diva_cli.specs.SoakTexts.{HasSoaked}
 use Rattle.diva_cli.specs.DuoTexts.{HasDuo}
 use Rattle.diva_cli.specs.CampaignTexts.{HasCampaign}
-use Rattle.diva_cli.specs.DrawTexts.{HasDrawing}
 
 -- ---- a line for each command
 
@@ -35,7 +35,6 @@ HasText gives (Dis name) bytes core ended text = HasListing bytes core ended tex
 HasText gives (Migrate options) bytes core ended text = HasMigrated options.room bytes core ended text
 HasText gives (Soak options) bytes core ended text = HasSoaked gives options core ended text
 HasText gives (Campaign options) bytes core ended text = HasCampaign gives options bytes core ended text
-HasText gives (Draw options) bytes core ended text = HasDrawing gives options bytes core ended text
 
 -- ---- what lanes were asked for it
 
@@ -56,16 +55,10 @@ AsksLanes gives (Dis name) bytes core ended text means lanes = lanes None []
 AsksLanes gives (Migrate options) bytes core ended text means lanes = lanes None []
 AsksLanes gives (Soak options) bytes core ended text means lanes = lanes None []
 AsksLanes gives (Campaign options) bytes core ended text means lanes = lanes None []
-AsksLanes gives (Draw options) bytes core ended text means lanes =
-    AsksInRun options.run.setup options.run.liar bytes means.of_files.holds.lists lanes
 
 -- ---- how a command ends
 
--- the statuses of commands whose text was written whole
-abbrev pub IsDone : ℕ → Type 0
-IsDone status = (status ≡ 0) ⊎ ((status ≡ 3) ⊎ (status ≡ 4))
-
--- those of one command
+-- the statuses of a command whose text was written whole
 abbrev pub CanEnd : Job → ℕ → Type 0
 CanEnd (Run options) status = IsDone status
 CanEnd (Tape options) status = IsDone status
@@ -76,4 +69,3 @@ CanEnd (Dis name) status = status ≡ 0
 CanEnd (Migrate options) status = status ≡ 0
 CanEnd (Soak options) status = status ≡ 0
 CanEnd (Campaign options) status = IsDone status
-CanEnd (Draw options) status = IsDone status

@@ -1,10 +1,10 @@
 -- The files that a job wants, in the order in which they are loaded, and what is wrong with their bytes.
--- Cited by `work`.
-use Rattle.std.specs.Prelude.{◌≡◌, ◌≤◌, ℕ, ◌+◌, ◌*◌, List, [], ◌∷◌, ◌++◌, length, Option, Some, None, Err, IsOk}
-use Rattle.diva_outside.specs.Files.{Contents, Has}
+-- Cited in `Program.antt`, for `top`; by `work`.
+use Rattle.std.specs.Prelude.{ℕ, ◌+◌, ◌*◌, List, [], ◌∷◌, ◌++◌, Option, Some, None, Result, Ok, Err, option_map}
+use Rattle.diva_outside.specs.Lines.{LineFault}
 use Rattle.diva_outside.specs.declared.files.What.{What}
 use Rattle.diva_outside.specs.declared.files.What.TheVariants.{Image, Script, Tape as TapeFile, Source, Commands}
-use Rattle.diva_image.specs.Header.{fault, header_size}
+use Rattle.diva_image.specs.Header.{header_size}
 use Rattle.diva_image.specs.Layout.{most_size}
 use Rattle.diva_image.specs.Programs.{fault_in}
 use Rattle.diva_image.specs.Segments.{most_segments, pair_size}
@@ -14,20 +14,14 @@ use Rattle.diva_args.specs.Options.{DebugOptions, Setup}
 use Rattle.diva_args.specs.declared.job.CoreChoice.{CoreChoice}
 use Rattle.diva_args.specs.declared.job.CoreChoice.TheVariants.{Own, Lockstep, Scalar, Silent, Flood, Echo, Noise, Tape as OfTape}
 use Rattle.diva_args.specs.declared.job.Job.{Job}
-use Rattle.diva_args.specs.declared.job.Job.TheVariants.{Run, Tape, Duo, Debug, Asm, Dis, Migrate, Soak, Campaign, Draw}
+use Rattle.diva_args.specs.declared.job.Job.TheVariants.{Run, Tape, Duo, Debug, Asm, Dis, Migrate, Soak, Campaign}
 use Rattle.diva_asm.specs.Sources.{source_of}
 use Rattle.diva_debug.specs.Reading.{commands_of}
+use Rattle.diva_process.specs.Programs.{Fault, FileRules, Wanted}
 
 -- the most bytes that a file may have: those of the largest image
 abbrev pub file_limit : ℕ
 file_limit = header_size + pair_size * most_segments + most_size
-
--- a file that is wanted: what it is for, its name, and its room: how many bytes of memory follow those that it loads where it is an
--- executable
-pub record Wanted : Type 0 where
-  pub what : What
-  pub name : List ℕ
-  pub room : ℕ
 
 abbrev pub file_with : (room : ℕ) → What → List ℕ → Wanted
 file_with room what name = record { what = what; name = name; room = room }
@@ -72,37 +66,24 @@ wanted (Dis name) = file Image name ∷ []
 wanted (Migrate options) = file_with options.room Image options.image ∷ []
 wanted (Soak options) = []
 wanted (Campaign options) = file Image options.image ∷ []
-wanted (Draw options) = machine_files options.run.setup
 
--- ---- the first fault of a file's bytes, by what the file is for, and by its room where it is taken for an image
+-- ---- what is wrong with a file's bytes
 
-abbrev pub IsFaultless : What → (room : ℕ) → List ℕ → Type 0
-IsFaultless Image room bytes = fault_in room bytes ≡ None
-IsFaultless Script room bytes = IsOk (script_of bytes)
-IsFaultless TapeFile room bytes = IsOk (tape_of bytes)
-IsFaultless Source room bytes = IsOk (source_of bytes)
-IsFaultless Commands room bytes = IsOk (commands_of bytes)
+-- of a text: a line, and the kind of its fault
+abbrev pub text_fault : {A : Type 0} → Result A LineFault → Option Fault
+text_fault (Ok read) = None
+text_fault (Err fault) = Some (record { kind = fault.kind; place = fault.line })
 
-abbrev pub HasFault : What → (room : ℕ) → List ℕ → (kind place : ℕ) → Type 0
-HasFault Image room bytes kind place = fault_in room bytes ≡ fault kind place
-HasFault Script room bytes kind line = script_of bytes ≡ Err (record { line = line; kind = kind })
-HasFault TapeFile room bytes kind line = tape_of bytes ≡ Err (record { line = line; kind = kind })
-HasFault Source room bytes kind line = source_of bytes ≡ Err (record { line = line; kind = kind })
-HasFault Commands room bytes kind line = commands_of bytes ≡ Err (record { line = line; kind = kind })
+-- the first fault, by what the file is for, and by its room where it is taken for an image
+abbrev pub first_fault : What → (room : ℕ) → List ℕ → Option Fault
+first_fault Image room bytes = option_map (λ fault. record { kind = fault.kind; place = fault.place }) (fault_in room bytes)
+first_fault Script room bytes = text_fault (script_of bytes)
+first_fault TapeFile room bytes = text_fault (tape_of bytes)
+first_fault Source room bytes = text_fault (source_of bytes)
+first_fault Commands room bytes = text_fault (commands_of bytes)
 
--- ---- files that can be used
+abbrev pub fault_of : Wanted → List ℕ → Option Fault
+fault_of w bytes = first_fault w.what w.room bytes
 
--- the file has these bytes, where its contents are known; they are no more than a file may have, and have no fault
-pub record IsSound (contents : Contents) (w : Wanted) (bytes : List ℕ) : Type 0 where
-  pub has : Has contents w.name bytes
-  pub short : length bytes ≤ file_limit
-  pub faultless : IsFaultless w.what w.room bytes
-
--- the bytes of the file of each kind; nothing is said of a kind that is not wanted
-abbrev pub FileBytes : Type 0
-FileBytes = What → List ℕ
-
--- each of these files is sound, and has these bytes
-abbrev pub AreSound : Contents → List Wanted → FileBytes → Type 0
-AreSound contents [] bytes = Unit {0}
-AreSound contents (w ∷ ws) bytes = IsSound contents w (bytes w.what) × AreSound contents ws bytes
+abbrev pub file_rules : FileRules
+file_rules = record { limit = file_limit; fault_of = fault_of }

@@ -1,17 +1,18 @@
 // The command `asm`: it assembles a source, and writes the bytes of the image.
 ghost use Rattle.diva_args.specs.declared.job.Job.TheVariants.{Asm};
-ghost use Rattle.diva_cli.specs.Asked.{asked_for};
-ghost use Rattle.diva_cli.specs.Changes.{asking, file_faults, sink_change};
-ghost use Rattle.diva_cli.specs.Promises.{KeepsPromises};
+ghost use Rattle.diva_process.specs.Programs.{asked_for};
+ghost use Rattle.diva_cli.specs.Changes.{asking};
+ghost use Rattle.diva_outside.specs.Lent.{lent};
+ghost use Rattle.diva_process.specs.Promises.{KeepsPromises};
 ghost use Rattle.diva_cli.specs.Parts.{no_lanes};
+ghost use Rattle.diva_cli.specs.Program.{diva, work_of};
 
 use crate::files::{SourceFile, load};
-use crate::stop::Failure;
-use crate::writing::write_stop;
 use diva_args::FileName;
 use diva_core::Core;
 use diva_image::write;
 use diva_outside::{Files, Sink};
+use diva_process::{Failure, write_stop};
 use std::alloc::Global;
 
 /// Assembles a source, and writes the bytes of its image in one put. All memory is taken before that, and the core can't be
@@ -24,8 +25,8 @@ pub(crate) fn asm<F: Files, S: Sink, C: Core>(
     sink: &mut S,
     _core: &C,
 ) -> Result<u8, Failure>
-    ensures { KeepsPromises C.gives (asked_for (Asm source) (F.contents files.old)) (file_faults F.faults files.old files.new)
-        (asking _core.now _core.now no_lanes) (sink_change S.contents S.faults sink.old sink.new) result }
+    ensures { KeepsPromises (asked_for diva (Asm source)) (work_of C.gives
+        (asking _core.now _core.now no_lanes)) (lent F.account files.old files.new) (lent S.account sink.old sink.new) result }
 {
     let image = match load(alloc, files, &SourceFile, &source) {
         Ok(image) => image,

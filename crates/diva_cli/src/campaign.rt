@@ -7,25 +7,30 @@ ghost use Rattle.diva_image.specs.ImageLayout.{layout};
 ghost use Rattle.diva_trace.specs.Text.{campaign_text};
 ghost use Rattle.diva_args.specs.declared.campaign.CampaignOptions.{CampaignOptions as Options};
 ghost use Rattle.diva_args.specs.declared.job.Job.TheVariants.{Campaign as Command};
-ghost use Rattle.diva_cli.specs.Asked.{asked_for};
+ghost use Rattle.diva_process.specs.Programs.{asked_for, FileBytes};
 ghost use Rattle.diva_cli.specs.CampaignTexts.{campaign_tally, first_run, flipped_runs, is_same, run_under, tally_of};
-ghost use Rattle.diva_cli.specs.Changes.{IsUncounted, PutsTo, asking, file_faults, sink_change};
+ghost use Rattle.diva_outside.specs.Files.{IsUncounted};
+ghost use Rattle.diva_outside.specs.Sink.{PutsTo};
+ghost use Rattle.diva_cli.specs.Changes.{asking};
+ghost use Rattle.diva_outside.specs.Lent.{lent};
 ghost use Rattle.diva_cli.specs.Lanes.{AreHonest, are_asked};
-ghost use Rattle.diva_cli.specs.Wanted.{FileBytes, wanted};
-ghost use Rattle.diva_cli.specs.Promises.{KeepsPromises};
-ghost use Rattle.diva_cli.specs.Parts.{AreCampaignRuns, HoldsCampaign, Stops, WritesText, no_lanes};
+ghost use Rattle.diva_cli.specs.Wanted.{wanted, file_rules};
+ghost use Rattle.diva_process.specs.Promises.{KeepsPromises};
+ghost use Rattle.diva_cli.specs.Parts.{AreCampaignRuns, HoldsCampaign, no_lanes};
+ghost use Rattle.diva_process.specs.Writing.{Stops, WritesText};
+ghost use Rattle.diva_cli.specs.Program.{diva, work_of};
 
 use crate::files::{ImageFile, load};
 use crate::lanes::Lanes;
 use crate::scripted::drive_scripted;
-use crate::stop::{Failure, Stop};
-use crate::writing::{end_status, write_stop};
+use crate::writing::end_status;
 use diva_args::{CampaignCycles, CampaignOptions, LastCycle};
 use diva_core::Core;
 use diva_faults::{FLIPS_IN_CYCLE, Script, flip_at};
 use diva_image::Image;
 use diva_machine::{Config, Machine};
 use diva_outside::{Files, Sink, SinkFailed, put_lines};
+use diva_process::{Failure, Stop, write_stop};
 use diva_tape::Lockstep;
 use diva_trace::{Tally, count_line, end_line_of, write_output, write_registers, write_tally};
 use diva_vote::Lane;
@@ -43,8 +48,8 @@ pub(crate) fn campaign<F: Files, S: Sink, C: Core, L: Lane>(
     lanes: &mut Lanes<L>,
 ) -> Result<u8, Failure>
     requires { AreHonest L.honest lanes.old }
-    ensures { KeepsPromises C.gives (asked_for (Command options) (F.contents files.old)) (file_faults F.faults files.old files.new)
-        (asking _core.now _core.now (are_asked L.says lanes.old lanes.new)) (sink_change S.contents S.faults sink.old sink.new) result }
+    ensures { KeepsPromises (asked_for diva (Command options)) (work_of C.gives
+        (asking _core.now _core.now (are_asked L.says lanes.old lanes.new))) (lent F.account files.old files.new) (lent S.account sink.old sink.new) result }
 {
     match load_and_run(alloc, files, &options, lanes) {
         Ok(runs) => show(&runs, sink, _core),
@@ -70,10 +75,9 @@ fn load_and_run<F: Files, L: Lane>(
 ) -> Result<CampaignRuns, Stop>
     requires { AreHonest L.honest lanes.old }
     ensures lanes { lanes.new ≡ lanes.old }
-    ensures uncounted { OnOk result (IsUncounted (file_faults F.faults files.old files.new)) }
-    ensures runs { IfOk result (HoldsCampaign (F.contents files.old) options.now) }
-    ensures stopped { IfErr result (λ stop. Stops (F.contents files.old) (F.faults files.old)
-        (F.faults files.new) (wanted (Command options.now)) stop) }
+    ensures uncounted { OnOk result (IsUncounted (lent F.account files.old files.new)) }
+    ensures runs { IfOk result (HoldsCampaign (F.account files.old).contents options.now) }
+    ensures stopped { IfErr result (λ stop. Stops file_rules (F.account files.old) (F.account files.new) (wanted (Command options.now)) stop) }
 {
     let image = load(alloc, files, &ImageFile { room: 0 }, &options.image)?;
     let runs = run_all(alloc, &image, options.last, options.cycles, lanes)?;
@@ -183,8 +187,8 @@ fn is_same(first: &Machine, last: &Machine) -> bool
 /// Writes what the runs came to, and answers the status of the first one.
 fn show<S: Sink, C: Core>(runs: &CampaignRuns, sink: &mut S, _core: &C) -> Result<u8, Failure>
     ensures { (options : Options) (bytes : FileBytes) → AreCampaignRuns options bytes runs.now
-        → WritesText C.gives (Command options) bytes
-        (asking _core.now _core.now no_lanes) (sink_change S.contents S.faults sink.old sink.new) result }
+        → WritesText (work_of C.gives
+        (asking _core.now _core.now no_lanes)) (Command options) bytes (lent S.account sink.old sink.new) result }
 {
     write_runs(runs, sink)?;
     Ok(end_status(&runs.first))
@@ -192,7 +196,7 @@ fn show<S: Sink, C: Core>(runs: &CampaignRuns, sink: &mut S, _core: &C) -> Resul
 
 /// Writes what the runs came to, line by line.
 fn write_runs<S: Sink>(runs: &CampaignRuns, sink: &mut S) -> Result<(), SinkFailed>
-    ensures { PutsTo (sink_change S.contents S.faults sink.old sink.new) (campaign_text runs.now.tally runs.now.first.timed) result }
+    ensures { PutsTo (lent S.account sink.old sink.new) (campaign_text runs.now.tally runs.now.first.timed) result }
 {
     let first = &runs.first;
     write_tally(&runs.tally, sink)?;

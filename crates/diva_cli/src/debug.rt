@@ -4,49 +4,59 @@ ghost use Rattle.std.specs.List.{All};
 ghost use Rattle.diva_args.specs.declared.job.Job.TheVariants.{Debug};
 ghost use Rattle.diva_core.specs.Machine.{IsConfig};
 ghost use Rattle.diva_debug.specs.Moves.{IsShort};
-ghost use Rattle.diva_cli.specs.Asked.{asked_for};
+ghost use Rattle.diva_process.specs.Programs.{asked_for, FileBytes};
+ghost use Rattle.diva_cli.specs.Lanes.{AreHonest, are_asked};
 ghost use Rattle.diva_cli.specs.Replies.{keep};
-ghost use Rattle.diva_cli.specs.Changes.{asking, file_faults, sink_change};
-ghost use Rattle.diva_cli.specs.Wanted.{FileBytes, file_limit};
-ghost use Rattle.diva_cli.specs.Promises.{KeepsPromises};
-ghost use Rattle.diva_cli.specs.Parts.{IsSession, WritesText, no_lanes};
+ghost use Rattle.diva_cli.specs.Changes.{asking};
+ghost use Rattle.diva_outside.specs.Lent.{lent};
+ghost use Rattle.diva_cli.specs.Wanted.{file_limit};
+ghost use Rattle.diva_process.specs.Promises.{KeepsPromises};
+ghost use Rattle.diva_cli.specs.Parts.{IsSession};
+ghost use Rattle.diva_process.specs.Writing.{WritesText};
+ghost use Rattle.diva_cli.specs.Program.{diva, work_of};
 
-use crate::driving::reply_by;
+use crate::driving::perform_by;
+use crate::lanes::Lanes;
 use crate::loading::{Ready, SessionReady, make_session};
-use crate::stop::Failure;
-use crate::writing::write_stop;
+use crate::tasks::Replies;
 use diva_args::DebugOptions;
 use diva_core::Core;
 use diva_debug::Rewindable;
 use diva_outside::{Files, Sink};
+use diva_process::{Failure, write_stop};
+use diva_vote::Lane;
 use std::alloc::Global;
 
 /// Replies to commands that step through an image. All memory is taken before the core is asked and
 /// before anything is written.
 #[inline(never)]
-pub(crate) fn debug<F: Files, S: Sink, C: Core>(
+pub(crate) fn debug<F: Files, S: Sink, C: Core, L: Lane>(
     alloc: Global,
     options: DebugOptions,
     files: &mut F,
     sink: &mut S,
     core: &mut C,
+    lanes: &mut Lanes<L>,
 ) -> Result<u8, Failure>
-    ensures { KeepsPromises C.gives (asked_for (Debug options) (F.contents files.old)) (file_faults F.faults files.old files.new)
-        (asking core.old core.new no_lanes) (sink_change S.contents S.faults sink.old sink.new) result }
+    requires { AreHonest L.honest lanes.old }
+    ensures { KeepsPromises (asked_for diva (Debug options)) (work_of C.gives
+        (asking core.old core.new (are_asked L.says lanes.old lanes.new))) (lent F.account files.old files.new) (lent S.account sink.old sink.new) result }
 {
     match make_session(alloc, files, &options) {
-        Ok(session) => debug_ready(session, options, sink, core),
+        Ok(session) => debug_ready(session, options, sink, core, lanes),
         Err(stop) => write_stop(stop, sink),
     }
 }
 
 /// Moves a new machine by the commands, and writes the replies.
-fn debug_ready<S: Sink, C: Core>(
+fn debug_ready<S: Sink, C: Core, L: Lane>(
     session: SessionReady,
     options: DebugOptions,
     sink: &mut S,
     core: &mut C,
+    lanes: &mut Lanes<L>,
 ) -> Result<u8, Failure>
+    requires honest { AreHonest L.honest lanes.old }
     requires fits { IsConfig options.setup.config }
     requires new { session.ready.machine.timed.cycles ≡ 0 }
     requires none { session.ready.machine.timed.count ≡ 0 }
@@ -55,8 +65,8 @@ fn debug_ready<S: Sink, C: Core>(
     requires few { length session.commands.items ≤ file_limit }
     requires short { All IsShort session.commands.items }
     ensures { (bytes : FileBytes) → IsSession options bytes session
-        → WritesText C.gives (Debug options) bytes
-        (asking core.old core.new no_lanes) (sink_change S.contents S.faults sink.old sink.new) result }
+        → WritesText (work_of C.gives
+        (asking core.old core.new (are_asked L.says lanes.old lanes.new))) (Debug options) bytes (lent S.account sink.old sink.new) result }
 {
     let SessionReady {
         ready,
@@ -69,6 +79,17 @@ fn debug_ready<S: Sink, C: Core>(
         script,
     } = ready;
     let mut rewindable = Rewindable::new(machine, undos);
-    reply_by(&mut rewindable, &mut in_use, &script, core, &commands, sink)?;
+    let mut task = Replies {
+        commands: &commands,
+    };
+    perform_by(
+        &mut task,
+        &mut rewindable,
+        &mut in_use,
+        &script,
+        core,
+        lanes,
+        sink,
+    )?;
     Ok(0)
 }

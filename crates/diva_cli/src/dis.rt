@@ -2,19 +2,20 @@
 ghost use Rattle.std.specs.Prelude.{◌≡◌, ◌+◌, ◌≤◌, ◌<◌, length, slice_index};
 ghost use Rattle.diva_args.specs.declared.job.Job.TheVariants.{Dis};
 ghost use Rattle.diva_asm.specs.Listing.{list_line, word_at};
-ghost use Rattle.diva_cli.specs.Asked.{asked_for};
-ghost use Rattle.diva_cli.specs.Changes.{asking, file_faults, sink_change};
-ghost use Rattle.diva_cli.specs.Promises.{KeepsPromises};
+ghost use Rattle.diva_process.specs.Programs.{asked_for};
+ghost use Rattle.diva_cli.specs.Changes.{asking};
+ghost use Rattle.diva_outside.specs.Lent.{lent};
+ghost use Rattle.diva_process.specs.Promises.{KeepsPromises};
 ghost use Rattle.diva_cli.specs.Parts.{no_lanes};
+ghost use Rattle.diva_cli.specs.Program.{diva, work_of};
 
 use crate::files::{ImageFile, load};
-use crate::stop::Failure;
-use crate::writing::write_stop;
 use diva_args::FileName;
 use diva_asm::list_line;
 use diva_core::Core;
 use diva_image::Image;
 use diva_outside::{Files, Line, LineList, Sink, put_lines};
+use diva_process::{Failure, write_stop};
 use std::alloc::Global;
 
 /// Lists an image, each line in one put. The core can't be asked.
@@ -26,8 +27,8 @@ pub(crate) fn dis<F: Files, S: Sink, C: Core>(
     sink: &mut S,
     _core: &C,
 ) -> Result<u8, Failure>
-    ensures { KeepsPromises C.gives (asked_for (Dis image) (F.contents files.old)) (file_faults F.faults files.old files.new)
-        (asking _core.now _core.now no_lanes) (sink_change S.contents S.faults sink.old sink.new) result }
+    ensures { KeepsPromises (asked_for diva (Dis image)) (work_of C.gives
+        (asking _core.now _core.now no_lanes)) (lent F.account files.old files.new) (lent S.account sink.old sink.new) result }
 {
     let listed = match load(alloc, files, &ImageFile { room: 0 }, &image) {
         Ok(listed) => listed,

@@ -1,31 +1,31 @@
 // The commands `log` and `draw`: each reads its files with neither core nor sink in its hands, and then drives a machine, and draws
 // what becomes of each claim in each cycle, as it goes.
-ghost use Rattle.std.specs.Prelude.{◌≡◌, ◌+◌, ◌*◌, ◌<◌, ◌≤◌, ◌^◌};
-ghost use Rattle.diva_args.specs.declared.job.Job.TheVariants.{Draw};
-ghost use Rattle.diva_core.specs.Machine.{IsConfig, IsMachine};
-ghost use Rattle.diva_drawing.specs.Snapshot.{IsSnapshot};
-ghost use Rattle.diva_cli.specs.Asked.{asked_for};
-ghost use Rattle.diva_machine.specs.Asked.{asked_over};
-ghost use Rattle.diva_cli.specs.Changes.{PutsTo, asking, change, file_faults, sink_change};
+ghost use Rattle.std.specs.Prelude.{◌≡◌};
+ghost use Rattle.diva_args.specs.declared.lab.LabJob.TheVariants.{Draw};
+ghost use Rattle.diva_core.specs.Machine.{IsConfig};
+ghost use Rattle.diva_process.specs.Programs.{asked_for, FileBytes};
+ghost use Rattle.diva_outside.specs.Sink.{PutsTo};
+ghost use Rattle.diva_cli.specs.Changes.{asking};
+ghost use Rattle.diva_outside.specs.Lent.{lent};
 ghost use Rattle.diva_cli.specs.Lanes.{AreHonest, are_asked};
-ghost use Rattle.diva_cli.specs.DrawTexts.{begin_text, cycle_text, end_text, pen_after};
-ghost use Rattle.diva_cli.specs.Wanted.{FileBytes};
-ghost use Rattle.diva_cli.specs.Tasks.{IsDrawn, IsDrawnIn, Performs};
-ghost use Rattle.diva_cli.specs.Promises.{KeepsPromises};
-ghost use Rattle.diva_cli.specs.Parts.{IsReady, WritesText};
+ghost use Rattle.diva_cli.specs.DrawTexts.{begin_text, end_text};
+ghost use Rattle.diva_process.specs.Promises.{KeepsPromises};
+ghost use Rattle.diva_cli.specs.Parts.{IsReady};
+ghost use Rattle.diva_process.specs.Writing.{WritesText};
+ghost use Rattle.diva_cli.specs.Lab.{lab, lab_work_of};
 
-use crate::checking::turn_checked;
 use crate::driving::perform_by;
 use crate::lanes::Lanes;
 use crate::loading::{Ready, make_ready};
-use crate::stop::Failure;
-use crate::tasks::Task;
-use crate::writing::{end_status, write_stop};
-use diva_args::{DrawOptions, Format, LanePlace};
+use crate::tasks::Watched;
+use crate::watching::Watcher;
+use crate::writing::end_status;
+use diva_args::{DrawOptions, Format};
 use diva_core::{Claims, Core};
 use diva_drawing::{Excerpt, Pen, begin_log};
 use diva_machine::Machine;
 use diva_outside::{Files, Sink, SinkFailed};
+use diva_process::{Failure, write_stop};
 use diva_vote::Lane;
 use std::alloc::Global;
 
@@ -40,8 +40,8 @@ pub(crate) fn draw<F: Files, S: Sink, C: Core, L: Lane>(
     lanes: &mut Lanes<L>,
 ) -> Result<u8, Failure>
     requires { AreHonest L.honest lanes.old }
-    ensures { KeepsPromises C.gives (asked_for (Draw options) (F.contents files.old)) (file_faults F.faults files.old files.new)
-        (asking core.old core.new (are_asked L.says lanes.old lanes.new)) (sink_change S.contents S.faults sink.old sink.new) result }
+    ensures { KeepsPromises (asked_for lab (Draw options)) (lab_work_of C.gives
+        (asking core.old core.new (are_asked L.says lanes.old lanes.new))) (lent F.account files.old files.new) (lent S.account sink.old sink.new) result }
 {
     match make_ready(alloc, files, &options.run.setup) {
         Ok(mut ready) => draw_ready(&mut ready, options, sink, core, lanes),
@@ -61,128 +61,81 @@ fn draw_ready<S: Sink, C: Core, L: Lane>(
     requires new { ready.old.machine.timed.cycles ≡ 0 }
     requires fits { IsConfig options.run.setup.config }
     ensures { (bytes : FileBytes) → IsReady options.run.setup bytes ready.old
-        → WritesText C.gives (Draw options) bytes
-        (asking core.old core.new (are_asked L.says lanes.old lanes.new)) (sink_change S.contents S.faults sink.old sink.new) result }
+        → WritesText (lab_work_of C.gives
+        (asking core.old core.new (are_asked L.says lanes.old lanes.new))) (Draw options) bytes (lent S.account sink.old sink.new) result }
 {
-    let task = draw_task(&options);
+    let mut task = Watched {
+        cycles: options.run.cycles,
+        liar: options.run.liar,
+        watcher: Drawer {
+            format: options.format,
+            pen: Pen::new(&ready.machine),
+        },
+    };
+    begin(options.format, sink)?;
     perform_by(
+        &mut task,
         &mut ready.machine,
         &mut ready.core,
         &ready.script,
         core,
-        task,
         lanes,
         sink,
     )?;
+    task.watcher.end(sink)?;
     Ok(end_status(&ready.machine))
 }
 
-/// What is done for a run that is drawn.
-fn draw_task(options: &DrawOptions) -> Task
-    ensures { result ≡ Task.Draw options.now.format options.now.run.cycles options.now.run.liar }
-{
-    Task::Draw(options.format, options.run.cycles, options.run.liar)
+/// What draws a run in a format. Its pen is the largest value of the program: no other command has it on its stack.
+#[derive(Drop)]
+pub(crate) struct Drawer {
+    format: Format,
+    pen: Pen,
 }
 
-/// Drives a machine for so many cycles at most, and draws it in a format. Where a place is given, three lanes vote, and the one
-/// in that place is the liar.
-///
-/// The pen is the largest value of the program: no other command has it on its stack.
-#[inline(never)]
-pub(crate) fn drive_drawing<D: Core, S: Sink, L: Lane>(
-    m: &mut Machine,
-    core: &mut D,
-    budget: u64,
-    liar: Option<LanePlace>,
-    lanes: &mut Lanes<L>,
-    format: Format,
-    sink: &mut S,
-) -> Result<(), SinkFailed>
-    requires cycles { m.old.timed.cycles + budget ≤ 2 ^ 60 }
-    requires few { budget ≤ 2 ^ 32 }
-    requires honest { AreHonest L.honest lanes.old }
-    ensures { Performs D.gives (change m.old.timed m.new.timed) (change core.old core.new)
-        (λ lists. IsDrawn format budget (change m.old.timed m.new.timed) lists
-        (sink_change S.contents S.faults sink.old sink.new) result
-        × are_asked L.says lanes.old lanes.new liar (asked_over m.old.timed lists)) }
-{
-    let mut pen = Pen::new(m);
-    begin(format, sink)?;
-    draw_turns(m, core, budget, liar, lanes, format, &mut pen, sink)?;
-    end(format, &mut pen, sink)
-}
+impl Watcher for Drawer {
+    ghost use Rattle.std.specs.Prelude.{◌+◌, ◌*◌, ◌<◌, ◌^◌, ⊤};
+    ghost use Rattle.diva_cli.specs.Tasks.{Draws};
 
-/// Takes turns, and draws each, until the machine ends, the budget's cycles are run or the sink fails.
-fn draw_turns<D: Core, S: Sink, L: Lane>(
-    m: &mut Machine,
-    core: &mut D,
-    budget: u64,
-    liar: Option<LanePlace>,
-    lanes: &mut Lanes<L>,
-    format: Format,
-    pen: &mut Pen,
-    sink: &mut S,
-) -> Result<(), SinkFailed>
-    requires cycles { m.old.timed.cycles + budget ≤ 2 ^ 60 }
-    requires few { budget ≤ 2 ^ 32 }
-    requires rows { pen.old.rows ≡ 0 }
-    requires honest { AreHonest L.honest lanes.old }
-    ensures { Performs D.gives (change m.old.timed m.new.timed) (change core.old core.new)
-        (λ lists. IsDrawnIn format budget (change m.old.timed m.new.timed) (change pen.old pen.new) lists
-        (sink_change S.contents S.faults sink.old sink.new) result
-        × are_asked L.says lanes.old lanes.new liar (asked_over m.old.timed lists)) }
-{
-    if !m.goes_on() {
-        return Ok(());
-    }
-    let mut list = Claims::new();
-    for _ in 0..budget {
-        turn_checked(m, core, &mut list, liar, lanes);
-        draw_turn(format, pen, m, &list, sink)?;
-        if !m.goes_on() {
-            return Ok(());
+    ghost puts = { Draws };
+
+    ghost says = { λ list. ⊤ };
+
+    // In each turn no more than 65 rows begin.
+    ghost can = { λ drawer n. drawer.pen.rows + 65 * n < 2 ^ 62 };
+
+    fn see<S: Sink>(
+        &mut self,
+        _first: u64,
+        m: &Machine,
+        list: &Claims,
+        sink: &mut S,
+    ) -> Result<(), SinkFailed> {
+        match self.format {
+            Format::Log => self.pen.log_cycle(m, list, sink),
+            Format::Drawing { from, to } => self.pen.draw_cycle(m, Excerpt { from, to }, sink),
         }
     }
-    Ok(())
 }
 
-/// Draws a turn, in which this list was handed over.
-fn draw_turn<S: Sink>(
-    format: Format,
-    pen: &mut Pen,
-    m: &Machine,
-    list: &Claims,
-    sink: &mut S,
-) -> Result<(), SinkFailed>
-    requires rows { pen.old.rows < 2 ^ 62 }
-    requires count { m.now.timed.count ≤ 2 ^ 62 }
-    ensures seen { IsSnapshot m.now.timed pen.new.seen }
-    ensures pen { pen.new ≡ pen_after pen.old pen.new.seen }
-    ensures few { pen.new.rows ≤ pen.old.rows + 65 }
-    ensures put { PutsTo (sink_change S.contents S.faults sink.old sink.new) (cycle_text format pen.old pen.new.seen list.now) result }
-{
-    match format {
-        Format::Log => pen.log_cycle(m, list, sink),
-        Format::Drawing { from, to } => pen.draw_cycle(m, Excerpt { from, to }, sink),
+impl Drawer {
+    /// Puts what stands after the last cycle.
+    fn end<S: Sink>(&mut self, sink: &mut S) -> Result<(), SinkFailed>
+        ensures { PutsTo (lent S.account sink.old sink.new) (end_text self.old.format self.old.pen.seen) result }
+    {
+        match self.format {
+            Format::Log => Ok(()),
+            Format::Drawing { from, to } => self.pen.end_drawing(Excerpt { from, to }, sink),
+        }
     }
 }
 
 /// Puts what stands before the first cycle.
 fn begin<S: Sink>(format: Format, sink: &mut S) -> Result<(), SinkFailed>
-    ensures { PutsTo (sink_change S.contents S.faults sink.old sink.new) (begin_text format) result }
+    ensures { PutsTo (lent S.account sink.old sink.new) (begin_text format) result }
 {
     match format {
         Format::Log => begin_log(sink),
         Format::Drawing { .. } => Ok(()),
-    }
-}
-
-/// Puts what stands behind the last cycle.
-fn end<S: Sink>(format: Format, pen: &mut Pen, sink: &mut S) -> Result<(), SinkFailed>
-    ensures { PutsTo (sink_change S.contents S.faults sink.old sink.new) (end_text format pen.old.seen) result }
-{
-    match format {
-        Format::Log => Ok(()),
-        Format::Drawing { from, to } => pen.end_drawing(Excerpt { from, to }, sink),
     }
 }

@@ -1,16 +1,14 @@
 // The core that drives a machine, and what is done with them.
-ghost use Rattle.diva_cli.specs.Changes.{change, sink_change};
-ghost use Rattle.diva_machine.specs.Asked.{asked_over};
+ghost use Rattle.diva_faults.specs.Spoiled.{spoiled};
+ghost use Rattle.diva_cli.specs.Changes.{change};
+ghost use Rattle.diva_outside.specs.Lent.{lent};
 ghost use Rattle.diva_cli.specs.Lanes.{AreHonest, are_asked};
-ghost use Rattle.diva_cli.specs.Tasks.{Allows, CanReply, Does, IsOnePart, IsReplied, PlaysBy, liar_of};
+ghost use Rattle.diva_cli.specs.Tasks.{Plays, PlaysBy};
 
 use crate::lanes::Lanes;
-use crate::replying::reply_under;
-use crate::tasks::{Task, perform_under};
+use crate::tasks::Task;
 use diva_core::Core;
-use diva_debug::{Command, Rewindable};
 use diva_faults::Script;
-use diva_machine::Machine;
 use diva_outside::{Sink, SinkFailed};
 use diva_tape::{Echo, Flood, Lockstep, Noise, Scalar, Silent, TapeCore};
 use diva_vote::Lane;
@@ -29,56 +27,55 @@ pub(crate) enum CoreInUse {
     Tape(TapeCore),
 }
 
-/// Does a task with a machine and a core, under a script; `own` is the core handed in, and `lanes` are those that may vote.
-pub(crate) fn perform_by<C: Core, S: Sink, L: Lane>(
-    m: &mut Machine,
-    core: &mut CoreInUse,
+/// Does a task with the core in use, under a script; `own` is the core handed in, and `lanes` are those that may vote.
+pub(crate) fn perform_by<T: Task, C: Core, S: Sink, L: Lane>(
+    task: &mut T,
+    on: &mut T::On,
+    used: &mut CoreInUse,
     script: &Script,
     own: &mut C,
-    task: Task,
     lanes: &mut Lanes<L>,
     sink: &mut S,
 ) -> Result<(), SinkFailed>
-    requires allows { Allows task m.old.timed }
+    requires allows { T.allows task.old on.old }
     requires honest { AreHonest L.honest lanes.old }
-    ensures { PlaysBy C.gives core.old script.now (change m.old.timed m.new.timed) (change own.old own.new)
-        (IsOnePart (λ lists. Does task (change m.old.timed m.new.timed) lists (sink_change S.contents S.faults sink.old sink.new) result
-        × are_asked L.says lanes.old lanes.new (liar_of task) (asked_over m.old.timed lists))) }
+    ensures { PlaysBy C.gives used.old script.now (change (T.timed on.old) (T.timed on.new)) (change own.old own.new)
+        (T.does task.old task.new (change (T.timed on.old) (T.timed on.new)) (are_asked L.says lanes.old lanes.new)
+        (lent S.account sink.old sink.new) result) }
 {
-    match core {
-        CoreInUse::Own => perform_under(script, m, own, task, lanes, sink),
-        CoreInUse::Lockstep => perform_under(script, m, &mut Lockstep, task, lanes, sink),
-        CoreInUse::Scalar(scalar) => perform_under(script, m, scalar, task, lanes, sink),
-        CoreInUse::Silent => perform_under(script, m, &mut Silent, task, lanes, sink),
-        CoreInUse::Flood => perform_under(script, m, &mut Flood, task, lanes, sink),
-        CoreInUse::Echo => perform_under(script, m, &mut Echo, task, lanes, sink),
-        CoreInUse::Noise(noise) => perform_under(script, m, noise, task, lanes, sink),
-        CoreInUse::Tape(tape) => perform_under(script, m, tape, task, lanes, sink),
+    match used {
+        CoreInUse::Own => perform_under(task, on, own, script, lanes, sink),
+        CoreInUse::Lockstep => perform_under(task, on, &mut Lockstep, script, lanes, sink),
+        CoreInUse::Scalar(scalar) => perform_under(task, on, scalar, script, lanes, sink),
+        CoreInUse::Silent => perform_under(task, on, &mut Silent, script, lanes, sink),
+        CoreInUse::Flood => perform_under(task, on, &mut Flood, script, lanes, sink),
+        CoreInUse::Echo => perform_under(task, on, &mut Echo, script, lanes, sink),
+        CoreInUse::Noise(noise) => perform_under(task, on, noise, script, lanes, sink),
+        CoreInUse::Tape(tape) => perform_under(task, on, tape, script, lanes, sink),
     }
 }
 
-/// Does each of the commands with a machine and a core, under a script, and writes the reply to it; `own` is the core handed in.
-pub(crate) fn reply_by<C: Core, S: Sink>(
-    session: &mut Rewindable,
-    core: &mut CoreInUse,
+/// Does a task with a core under a script. A script that has no rows costs nothing: it is asked once, and the loop is then the one
+/// that any other caller of `drive` has. Where nothing is written, that is also the loop in the cycles before the first that a row
+/// touches, and behind the last.
+#[inline(always)]
+fn perform_under<T: Task, D: Core, S: Sink, L: Lane>(
+    task: &mut T,
+    on: &mut T::On,
+    core: &mut D,
     script: &Script,
-    own: &mut C,
-    commands: &[Command],
+    lanes: &mut Lanes<L>,
     sink: &mut S,
 ) -> Result<(), SinkFailed>
-    requires { CanReply commands.now session.old }
-    ensures { PlaysBy C.gives core.old script.now (change session.old.machine.timed session.new.machine.timed)
-        (change own.old own.new) (λ parts. IsReplied commands.now session.old.machine.timed parts
-        (sink_change S.contents S.faults sink.old sink.new) result) }
+    requires allows { T.allows task.old on.old }
+    requires honest { AreHonest L.honest lanes.old }
+    ensures { Plays (spoiled script.now D.gives) (change (T.timed on.old) (T.timed on.new)) (change core.old core.new)
+        (T.does task.old task.new (change (T.timed on.old) (T.timed on.new)) (are_asked L.says lanes.old lanes.new)
+        (lent S.account sink.old sink.new) result) }
 {
-    match core {
-        CoreInUse::Own => reply_under(script, session, own, commands, sink),
-        CoreInUse::Lockstep => reply_under(script, session, &mut Lockstep, commands, sink),
-        CoreInUse::Scalar(scalar) => reply_under(script, session, scalar, commands, sink),
-        CoreInUse::Silent => reply_under(script, session, &mut Silent, commands, sink),
-        CoreInUse::Flood => reply_under(script, session, &mut Flood, commands, sink),
-        CoreInUse::Echo => reply_under(script, session, &mut Echo, commands, sink),
-        CoreInUse::Noise(noise) => reply_under(script, session, noise, commands, sink),
-        CoreInUse::Tape(tape) => reply_under(script, session, tape, commands, sink),
+    if script.rows().is_empty() {
+        task.alone(on, core, lanes, sink)
+    } else {
+        task.scripted(script, on, core, lanes, sink)
     }
 }

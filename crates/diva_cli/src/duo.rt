@@ -4,21 +4,26 @@ ghost use Rattle.diva_image.specs.ImageLayout.{layout};
 ghost use Rattle.diva_duo.specs.Which.{machine_at, which};
 ghost use Rattle.diva_trace.specs.Text.{hart_text};
 ghost use Rattle.diva_args.specs.declared.job.Job.TheVariants.{Duo as Command};
-ghost use Rattle.diva_cli.specs.Asked.{asked_for};
-ghost use Rattle.diva_cli.specs.Changes.{IsUncounted, PutsTo, asking, file_faults, sink_change};
+ghost use Rattle.diva_process.specs.Programs.{asked_for, FileBytes};
+ghost use Rattle.diva_outside.specs.Files.{IsUncounted};
+ghost use Rattle.diva_outside.specs.Sink.{PutsTo};
+ghost use Rattle.diva_cli.specs.Changes.{asking};
+ghost use Rattle.diva_outside.specs.Lent.{lent};
 ghost use Rattle.diva_cli.specs.DuoTexts.{IsDuoRun, duo_start, duo_status, duo_text};
 ghost use Rattle.diva_cli.specs.Runs.{shown_dump};
-ghost use Rattle.diva_cli.specs.Wanted.{FileBytes, wanted};
-ghost use Rattle.diva_cli.specs.Promises.{KeepsPromises};
-ghost use Rattle.diva_cli.specs.Parts.{HoldsDuo, IsDuoReady, Stops, WritesText, new_cores, no_lanes};
+ghost use Rattle.diva_cli.specs.Wanted.{wanted, file_rules};
+ghost use Rattle.diva_process.specs.Promises.{KeepsPromises};
+ghost use Rattle.diva_cli.specs.Parts.{HoldsDuo, IsDuoReady, new_cores, no_lanes};
+ghost use Rattle.diva_process.specs.Writing.{Stops, WritesText};
+ghost use Rattle.diva_cli.specs.Program.{diva, work_of};
 
 use crate::files::{ImageFile, load};
-use crate::stop::{Failure, Stop};
-use crate::writing::{shown_dump, status_by, write_stop};
+use crate::writing::{shown_dump, status_by};
 use diva_args::{DumpRange, DuoOptions, HartCore};
 use diva_core::Core;
 use diva_duo::{Duo, drive2};
 use diva_outside::{Files, Sink, SinkFailed, put_line};
+use diva_process::{Failure, Stop, write_stop};
 use diva_tape::{Lockstep, Scalar, Silent};
 use diva_trace::{HartReport, cycles_line, write_dump, write_hart};
 use std::alloc::{AllocError, Global};
@@ -33,8 +38,8 @@ pub(crate) fn duo<F: Files, S: Sink, C: Core>(
     sink: &mut S,
     _core: &C,
 ) -> Result<u8, Failure>
-    ensures { KeepsPromises C.gives (asked_for (Command options) (F.contents files.old)) (file_faults F.faults files.old files.new)
-        (asking _core.now _core.now no_lanes) (sink_change S.contents S.faults sink.old sink.new) result }
+    ensures { KeepsPromises (asked_for diva (Command options)) (work_of C.gives
+        (asking _core.now _core.now no_lanes)) (lent F.account files.old files.new) (lent S.account sink.old sink.new) result }
 {
     match make_duo(alloc, files, &options) {
         Ok(mut ready) => duo_ready(&mut ready, &options, sink, _core),
@@ -60,11 +65,10 @@ struct DuoReady {
 
 /// Two harts that begin with the image, and their cores.
 fn make_duo<F: Files>(alloc: Global, files: &mut F, options: &DuoOptions) -> Result<DuoReady, Stop>
-    ensures uncounted { OnOk result (IsUncounted (file_faults F.faults files.old files.new)) }
-    ensures ready { IfOk result (HoldsDuo (F.contents files.old) options.now) }
+    ensures uncounted { OnOk result (IsUncounted (lent F.account files.old files.new)) }
+    ensures ready { IfOk result (HoldsDuo (F.account files.old).contents options.now) }
     ensures new { IfOk result (λ ready. ready.duo.duo.cycles ≡ 0) }
-    ensures stopped { IfErr result (λ stop. Stops (F.contents files.old) (F.faults files.old)
-        (F.faults files.new) (wanted (Command options.now)) stop) }
+    ensures stopped { IfErr result (λ stop. Stops file_rules (F.account files.old) (F.account files.new) (wanted (Command options.now)) stop) }
 {
     let kind = ImageFile { room: options.room };
     let image = load(alloc, files, &kind, &options.image)?;
@@ -94,8 +98,8 @@ fn duo_ready<S: Sink, C: Core>(
 ) -> Result<u8, Failure>
     requires { ready.old.duo.duo.cycles ≡ 0 }
     ensures { (bytes : FileBytes) → IsDuoReady options.now bytes ready.old
-        → WritesText C.gives (Command options.now) bytes
-        (asking _core.now _core.now no_lanes) (sink_change S.contents S.faults sink.old sink.new) result }
+        → WritesText (work_of C.gives
+        (asking _core.now _core.now no_lanes)) (Command options.now) bytes (lent S.account sink.old sink.new) result }
 {
     drive_both(&mut ready.duo, &mut ready.cores, options.cycles);
     write_duo(&ready.duo, options.dump, sink)?;
@@ -117,7 +121,7 @@ fn drive_both(duo: &mut Duo, cores: &mut HartCores, cycles: u64)
 
 /// Writes what two harts came to, line by line.
 fn write_duo<S: Sink>(duo: &Duo, dump: Option<DumpRange>, sink: &mut S) -> Result<(), SinkFailed>
-    ensures { PutsTo (sink_change S.contents S.faults sink.old sink.new) (duo_text duo.now.duo (shown_dump dump)) result }
+    ensures { PutsTo (lent S.account sink.old sink.new) (duo_text duo.now.duo (shown_dump dump)) result }
 {
     put_line(&cycles_line(duo.cycles()), sink)?;
     write_hart_of(duo, 0, sink)?;
@@ -131,7 +135,7 @@ fn write_duo<S: Sink>(duo: &Duo, dump: Option<DumpRange>, sink: &mut S) -> Resul
 /// Writes the lines of a hart, 0 or 1.
 fn write_hart_of<S: Sink>(duo: &Duo, h: u8, sink: &mut S) -> Result<(), SinkFailed>
     requires { h < 2 }
-    ensures { PutsTo (sink_change S.contents S.faults sink.old sink.new) (hart_text h (machine_at (which h) duo.now.duo)) result }
+    ensures { PutsTo (lent S.account sink.old sink.new) (hart_text h (machine_at (which h) duo.now.duo)) result }
 {
     let report = HartReport {
         end: duo.end(h),

@@ -1,12 +1,12 @@
 // The kinds of files, each of which is read to something of its own, and how a file of any kind is loaded.
-ghost use Rattle.std.specs.Prelude.{◌≡◌, ◌≢◌, ◌≤◌, ◌∷◌, ℕ, [], length, IfOk, IfErr, OnOk};
-ghost use Rattle.diva_outside.specs.Files.{Has};
+ghost use Rattle.std.specs.Prelude.{◌≡◌, ◌≢◌, ◌≤◌, ◌∷◌, ℕ, [], length, IfOk, IfErr, None, OnOk};
+ghost use Rattle.diva_outside.specs.Files.{Has, IsUncounted};
 ghost use Rattle.diva_args.specs.Options.{IsRoomBehind};
-ghost use Rattle.diva_cli.specs.Changes.{IsUncounted, file_faults};
-ghost use Rattle.diva_cli.specs.Wanted.{file_limit, file_with, IsFaultless};
-ghost use Rattle.diva_cli.specs.Parts.{Holds, SaysFault, Stops, stop_of};
+ghost use Rattle.diva_cli.specs.Wanted.{file_limit, file_rules, file_with, first_fault};
+ghost use Rattle.diva_cli.specs.Parts.{Holds, SaysFault, stop_of};
+ghost use Rattle.diva_process.specs.Writing.{Stops};
+ghost use Rattle.diva_outside.specs.Lent.{lent};
 
-use crate::stop::Stop;
 use diva_args::FileName;
 use diva_asm::assemble;
 use diva_debug::{Command, commands};
@@ -15,6 +15,7 @@ use diva_image::{
     HEADER_SIZE, Image, ImageFault, MOST_SEGMENTS, MOST_SIZE, PAIR_SIZE, read_program,
 };
 use diva_outside::{Files, LoadFault, TextFault, What};
+use diva_process::Stop;
 use diva_tape::Tape;
 use std::alloc::Global;
 
@@ -44,7 +45,7 @@ pub(crate) trait FileKind {
     fn read(&self, alloc: Global, bytes: &[u8]) -> Result<Self::Read, Stop>
         requires { length bytes.now ≤ file_limit }
         ensures read { IfOk result (reads self.now bytes.now) }
-        ensures faultless { OnOk result (IsFaultless WHAT (room self.now) bytes.now) }
+        ensures faultless { OnOk result (first_fault WHAT (room self.now) bytes.now ≡ None) }
         ensures fault { IfErr result (SaysFault WHAT (room self.now) bytes.now) };
 }
 
@@ -55,14 +56,13 @@ pub(crate) fn load<F: Files, K: FileKind>(
     kind: &K,
     name: &FileName,
 ) -> Result<K::Read, Stop>
-    ensures stays { F.contents files.new ≡ F.contents files.old }
-    ensures later { (w : What) → F.faults files.old w ≤ F.faults files.new w }
-    ensures others { (w : What) → w ≢ K.WHAT → F.faults files.new w ≡ F.faults files.old w }
-    ensures uncounted { OnOk result (IsUncounted (file_faults F.faults files.old files.new)) }
-    ensures holds { IfOk result (λ read. Holds (F.contents files.old)
+    ensures stays { (F.account files.new).contents ≡ (F.account files.old).contents }
+    ensures later { (w : What) → (F.account files.old).faults w ≤ (F.account files.new).faults w }
+    ensures others { (w : What) → w ≢ K.WHAT → (F.account files.new).faults w ≡ (F.account files.old).faults w }
+    ensures uncounted { OnOk result (IsUncounted (lent F.account files.old files.new)) }
+    ensures holds { IfOk result (λ read. Holds (F.account files.old).contents
         (file_with (K.room kind.now) K.WHAT name.now) (λ bytes. K.reads kind.now bytes read)) }
-    ensures stopped { IfErr result (λ stop. Stops (F.contents files.old) (F.faults files.old)
-        (F.faults files.new) (file_with (K.room kind.now) K.WHAT name.now ∷ []) stop) }
+    ensures stopped { IfErr result (λ stop. Stops file_rules (F.account files.old) (F.account files.new) (file_with (K.room kind.now) K.WHAT name.now ∷ []) stop) }
 {
     let bytes = load_bytes(alloc, files, K::WHAT, name)?;
     kind.read(alloc, &bytes)
@@ -75,14 +75,13 @@ fn load_bytes<F: Files>(
     what: What,
     name: &FileName,
 ) -> Result<Vec<u8>, Stop>
-    ensures stays { F.contents files.new ≡ F.contents files.old }
-    ensures later { (w : What) → F.faults files.old w ≤ F.faults files.new w }
-    ensures others { (w : What) → w ≢ what → F.faults files.new w ≡ F.faults files.old w }
-    ensures uncounted { OnOk result (IsUncounted (file_faults F.faults files.old files.new)) }
-    ensures has { IfOk result (λ bytes. Has (F.contents files.old) name.now bytes.items) }
+    ensures stays { (F.account files.new).contents ≡ (F.account files.old).contents }
+    ensures later { (w : What) → (F.account files.old).faults w ≤ (F.account files.new).faults w }
+    ensures others { (w : What) → w ≢ what → (F.account files.new).faults w ≡ (F.account files.old).faults w }
+    ensures uncounted { OnOk result (IsUncounted (lent F.account files.old files.new)) }
+    ensures has { IfOk result (λ bytes. Has (F.account files.old).contents name.now bytes.items) }
     ensures short { IfOk result (λ bytes. length bytes.items ≤ file_limit) }
-    ensures stopped { (room : ℕ) → IfErr result (λ stop. Stops (F.contents files.old) (F.faults files.old)
-        (F.faults files.new) (file_with room what name.now ∷ []) stop) }
+    ensures stopped { (room : ℕ) → IfErr result (λ stop. Stops file_rules (F.account files.old) (F.account files.new) (file_with room what name.now ∷ []) stop) }
 {
     match files.load(alloc, what, name.as_str(), FILE_LIMIT) {
         Ok(bytes) => Ok(bytes),

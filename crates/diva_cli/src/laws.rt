@@ -8,7 +8,7 @@ ghost use Rattle.diva_cli.specs.Changes.{Change, change};
 ghost use Rattle.diva_cli.specs.Determined.{IsDetermined};
 ghost use Rattle.diva_cli.specs.Runs.{HasRun, LegsAreTurns, RunsAreReadOff};
 ghost use Rattle.diva_cli.specs.SoakTexts.{HasSoaked};
-ghost use Rattle.diva_cli.specs.Wanted.{FileBytes};
+ghost use Rattle.diva_process.specs.Programs.{FileBytes};
 
 use diva_core::Core;
 

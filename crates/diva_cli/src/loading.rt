@@ -5,20 +5,22 @@ ghost use Rattle.diva_image.specs.ImageLayout.{layout};
 ghost use Rattle.diva_image.specs.Programs.{image_in};
 ghost use Rattle.diva_core.specs.Machine.{IsConfig};
 ghost use Rattle.diva_debug.specs.Moves.{IsShort};
-ghost use Rattle.diva_cli.specs.Changes.{IsUncounted, file_faults};
+ghost use Rattle.diva_outside.specs.Files.{IsUncounted};
 ghost use Rattle.diva_cli.specs.Replies.{keep};
-ghost use Rattle.diva_cli.specs.Wanted.{file_if, file_limit, file_with, machine_files, session_files, tape_name};
-ghost use Rattle.diva_cli.specs.Parts.{Stops, Holds, HoldsCore, HoldsReady, HoldsRows, HoldsSession};
+ghost use Rattle.diva_cli.specs.Wanted.{file_if, file_limit, file_with, machine_files, session_files, tape_name, file_rules};
+ghost use Rattle.diva_process.specs.Writing.{Stops};
+ghost use Rattle.diva_cli.specs.Parts.{Holds, HoldsCore, HoldsReady, HoldsRows, HoldsSession};
+ghost use Rattle.diva_outside.specs.Lent.{lent};
 
 use crate::driving::CoreInUse;
 use crate::files::{CommandsFile, ImageFile, ScriptFile, TapeFile, load};
-use crate::stop::Stop;
 use diva_args::{CoreChoice, DebugOptions, FileName, Setup};
 use diva_debug::{Command, Undos};
 use diva_faults::Script;
 use diva_image::Image;
 use diva_machine::Machine;
 use diva_outside::{Files, What};
+use diva_process::Stop;
 use diva_tape::{Noise, Scalar, TapeCore};
 use std::alloc::Global;
 
@@ -40,15 +42,14 @@ pub(crate) fn make_ready<F: Files>(
     files: &mut F,
     setup: &Setup,
 ) -> Result<Ready, Stop>
-    ensures stays { F.contents files.new ≡ F.contents files.old }
-    ensures later { (w : What) → F.faults files.old w ≤ F.faults files.new w }
+    ensures stays { (F.account files.new).contents ≡ (F.account files.old).contents }
+    ensures later { (w : What) → (F.account files.old).faults w ≤ (F.account files.new).faults w }
     ensures others { (w : What) → w ≢ What.Image → w ≢ What.Script → w ≢ What.Tape
-        → F.faults files.new w ≡ F.faults files.old w }
-    ensures uncounted { OnOk result (IsUncounted (file_faults F.faults files.old files.new)) }
-    ensures ready { IfOk result (HoldsReady (F.contents files.old) setup.now) }
+        → (F.account files.new).faults w ≡ (F.account files.old).faults w }
+    ensures uncounted { OnOk result (IsUncounted (lent F.account files.old files.new)) }
+    ensures ready { IfOk result (HoldsReady (F.account files.old).contents setup.now) }
     ensures config { IsConfig setup.now.config }
-    ensures stopped { IfErr result (λ stop. Stops (F.contents files.old) (F.faults files.old)
-        (F.faults files.new) (machine_files setup.now) stop) }
+    ensures stopped { IfErr result (λ stop. Stops file_rules (F.account files.old) (F.account files.new) (machine_files setup.now) stop) }
 {
     let config = setup.config;
     let Loaded {
@@ -84,17 +85,16 @@ pub(crate) fn make_session<F: Files>(
     files: &mut F,
     options: &DebugOptions,
 ) -> Result<SessionReady, Stop>
-    ensures stays { F.contents files.new ≡ F.contents files.old }
-    ensures later { (w : What) → F.faults files.old w ≤ F.faults files.new w }
-    ensures uncounted { OnOk result (IsUncounted (file_faults F.faults files.old files.new)) }
-    ensures session { IfOk result (HoldsSession (F.contents files.old) options.now) }
+    ensures stays { (F.account files.new).contents ≡ (F.account files.old).contents }
+    ensures later { (w : What) → (F.account files.old).faults w ≤ (F.account files.new).faults w }
+    ensures uncounted { OnOk result (IsUncounted (lent F.account files.old files.new)) }
+    ensures session { IfOk result (HoldsSession (F.account files.old).contents options.now) }
     ensures config { IsConfig options.now.setup.config }
     ensures narrow { IfOk result (λ session. session.ready.machine.timed.config.width ≡ 1) }
     ensures undos { IfOk result (λ session. session.undos ≡ record { items = []; keep = keep }) }
     ensures few { IfOk result (λ session. length session.commands.items ≤ file_limit) }
     ensures short { IfOk result (λ session. All IsShort session.commands.items) }
-    ensures stopped { IfErr result (λ stop. Stops (F.contents files.old) (F.faults files.old)
-        (F.faults files.new) (session_files options.now) stop) }
+    ensures stopped { IfErr result (λ stop. Stops file_rules (F.account files.old) (F.account files.new) (session_files options.now) stop) }
 {
     let ready = make_ready(alloc, files, &options.setup)?;
     let commands = load(alloc, files, &CommandsFile, &options.commands)?;
@@ -116,18 +116,17 @@ struct Loaded {
 
 /// The image of a setup, then the script, if there is one, and then the tape, if that is the core.
 fn load_machine_files<F: Files>(alloc: Global, files: &mut F, setup: &Setup) -> Result<Loaded, Stop>
-    ensures stays { F.contents files.new ≡ F.contents files.old }
-    ensures later { (w : What) → F.faults files.old w ≤ F.faults files.new w }
+    ensures stays { (F.account files.new).contents ≡ (F.account files.old).contents }
+    ensures later { (w : What) → (F.account files.old).faults w ≤ (F.account files.new).faults w }
     ensures others { (w : What) → w ≢ What.Image → w ≢ What.Script → w ≢ What.Tape
-        → F.faults files.new w ≡ F.faults files.old w }
-    ensures uncounted { OnOk result (IsUncounted (file_faults F.faults files.old files.new)) }
-    ensures image { IfOk result (λ loaded. Holds (F.contents files.old)
+        → (F.account files.new).faults w ≡ (F.account files.old).faults w }
+    ensures uncounted { OnOk result (IsUncounted (lent F.account files.old files.new)) }
+    ensures image { IfOk result (λ loaded. Holds (F.account files.old).contents
         (file_with setup.now.room What.Image setup.now.image)
         (λ bytes. image_in setup.now.room bytes ≡ layout loaded.image)) }
-    ensures script { IfOk result (λ loaded. HoldsRows (F.contents files.old) setup.now.script loaded.script) }
-    ensures core { IfOk result (λ loaded. HoldsCore (F.contents files.old) setup.now.core loaded.core) }
-    ensures stopped { IfErr result (λ stop. Stops (F.contents files.old) (F.faults files.old)
-        (F.faults files.new) (machine_files setup.now) stop) }
+    ensures script { IfOk result (λ loaded. HoldsRows (F.account files.old).contents setup.now.script loaded.script) }
+    ensures core { IfOk result (λ loaded. HoldsCore (F.account files.old).contents setup.now.core loaded.core) }
+    ensures stopped { IfErr result (λ stop. Stops file_rules (F.account files.old) (F.account files.new) (machine_files setup.now) stop) }
 {
     let image = load(alloc, files, &ImageFile { room: setup.room }, &setup.image)?;
     let script = load_script_if(alloc, files, &setup.script)?;
@@ -145,13 +144,12 @@ fn load_script_if<F: Files>(
     files: &mut F,
     name: &Option<FileName>,
 ) -> Result<Script, Stop>
-    ensures stays { F.contents files.new ≡ F.contents files.old }
-    ensures later { (w : What) → F.faults files.old w ≤ F.faults files.new w }
-    ensures others { (w : What) → w ≢ What.Script → F.faults files.new w ≡ F.faults files.old w }
-    ensures uncounted { OnOk result (IsUncounted (file_faults F.faults files.old files.new)) }
-    ensures holds { IfOk result (HoldsRows (F.contents files.old) name.now) }
-    ensures stopped { IfErr result (λ stop. Stops (F.contents files.old) (F.faults files.old)
-        (F.faults files.new) (file_if What.Script name.now) stop) }
+    ensures stays { (F.account files.new).contents ≡ (F.account files.old).contents }
+    ensures later { (w : What) → (F.account files.old).faults w ≤ (F.account files.new).faults w }
+    ensures others { (w : What) → w ≢ What.Script → (F.account files.new).faults w ≡ (F.account files.old).faults w }
+    ensures uncounted { OnOk result (IsUncounted (lent F.account files.old files.new)) }
+    ensures holds { IfOk result (HoldsRows (F.account files.old).contents name.now) }
+    ensures stopped { IfErr result (λ stop. Stops file_rules (F.account files.old) (F.account files.new) (file_if What.Script name.now) stop) }
 {
     match name {
         Some(name) => load(alloc, files, &ScriptFile, name),
@@ -161,13 +159,12 @@ fn load_script_if<F: Files>(
 
 /// The core of a choice. The one that is handed in is there already, and a tape is loaded.
 fn load_core<F: Files>(alloc: Global, files: &mut F, choice: &CoreChoice) -> Result<CoreInUse, Stop>
-    ensures stays { F.contents files.new ≡ F.contents files.old }
-    ensures later { (w : What) → F.faults files.old w ≤ F.faults files.new w }
-    ensures others { (w : What) → w ≢ What.Tape → F.faults files.new w ≡ F.faults files.old w }
-    ensures uncounted { OnOk result (IsUncounted (file_faults F.faults files.old files.new)) }
-    ensures holds { IfOk result (HoldsCore (F.contents files.old) choice.now) }
-    ensures stopped { IfErr result (λ stop. Stops (F.contents files.old) (F.faults files.old)
-        (F.faults files.new) (file_if What.Tape (tape_name choice.now)) stop) }
+    ensures stays { (F.account files.new).contents ≡ (F.account files.old).contents }
+    ensures later { (w : What) → (F.account files.old).faults w ≤ (F.account files.new).faults w }
+    ensures others { (w : What) → w ≢ What.Tape → (F.account files.new).faults w ≡ (F.account files.old).faults w }
+    ensures uncounted { OnOk result (IsUncounted (lent F.account files.old files.new)) }
+    ensures holds { IfOk result (HoldsCore (F.account files.old).contents choice.now) }
+    ensures stopped { IfErr result (λ stop. Stops file_rules (F.account files.old) (F.account files.new) (file_if What.Tape (tape_name choice.now)) stop) }
 {
     match choice {
         CoreChoice::Own => Ok(CoreInUse::Own),

@@ -1,37 +1,35 @@
-// The whole program, from the words to the status.
+// The program `diva`, from the words to the status, and what each of its jobs does.
 ghost use Rattle.std.specs.Prelude.{◌≡◌, ◌⊎◌, [], None};
 ghost use Rattle.diva_outside.specs.Causes.{Rose};
+ghost use Rattle.diva_outside.specs.Lent.{lent};
+ghost use Rattle.diva_outside.specs.Sink.{HasFailed, Takes};
 ghost use Rattle.diva_outside.specs.Text.{Text};
 ghost use Rattle.diva_outside.specs.declared.files.What.{What};
-ghost use Rattle.diva_cli.specs.Asked.{Asked, asked_by, asked_for, job_in};
-ghost use Rattle.diva_cli.specs.Changes.{HasFailed, Takes, asking, file_faults, sink_change};
-ghost use Rattle.diva_cli.specs.Lanes.{AreHonest, are_asked, own_asked};
-ghost use Rattle.diva_cli.specs.Texts.{IsDone};
-ghost use Rattle.diva_cli.specs.Answers.{IsMisused, HasUnread, HasRefused};
-ghost use Rattle.diva_cli.specs.Statuses.{HasWorked, HasLine, IsCut, HasNoMemory, MustRefuse, HasMissing, IsHindered};
-ghost use Rattle.diva_cli.specs.Statuses.{CanWork, HasEnded, IsStatus, LoadsNothing};
+ghost use Rattle.diva_process.specs.Programs.{asked_by, asked_for, job_in};
+ghost use Rattle.diva_process.specs.Answers.{HasRefused, HasUnread, IsDone, IsMisused};
+ghost use Rattle.diva_process.specs.Statuses.{CanWork, HasEnded, HasLine, HasMissing, HasNoMemory, HasWorked, IsCut, IsHindered, IsStatus, LoadsNothing, MustRefuse};
+ghost use Rattle.diva_process.specs.Promises.{KeepsPromises};
+ghost use Rattle.diva_cli.specs.Changes.{asking};
+ghost use Rattle.diva_cli.specs.Lanes.{AreHonest, are_asked};
+ghost use Rattle.diva_cli.specs.Program.{diva, own_work, work_of};
 ghost use Rattle.diva_cli.specs.Wanted.{wanted};
-ghost use Rattle.diva_cli.specs.Promises.{KeepsPromises, status_of};
-ghost use Rattle.diva_cli.specs.Parts.{IsRead, WritesMisused};
 
 use crate::asm::asm;
 use crate::campaign::campaign;
 use crate::debug::debug;
 use crate::dis::dis;
-use crate::drawing::draw;
 use crate::duo::duo;
 use crate::lanes::Lanes;
 use crate::lines::usage_line;
 use crate::migrate::migrate;
 use crate::run::{run, tape};
 use crate::soak::soak;
-use crate::stop::Failure;
-use crate::writing::write_line;
 use diva_args::{ArgsFault, Job, read_words};
 use diva_core::Core;
 use diva_outside::{Files, Line, Sink};
+use diva_process::{Failure, Front, run_process};
 use diva_vote::Lane;
-use std::alloc::Global;
+use std::alloc::{AllocError, Global};
 
 /// Runs the program on the words of its command line (without its name) over the files, the sink
 /// and the core that it is handed, and answers its status.
@@ -63,106 +61,86 @@ pub fn top<F: Files, S: Sink, C: Core>(
     // The replies of a session show the table's states, and the flushes of such a machine. Both runs of
     // a seed's image halt, in the same state.
     ensures worked { IsDone result
-        → HasWorked C.gives (asked_by words.now (F.contents files.old)) (file_faults F.faults files.old files.new)
-        (asking core.old core.new own_asked) (sink_change S.contents S.faults sink.old sink.new) result }
+        → HasWorked (asked_by diva words.now) (own_work C.gives core.old core.new) (lent F.account files.old files.new)
+        (lent S.account sink.old sink.new) result }
 
     // Nothing is run: the words, the first file's fault, or the files' count of faults says why. No fault was counted
-    // for a file behind the one at which the loading stopped.
+    // for a file after the one at which the loading stopped.
     ensures misused { result ≡ 2
-        → HasLine (IsMisused (asked_by words.now (F.contents files.old)) (file_faults F.faults files.old files.new))
-        (asking core.old core.new own_asked) (sink_change S.contents S.faults sink.old sink.new) }
+        → HasLine (IsMisused (asked_by diva words.now) (lent F.account files.old files.new)) (own_work C.gives core.old core.new)
+        (lent S.account sink.old sink.new) }
     ensures refused { result ≡ 5
-        → HasLine (HasRefused (asked_by words.now (F.contents files.old)) (file_faults F.faults files.old files.new))
-        (asking core.old core.new own_asked) (sink_change S.contents S.faults sink.old sink.new) }
+        → HasLine (HasRefused (asked_by diva words.now) (lent F.account files.old files.new)) (own_work C.gives core.old core.new)
+        (lent S.account sink.old sink.new) }
     ensures unread { result ≡ 8
-        → HasLine (HasUnread (asked_by words.now (F.contents files.old)) (file_faults F.faults files.old files.new))
-        (asking core.old core.new own_asked) (sink_change S.contents S.faults sink.old sink.new) }
+        → HasLine (HasUnread (asked_by diva words.now) (lent F.account files.old files.new)) (own_work C.gives core.old core.new)
+        (lent S.account sink.old sink.new) }
 
-    // Where the words ask for no file, the files are as they were: none was loaded.
-    ensures unloaded { LoadsNothing (job_in words.now) → files.new ≡ files.old }
+    // If the words ask for no file, the files are as they were: none was loaded.
+    ensures unloaded { LoadsNothing diva (job_in diva words.now) → files.new ≡ files.old }
 
     // The sink's count of faults rose, and the core was not asked again; memory ran out, and no load failed.
     ensures cut { result ≡ 9
-        → IsCut C.gives (asked_by words.now (F.contents files.old)) (file_faults F.faults files.old files.new)
-        (asking core.old core.new own_asked) (sink_change S.contents S.faults sink.old sink.new) }
+        → IsCut (asked_by diva words.now) (own_work C.gives core.old core.new) (lent F.account files.old files.new)
+        (lent S.account sink.old sink.new) }
     ensures memory { result ≡ 10
-        → HasNoMemory (file_faults F.faults files.old files.new) (asking core.old core.new own_asked)
-        (sink_change S.contents S.faults sink.old sink.new) }
+        → HasNoMemory (own_work C.gives core.old core.new) (lent F.account files.old files.new) (lent S.account sink.old sink.new) }
 
     // Words that are not a valid command line are answered by the usage line.
-    ensures usage { job_in words.now ≡ None → (result ≡ 2) ⊎ ((result ≡ 9) ⊎ (result ≡ 10)) }
+    ensures usage { (job_in diva words.now) ≡ None → (result ≡ 2) ⊎ ((result ≡ 9) ⊎ (result ≡ 10)) }
 
     // Of known files, the first that can't be used is refused by its line, or is not there.
     ensures refuses { (text : Text)
-        → MustRefuse (asked_by words.now (F.contents files.old)) text
-        → ((result ≡ 5) × Takes (sink_change S.contents S.faults sink.old sink.new) text) ⊎ IsHindered result }
-    ensures misses { HasMissing (asked_by words.now (F.contents files.old)) → IsHindered result }
+        → MustRefuse (asked_by diva words.now) (lent F.account files.old files.new) text
+        → ((result ≡ 5) × Takes (lent S.account sink.old sink.new) text) ⊎ IsHindered result }
+    ensures misses { HasMissing (asked_by diva words.now) (lent F.account files.old files.new) → IsHindered result }
 
-    // A job whose files are known and sound is done, where neither they nor the sink fail.
-    ensures complete { CanWork (asked_by words.now (F.contents files.old))
-        → ((what : What) → Rose (F.faults files.old what) (F.faults files.new what) → ⊥)
-        → (HasFailed (sink_change S.contents S.faults sink.old sink.new) → ⊥)
-        → HasEnded C.gives (asked_by words.now (F.contents files.old)) (file_faults F.faults files.old files.new)
-        (asking core.old core.new own_asked) (sink_change S.contents S.faults sink.old sink.new) result ⊎ (result ≡ 10) }
+    // A job whose files are known and sound is done, if neither they nor the sink fail.
+    ensures complete { CanWork (asked_by diva words.now) (lent F.account files.old files.new)
+        → ((what : What) → Rose ((F.account files.old).faults what) ((F.account files.new).faults what) → ⊥)
+        → (HasFailed (lent S.account sink.old sink.new) → ⊥)
+        → HasEnded (asked_by diva words.now) (own_work C.gives core.old core.new) (lent F.account files.old files.new)
+        (lent S.account sink.old sink.new) result ⊎ (result ≡ 10) }
 {
-    status_of(answer(alloc, words, files, sink, core))
+    run_process(&Diva, alloc, words, files, sink, core)
 }
 
-/// The status that the program ends with.
-pub(crate) fn status_of(answered: Result<u8, Failure>) -> u8
-    ensures { result ≡ status_of answered }
-{
-    match answered {
-        Ok(status) => status,
-        Err(Failure::Cut) => 9,
-        Err(Failure::Memory) => 10,
+/// The program `diva`, over a core.
+struct Diva;
+
+impl<C: Core> Front<C> for Diva {
+    ghost use Rattle.diva_cli.specs.Program.{diva, own_done};
+    ghost use Rattle.diva_cli.specs.Texts.{CanEnd};
+
+    type Job = Job;
+
+    ghost program = { diva };
+
+    ghost done = { own_done C.gives };
+
+    ghost can_end = { CanEnd };
+
+    fn job(&self, alloc: Global, words: &[&str]) -> Result<Option<Job>, AllocError> {
+        match read_words(alloc, words) {
+            Ok(job) => Ok(Some(job)),
+            Err(ArgsFault::Usage) => Ok(None),
+            Err(ArgsFault::Memory) => Err(AllocError),
+        }
     }
-}
 
-/// Does the job that the words ask for, or writes the usage line.
-fn answer<F: Files, S: Sink, C: Core>(
-    alloc: Global,
-    words: &[&str],
-    files: &mut F,
-    sink: &mut S,
-    core: &mut C,
-) -> Result<u8, Failure>
-    ensures answers { KeepsPromises C.gives (asked_by words.now (F.contents files.old)) (file_faults F.faults files.old files.new)
-        (asking core.old core.new own_asked) (sink_change S.contents S.faults sink.old sink.new) result }
-    ensures unloaded { LoadsNothing (job_in words.now) → files.new ≡ files.old }
-{
-    let read = read_words(alloc, words);
-    answer_read(alloc, read, &usage_line(), files, sink, core)
-}
-
-/// Does the job that the words ask for, where one was read of them, or writes the usage line.
-pub(crate) fn answer_read<F: Files, S: Sink, C: Core>(
-    alloc: Global,
-    read: Result<Job, ArgsFault>,
-    usage: &Line,
-    files: &mut F,
-    sink: &mut S,
-    core: &mut C,
-) -> Result<u8, Failure>
-    ensures answers { (asked : Asked) → IsRead asked (F.contents files.old) usage.now read
-        → KeepsPromises C.gives asked (file_faults F.faults files.old files.new)
-        (asking core.old core.new own_asked) (sink_change S.contents S.faults sink.old sink.new) result }
-    ensures unloaded { (asked : Asked) → IsRead asked (F.contents files.old) usage.now read
-        → LoadsNothing asked.job → files.new ≡ files.old }
-{
-    match read {
-        Ok(job) => work(alloc, job, files, sink, core, &mut Lanes::own()),
-        Err(fault) => write_misused(fault, usage, sink),
+    fn usage(&self) -> Line {
+        usage_line()
     }
-}
 
-/// Writes the usage line where the words are not a valid command line.
-fn write_misused<S: Sink>(fault: ArgsFault, usage: &Line, sink: &mut S) -> Result<u8, Failure>
-    ensures { WritesMisused fault usage.now (sink_change S.contents S.faults sink.old sink.new) result }
-{
-    match fault {
-        ArgsFault::Usage => write_line(usage, 2, sink),
-        ArgsFault::Memory => Err(Failure::Memory),
+    fn work<F: Files, S: Sink>(
+        &self,
+        alloc: Global,
+        job: Job,
+        files: &mut F,
+        sink: &mut S,
+        core: &mut C,
+    ) -> Result<u8, Failure> {
+        work(alloc, job, files, sink, core, &mut Lanes::own())
     }
 }
 
@@ -182,20 +160,19 @@ pub fn work<F: Files, S: Sink, C: Core, L: Lane>(
     lanes: &mut Lanes<L>,
 ) -> Result<u8, Failure>
     requires { AreHonest L.honest lanes.old }
-    ensures answers { KeepsPromises C.gives (asked_for job (F.contents files.old)) (file_faults F.faults files.old files.new)
-        (asking core.old core.new (are_asked L.says lanes.old lanes.new)) (sink_change S.contents S.faults sink.old sink.new) result }
+    ensures answers { KeepsPromises (asked_for diva job) (work_of C.gives
+        (asking core.old core.new (are_asked L.says lanes.old lanes.new))) (lent F.account files.old files.new) (lent S.account sink.old sink.new) result }
     ensures unloaded { wanted job ≡ [] → files.new ≡ files.old }
 {
     match job {
         Job::Run(options) => run(alloc, options, files, sink, core, lanes),
         Job::Tape(options) => tape(alloc, options, files, sink, core, lanes),
         Job::Duo(options) => duo(alloc, options, files, sink, core),
-        Job::Debug(options) => debug(alloc, options, files, sink, core),
+        Job::Debug(options) => debug(alloc, options, files, sink, core, lanes),
         Job::Asm(source) => asm(alloc, source, files, sink, core),
         Job::Dis(image) => dis(alloc, image, files, sink, core),
         Job::Migrate(options) => migrate(alloc, options, files, sink, core),
         Job::Soak(options) => soak(alloc, options, files, sink, core),
         Job::Campaign(options) => campaign(alloc, options, files, sink, core, lanes),
-        Job::Draw(options) => draw(alloc, options, files, sink, core, lanes),
     }
 }

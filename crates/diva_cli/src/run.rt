@@ -1,24 +1,28 @@
 // The commands `run` and `tape`: each reads its files with neither core nor sink in its hands, and then drives a machine.
-ghost use Rattle.std.specs.Prelude.{◌≡◌};
+ghost use Rattle.std.specs.Prelude.{◌≡◌, ◌+◌, ◌≤◌, ◌^◌};
 ghost use Rattle.diva_args.specs.declared.job.Job.TheVariants.{Run, Tape};
 ghost use Rattle.diva_core.specs.Machine.{IsConfig};
-ghost use Rattle.diva_cli.specs.Asked.{asked_for};
-ghost use Rattle.diva_cli.specs.Changes.{asking, file_faults, sink_change};
+ghost use Rattle.diva_machine.specs.Asked.{asked_over};
+ghost use Rattle.diva_process.specs.Programs.{asked_for, FileBytes};
+ghost use Rattle.diva_cli.specs.Changes.{asking, change};
+ghost use Rattle.diva_outside.specs.Lent.{lent};
 ghost use Rattle.diva_cli.specs.Lanes.{AreHonest, are_asked};
-ghost use Rattle.diva_cli.specs.Wanted.{FileBytes};
-ghost use Rattle.diva_cli.specs.Tasks.{run_task};
-ghost use Rattle.diva_cli.specs.Promises.{KeepsPromises};
-ghost use Rattle.diva_cli.specs.Parts.{IsReady, WritesText};
+ghost use Rattle.diva_cli.specs.Tasks.{IsOnePart, IsRun, PlaysBy};
+ghost use Rattle.diva_process.specs.Promises.{KeepsPromises};
+ghost use Rattle.diva_cli.specs.Parts.{IsReady};
+ghost use Rattle.diva_process.specs.Writing.{WritesText};
+ghost use Rattle.diva_cli.specs.Program.{diva, work_of};
 
 use crate::driving::perform_by;
 use crate::lanes::Lanes;
 use crate::loading::{Ready, make_ready};
-use crate::stop::Failure;
-use crate::tasks::Task;
-use crate::writing::{end_status, write_finished, write_stop};
+use crate::tasks::{Quiet, Watched};
+use crate::watching::{CommitLines, TapeLines};
+use crate::writing::{end_status, write_finished};
 use diva_args::{LanePlace, RunOptions, TapeOptions};
 use diva_core::Core;
-use diva_outside::{Files, Sink};
+use diva_outside::{Files, Sink, SinkFailed};
+use diva_process::{Failure, write_stop};
 use diva_vote::Lane;
 use std::alloc::Global;
 
@@ -34,8 +38,8 @@ pub(crate) fn run<F: Files, S: Sink, C: Core, L: Lane>(
     lanes: &mut Lanes<L>,
 ) -> Result<u8, Failure>
     requires { AreHonest L.honest lanes.old }
-    ensures { KeepsPromises C.gives (asked_for (Run options) (F.contents files.old)) (file_faults F.faults files.old files.new)
-        (asking core.old core.new (are_asked L.says lanes.old lanes.new)) (sink_change S.contents S.faults sink.old sink.new) result }
+    ensures { KeepsPromises (asked_for diva (Run options)) (work_of C.gives
+        (asking core.old core.new (are_asked L.says lanes.old lanes.new))) (lent F.account files.old files.new) (lent S.account sink.old sink.new) result }
 {
     match make_ready(alloc, files, &options.setup) {
         Ok(mut ready) => run_ready(&mut ready, options, sink, core, lanes),
@@ -55,16 +59,15 @@ fn run_ready<S: Sink, C: Core, L: Lane>(
     requires new { ready.old.machine.timed.cycles ≡ 0 }
     requires fits { IsConfig options.setup.config }
     ensures { (bytes : FileBytes) → IsReady options.setup bytes ready.old
-        → WritesText C.gives (Run options) bytes
-        (asking core.old core.new (are_asked L.says lanes.old lanes.new)) (sink_change S.contents S.faults sink.old sink.new) result }
+        → WritesText (work_of C.gives
+        (asking core.old core.new (are_asked L.says lanes.old lanes.new))) (Run options) bytes (lent S.account sink.old sink.new) result }
 {
-    let task = run_task(options.trace, options.cycles, options.liar);
-    perform_by(
-        &mut ready.machine,
-        &mut ready.core,
-        &ready.script,
+    drive_run(
+        ready,
+        options.trace,
+        options.cycles,
+        options.liar,
         core,
-        task,
         lanes,
         sink,
     )?;
@@ -72,14 +75,40 @@ fn run_ready<S: Sink, C: Core, L: Lane>(
     Ok(end_status(&ready.machine))
 }
 
-/// What is done for a run. Nothing watches the turns of one without commit lines.
-fn run_task(trace: bool, cycles: u64, liar: Option<LanePlace>) -> Task
-    ensures { result ≡ run_task trace cycles liar }
+/// Drives a machine for so many cycles at most, and writes its commit lines if they are asked for. Nothing watches the turns of a run
+/// without them.
+fn drive_run<S: Sink, C: Core, L: Lane>(
+    ready: &mut Ready,
+    trace: bool,
+    cycles: u64,
+    liar: Option<LanePlace>,
+    core: &mut C,
+    lanes: &mut Lanes<L>,
+    sink: &mut S,
+) -> Result<(), SinkFailed>
+    requires cycles { ready.old.machine.timed.cycles + cycles ≤ 2 ^ 60 }
+    requires honest { AreHonest L.honest lanes.old }
+    ensures { PlaysBy C.gives ready.old.core ready.old.script (change ready.old.machine.timed ready.new.machine.timed)
+        (change core.old core.new) (IsOnePart (λ lists. IsRun trace cycles
+        (change ready.old.machine.timed ready.new.machine.timed) lists (lent S.account sink.old sink.new) result
+        × are_asked L.says lanes.old lanes.new liar (asked_over ready.old.machine.timed lists))) }
 {
+    let Ready {
+        machine,
+        core: used,
+        script,
+    } = ready;
     if trace {
-        Task::Trace(cycles, liar)
+        let watcher = CommitLines;
+        let mut task = Watched {
+            cycles,
+            liar,
+            watcher,
+        };
+        perform_by(&mut task, machine, used, script, core, lanes, sink)
     } else {
-        Task::Quiet(cycles, liar)
+        let mut task = Quiet { cycles, liar };
+        perform_by(&mut task, machine, used, script, core, lanes, sink)
     }
 }
 
@@ -95,8 +124,8 @@ pub(crate) fn tape<F: Files, S: Sink, C: Core, L: Lane>(
     lanes: &mut Lanes<L>,
 ) -> Result<u8, Failure>
     requires { AreHonest L.honest lanes.old }
-    ensures { KeepsPromises C.gives (asked_for (Tape options) (F.contents files.old)) (file_faults F.faults files.old files.new)
-        (asking core.old core.new (are_asked L.says lanes.old lanes.new)) (sink_change S.contents S.faults sink.old sink.new) result }
+    ensures { KeepsPromises (asked_for diva (Tape options)) (work_of C.gives
+        (asking core.old core.new (are_asked L.says lanes.old lanes.new))) (lent F.account files.old files.new) (lent S.account sink.old sink.new) result }
 {
     match make_ready(alloc, files, &options.setup) {
         Ok(mut ready) => tape_ready(&mut ready, options, sink, core, lanes),
@@ -116,16 +145,20 @@ fn tape_ready<S: Sink, C: Core, L: Lane>(
     requires new { ready.old.machine.timed.cycles ≡ 0 }
     requires fits { IsConfig options.setup.config }
     ensures { (bytes : FileBytes) → IsReady options.setup bytes ready.old
-        → WritesText C.gives (Tape options) bytes
-        (asking core.old core.new (are_asked L.says lanes.old lanes.new)) (sink_change S.contents S.faults sink.old sink.new) result }
+        → WritesText (work_of C.gives
+        (asking core.old core.new (are_asked L.says lanes.old lanes.new))) (Tape options) bytes (lent S.account sink.old sink.new) result }
 {
-    let task = Task::Tape(options.cycles);
+    let mut task = Watched {
+        cycles: options.cycles,
+        liar: None,
+        watcher: TapeLines,
+    };
     perform_by(
+        &mut task,
         &mut ready.machine,
         &mut ready.core,
         &ready.script,
         core,
-        task,
         lanes,
         sink,
     )?;

@@ -4,19 +4,21 @@ ghost use Rattle.std.specs.Prelude.{◌≡◌, IfOk};
 ghost use Rattle.diva_core.specs.Timed.{default_config, new_timed};
 ghost use Rattle.diva_tape.specs.Scalar.{IsScalarCall};
 ghost use Rattle.diva_args.specs.declared.job.Job.TheVariants.{Soak};
-ghost use Rattle.diva_cli.specs.Asked.{asked_for};
-ghost use Rattle.diva_cli.specs.Changes.{asking, change, file_faults, sink_change};
+ghost use Rattle.diva_process.specs.Programs.{asked_for, FileBytes};
+ghost use Rattle.diva_cli.specs.Changes.{asking, change};
+ghost use Rattle.diva_outside.specs.Lent.{lent};
 ghost use Rattle.diva_cli.specs.SoakTexts.{soak_cycles, soak_start};
-ghost use Rattle.diva_cli.specs.Wanted.{FileBytes};
-ghost use Rattle.diva_cli.specs.Promises.{KeepsPromises};
-ghost use Rattle.diva_cli.specs.Parts.{IsSoakReady, Soaks, WritesText, no_lanes};
+ghost use Rattle.diva_process.specs.Promises.{KeepsPromises};
+ghost use Rattle.diva_cli.specs.Parts.{IsSoakReady, Soaks, no_lanes};
+ghost use Rattle.diva_process.specs.Writing.{WritesText};
+ghost use Rattle.diva_cli.specs.Program.{diva, work_of};
 
-use crate::stop::Failure;
 use crate::writing::write_soaked;
 use diva_args::SoakOptions;
 use diva_core::Core;
 use diva_machine::{Config, DEPTH, Machine, drive};
 use diva_outside::{Files, Sink};
+use diva_process::Failure;
 use diva_soak::soak_image;
 use diva_tape::Scalar;
 use std::alloc::{AllocError, Global};
@@ -31,8 +33,8 @@ pub(crate) fn soak<F: Files, S: Sink, C: Core>(
     sink: &mut S,
     core: &mut C,
 ) -> Result<u8, Failure>
-    ensures { KeepsPromises C.gives (asked_for (Soak options) (F.contents _files.now)) (file_faults F.faults _files.now _files.now)
-        (asking core.old core.new no_lanes) (sink_change S.contents S.faults sink.old sink.new) result }
+    ensures { KeepsPromises (asked_for diva (Soak options)) (work_of C.gives
+        (asking core.old core.new no_lanes)) (lent F.account _files.now _files.now) (lent S.account sink.old sink.new) result }
 {
     let mut ready = make_soak(alloc, &options)?;
     soak_ready(&mut ready, options, sink, core)
@@ -71,8 +73,8 @@ fn soak_ready<S: Sink, C: Core>(
     core: &mut C,
 ) -> Result<u8, Failure>
     requires { IsSoakReady options ready.old }
-    ensures { (bytes : FileBytes) → WritesText C.gives (Soak options) bytes
-        (asking core.old core.new no_lanes) (sink_change S.contents S.faults sink.old sink.new) result }
+    ensures { (bytes : FileBytes) → WritesText (work_of C.gives
+        (asking core.old core.new no_lanes)) (Soak options) bytes (lent S.account sink.old sink.new) result }
 {
     drive_both(ready, &options, core);
     write_soaked(&ready.first, &ready.second, sink)?;

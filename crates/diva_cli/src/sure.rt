@@ -1,12 +1,11 @@
 // The program over files and a sink that never fail.
 ghost use Rattle.std.specs.Prelude.{◌≡◌, ◌≢◌, ◌⊎◌, None};
 ghost use Rattle.diva_outside.specs.Text.{Text};
-ghost use Rattle.diva_cli.specs.Asked.{asked_by, job_in};
-ghost use Rattle.diva_cli.specs.Changes.{asking};
-ghost use Rattle.diva_cli.specs.Lanes.{own_asked};
-ghost use Rattle.diva_cli.specs.Statuses.{CanWork, HasEnded, HasWorked, IsStatus, MustRefuse};
-ghost use Rattle.diva_cli.specs.Sure.{sure_contents, unfailing, unseen};
-ghost use Rattle.diva_cli.specs.Texts.{IsDone};
+ghost use Rattle.diva_process.specs.Programs.{asked_by, job_in};
+ghost use Rattle.diva_process.specs.Answers.{IsDone};
+ghost use Rattle.diva_process.specs.Statuses.{CanWork, HasEnded, HasWorked, IsStatus, MustRefuse};
+ghost use Rattle.diva_cli.specs.Program.{diva, own_work};
+ghost use Rattle.diva_cli.specs.Sure.{sure_files, unseen};
 
 use crate::program::top;
 use diva_core::Core;
@@ -20,18 +19,18 @@ pub fn top_sure<C: Core>(alloc: Global, words: &[&str], files: Vec<MemFile>, cor
     ensures read { result ≢ 8 }
     ensures written { result ≢ 9 }
 
-    // Where the job was done, the core is as its runs left it; else it was not asked.
+    // If the job was done, the core is as its runs left it; else it was not asked.
     ensures worked { IsDone result
-        → HasWorked C.gives (asked_by words.now (sure_contents files.items)) unfailing (asking core.old core.new own_asked) unseen result }
+        → HasWorked (asked_by diva words.now) (own_work C.gives core.old core.new) (sure_files files.items) unseen result }
     ensures unasked { (result ≡ 2) ⊎ ((result ≡ 5) ⊎ (result ≡ 10)) → core.new ≡ core.old }
 
     // The words and the files say which status it is, but where memory runs out.
-    ensures misused { result ≡ 2 → job_in words.now ≡ None }
-    ensures usage { job_in words.now ≡ None → (result ≡ 2) ⊎ (result ≡ 10) }
-    ensures refuses { (text : Text) → MustRefuse (asked_by words.now (sure_contents files.items)) text
+    ensures misused { result ≡ 2 → job_in diva words.now ≡ None }
+    ensures usage { job_in diva words.now ≡ None → (result ≡ 2) ⊎ (result ≡ 10) }
+    ensures refuses { (text : Text) → MustRefuse (asked_by diva words.now) (sure_files files.items) text
         → (result ≡ 5) ⊎ (result ≡ 10) }
-    ensures complete { CanWork (asked_by words.now (sure_contents files.items))
-        → HasEnded C.gives (asked_by words.now (sure_contents files.items)) unfailing (asking core.old core.new own_asked) unseen result
+    ensures complete { CanWork (asked_by diva words.now) (sure_files files.items)
+        → HasEnded (asked_by diva words.now) (own_work C.gives core.old core.new) (sure_files files.items) unseen result
         ⊎ (result ≡ 10) }
 {
     let mut files = SureFiles::new(files);

@@ -1,43 +1,19 @@
-// What is written, and the status that goes with it. No memory is taken.
+// What is written of machines, and the status that goes with it. No memory is taken.
 ghost use Rattle.std.specs.Prelude.{◌≡◌, ◌+◌, ◌≤◌, ◌^◌};
 ghost use Rattle.std.specs.Option.{ForSome};
 ghost use Rattle.diva_isa.specs.End.{end_of};
 ghost use Rattle.diva_trace.specs.Text.{soak_text, text_of};
 ghost use Rattle.diva_trace.specs.Lines.{soak_line};
-ghost use Rattle.diva_cli.specs.Changes.{PutsTo, sink_change};
+ghost use Rattle.diva_outside.specs.Sink.{PutsTo};
+ghost use Rattle.diva_outside.specs.Lent.{lent};
 ghost use Rattle.diva_cli.specs.Runs.{end_status, shown_dump};
-ghost use Rattle.diva_cli.specs.Parts.{WritesLine, WritesStop};
 
-use crate::lines::{refused_line, unreadable_line};
-use crate::stop::{Failure, Stop};
 use diva_args::DumpRange;
 use diva_machine::{End, Machine};
-use diva_outside::{Line, Sink, SinkFailed, put_line, put_lines};
+use diva_outside::{Line, Sink, SinkFailed, put_lines};
 use diva_trace::{
     Dump, Report, SoakCore, end_line_of, soak_line, write_output, write_registers, write_run,
 };
-
-/// Writes a line, and answers its status.
-pub(crate) fn write_line<S: Sink>(line: &Line, status: u8, sink: &mut S) -> Result<u8, Failure>
-    ensures { WritesLine line.now status (sink_change S.contents S.faults sink.old sink.new) result }
-{
-    put_line(line, sink)?;
-    Ok(status)
-}
-
-/// Writes why the files of a job can't be used, and answers the status that goes with it. Where
-/// memory ran out nothing is written.
-pub(crate) fn write_stop<S: Sink>(stop: Stop, sink: &mut S) -> Result<u8, Failure>
-    ensures { WritesStop stop (sink_change S.contents S.faults sink.old sink.new) result }
-{
-    match stop {
-        Stop::Memory => Err(Failure::Memory),
-        Stop::Unread(what) => write_line(&unreadable_line(what), 8, sink),
-        Stop::Refused { what, kind, place } => {
-            write_line(&refused_line(what, kind, place), 5, sink)
-        }
-    }
-}
 
 /// Writes what a run left, line by line.
 pub(crate) fn write_finished<S: Sink>(
@@ -45,7 +21,7 @@ pub(crate) fn write_finished<S: Sink>(
     dump: Option<DumpRange>,
     sink: &mut S,
 ) -> Result<(), SinkFailed>
-    ensures { PutsTo (sink_change S.contents S.faults sink.old sink.new) (text_of machine.now.timed (shown_dump dump)) result }
+    ensures { PutsTo (lent S.account sink.old sink.new) (text_of machine.now.timed (shown_dump dump)) result }
 {
     let report = Report {
         rows: machine.log(),
@@ -81,7 +57,7 @@ pub(crate) fn write_soaked<S: Sink>(
     second: &Machine,
     sink: &mut S,
 ) -> Result<(), SinkFailed>
-    ensures { PutsTo (sink_change S.contents S.faults sink.old sink.new) (soak_text first.now.timed second.now.timed) result }
+    ensures { PutsTo (lent S.account sink.old sink.new) (soak_text first.now.timed second.now.timed) result }
 {
     put_lines(
         &[

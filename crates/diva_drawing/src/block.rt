@@ -1,6 +1,7 @@
 // A text of some lines.
 ghost use Rattle.std.specs.Prelude.{◌≡◌, ◌≤◌, ◌<◌, ◌+◌, ◌++◌, length, [], OnOk};
-ghost use Rattle.diva_outside.specs.Sink.{Puts};
+ghost use Rattle.diva_outside.specs.Lent.{lent};
+ghost use Rattle.diva_outside.specs.Sink.{PutsTo};
 ghost use Rattle.diva_drawing.specs.Pieces.{Passes};
 
 use arrayvec::ArrayVec;
@@ -48,8 +49,7 @@ impl Block {
 
     /// Appends a line; if a piece has no room for it, the others are put first. Where that fails, a prefix of them was appended.
     pub(crate) fn push<S: Sink>(&mut self, line: &Line, sink: &mut S) -> Result<(), SinkFailed>
-        ensures { Passes line.now self.old self.new
-            (S.contents sink.old) (S.contents sink.new) (S.faults sink.old) (S.faults sink.new) result }
+        ensures { Passes (lent S.account sink.old sink.new) line.now self.old self.new result }
     {
         self.make_room(line.bytes().len(), sink)?;
         self.line(line);
@@ -65,8 +65,7 @@ impl Block {
     ) -> Result<(), SinkFailed>
         requires { bytes ≤ 4096 }
         ensures room { OnOk result (length self.new + bytes ≤ 4096) }
-        ensures passes { Passes [] self.old self.new
-            (S.contents sink.old) (S.contents sink.new) (S.faults sink.old) (S.faults sink.new) result }
+        ensures passes { Passes (lent S.account sink.old sink.new) [] self.old self.new result }
     {
         if self.text.len() + bytes > PIECE {
             self.put(sink)?;
@@ -84,8 +83,7 @@ impl Block {
 
     /// Puts all lines at once. Where that fails, a prefix of them was appended.
     pub(crate) fn put<S: Sink>(&self, sink: &mut S) -> Result<(), SinkFailed>
-        ensures { Puts self.now
-            (S.contents sink.old) (S.contents sink.new) (S.faults sink.old) (S.faults sink.new) result }
+        ensures { PutsTo (lent S.account sink.old sink.new) self.now result }
     {
         sink.put(self.text.as_slice())
     }

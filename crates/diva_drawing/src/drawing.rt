@@ -1,7 +1,8 @@
 // A run as a drawing in text.
 ghost use Rattle.std.specs.Prelude.{◌≡◌, ◌≤◌, ◌++◌, ◌-◌, codes, length, map, min};
 ghost use Rattle.std.specs.List.{concat};
-ghost use Rattle.diva_outside.specs.Sink.{Puts};
+ghost use Rattle.diva_outside.specs.Lent.{lent};
+ghost use Rattle.diva_outside.specs.Sink.{PutsTo};
 ghost use Rattle.diva_drawing.specs.Pieces.{Passes};
 ghost use Rattle.diva_drawing.specs.Drawing.{cell, claim_row, committed_claims, drawn_cycle, drawn_end, dropped_claim_rows, dropped_claims, ended_solo, first_drop, last_letter, letter, listed_in, name_text, number_cell, padded, row_text, rows_text, scale_text, solo_rows};
 
@@ -26,8 +27,7 @@ pub(crate) fn put_drawn<S: Sink>(
     block: &mut Block,
     sink: &mut S,
 ) -> Result<(), SinkFailed>
-    ensures { Puts (drawn_cycle excerpt before.now after.now)
-        (S.contents sink.old) (S.contents sink.new) (S.faults sink.old) (S.faults sink.new) result }
+    ensures { PutsTo (lent S.account sink.old sink.new) (drawn_cycle excerpt before.now after.now) result }
 {
     let last = after.cycles();
     let solo = ended_solo(before, after);
@@ -78,8 +78,7 @@ pub(crate) fn put_stopped<S: Sink>(
     block: &mut Block,
     sink: &mut S,
 ) -> Result<(), SinkFailed>
-    ensures { Puts (drawn_end excerpt last.now)
-        (S.contents sink.old) (S.contents sink.new) (S.faults sink.old) (S.faults sink.new) result }
+    ensures { PutsTo (lent S.account sink.old sink.new) (drawn_end excerpt last.now) result }
 {
     let cycles = last.cycles();
     put_solo(last.solo(), cycles, Ending::Stays, excerpt, block, sink)?;
@@ -110,8 +109,7 @@ fn put_solo<S: Sink>(
     block: &mut Block,
     sink: &mut S,
 ) -> Result<(), SinkFailed>
-    ensures { Puts (rows_text excerpt (solo_rows last ending solo))
-        (S.contents sink.old) (S.contents sink.new) (S.faults sink.old) (S.faults sink.new) result }
+    ensures { PutsTo (lent S.account sink.old sink.new) (rows_text excerpt (solo_rows last ending solo)) result }
 {
     match solo {
         Some(solo) => put_row(
@@ -139,8 +137,7 @@ fn put_claims<S: Sink>(
     block: &mut Block,
     sink: &mut S,
 ) -> Result<(), SinkFailed>
-    ensures { Puts (rows_text excerpt (map (claim_row last ending) claims.now))
-        (S.contents sink.old) (S.contents sink.new) (S.faults sink.old) (S.faults sink.new) result }
+    ensures { PutsTo (lent S.account sink.old sink.new) (rows_text excerpt (map (claim_row last ending) claims.now)) result }
 {
     for claim in claims {
         put_row(&claim_row(claim, last, ending), excerpt, block, sink)?;
@@ -157,8 +154,7 @@ fn put_dropped<S: Sink>(
     block: &mut Block,
     sink: &mut S,
 ) -> Result<(), SinkFailed>
-    ensures { Puts (rows_text excerpt (dropped_claim_rows last first claims.now))
-        (S.contents sink.old) (S.contents sink.new) (S.faults sink.old) (S.faults sink.new) result }
+    ensures { PutsTo (lent S.account sink.old sink.new) (rows_text excerpt (dropped_claim_rows last first claims.now)) result }
 {
     match claims {
         [] => Ok(()),
@@ -190,8 +186,7 @@ fn put_row<S: Sink>(
     block: &mut Block,
     sink: &mut S,
 ) -> Result<(), SinkFailed>
-    ensures { Puts (row_text excerpt row.now)
-        (S.contents sink.old) (S.contents sink.new) (S.faults sink.old) (S.faults sink.new) result }
+    ensures { PutsTo (lent S.account sink.old sink.new) (row_text excerpt row.now) result }
 {
     if excerpt.to < row.since || row.last < excerpt.from {
         return Ok(());
@@ -211,8 +206,7 @@ fn put_cells<L: LineList, S: Sink>(
     block: &mut Block,
     sink: &mut S,
 ) -> Result<(), SinkFailed>
-    ensures { Puts (name.now ++ concat (L.lines cells.now) ++ codes "\n")
-        (S.contents sink.old) (S.contents sink.new) (S.faults sink.old) (S.faults sink.new) result }
+    ensures { PutsTo (lent S.account sink.old sink.new) (name.now ++ concat (L.lines cells.now) ++ codes "\n") result }
 {
     block.clear();
     block.line(name);
@@ -227,8 +221,7 @@ fn push_cells<L: LineList, S: Sink>(
     block: &mut Block,
     sink: &mut S,
 ) -> Result<(), SinkFailed>
-    ensures { Passes (concat (L.lines cells.now)) block.old block.new
-        (S.contents sink.old) (S.contents sink.new) (S.faults sink.old) (S.faults sink.new) result }
+    ensures { Passes (lent S.account sink.old sink.new) (concat (L.lines cells.now)) block.old block.new result }
 {
     for at in 0..cells.count() {
         block.push(&cells.line(at), sink)?;
@@ -370,8 +363,7 @@ fn put_scale<S: Sink>(
     block: &mut Block,
     sink: &mut S,
 ) -> Result<(), SinkFailed>
-    ensures { Puts (scale_text excerpt last)
-        (S.contents sink.old) (S.contents sink.new) (S.faults sink.old) (S.faults sink.new) result }
+    ensures { PutsTo (lent S.account sink.old sink.new) (scale_text excerpt last) result }
 {
     put_cells(&padded(b"cycle"), &Scale { last, excerpt }, block, sink)
 }

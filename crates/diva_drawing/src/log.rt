@@ -1,7 +1,8 @@
 // A run as a log in the Kanata format, version 4.
 ghost use Rattle.std.specs.Prelude.{◌≡◌, ◌≤◌, ◌<◌, ◌+◌, ◌-◌, ◌*◌, ◌^◌, ◌++◌, ◌∷◌, [], length, drop, slice_get, Some};
 ghost use Rattle.std.specs.List.{concat};
-ghost use Rattle.diva_outside.specs.Sink.{Puts};
+ghost use Rattle.diva_outside.specs.Lent.{lent};
+ghost use Rattle.diva_outside.specs.Sink.{PutsTo};
 ghost use Rattle.diva_drawing.specs.Pieces.{Passes};
 ghost use Rattle.diva_drawing.specs.Log.{claim_text, claims_text, cycle_line, end_line, end_lines, ended_text, ending_number, flush_text, log_begin, noted_text, open_text, solo_text, surplus_text, was_noted};
 ghost use Rattle.diva_drawing.specs.Rows.{accepted_claims, committed_rows, open_rows};
@@ -16,8 +17,7 @@ use diva_outside::{Line, LineList, Sink, SinkFailed, put_line, put_lines};
 
 /// Puts the first lines of a log. Where that fails, a prefix of them was appended.
 pub fn begin_log<S: Sink>(sink: &mut S) -> Result<(), SinkFailed>
-    ensures { Puts log_begin
-        (S.contents sink.old) (S.contents sink.new) (S.faults sink.old) (S.faults sink.new) result }
+    ensures { PutsTo (lent S.account sink.old sink.new) log_begin result }
 {
     put_line(&first_lines(), sink)
 }
@@ -44,8 +44,7 @@ pub(crate) fn put_open<S: Sink>(
 ) -> Result<(), SinkFailed>
     requires row { row < 2 ^ 63 }
     requires count { after.now.count ≤ 2 ^ 62 }
-    ensures { Puts (open_text row before.now after.now handed.now)
-        (S.contents sink.old) (S.contents sink.new) (S.faults sink.old) (S.faults sink.new) result }
+    ensures { PutsTo (lent S.account sink.old sink.new) (open_text row before.now after.now handed.now) result }
 {
     block.clear();
     push_open(block, row, before, after, handed, sink)?;
@@ -64,8 +63,7 @@ fn push_open<S: Sink>(
 ) -> Result<(), SinkFailed>
     requires row { row < 2 ^ 63 }
     requires count { after.now.count ≤ 2 ^ 62 }
-    ensures { Passes (open_text row before.now after.now handed.now) block.old block.new
-        (S.contents sink.old) (S.contents sink.new) (S.faults sink.old) (S.faults sink.new) result }
+    ensures { Passes (lent S.account sink.old sink.new) (open_text row before.now after.now handed.now) block.old block.new result }
 {
     push_cycle(block, sink)?;
     push_claims(block, row, before, after, sink)?;
@@ -83,9 +81,9 @@ fn push_others<S: Sink>(
     sink: &mut S,
 ) -> Result<(), SinkFailed>
     requires { row < 2 ^ 63 }
-    ensures { Passes (surplus_text (row + open_rows after.now - 1) (drop (accepted_claims before.now after.now) handed.now))
-        block.old block.new
-        (S.contents sink.old) (S.contents sink.new) (S.faults sink.old) (S.faults sink.new) result }
+    ensures { Passes (lent S.account sink.old sink.new)
+        (surplus_text (row + open_rows after.now - 1) (drop (accepted_claims before.now after.now) handed.now))
+        block.old block.new result }
 {
     let newest = (row + open_rows(after)).saturating_sub(1);
     let accepted = accepted_claims(before, after);
@@ -95,8 +93,7 @@ fn push_others<S: Sink>(
 
 /// Appends the line of the next cycle.
 fn push_cycle<S: Sink>(block: &mut Block, sink: &mut S) -> Result<(), SinkFailed>
-    ensures { Passes cycle_line block.old block.new
-        (S.contents sink.old) (S.contents sink.new) (S.faults sink.old) (S.faults sink.new) result }
+    ensures { Passes (lent S.account sink.old sink.new) cycle_line block.old block.new result }
 {
     let mut line = Line::new();
     line.text(b"C\t1\n");
@@ -113,9 +110,8 @@ fn push_claims<S: Sink>(
 ) -> Result<(), SinkFailed>
     requires row { row < 2 ^ 63 }
     requires count { after.now.count ≤ 2 ^ 62 }
-    ensures { Passes (claims_text row after.now.count after.now.cycles
-        (drop (committed_rows before.now after.now) before.now.claims) after.now.claims) block.old block.new
-        (S.contents sink.old) (S.contents sink.new) (S.faults sink.old) (S.faults sink.new) result }
+    ensures { Passes (lent S.account sink.old sink.new) (claims_text row after.now.count after.now.cycles
+        (drop (committed_rows before.now after.now) before.now.claims) after.now.claims) block.old block.new result }
 {
     let committed = committed_rows(before, after) as usize;
     let was = before.claims().get(committed..).unwrap_or(&[]);
@@ -139,8 +135,8 @@ fn push_each<S: Sink>(
     requires few { length claims.now ≤ 64 }
     requires row { first.row < 2 ^ 63 }
     requires place { first.place ≤ 2 ^ 62 }
-    ensures { Passes (claims_text first.row first.place now was.now claims.now) block.old block.new
-        (S.contents sink.old) (S.contents sink.new) (S.faults sink.old) (S.faults sink.new) result }
+    ensures { Passes (lent S.account sink.old sink.new)
+        (claims_text first.row first.place now was.now claims.now) block.old block.new result }
 {
     for n in 0..claims.len() {
         block.make_room(768, sink)?;
@@ -215,8 +211,8 @@ fn push_solo<S: Sink>(
     after: &Snapshot,
     sink: &mut S,
 ) -> Result<(), SinkFailed>
-    ensures { Passes (solo_text row after.now.count after.now.cycles after.now.newest after.now.solo) block.old block.new
-        (S.contents sink.old) (S.contents sink.new) (S.faults sink.old) (S.faults sink.new) result }
+    ensures { Passes (lent S.account sink.old sink.new)
+        (solo_text row after.now.count after.now.cycles after.now.newest after.now.solo) block.old block.new result }
 {
     block.make_room(768, sink)?;
     push_alone(block, row, after);
@@ -260,8 +256,7 @@ fn push_surplus<S: Sink>(
     claims: &[Claim],
     sink: &mut S,
 ) -> Result<(), SinkFailed>
-    ensures { Passes (surplus_text row claims.now) block.old block.new
-        (S.contents sink.old) (S.contents sink.new) (S.faults sink.old) (S.faults sink.new) result }
+    ensures { Passes (lent S.account sink.old sink.new) (surplus_text row claims.now) block.old block.new result }
 {
     for claim in claims {
         block.make_room(256, sink)?;
@@ -292,8 +287,7 @@ pub(crate) fn put_ended<S: Sink>(
 ) -> Result<(), SinkFailed>
     requires row { row < 2 ^ 62 }
     requires count { after.now.count ≤ 2 ^ 62 }
-    ensures { Puts (ended_text row before.now after.now)
-        (S.contents sink.old) (S.contents sink.new) (S.faults sink.old) (S.faults sink.new) result }
+    ensures { PutsTo (lent S.account sink.old sink.new) (ended_text row before.now after.now) result }
 {
     let committed = committed_rows(before, after);
     let dropped = dropped_rows(before, after);
@@ -312,8 +306,7 @@ fn put_ends<S: Sink>(
 ) -> Result<(), SinkFailed>
     requires row { row + count < 2 ^ 64 }
     requires place { place + count < 2 ^ 64 }
-    ensures { Puts (concat (end_lines ending row place count))
-        (S.contents sink.old) (S.contents sink.new) (S.faults sink.old) (S.faults sink.new) result }
+    ensures { PutsTo (lent S.account sink.old sink.new) (concat (end_lines ending row place count)) result }
 {
     let lines = EndLines {
         ending,

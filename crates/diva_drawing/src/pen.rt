@@ -1,6 +1,7 @@
 // What draws a run, cycle by cycle.
 ghost use Rattle.std.specs.Prelude.{◌≡◌, ◌≤◌, ◌<◌, ◌+◌, ◌++◌, ◌^◌};
-ghost use Rattle.diva_outside.specs.Sink.{Puts};
+ghost use Rattle.diva_outside.specs.Lent.{lent};
+ghost use Rattle.diva_outside.specs.Sink.{PutsTo};
 ghost use Rattle.diva_drawing.specs.Drawing.{drawn_cycle, drawn_end};
 ghost use Rattle.diva_drawing.specs.Log.{ended_text, log_cycle, open_text};
 ghost use Rattle.diva_drawing.specs.Rows.{begun_rows};
@@ -62,8 +63,8 @@ impl Pen {
         ensures seen { IsSnapshot m.now.timed self.new.seen }
         ensures rows { self.new.rows ≡ self.old.rows + begun_rows self.old.seen self.new.seen }
         ensures few { self.new.rows ≤ self.old.rows + 65 }
-        ensures put { Puts (log_cycle self.old.rows self.old.seen self.new.seen handed.now)
-            (S.contents sink.old) (S.contents sink.new) (S.faults sink.old) (S.faults sink.new) result }
+        ensures put { PutsTo (lent S.account sink.old sink.new)
+            (log_cycle self.old.rows self.old.seen self.new.seen handed.now) result }
     {
         let after = Snapshot::of(m);
         let rows = self.rows + begun_rows(&self.seen, &after);
@@ -94,8 +95,7 @@ impl Pen {
         ensures seen { IsSnapshot m.now.timed self.new.seen }
         ensures rows { self.new.rows ≡ self.old.rows + begun_rows self.old.seen self.new.seen }
         ensures few { self.new.rows ≤ self.old.rows + 65 }
-        ensures put { Puts (drawn_cycle excerpt self.old.seen self.new.seen)
-            (S.contents sink.old) (S.contents sink.new) (S.faults sink.old) (S.faults sink.new) result }
+        ensures put { PutsTo (lent S.account sink.old sink.new) (drawn_cycle excerpt self.old.seen self.new.seen) result }
     {
         let after = Snapshot::of(m);
         let put = put_drawn(&self.seen, &after, excerpt, &mut self.block, sink);
@@ -107,8 +107,7 @@ impl Pen {
     /// Puts the rows of the drawing that are open at last and have a cell in the excerpt, and the scale below them. Where a put
     /// fails, a prefix of them was appended.
     pub fn end_drawing<S: Sink>(&mut self, excerpt: Excerpt, sink: &mut S) -> Result<(), SinkFailed>
-        ensures { Puts (drawn_end excerpt self.old.seen)
-            (S.contents sink.old) (S.contents sink.new) (S.faults sink.old) (S.faults sink.new) result }
+        ensures { PutsTo (lent S.account sink.old sink.new) (drawn_end excerpt self.old.seen) result }
     {
         put_stopped(&self.seen, excerpt, &mut self.block, sink)
     }
@@ -127,8 +126,8 @@ fn put_logged<S: Sink>(
     requires open { oldest.0 < 2 ^ 63 }
     requires ended { oldest.1 < 2 ^ 62 }
     requires count { after.now.count ≤ 2 ^ 62 }
-    ensures { Puts (open_text oldest.0 before.now after.now handed.now ++ ended_text oldest.1 before.now after.now)
-        (S.contents sink.old) (S.contents sink.new) (S.faults sink.old) (S.faults sink.new) result }
+    ensures { PutsTo (lent S.account sink.old sink.new)
+        (open_text oldest.0 before.now after.now handed.now ++ ended_text oldest.1 before.now after.now) result }
 {
     put_open(block, oldest.0, before, after, handed, sink)?;
     put_ended(oldest.1, before, after, sink)

@@ -4,7 +4,8 @@ use Rattle.std.proofs.Math.Seq.{take-add}
 use Rattle.std.proofs.lemmas.List.{take-append-drop, take_rest}
 use Rattle.std.specs.List.{concat}
 use Rattle.std.specs.Io.KnownBytes.{Appends, Keeps}
-use Rattle.diva_outside.specs.Sink.{AppendsPart, AppendsPast, Puts}
+use Rattle.diva_outside.specs.Lent.{lent}
+use Rattle.diva_outside.specs.Sink.{SinkAccount, LentSink, AppendsPart, PutsTo, TakesPart, TakesPast}
 
 appends_then : (old mid new : Option (List ℕ)) (a b : List ℕ) → Appends old mid a → Appends mid new b → Appends old new (a ++ b)
 appends_then None mid new a b first second = tt
@@ -20,64 +21,61 @@ part_then old mid new a b first part = record {
   appended = appends_then old mid new a part.front first part.appended;
 }
 
-past_then : (old mid new : Option (List ℕ)) (a b : List ℕ) → Appends old mid a → AppendsPart mid new b → AppendsPast old new a (a ++ b)
-past_then old mid new a b first part = record {
-  front = part.front;
-  rest = part.rest;
-  whole = ap (λ (l : List ℕ). a ++ l) part.whole ∙ sym (append_assoc a part.front part.rest);
-  appended = appends_then old mid new a part.front first part.appended;
-}
-
 -- nothing had been put
-pub past_nothing : (old new : Option (List ℕ)) (text : List ℕ) → AppendsPart old new text → AppendsPast old new [] text
-past_nothing old new text part = record { front = part.front; rest = part.rest; whole = part.whole; appended = part.appended }
+pub past_nothing : {S : Type 0} (sink : LentSink S) (text : List ℕ) → TakesPart sink text → TakesPast sink [] text
+past_nothing sink text part = record { front = part.front; rest = part.rest; whole = part.whole; appended = part.appended }
 
 appends_nothing : (old : Option (List ℕ)) → Appends old old []
 appends_nothing None = tt
 appends_nothing (Some x) = sym (append-nil x)
 
 -- no piece was put
-pub puts_nothing : {E : Type 0} (c : Option (List ℕ)) (f : ℕ) → Puts {E = E} [] c c f f (Ok tt)
-puts_nothing c f = record { later = omega arith; ok = appends_nothing c; uncounted = refl; part = tt; failed = tt }
+pub puts_nothing : {S E : Type 0} (account : S → SinkAccount) (s : S) → PutsTo {E = E} (lent account s s) [] (Ok tt)
+puts_nothing account s = record { later = omega arith; ok = appends_nothing (account s).contents; uncounted = refl; part = tt; failed = tt }
 
--- a piece was put, and then another one
-pub puts_then : {E : Type 0} (a b : List ℕ) (c0 c1 c2 : Option (List ℕ)) (f0 f1 f2 : ℕ) (result : Result (Unit {0}) E)
-    → Puts {E = E} a c0 c1 f0 f1 (Ok tt) → Puts b c1 c2 f1 f2 result → Puts (a ++ b) c0 c2 f0 f2 result
-puts_then a b c0 c1 c2 f0 f1 f2 (Ok u) first second = record {
-  later = omega (arith, first.later, second.later);
-  ok = appends_then c0 c1 c2 a b first.ok second.ok;
-  uncounted = second.uncounted ∙ first.uncounted;
-  part = tt;
-  failed = tt;
-}
-puts_then a b c0 c1 c2 f0 f1 f2 (Err e) first second = record {
-  later = omega (arith, first.later, second.later);
-  ok = tt;
-  uncounted = tt;
-  part = part_then c0 c1 c2 a b first.ok second.part;
-  failed = omega (arith, first.later, second.failed);
-}
+module _ {S E : Type 0} (account : S → SinkAccount) (a b : List ℕ) where
+  -- a piece was put, and then another one
+  pub puts_then : (s0 s1 s2 : S) (result : Result (Unit {0}) E)
+      → PutsTo {E = E} (lent account s0 s1) a (Ok tt) → PutsTo (lent account s1 s2) b result → PutsTo (lent account s0 s2) (a ++ b) result
+  puts_then s0 s1 s2 (Ok u) first second = record {
+    later = omega (arith, first.later, second.later);
+    ok = appends_then (account s0).contents (account s1).contents (account s2).contents a b first.ok second.ok;
+    uncounted = second.uncounted ∙ first.uncounted;
+    part = tt;
+    failed = tt;
+  }
+  puts_then s0 s1 s2 (Err e) first second = record {
+    later = omega (arith, first.later, second.later);
+    ok = tt;
+    uncounted = tt;
+    part = part_then (account s0).contents (account s1).contents (account s2).contents a b first.ok second.part;
+    failed = omega (arith, first.later, second.failed);
+  }
 
--- a piece was put, and then one failed
-pub puts_past : {E : Type 0} (a b : List ℕ) (c0 c1 c2 : Option (List ℕ)) (f0 f1 f2 : ℕ) (e : E)
-    → Puts {E = E} a c0 c1 f0 f1 (Ok tt) → Puts b c1 c2 f1 f2 (Err e) → AppendsPast c0 c2 a (a ++ b)
-puts_past a b c0 c1 c2 f0 f1 f2 e first second = past_then c0 c1 c2 a b first.ok second.part
+  -- a piece was put, and then one failed
+  pub puts_past : (s0 s1 s2 : S) (e : E)
+      → PutsTo {E = E} (lent account s0 s1) a (Ok tt) → PutsTo (lent account s1 s2) b (Err e) → TakesPast (lent account s0 s2) a (a ++ b)
+  puts_past s0 s1 s2 e first second = record {
+    front = second.part.front;
+    rest = second.part.rest;
+    whole = ap (λ (l : List ℕ). a ++ l) second.part.whole ∙ sym (append_assoc a second.part.front second.part.rest);
+    appended = appends_then (account s0).contents (account s1).contents (account s2).contents a second.part.front first.ok second.part.appended;
+  }
 
--- a put failed, and the pieces after it were not put
-pub puts_cut : {E : Type 0} (a b : List ℕ) (c0 c1 : Option (List ℕ)) (f0 f1 : ℕ) (e : E)
-    → Puts a c0 c1 f0 f1 (Err e) → Puts (a ++ b) c0 c1 f0 f1 (Err e)
-puts_cut a b c0 c1 f0 f1 e puts = record {
-  later = puts.later;
-  ok = tt;
-  uncounted = tt;
-  part = record {
-    front = puts.part.front;
-    rest = puts.part.rest ++ b;
-    whole = ap (λ (l : List ℕ). l ++ b) puts.part.whole ∙ append_assoc puts.part.front puts.part.rest b;
-    appended = puts.part.appended;
-  };
-  failed = puts.failed;
-}
+  -- a put failed, and the pieces after it were not put
+  pub puts_cut : (s0 s1 : S) (e : E) → PutsTo (lent account s0 s1) a (Err e) → PutsTo (lent account s0 s1) (a ++ b) (Err e)
+  puts_cut s0 s1 e puts = record {
+    later = puts.later;
+    ok = tt;
+    uncounted = tt;
+    part = record {
+      front = puts.part.front;
+      rest = puts.part.rest ++ b;
+      whole = ap (λ (l : List ℕ). l ++ b) puts.part.whole ∙ append_assoc puts.part.front puts.part.rest b;
+      appended = puts.part.appended;
+    };
+    failed = puts.failed;
+  }
 
 -- more of a piece was taken
 pub appends_more : (piece : List ℕ) (n k : ℕ) (old mid new : Option (List ℕ))

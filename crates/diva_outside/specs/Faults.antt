@@ -2,6 +2,7 @@
 -- Cited by `DiskFiles::new` and `MemFiles::new`.
 use Rattle.std.specs.Prelude.{◌≡◌, ℕ, Result, Ok, Err}
 use Rattle.diva_outside.specs.Causes.{raised}
+use Rattle.diva_outside.specs.Files.{FilesAccount, unknown}
 use Rattle.diva_outside.specs.declared.files.What.{What}
 use Rattle.diva_outside.specs.declared.files.What.TheVariants.{Image, Script, Tape, Source, Commands}
 use Rattle.diva_outside.specs.declared.files.LoadFault.{LoadFault}
@@ -15,6 +16,10 @@ faults_of f Script = f.script
 faults_of f Tape = f.tape
 faults_of f Source = f.source
 faults_of f Commands = f.commands
+
+-- what files tell of themselves that count so, and whose contents are not known
+abbrev pub account_of : Faults → FilesAccount
+account_of f = record { contents = unknown; faults = faults_of f }
 
 abbrev pub no_faults : Faults
 no_faults = record { image = 0; script = 0; tape = 0; source = 0; commands = 0 }

@@ -3,6 +3,7 @@ pub mod Causes
 pub mod Faults
 pub mod Files
 pub mod Items
+pub mod Lent
 pub mod Lines
 pub mod MemFiles
 pub mod MemSink

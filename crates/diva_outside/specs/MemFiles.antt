@@ -4,7 +4,7 @@ use Rattle.std.specs.Prelude.{ℕ, List, Some, Result, Bool, ◌==◌, ◌&&◌,
 use Rattle.std.specs.List.{list_any}
 use Rattle.diva_outside.specs.Causes.{raised}
 use Rattle.diva_outside.specs.Faults.{faults_of, raised_at}
-use Rattle.diva_outside.specs.Files.{Contents}
+use Rattle.diva_outside.specs.Files.{FilesAccount}
 use Rattle.diva_outside.specs.Named.{named_bytes, answer_to}
 use Rattle.diva_outside.specs.declared.faults.Faults.{Faults}
 use Rattle.diva_outside.specs.declared.files.What.{What}
@@ -17,13 +17,9 @@ pub record MemFiles : Type 0 where
   pub calls : ℕ
   pub faults : Faults
 
--- the contents, which are known: the bytes of each name
-abbrev pub contents_of : MemFiles → Contents
-contents_of m = Some (named_bytes m.files)
-
--- how often loads of this kind of file have failed
-abbrev pub faults_in : MemFiles → What → ℕ
-faults_in m what = faults_of m.faults what
+-- what they tell of themselves: the contents, which are known, are the bytes of each name
+abbrev pub account_of : MemFiles → FilesAccount
+account_of m = record { contents = Some (named_bytes m.files); faults = faults_of m.faults }
 
 -- whether the next call is to fail; calls are counted from 1
 abbrev pub is_to_fail : MemFiles → Bool

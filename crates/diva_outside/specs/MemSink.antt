@@ -2,6 +2,7 @@
 -- Cited by the type `MemSink`.
 use Rattle.std.specs.Prelude.{ℕ, ◌-◌, List, [], ◌∷◌, ◌++◌, length, take, min, ◌||◌, ◌==◌, nat_lt, Bool, Option, Some, None, is_some, unwrap_or, if◌then◌else◌}
 use Rattle.diva_outside.specs.Causes.{raised}
+use Rattle.diva_outside.specs.Sink.{SinkAccount}
 use Rattle.diva_outside.specs.declared.mem_sink.Fail.{Fail}
 
 -- what was taken, how many bytes there is room for, the calls that are to fail, and how many calls and faults there were
@@ -11,6 +12,10 @@ pub record MemSink : Type 0 where
   pub fails : List Fail
   pub calls : ℕ
   pub faults : ℕ
+
+-- what it tells of itself: its contents are known
+abbrev pub account_of : MemSink → SinkAccount
+account_of s = record { contents = Some s.bytes; faults = s.faults }
 
 -- how many bytes the call takes at most, `None` where it is not to fail
 abbrev pub takes_of : List Fail → ℕ → Option ℕ

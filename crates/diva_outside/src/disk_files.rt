@@ -42,11 +42,9 @@ impl<'a, R: rt::Files> DiskFiles<'a, R> {
 
 impl<R: rt::Files> Files for DiskFiles<'_, R> {
     ghost use Rattle.diva_outside.specs.declared.files.What.{What};
-    ghost use Rattle.diva_outside.specs.Faults.{faults_of, Counts};
+    ghost use Rattle.diva_outside.specs.Faults.{account_of, faults_of, Counts};
 
-    ghost contents = { λ _. unknown };
-
-    ghost faults = { faults_of };
+    ghost account = { account_of };
 
     fn load(
         &mut self,

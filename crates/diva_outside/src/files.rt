@@ -1,9 +1,9 @@
 // Files by name, as a program that only loads them sees them.
-ghost use Rattle.std.specs.Prelude.{◌≡◌, ◌≤◌, ◌≢◌, ◌⊎◌, List, ℕ, Option, length, IfOk, IsErrOf};
+ghost use Rattle.std.specs.Prelude.{◌≡◌, ◌≤◌, ◌≢◌, ◌⊎◌, length, IfOk, IsErrOf};
 ghost use Rattle.diva_outside.specs.declared.files.What.{What};
 ghost use Rattle.diva_outside.specs.declared.files.LoadFault.TheVariants.{Memory};
 ghost use Rattle.diva_outside.specs.Causes.{Rose};
-ghost use Rattle.diva_outside.specs.Files.{Has, HasNotFailed, IsMissing, IsLonger};
+ghost use Rattle.diva_outside.specs.Files.{FilesAccount, Has, HasNotFailed, IsMissing, IsLonger};
 
 use std::alloc::{AllocError, AllocFailed, Global};
 
@@ -51,12 +51,9 @@ impl<T: Drop> From<AllocFailed<T>> for LoadFault {
 
 /// Files that can be loaded.
 pub trait Files {
-    /// The contents, `None` where they are not known: for each name its bytes, or `None` where no file has that name.
-    /// An empty file has bytes, the empty list.
-    ghost contents: { Self → Option (List ℕ → Option (List ℕ)) };
-
-    /// How often loads of each kind of file have failed.
-    ghost faults: { Self → What → ℕ };
+    /// What the files tell of themselves: their contents, `None` where they are not known, else for each name its bytes, or `None`
+    /// where no file has that name; and how often loads of each kind of file have failed. An empty file has bytes, the empty list.
+    ghost account: { Self → FilesAccount };
 
     /// Loads the whole file of that name, which may have `limit` bytes at most. `what` is the kind of file for which a
     /// failure is counted; the counts of the other kinds stay as they are.
@@ -72,27 +69,27 @@ pub trait Files {
         limit: usize,
     ) -> Result<Vec<u8>, LoadFault>
         // The files stay as they are, and no count falls.
-        ensures stays { contents self.new ≡ contents self.old }
-        ensures later { (w : What) → faults self.old w ≤ faults self.new w }
+        ensures stays { (account self.new).contents ≡ (account self.old).contents }
+        ensures later { (w : What) → (account self.old).faults w ≤ (account self.new).faults w }
 
         // A load counts for its own kind alone.
-        ensures others { (w : What) → w ≢ what → faults self.new w ≡ faults self.old w }
+        ensures others { (w : What) → w ≢ what → (account self.new).faults w ≡ (account self.old).faults w }
 
         // `Ok` is the whole file, where the contents are known, and never longer than the limit.
-        ensures whole { IfOk result (λ v. Has (contents self.old) name.now v.items) }
+        ensures whole { IfOk result (λ v. Has (account self.old).contents name.now v.items) }
         ensures within { IfOk result (λ v. length v.items ≤ limit) }
 
         ensures too_long { IsErrOf result LoadFault.TooLong
-            → IsLonger (contents self.old) name.now limit }
+            → IsLonger (account self.old).contents name.now limit }
         ensures failed { IsErrOf result LoadFault.Failed
-            → Rose (faults self.old what) (faults self.new what) ⊎ IsMissing (contents self.old) name.now }
+            → Rose ((account self.old).faults what) ((account self.new).faults what) ⊎ IsMissing (account self.old).contents name.now }
 
         // A fault is counted only where the load fails.
-        ensures counted { HasNotFailed result → (w : What) → faults self.new w ≡ faults self.old w }
+        ensures counted { HasNotFailed result → (w : What) → (account self.new).faults w ≡ (account self.old).faults w }
 
         // A name that no file has is not counted as a fault.
-        ensures missing { IsMissing (contents self.old) name.now
+        ensures missing { IsMissing (account self.old).contents name.now
             → IsErrOf result LoadFault.Failed ⊎ IsErrOf result LoadFault.Memory }
-        ensures uncounted { IsMissing (contents self.old) name.now
-            → (w : What) → faults self.new w ≡ faults self.old w };
+        ensures uncounted { IsMissing (account self.old).contents name.now
+            → (w : What) → (account self.new).faults w ≡ (account self.old).faults w };
 }

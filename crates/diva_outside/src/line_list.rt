@@ -1,7 +1,8 @@
 // Lines that are made one at a time, and how they are put.
 ghost use Rattle.std.specs.Prelude.{◌≡◌, ◌<◌, ℕ, List, [], length};
 ghost use Rattle.std.specs.List.{concat, slice_index_or};
-ghost use Rattle.diva_outside.specs.Sink.{Puts};
+ghost use Rattle.diva_outside.specs.Lent.{lent};
+ghost use Rattle.diva_outside.specs.Sink.{PutsTo};
 
 use crate::{Line, Sink, SinkFailed};
 
@@ -37,8 +38,7 @@ impl<const N: usize> LineList for [Line; N] {
 
 /// Puts the lines, one after the other. Where one fails, a prefix of their text was appended, and no line after it is put.
 pub fn put_lines<L: LineList, S: Sink>(list: &L, sink: &mut S) -> Result<(), SinkFailed>
-    ensures { Puts (concat (L.lines list.now))
-        (S.contents sink.old) (S.contents sink.new) (S.faults sink.old) (S.faults sink.new) result }
+    ensures { PutsTo (lent S.account sink.old sink.new) (concat (L.lines list.now)) result }
 {
     for at in 0..list.count() {
         put_line(&list.line(at), sink)?;
@@ -48,8 +48,7 @@ pub fn put_lines<L: LineList, S: Sink>(list: &L, sink: &mut S) -> Result<(), Sin
 
 /// Puts a line. Where that fails, a prefix of it was appended.
 pub fn put_line<S: Sink>(line: &Line, sink: &mut S) -> Result<(), SinkFailed>
-    ensures { Puts line.now
-        (S.contents sink.old) (S.contents sink.new) (S.faults sink.old) (S.faults sink.new) result }
+    ensures { PutsTo (lent S.account sink.old sink.new) line.now result }
 {
     sink.put(line.bytes())
 }

@@ -49,11 +49,9 @@ impl MemFiles {
 
 impl Files for MemFiles {
     ghost use Rattle.diva_outside.specs.declared.files.What.{What};
-    ghost use Rattle.diva_outside.specs.MemFiles.{contents_of, faults_in, load_of, after_load};
+    ghost use Rattle.diva_outside.specs.MemFiles.{account_of, load_of, after_load};
 
-    ghost contents = { contents_of };
-
-    ghost faults = { faults_in };
+    ghost account = { account_of };
 
     fn load(
         &mut self,
@@ -62,20 +60,20 @@ impl Files for MemFiles {
         name: &str,
         limit: usize,
     ) -> Result<Vec<u8>, LoadFault>
-        ensures stays { contents_of self.new ≡ contents_of self.old }
-        ensures later { (w : What) → faults_in self.old w ≤ faults_in self.new w }
-        ensures others { (w : What) → w ≢ what → faults_in self.new w ≡ faults_in self.old w }
-        ensures whole { IfOk result (λ v. Has (contents_of self.old) name.now v.items) }
+        ensures stays { (account_of self.new).contents ≡ (account_of self.old).contents }
+        ensures later { (w : What) → (account_of self.old).faults w ≤ (account_of self.new).faults w }
+        ensures others { (w : What) → w ≢ what → (account_of self.new).faults w ≡ (account_of self.old).faults w }
+        ensures whole { IfOk result (λ v. Has (account_of self.old).contents name.now v.items) }
         ensures within { IfOk result (λ v. length v.items ≤ limit) }
         ensures too_long { IsErrOf result LoadFault.TooLong
-            → IsLonger (contents_of self.old) name.now limit }
+            → IsLonger (account_of self.old).contents name.now limit }
         ensures failed { IsErrOf result LoadFault.Failed
-            → Rose (faults_in self.old what) (faults_in self.new what) ⊎ IsMissing (contents_of self.old) name.now }
-        ensures counted { HasNotFailed result → (w : What) → faults_in self.new w ≡ faults_in self.old w }
-        ensures missing { IsMissing (contents_of self.old) name.now
+            → Rose ((account_of self.old).faults what) ((account_of self.new).faults what) ⊎ IsMissing (account_of self.old).contents name.now }
+        ensures counted { HasNotFailed result → (w : What) → (account_of self.new).faults w ≡ (account_of self.old).faults w }
+        ensures missing { IsMissing (account_of self.old).contents name.now
             → IsErrOf result LoadFault.Failed ⊎ IsErrOf result LoadFault.Memory }
-        ensures uncounted { IsMissing (contents_of self.old) name.now
-            → (w : What) → faults_in self.new w ≡ faults_in self.old w }
+        ensures uncounted { IsMissing (account_of self.old).contents name.now
+            → (w : What) → (account_of self.new).faults w ≡ (account_of self.old).faults w }
 
         // The answer is that of the definition, unless memory runs out.
         ensures ok { IfOk result (λ v. load_of self.old name.now limit ≡ Ok v.items) }

@@ -1,6 +1,7 @@
 // A sink in memory, where puts fail as a test asks for it.
-ghost use Rattle.std.specs.Prelude.{◌≡◌, ◌≤◌, ◌↔◌, ◌==◌, [], Some, IfOk, IsErr, IsTrue, length, vec_len, vec_capacity, min, find};
-ghost use Rattle.diva_outside.specs.Sink.{Puts};
+ghost use Rattle.std.specs.Prelude.{◌≡◌, ◌≤◌, ◌↔◌, ◌==◌, [], IfOk, IsErr, IsTrue, length, vec_len, vec_capacity, min, find};
+ghost use Rattle.diva_outside.specs.Lent.{lent};
+ghost use Rattle.diva_outside.specs.Sink.{PutsTo};
 ghost use Rattle.diva_outside.specs.MemSink.{takes_of};
 
 use crate::{Sink, SinkFailed};
@@ -63,14 +64,12 @@ impl MemSink {
 }
 
 impl Sink for MemSink {
-    ghost use Rattle.diva_outside.specs.MemSink.{is_fault, after_put};
+    ghost use Rattle.diva_outside.specs.MemSink.{account_of, is_fault, after_put};
 
-    ghost contents = { λ s. Some s.bytes };
-
-    ghost faults = { λ s. s.faults };
+    ghost account = { account_of };
 
     fn put(&mut self, piece: &[u8]) -> Result<(), SinkFailed>
-        ensures puts { Puts piece.now (Some self.old.bytes) (Some self.new.bytes) self.old.faults self.new.faults result }
+        ensures puts { PutsTo (lent account_of self.old self.new) piece.now result }
         ensures fails { IsErr result ↔ IsTrue (is_fault self.old piece.now) }
         ensures after { self.new ≡ after_put self.old piece.now }
     {

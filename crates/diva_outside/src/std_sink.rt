@@ -1,9 +1,10 @@
 // A sink that writes to a writer, such as standard output.
-ghost use Rattle.std.specs.Prelude.{◌≡◌, None, OnOk, OnErr};
+ghost use Rattle.std.specs.Prelude.{◌≡◌, OnOk, OnErr};
 ghost use Rattle.std.specs.Io.{WritesAtMost};
 ghost use Rattle.std.specs.Io.KnownBytes.{Appends, WriteAppends};
-ghost use Rattle.diva_outside.specs.Sink.{AppendsPart, Puts};
-ghost use Rattle.diva_outside.specs.StdSink.{CountsPut};
+ghost use Rattle.diva_outside.specs.Lent.{lent};
+ghost use Rattle.diva_outside.specs.Sink.{AppendsPart, PutsTo};
+ghost use Rattle.diva_outside.specs.StdSink.{account_of, writer_account, CountsPut};
 
 use crate::{Sink, SinkFailed};
 use std::io::{ErrorKind, Write};
@@ -35,15 +36,13 @@ impl<W: Write> StdSink<W> {
 }
 
 impl<W: Write> Sink for StdSink<W> {
-    ghost contents = { λ _. None };
-
-    ghost faults = { λ sink. sink.faults };
+    ghost account = { account_of };
 
     fn put(&mut self, piece: &[u8]) -> Result<(), SinkFailed>
-        ensures puts { Puts piece.now None None self.old.faults self.new.faults result }
+        ensures puts { PutsTo (lent account_of self.old self.new) piece.now result }
 
         // The writer took what was put, where its contents are known.
-        ensures written { Puts piece.now self.old.bytes self.new.bytes self.old.faults self.new.faults result }
+        ensures written { PutsTo (lent writer_account self.old self.new) piece.now result }
 
         // A fault is counted exactly where the put answers that it failed.
         ensures counts { CountsPut self.old.faults self.new.faults result }

@@ -29,9 +29,7 @@ impl SureFiles {
 }
 
 impl Files for SureFiles {
-    ghost contents = { λ files. Some (λ name. Some (or_empty (named_bytes files name))) };
-
-    ghost faults = { λ _ _. 0 };
+    ghost account = { λ files. record { contents = Some (λ name. Some (or_empty (named_bytes files name))); faults = λ _. 0 } };
 
     fn load(
         &mut self,

@@ -8,9 +8,7 @@ use crate::{Sink, SinkFailed};
 pub struct SureSink;
 
 impl Sink for SureSink {
-    ghost contents = { λ _. None };
-
-    ghost faults = { λ _. 0 };
+    ghost account = { λ _. record { contents = None; faults = 0 } };
 
     fn put(&mut self, _piece: &[u8]) -> Result<(), SinkFailed> {
         Ok(())

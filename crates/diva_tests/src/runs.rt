@@ -23,7 +23,7 @@ mod texts;
 mod traces;
 
 use crate::cores::{counting, flipped};
-use diva_cli::{pipeline_top, top};
+use diva_cli::{lab_top, top};
 use diva_core::Core;
 use diva_isa::Record;
 use diva_outside::{Fail as SinkFail, MemFile, MemFiles, MemSink, What};
@@ -244,7 +244,7 @@ fn run_words<C: Core>(
     core: &mut C,
 ) -> u8 {
     match words {
-        ["log" | "draw", ..] => pipeline_top(alloc, words, files, sink, core),
+        ["log" | "draw", ..] => lab_top(alloc, words, files, sink, core),
         _ => top(alloc, words, files, sink, core),
     }
 }

@@ -1,7 +1,8 @@
 // The lines of one of two harts, put to a sink.
 ghost use Rattle.std.specs.Prelude.{◌++◌};
 ghost use Rattle.diva_core.specs.Timed.{Timed};
-ghost use Rattle.diva_outside.specs.Sink.{Puts};
+ghost use Rattle.diva_outside.specs.Lent.{lent};
+ghost use Rattle.diva_outside.specs.Sink.{PutsTo};
 ghost use Rattle.diva_trace.specs.Lines.{count_line, end_line_of, flushes_line, hart_line};
 ghost use Rattle.diva_trace.specs.Text.{hart_text, hart_text_in, IsHartReportOf};
 
@@ -17,10 +18,9 @@ pub fn write_hart<S: Sink>(
     report: &HartReport<'_>,
     sink: &mut S,
 ) -> Result<(), SinkFailed>
-    ensures text { Puts (hart_text_in number report.now)
-        (S.contents sink.old) (S.contents sink.new) (S.faults sink.old) (S.faults sink.new) result }
-    ensures machine { (m : Timed) → IsHartReportOf m report.now → Puts (hart_text number m)
-        (S.contents sink.old) (S.contents sink.new) (S.faults sink.old) (S.faults sink.new) result }
+    ensures text { PutsTo (lent S.account sink.old sink.new) (hart_text_in number report.now) result }
+    ensures machine { (m : Timed) → IsHartReportOf m report.now → PutsTo (lent S.account sink.old sink.new)
+        (hart_text number m) result }
 {
     write_hart_parts(number, report, sink)
 }
@@ -31,8 +31,7 @@ fn write_hart_parts<S: Sink>(
     report: &HartReport<'_>,
     sink: &mut S,
 ) -> Result<(), SinkFailed>
-    ensures { Puts (hart_text_in number report.now)
-        (S.contents sink.old) (S.contents sink.new) (S.faults sink.old) (S.faults sink.new) result }
+    ensures { PutsTo (lent S.account sink.old sink.new) (hart_text_in number report.now) result }
 {
     write_hart_summary(number, report, sink)?;
     write_output(report.output, sink)?;
@@ -45,9 +44,8 @@ fn write_hart_summary<S: Sink>(
     report: &HartReport<'_>,
     sink: &mut S,
 ) -> Result<(), SinkFailed>
-    ensures { Puts (hart_line number ++ end_line_of report.now.end
-        ++ count_line report.now.count ++ flushes_line report.now.flushes report.now.silent)
-        (S.contents sink.old) (S.contents sink.new) (S.faults sink.old) (S.faults sink.new) result }
+    ensures { PutsTo (lent S.account sink.old sink.new) (hart_line number ++ end_line_of report.now.end
+        ++ count_line report.now.count ++ flushes_line report.now.flushes report.now.silent) result }
 {
     put_lines(
         &[

@@ -2,7 +2,8 @@
 ghost use Rattle.std.specs.Prelude.{◌≡◌, ◌+◌, ◌^◌, ◌≤◌, ◌<◌, length};
 ghost use Rattle.std.specs.Option.{ForSome};
 ghost use Rattle.diva_core.specs.Timed.{Timed};
-ghost use Rattle.diva_outside.specs.Sink.{Puts};
+ghost use Rattle.diva_outside.specs.Lent.{lent};
+ghost use Rattle.diva_outside.specs.Sink.{PutsTo};
 ghost use Rattle.diva_trace.specs.Text.{commits_text, rows_text, summary_text, output_text, registers_text, dump_text, tally_text, text_in, text_of, IsReportOf};
 
 use crate::lines::{
@@ -96,8 +97,7 @@ pub fn write_commits<S: Sink>(
     sink: &mut S,
 ) -> Result<(), SinkFailed>
     requires { first + length records.now < 2 ^ 64 }
-    ensures { Puts (commits_text first records.now)
-        (S.contents sink.old) (S.contents sink.new) (S.faults sink.old) (S.faults sink.new) result }
+    ensures { PutsTo (lent S.account sink.old sink.new) (commits_text first records.now) result }
 {
     // Not as a list of lines, since a trace has a line for each instruction, and a list would move each of them twice.
     for (place, record) in records.iter().enumerate() {
@@ -111,8 +111,7 @@ pub fn write_commits<S: Sink>(
 /// Puts the flushes, in order. Where a put fails, a prefix of their text was appended.
 #[tactic(auto, unfolding(crate::specs::Text::rows_text))]
 pub fn write_rows<S: Sink>(rows: &[FlushRow], sink: &mut S) -> Result<(), SinkFailed>
-    ensures { Puts (rows_text rows.now)
-        (S.contents sink.old) (S.contents sink.new) (S.faults sink.old) (S.faults sink.new) result }
+    ensures { PutsTo (lent S.account sink.old sink.new) (rows_text rows.now) result }
 {
     put_lines(&FlushLines { rows }, sink)
 }
@@ -120,8 +119,8 @@ pub fn write_rows<S: Sink>(rows: &[FlushRow], sink: &mut S) -> Result<(), SinkFa
 /// Puts how the run ended, and its counts. Where a put fails, a prefix of that text was appended.
 #[tactic(auto, unfolding(crate::specs::Text::summary_text))]
 pub fn write_summary<S: Sink>(report: &Report<'_>, sink: &mut S) -> Result<(), SinkFailed>
-    ensures { Puts (summary_text report.now.end report.now.count report.now.cycles report.now.flushes report.now.silent)
-        (S.contents sink.old) (S.contents sink.new) (S.faults sink.old) (S.faults sink.new) result }
+    ensures { PutsTo (lent S.account sink.old sink.new)
+        (summary_text report.now.end report.now.count report.now.cycles report.now.flushes report.now.silent) result }
 {
     put_lines(
         &[
@@ -137,8 +136,7 @@ pub fn write_summary<S: Sink>(report: &Report<'_>, sink: &mut S) -> Result<(), S
 /// Puts what is counted of the runs of a campaign. Where a put fails, a prefix of that text was appended.
 #[tactic(auto, unfolding(crate::specs::Lines::runs_line, crate::specs::Lines::same_line, crate::specs::Lines::flushed_line, crate::specs::Lines::silent_line))]
 pub fn write_tally<S: Sink>(tally: &Tally, sink: &mut S) -> Result<(), SinkFailed>
-    ensures { Puts (tally_text tally.now)
-        (S.contents sink.old) (S.contents sink.new) (S.faults sink.old) (S.faults sink.new) result }
+    ensures { PutsTo (lent S.account sink.old sink.new) (tally_text tally.now) result }
 {
     put_lines(
         &[
@@ -154,8 +152,7 @@ pub fn write_tally<S: Sink>(tally: &Tally, sink: &mut S) -> Result<(), SinkFaile
 /// Puts how many bytes the program put out, and the bytes. Where a put fails, a prefix of that text was appended.
 #[tactic(auto, unfolding(crate::specs::Text::output_text))]
 pub fn write_output<S: Sink>(bytes: &[u8], sink: &mut S) -> Result<(), SinkFailed>
-    ensures { Puts (output_text bytes.now)
-        (S.contents sink.old) (S.contents sink.new) (S.faults sink.old) (S.faults sink.new) result }
+    ensures { PutsTo (lent S.account sink.old sink.new) (output_text bytes.now) result }
 {
     put_line(&output_len_line(bytes.len() as u64), sink)?;
     put_lines(&OutLines { bytes }, sink)
@@ -164,8 +161,7 @@ pub fn write_output<S: Sink>(bytes: &[u8], sink: &mut S) -> Result<(), SinkFaile
 /// Puts the registers and the pc. Where a put fails, a prefix of that text was appended.
 #[tactic(auto, unfolding(crate::specs::Text::registers_text))]
 pub fn write_registers<S: Sink>(view: &View<'_>, sink: &mut S) -> Result<(), SinkFailed>
-    ensures { Puts (registers_text view.now.regs view.now.pc)
-        (S.contents sink.old) (S.contents sink.new) (S.faults sink.old) (S.faults sink.new) result }
+    ensures { PutsTo (lent S.account sink.old sink.new) (registers_text view.now.regs view.now.pc) result }
 {
     put_lines(
         &[
@@ -191,8 +187,7 @@ pub fn write_dump<R: Readable, S: Sink>(
     sink: &mut S,
 ) -> Result<(), SinkFailed>
     requires { dump.addr + dump.len ≤ 2 ^ 32 }
-    ensures { Puts (dump_text (R.shows memory.now) dump)
-        (S.contents sink.old) (S.contents sink.new) (S.faults sink.old) (S.faults sink.new) result }
+    ensures { PutsTo (lent S.account sink.old sink.new) (dump_text (R.shows memory.now) dump) result }
 {
     put_lines(&DumpLines { memory, dump }, sink)
 }
@@ -201,10 +196,9 @@ pub fn write_dump<R: Readable, S: Sink>(
 /// asked for, a part of memory that ends at 2^32 at the latest. Where a put fails, a prefix of that text was appended.
 pub fn write_run<S: Sink>(report: &Report<'_>, sink: &mut S) -> Result<(), SinkFailed>
     requires { ForSome report.now.dump (λ d. d.addr + d.len ≤ 2 ^ 32) }
-    ensures text { Puts (text_in report.now)
-        (S.contents sink.old) (S.contents sink.new) (S.faults sink.old) (S.faults sink.new) result }
-    ensures machine { (m : Timed) → IsReportOf m report.now → Puts (text_of m report.now.dump)
-        (S.contents sink.old) (S.contents sink.new) (S.faults sink.old) (S.faults sink.new) result }
+    ensures text { PutsTo (lent S.account sink.old sink.new) (text_in report.now) result }
+    ensures machine { (m : Timed) → IsReportOf m report.now → PutsTo (lent S.account sink.old sink.new)
+        (text_of m report.now.dump) result }
 {
     write_parts(report, sink)
 }
@@ -212,8 +206,7 @@ pub fn write_run<S: Sink>(report: &Report<'_>, sink: &mut S) -> Result<(), SinkF
 /// The whole text, of what the report says.
 fn write_parts<S: Sink>(report: &Report<'_>, sink: &mut S) -> Result<(), SinkFailed>
     requires { ForSome report.now.dump (λ d. d.addr + d.len ≤ 2 ^ 32) }
-    ensures { Puts (text_in report.now)
-        (S.contents sink.old) (S.contents sink.new) (S.faults sink.old) (S.faults sink.new) result }
+    ensures { PutsTo (lent S.account sink.old sink.new) (text_in report.now) result }
 {
     write_rows(report.rows, sink)?;
     write_summary(report, sink)?;

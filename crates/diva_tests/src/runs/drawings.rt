@@ -1,12 +1,12 @@
 // Runs that are drawn: in text, and as a log for a viewer.
 use super::{Answer, answer_from, compare_answer, files_and_sink, five_files, words_of};
 use crate::cores::counting;
-use diva_cli::pipeline_top;
+use diva_cli::lab_top;
 use diva_outside::What;
 use std::alloc::Global;
 use std::test::Fail;
 
-/// A line of the program that draws runs on the image `FIVE`, with this script, and the status and the text that are due.
+/// A line of the workbench on the image `FIVE`, with this script, and the status and the text that are due.
 pub(super) struct Drawn {
     pub line: &'static str,
     script: &'static [u8],
@@ -15,8 +15,8 @@ pub(super) struct Drawn {
 }
 
 /// The usage line of that program.
-const PIPELINE_USAGE: &str = "\
-usage: diva_pipeline log IMAGE, draw IMAGE [--from CYCLE] [--to CYCLE], with the options of run, or the words of diva
+const LAB_USAGE: &str = "\
+usage: diva_lab log IMAGE, draw IMAGE [--from CYCLE] [--to CYCLE], with the options of run, or the words of diva
 ";
 
 /// The claim of cycle 1 has a wrong value, which the stage that executes finds in cycle 5. It flushes in cycle 7, and its
@@ -142,25 +142,25 @@ cycle                       1  2
         line: "draw a.diva --trace",
         script: b"",
         status: 2,
-        text: PIPELINE_USAGE,
+        text: LAB_USAGE,
     },
     Drawn {
         line: "log a.diva --dump 0:4",
         script: b"",
         status: 2,
-        text: PIPELINE_USAGE,
+        text: LAB_USAGE,
     },
     Drawn {
         line: "draw a.diva --from 3 --to 2",
         script: b"",
         status: 2,
-        text: PIPELINE_USAGE,
+        text: LAB_USAGE,
     },
     Drawn {
         line: "log a.diva --to 2",
         script: b"",
         status: 2,
-        text: PIPELINE_USAGE,
+        text: LAB_USAGE,
     },
     Drawn {
         line: "log b.diva",
@@ -179,7 +179,7 @@ fn answer(alloc: Global, row: &Drawn) -> Result<Answer, Fail> {
     }
     let outside = five_files(alloc)?.with(What::Script, row.script)?;
     let (mut files, mut sink) = files_and_sink(outside)?;
-    let status = pipeline_top(alloc, &words, &mut files, &mut sink, &mut counting());
+    let status = lab_top(alloc, &words, &mut files, &mut sink, &mut counting());
     answer_from(alloc, status, files, &sink)
 }
 

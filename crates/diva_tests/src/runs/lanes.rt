@@ -5,8 +5,8 @@ use super::texts::text_due;
 use super::{
     Answer, FIVE_TEXT, Outside, ROOM, compare, file_name, five_files, run_program, words_of,
 };
-use diva_args::{Job, read_pipeline_words, read_words};
-use diva_cli::{LanePair, Lanes, work};
+use diva_args::{LabJob, read_lab_words, read_words};
+use diva_cli::{LanePair, Lanes, lab_work};
 use diva_core::{Diff, Pending, View};
 use diva_ooo::Ooo;
 use diva_outside::{MemFile, MemFiles, MemSink, What};
@@ -134,12 +134,12 @@ fn new_pair() -> LanePair<Counter> {
 }
 
 /// The job that a command line over the files of `FIVE` asks for.
-fn job_of(alloc: Global, line: &str) -> Result<Job, Fail> {
+fn job_of(alloc: Global, line: &str) -> Result<LabJob, Fail> {
     let words = words_of(alloc, line)?;
     if line.starts_with("log") || line.starts_with("draw") {
-        Ok(read_pipeline_words(alloc, &words)?)
+        Ok(read_lab_words(alloc, &words)?)
     } else {
-        Ok(read_words(alloc, &words)?)
+        Ok(LabJob::Diva(read_words(alloc, &words)?))
     }
 }
 
@@ -155,13 +155,13 @@ fn five_alone(alloc: Global) -> Result<MemFiles, Fail> {
 /// Does a job over these files and lanes.
 fn do_job(
     alloc: Global,
-    job: Job,
+    job: LabJob,
     files: &mut MemFiles,
     lanes: &mut Lanes<Counter>,
 ) -> Result<(), Fail> {
     let mut sink = MemSink::new(alloc, ROOM, Vec::new(alloc))?;
     let mut core = Ooo::new(alloc)?;
-    work(alloc, job, files, &mut sink, &mut core, lanes)?;
+    lab_work(alloc, job, files, &mut sink, &mut core, lanes)?;
     Ok(())
 }
 

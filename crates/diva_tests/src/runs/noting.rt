@@ -34,11 +34,9 @@ impl NotingFiles {
 }
 
 impl Files for NotingFiles {
-    ghost use Rattle.diva_outside.specs.MemFiles.{contents_of, faults_in};
+    ghost use Rattle.diva_outside.specs.MemFiles.{account_of};
 
-    ghost contents = { λ noting. contents_of noting.files };
-
-    ghost faults = { λ noting. faults_in noting.files };
+    ghost account = { λ noting. account_of noting.files };
 
     fn load(
         &mut self,
@@ -92,11 +90,9 @@ impl NotingSink {
 }
 
 impl Sink for NotingSink {
-    ghost use Rattle.std.specs.Prelude.{Some};
+    ghost use Rattle.diva_outside.specs.MemSink.{account_of};
 
-    ghost contents = { λ noting. Some noting.sink.bytes };
-
-    ghost faults = { λ noting. noting.sink.faults };
+    ghost account = { λ noting. account_of noting.sink };
 
     fn put(&mut self, piece: &[u8]) -> Result<(), SinkFailed> {
         if self.puts.push(piece.len()).is_err() {

@@ -1,7 +1,7 @@
 // Lines that are taken, and lines that are refused. A line is one string, whose words blanks part.
 use diva_args::{
-    ArgsFault, CampaignOptions, DebugOptions, DrawOptions, DuoOptions, Job, MigrateOptions,
-    RunOptions, Setup, SoakOptions, TapeOptions, read_pipeline_words, read_words,
+    ArgsFault, CampaignOptions, DebugOptions, DrawOptions, DuoOptions, Job, LabJob, MigrateOptions,
+    RunOptions, Setup, SoakOptions, TapeOptions, read_lab_words, read_words,
 };
 use diva_core::Config;
 use diva_test_programs::laid;
@@ -151,7 +151,7 @@ fn lines_that_are_refused(rt: HostRuntime) -> Result<(), Fail> {
     Ok(())
 }
 
-/// Lines of the program that draws runs, with what they ask for.
+/// Lines of the workbench, with what they ask for.
 static DRAWN: [(&str, &str); 6] = laid! {
     ("log p1.diva", r#"Log of run "p1.diva" 0 Own None 2 16 4 64 1 1000000 false None None"#),
     ("draw --cycles 9 p1.diva --core silent --script faults.txt",
@@ -164,7 +164,7 @@ static DRAWN: [(&str, &str); 6] = laid! {
     ("tape p --cycles 9", r#"tape "p" 0 Own None 2 16 4 64 1 9"#),
 };
 
-/// Lines that the program that draws runs refuses.
+/// Lines that the workbench refuses.
 static NOT_DRAWN: [&str; 15] = laid! {
     "", "log", "log p --trace", "draw p --dump 0:4", "log draw p", "Log p", "draw p --cycles 0", "draw p --core silent --cycles 9 q",
     "draw p --from 0", "draw p --to 0", "draw p --from 90000 --to 89999", "draw p --to 1000000001", "draw p --from 3 --from 3",
@@ -172,14 +172,14 @@ static NOT_DRAWN: [&str; 15] = laid! {
 };
 
 #[test]
-fn lines_of_the_program_that_draws(rt: HostRuntime) -> Result<(), Fail> {
+fn lines_of_the_workbench(rt: HostRuntime) -> Result<(), Fail> {
     for &(line, due) in &DRAWN {
-        let job = read_pipeline_words(rt.alloc(), &words_of(rt.alloc(), line)?)?;
-        let text = text_of(rt.alloc(), &job)?;
+        let job = read_lab_words(rt.alloc(), &words_of(rt.alloc(), line)?)?;
+        let text = lab_text_of(rt.alloc(), &job)?;
         assert_eq!(rt; text.as_str(), due, "{line}");
     }
     for line in &NOT_DRAWN {
-        let fault = read_pipeline_words(rt.alloc(), &words_of(rt.alloc(), line)?).err();
+        let fault = read_lab_words(rt.alloc(), &words_of(rt.alloc(), line)?).err();
         assert_eq!(rt; fault, Some(ArgsFault::Usage), "{line}");
     }
     for line in ["log p", "draw p", "draw p --to 9", "run p --from 1"] {
@@ -229,7 +229,14 @@ fn text_of(alloc: Global, job: &Job) -> Result<String, AllocError> {
             let (last, cycles) = (last.get(), cycles.get());
             format!(in alloc; "campaign {:?} {last} {cycles}", image.as_str())
         }
-        Job::Draw(DrawOptions { run, format }) => {
+    }
+}
+
+/// The same of a job of the workbench.
+fn lab_text_of(alloc: Global, job: &LabJob) -> Result<String, AllocError> {
+    match job {
+        LabJob::Diva(job) => text_of(alloc, job),
+        LabJob::Draw(DrawOptions { run, format }) => {
             let run = run_text(alloc, run)?;
             format!(in alloc; "{format:?} of {run}")
         }

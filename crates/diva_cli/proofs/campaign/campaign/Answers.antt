@@ -8,8 +8,8 @@ pub returns-in-Ok : goal.returns-in-Ok
 returns-in-Ok g c =
     let held = c.in-Ok.ensures.runs in
     promises_less g.C.Core.gives _ _ no_lanes _ (λ liar asked none. rw none c.load_and_run.ensures.lanes) _ _ _ _
-    (done_answers g.C.Core.gives _ _ _ no_lanes _ (Campaign c.args.options) held.bytes _ _ held.sound c.in-Ok.ensures.uncounted (c.show.ensures c.args.options held.bytes held.are))
+    (done_answers g.C.Core.gives _ _ no_lanes _ (Campaign c.args.options) held.bytes _ _ held.sound c.in-Ok.ensures.uncounted (c.show.ensures c.args.options held.bytes held.are))
 
 pub returns : goal.returns
 returns g c =
-    stop_answers g.C.Core.gives _ _ _ _ _ (Campaign c.args.options) c.in-Err.stop _ c.load_and_run.ensures.lanes c.in-Err.ensures.stopped c.write_stop.ensures
+    stop_answers g.C.Core.gives _ _ _ _ (Campaign c.args.options) c.in-Err.stop _ c.load_and_run.ensures.lanes c.in-Err.ensures.stopped c.write_stop.ensures

@@ -1,8 +1,7 @@
 -- The cores in use are as those of the kind that is asked for.
-use Rattle.std.proofs.Common.{sym, ◌∙◌}
+use Rattle.std.proofs.Common.{sym, ◌∙◌, ◌≡◌}
 use Rattle.diva_cli.proofs.DuoRunning.{locksteps, of_locksteps, of_scalars, of_silents, run_by, scalars, silents}
 use Rattle.diva_args.specs.declared.job.HartCore.TheVariants.{Scalar, Lockstep, Silent}
-use Rattle.std.proofs.Common.{◌≡◌}
 use Rattle.std.specs.Bool.{⊤}
 use Rattle.diva_tape.specs.Lists.{IsLockstepCall}
 use Rattle.diva_tape.specs.Scalar.{IsScalarCall}

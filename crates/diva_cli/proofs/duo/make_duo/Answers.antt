@@ -14,7 +14,7 @@ use Rattle.diva_cli.proofs.duo.make_duo.Goals as goal
 pub returns-clause-ready : goal.returns-clause-ready
 returns-clause-ready g c =
     let i : Layout = layout c.in_ok-image.image in
-    let h = subst (λ (o : DuoOptions). Holds (g.F.Files.contents c.args.files.now) (file_with o.room Image o.image) (λ bytes. image_in o.room bytes ≡ i)) c.options.view_is c.in_ok-image.ensures.holds in
+    let h = subst (λ (o : DuoOptions). Holds (g.F.Files.account c.args.files.now).contents (file_with o.room Image o.image) (λ bytes. image_in o.room bytes ≡ i)) c.options.view_is c.in_ok-image.ensures.holds in
     record {
       bytes = λ _. h.bytes;
       sound = (h.sound, tt);

@@ -9,8 +9,7 @@ returns-in-Duo-clause-answers g c =
     rw c.in-Duo.is (promises_less g.C.Core.gives _ _ no_lanes _ (λ liar asked none. rw none refl) _ _ _ _ c.duo.ensures)
 
 pub returns-in-Debug-clause-answers : goal.returns-in-Debug-clause-answers
-returns-in-Debug-clause-answers g c =
-    rw c.in-Debug.is (promises_less g.C.Core.gives _ _ no_lanes _ (λ liar asked none. rw none refl) _ _ _ _ c.debug.ensures)
+returns-in-Debug-clause-answers g c = rw c.in-Debug.is c.debug.ensures
 
 pub returns-in-Asm-clause-answers : goal.returns-in-Asm-clause-answers
 returns-in-Asm-clause-answers g c =
@@ -36,6 +35,3 @@ returns-in-Tape-clause-answers g c = rw c.in-Tape.is c.tape.ensures
 
 pub returns-in-Campaign-clause-answers : goal.returns-in-Campaign-clause-answers
 returns-in-Campaign-clause-answers g c = rw c.in-Campaign.is c.campaign.ensures
-
-pub returns-in-Draw-clause-answers : goal.returns-in-Draw-clause-answers
-returns-in-Draw-clause-answers g c = rw c.in-Draw.is c.draw.ensures

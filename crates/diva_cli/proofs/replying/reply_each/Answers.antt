@@ -10,7 +10,7 @@ use Rattle.diva_cli.proofs.replying.reply_each.Goals as goal
 pub loop-command-init : goal.loop-command-init
 loop-command-init g c =
     let r = c.requires in
-    record { replies = replies_none g.D.Core.gives _ _ _ _ _ r.new r.none r.keeps; within = omega arith; config = refl }
+    record { replies = replies_none g.D.Core.gives _ _ _ g.S.Sink.account _ r.new r.none r.keeps; within = omega arith; config = refl }
 
 pub reply_to-line-requires : goal.reply_to-line-requires
 reply_to-line-requires g c =
@@ -27,7 +27,7 @@ loop-command-preserved g c =
     let reply = c.reply_to-line.ensures in
     let at : slice_get c.args.commands.now c.loop-command.command-index ≡ Some c.command-item.result = slice_get_read c.args.commands.now (length c.args.commands.now) c.loop-command.command-index c.command-item.result refl c.loop-command-test.true c.command-item.is in
     record {
-      replies = replies_more g.D.Core.gives _ c.loop-command.command-index _ _ _ _ _ _ _ _ _ _ c.command-item.result _ _ _ _ inv.replies at
+      replies = replies_more g.D.Core.gives _ c.loop-command.command-index _ _ _ _ g.S.Sink.account _ _ _ c.command-item.result _ _ _ _ inv.replies at
           (record { stands = reply.stands; keep = reply.keep; moved = reply.moved; origin = reply.origin; at_once = reply.at_once; back = reply.back; stays = reply.stays; led = reply.led })
           reply.reply c.in_ok-put_line.ensures;
       within = cycles-more c.loop-command.session.machine.timed.cycles _ c.loop-command.command-index _ c.loop-command.session.machine.timed.config.limit _ inv.within (ap (λ (z : Config). z.limit) inv.config) reply.million;
@@ -40,8 +40,8 @@ returns-in_err-put_line g c =
     let reply = c.reply_to-line.ensures in
     let at : slice_get c.args.commands.now c.loop-command.command-index ≡ Some c.command-item.result = slice_get_read c.args.commands.now (length c.args.commands.now) c.loop-command.command-index c.command-item.result refl c.loop-command-test.true c.command-item.is in
     let failed = err_from_is_err_and c.from_residual.result c.from_residual.ensures.1 in
-    rw failed.1 (replied g.D.Core.gives _ (c.loop-command.command-index + 1) _ _ _ _ g.S.Sink.contents g.S.Sink.faults _ _ _
-    (replies_more g.D.Core.gives _ c.loop-command.command-index _ _ _ _ _ _ _ _ _ _ c.command-item.result _ _ _ _ inv.replies at
+    rw failed.1 (replied g.D.Core.gives _ (c.loop-command.command-index + 1) _ _ _ _ g.S.Sink.account _ _ _
+    (replies_more g.D.Core.gives _ c.loop-command.command-index _ _ _ _ g.S.Sink.account _ _ _ c.command-item.result _ _ _ _ inv.replies at
     (record { stands = reply.stands; keep = reply.keep; moved = reply.moved; origin = reply.origin; at_once = reply.at_once; back = reply.back; stays = reply.stays; led = reply.led })
     reply.reply c.in_err-put_line.ensures)
     (cycles-more c.loop-command.session.machine.timed.cycles _ c.loop-command.command-index _ c.loop-command.session.machine.timed.config.limit _ inv.within (ap (λ (z : Config). z.limit) inv.config) reply.million)
@@ -50,5 +50,5 @@ returns-in_err-put_line g c =
 pub returns : goal.returns
 returns g c =
     let inv = c.loop-command.invariant in
-    replied g.D.Core.gives _ c.loop-command.command-index _ _ _ _ g.S.Sink.contents g.S.Sink.faults _ _ _ inv.replies inv.within
+    replied g.D.Core.gives _ c.loop-command.command-index _ _ _ _ g.S.Sink.account _ _ _ inv.replies inv.within
     (let l = c.loop-command-test.false in let m = c.loop-command.auto.command-index-end in omega arith)

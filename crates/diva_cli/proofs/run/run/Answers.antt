@@ -7,10 +7,10 @@ use Rattle.diva_cli.proofs.run.run.Goals as goal
 
 pub returns-in-Ok : goal.returns-in-Ok
 returns-in-Ok g c =
-    ready_answers g.C.Core.gives _ _ _ _ _ (Run c.args.options) _ c.args.options.setup _ _ _ (ap (λ (o : RunOptions). o.setup) c.options.view_is) refl
+    ready_answers g.C.Core.gives _ _ _ _ (Run c.args.options) _ c.args.options.setup _ _ _ (ap (λ (o : RunOptions). o.setup) c.options.view_is) refl
     c.in-Ok.ensures.ready c.in-Ok.ensures.uncounted c.run_ready.ensures
 
 pub returns-in-Err : goal.returns-in-Err
 returns-in-Err g c =
-    unready_answers g.C.Core.gives _ _ _ _ _ (Run c.args.options) _ c.args.options.setup c.in-Err.stop _ refl (ap (λ (o : RunOptions). o.setup) c.options.view_is) refl
+    unready_answers g.C.Core.gives _ _ _ _ (Run c.args.options) _ c.args.options.setup c.in-Err.stop _ refl (ap (λ (o : RunOptions). o.setup) c.options.view_is) refl
     c.in-Err.ensures.stopped c.write_stop.ensures

@@ -7,10 +7,10 @@ use Rattle.diva_cli.proofs.run.tape.Goals as goal
 
 pub returns-in-Ok : goal.returns-in-Ok
 returns-in-Ok g c =
-    ready_answers g.C.Core.gives _ _ _ _ _ (Tape c.args.options) _ c.args.options.setup _ _ _ (ap (λ (o : TapeOptions). o.setup) c.options.view_is) refl
+    ready_answers g.C.Core.gives _ _ _ _ (Tape c.args.options) _ c.args.options.setup _ _ _ (ap (λ (o : TapeOptions). o.setup) c.options.view_is) refl
     c.in-Ok.ensures.ready c.in-Ok.ensures.uncounted c.tape_ready.ensures
 
 pub returns-in-Err : goal.returns-in-Err
 returns-in-Err g c =
-    unready_answers g.C.Core.gives _ _ _ _ _ (Tape c.args.options) _ c.args.options.setup c.in-Err.stop _ refl (ap (λ (o : TapeOptions). o.setup) c.options.view_is) refl
+    unready_answers g.C.Core.gives _ _ _ _ (Tape c.args.options) _ c.args.options.setup c.in-Err.stop _ refl (ap (λ (o : TapeOptions). o.setup) c.options.view_is) refl
     c.in-Err.ensures.stopped c.write_stop.ensures

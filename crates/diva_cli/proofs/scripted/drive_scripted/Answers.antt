@@ -2,7 +2,7 @@
 use Rattle.std.proofs.Common.{sym, ◌∙◌, arith}
 use Rattle.std.proofs.lemmas.Bool.{true≢false}
 use Rattle.diva_faults.specs.Spoiled.{spoiled}
-use Rattle.diva_cli.proofs.Cycling.{no_turn}
+use Rattle.diva_cli.proofs.Seeing.{no_turn}
 use Rattle.diva_cli.proofs.Handing.{drives_for}
 use Rattle.diva_cli.proofs.Polling.{asked_then, none_asked}
 use Rattle.diva_cli.proofs.Scripting.{drives_behind, ended_before, ended_touched}

@@ -6,4 +6,4 @@ use Rattle.diva_cli.proofs.soak.soak.Goals as goal
 
 pub returns : goal.returns
 returns g c =
-    done_answers g.C.Core.gives _ _ _ _ _ (Soak c.args.options) (λ _. []) _ _ tt (λ what. refl) (c.soak_ready.ensures (λ _. []))
+    done_answers g.C.Core.gives _ _ _ _ (Soak c.args.options) (λ _. []) _ _ tt (λ what. refl) (c.soak_ready.ensures (λ _. []))

@@ -16,7 +16,7 @@ loop-at-preserved g c =
     let at : ℕ = c.loop-at.at in
     let inside : at < length cells = omega (arith, c.count-at-end.ensures) in
     rw (concat_more cells at c.line.result inside (made cells at c.line.result inside c.line.ensures))
-    (passes_then _ _ _ _ _ _ _ _ _ _ _ _ c.loop-at.invariant c.in_ok-push.ensures)
+    (passes_then _ _ _ _ _ _ _ _ _ _ c.loop-at.invariant c.in_ok-push.ensures)
 
 pub returns-in_err-push : goal.returns-in_err-push
 returns-in_err-push g c =
@@ -25,4 +25,4 @@ returns-in_err-push g c =
     let inside : at < length cells = omega (arith, c.count-at-end.ensures) in
     let failed = err_from_is_err_and c.from_residual.result c.from_residual.ensures.1 in
     rw (failed.1, concat_parts cells at c.line.result inside (made cells at c.line.result inside c.line.ensures))
-    (passes_cut _ _ _ _ _ _ _ _ _ _ (passes_then _ _ _ _ _ _ _ _ _ _ _ _ c.loop-at.invariant c.in_err-push.ensures))
+    (passes_cut _ _ _ _ _ _ _ _ _ (passes_then _ _ _ _ _ _ _ _ _ _ c.loop-at.invariant c.in_err-push.ensures))

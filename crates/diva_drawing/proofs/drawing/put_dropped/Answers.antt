@@ -9,9 +9,9 @@ pub returns-in_err-put_row-in-len1-up : goal.returns-in_err-put_row-in-len1-up
 returns-in_err-put_row-in-len1-up g c =
     let failed = err_from_is_err_and c.from_residual.result c.from_residual.ensures.1 in
     rw (failed.1, dropped_parts c.args.excerpt c.args.last c.args.first c.args.claims.now c.claim_row.result _ c.in-len1-up.len_at_least c.claim_row.ensures)
-    (puts_cut _ _ _ _ _ _ _ c.in_err-put_row-in-len1-up.ensures)
+    (puts_cut _ _ _ _ _ _ c.in_err-put_row-in-len1-up.ensures)
 
 pub returns-in_ok-put_row-in-len1-up : goal.returns-in_ok-put_row-in-len1-up
 returns-in_ok-put_row-in-len1-up g c =
     rw (dropped_parts c.args.excerpt c.args.last c.args.first c.args.claims.now c.claim_row.result _ c.in-len1-up.len_at_least c.claim_row.ensures)
-    (puts_then _ _ _ _ _ _ _ _ _ c.in_ok-put_row-in-len1-up.ensures (rw (take_rest c.args.claims.now 1) at c.put_claims.ensures))
+    (puts_then _ _ _ _ _ _ _ c.in_ok-put_row-in-len1-up.ensures (rw (take_rest c.args.claims.now 1) at c.put_claims.ensures))

@@ -15,11 +15,11 @@ returns-in_err-make_room g c =
     let n = c.loop-n.n in
     let all : length c.args.claims.now ≡ n + (length c.args.claims.now - n) = omega arith in
     let front = texts_front text n (length c.args.claims.now - n) in
-    rw failed.1 (holds_front _ _ front.0 _ _ _ _ _ _ _ _ _ _ _ (ap (λ k. flat_map text (range_with_len 0 k)) all ∙ front.1) c.loop-n.invariant c.in_err-make_room.ensures.passes)
+    rw failed.1 (holds_front _ _ _ front.0 _ _ _ _ _ _ _ _ (ap (λ k. flat_map text (range_with_len 0 k)) all ∙ front.1) c.loop-n.invariant c.in_err-make_room.ensures.passes)
 
 pub loop-n-preserved : goal.loop-n-preserved
 loop-n-preserved g c =
     let text : ℕ → List ℕ = λ n. claim_text (c.args.first.row + n) (c.args.first.place + n) c.args.now (was_noted (slice_get c.args.was.now n)) (slice_get c.args.claims.now n) in
     rw (texts_more text c.loop-n.n)
-    (passes_then _ (text c.loop-n.n) _ _ _ _ _ _ _ _ _ _ c.loop-n.invariant
-    (holds_more (text c.loop-n.n) _ _ _ _ _ _ _ c.in_ok-make_room.ensures.passes c.push_numbered.ensures.bytes))
+    (passes_then _ _ (text c.loop-n.n) _ _ _ _ _ _ _ c.loop-n.invariant
+    (holds_more _ (text c.loop-n.n) _ _ _ _ _ c.in_ok-make_room.ensures.passes c.push_numbered.ensures.bytes))

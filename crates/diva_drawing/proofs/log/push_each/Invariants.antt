@@ -1,6 +1,7 @@
 -- The lines of the claims so far were written.
 use Rattle.std.proofs.Common.{◌+◌, Ok, slice_get}
 use Rattle.std.specs.List.{flat_map, range_with_len}
+use Rattle.diva_outside.specs.Lent.{lent}
 use Rattle.diva_outside.specs.declared.sink.SinkFailed.{SinkFailed}
 use Rattle.diva_drawing.specs.Log.{claim_text, was_noted}
 use Rattle.diva_drawing.specs.Pieces.{Passes}
@@ -8,5 +9,5 @@ use Rattle.diva_drawing.proofs.log.push_each.Given as goal
 
 abbrev pub invariant-loop-n : goal.invariant-loop-n
 invariant-loop-n g l =
-    Passes {E = SinkFailed} (flat_map (λ n. claim_text (l.first.row + n) (l.first.place + n) l.now (was_noted (slice_get l.was n)) (slice_get l.claims n)) (range_with_len 0 l.n))
-    l.initial.block l.block (g.S.Sink.contents l.initial.sink) (g.S.Sink.contents l.sink) (g.S.Sink.faults l.initial.sink) (g.S.Sink.faults l.sink) (Ok tt)
+    Passes {E = SinkFailed} (lent g.S.Sink.account l.initial.sink l.sink) (flat_map (λ n. claim_text (l.first.row + n) (l.first.place + n) l.now (was_noted (slice_get l.was n)) (slice_get l.claims n)) (range_with_len 0 l.n))
+    l.initial.block l.block (Ok tt)

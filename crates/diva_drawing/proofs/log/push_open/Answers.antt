@@ -15,26 +15,26 @@ returns-in_err-push_cycle g c =
     let claims = claims_text c.args.row after.count after.cycles (drop (committed_rows before after) before.claims) after.claims in
     let solo = solo_text c.args.row after.count after.cycles after.newest after.solo in
     let surplus = surplus_text (c.args.row + open_rows after - 1) (drop (accepted_claims before after) c.args.handed.now) in
-    rw failed.1 (passes_cut ((cycle_line ++ claims) ++ solo) surplus _ [] _ _ _ _ _ _
-    (passes_cut (cycle_line ++ claims) solo _ [] _ _ _ _ _ _ (passes_cut cycle_line claims _ _ _ _ _ _ _ _ c.in_err-push_cycle.ensures)))
+    rw failed.1 (passes_cut _ ((cycle_line ++ claims) ++ solo) surplus _ [] _ _ _ _
+    (passes_cut _ (cycle_line ++ claims) solo _ [] _ _ _ _ (passes_cut _ cycle_line claims _ _ _ _ _ _ c.in_err-push_cycle.ensures)))
 
 pub returns-in_err-push_claims : goal.returns-in_err-push_claims
 unfolding open_text
 returns-in_err-push_claims g c =
     let failed = err_from_is_err_and c.from_residual-in_err-push_claims.result c.from_residual-in_err-push_claims.ensures.1 in
-    rw failed.1 (passes_cut _ _ _ [] _ _ _ _ _ _ (passes_cut _ _ _ _ _ _ _ _ _ _
-    (passes_then _ _ _ _ _ _ _ _ _ _ _ _ c.in_ok-push_cycle.ensures c.in_err-push_claims.ensures)))
+    rw failed.1 (passes_cut _ _ _ _ [] _ _ _ _ (passes_cut _ _ _ _ _ _ _ _ _
+    (passes_then _ _ _ _ _ _ _ _ _ _ c.in_ok-push_cycle.ensures c.in_err-push_claims.ensures)))
 
 pub returns-in_err-push_solo : goal.returns-in_err-push_solo
 unfolding open_text
 returns-in_err-push_solo g c =
     let failed = err_from_is_err_and c.from_residual-in_err-push_solo.result c.from_residual-in_err-push_solo.ensures.1 in
-    rw failed.1 (passes_cut _ _ _ _ _ _ _ _ _ _
-    (passes_then _ _ _ _ _ _ _ _ _ _ _ _ (passes_then _ _ _ _ _ _ _ _ _ _ _ _ c.in_ok-push_cycle.ensures c.in_ok-push_claims.ensures) c.in_err-push_solo.ensures))
+    rw failed.1 (passes_cut _ _ _ _ _ _ _ _ _
+    (passes_then _ _ _ _ _ _ _ _ _ _ (passes_then _ _ _ _ _ _ _ _ _ _ c.in_ok-push_cycle.ensures c.in_ok-push_claims.ensures) c.in_err-push_solo.ensures))
 
 pub returns : goal.returns
 unfolding open_text
 returns g c =
-    passes_then _ _ _ _ _ _ _ _ _ _ _ _
-    (passes_then _ _ _ _ _ _ _ _ _ _ _ _ (passes_then _ _ _ _ _ _ _ _ _ _ _ _ c.in_ok-push_cycle.ensures c.in_ok-push_claims.ensures) c.in_ok-push_solo.ensures)
+    passes_then _ _ _ _ _ _ _ _ _ _
+    (passes_then _ _ _ _ _ _ _ _ _ _ (passes_then _ _ _ _ _ _ _ _ _ _ c.in_ok-push_cycle.ensures c.in_ok-push_claims.ensures) c.in_ok-push_solo.ensures)
     c.push_others.ensures

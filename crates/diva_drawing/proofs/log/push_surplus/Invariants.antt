@@ -1,5 +1,6 @@
 -- The lines of the claims so far were written.
 use Rattle.std.proofs.Common.{Ok, take}
+use Rattle.diva_outside.specs.Lent.{lent}
 use Rattle.diva_outside.specs.declared.sink.SinkFailed.{SinkFailed}
 use Rattle.diva_drawing.specs.Log.{surplus_text}
 use Rattle.diva_drawing.specs.Pieces.{Passes}
@@ -7,5 +8,5 @@ use Rattle.diva_drawing.proofs.log.push_surplus.Given as goal
 
 abbrev pub invariant-loop-claim : goal.invariant-loop-claim
 invariant-loop-claim g l =
-    Passes {E = SinkFailed} (surplus_text l.row (take l.claim-index l.claims))
-    l.initial.block l.block (g.S.Sink.contents l.initial.sink) (g.S.Sink.contents l.sink) (g.S.Sink.faults l.initial.sink) (g.S.Sink.faults l.sink) (Ok tt)
+    Passes {E = SinkFailed} (lent g.S.Sink.account l.initial.sink l.sink) (surplus_text l.row (take l.claim-index l.claims))
+    l.initial.block l.block (Ok tt)

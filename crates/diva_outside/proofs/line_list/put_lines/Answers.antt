@@ -15,7 +15,7 @@ loop-at-preserved g c =
     let at : ℕ = c.loop-at.at in
     let inside : at < length lines = omega (arith, c.count-at-end.ensures) in
     rw (concat_more lines at c.line.result inside (made lines at c.line.result inside c.line.ensures))
-    (puts_then _ _ _ _ _ _ _ _ _ c.loop-at.invariant c.in_ok-put_line.ensures)
+    (puts_then _ _ _ _ _ _ _ c.loop-at.invariant c.in_ok-put_line.ensures)
 
 pub returns-in_err-put_line : goal.returns-in_err-put_line
 returns-in_err-put_line g c =
@@ -24,4 +24,4 @@ returns-in_err-put_line g c =
     let inside : at < length lines = omega (arith, c.count-at-end.ensures) in
     let failed = err_from_is_err_and c.from_residual.result c.from_residual.ensures.1 in
     rw (failed.1, concat_parts lines at c.line.result inside (made lines at c.line.result inside c.line.ensures))
-    (puts_cut _ _ _ _ _ _ _ (puts_then _ _ _ _ _ _ _ _ _ c.loop-at.invariant c.in_err-put_line.ensures))
+    (puts_cut _ _ _ _ _ _ (puts_then _ _ _ _ _ _ _ c.loop-at.invariant c.in_err-put_line.ensures))

@@ -4,7 +4,8 @@ use Rattle.std.proofs.lemmas.List.{get_or_default}
 use Rattle.std.proofs.lemmas.Result.{err_from_is_err_and}
 use Rattle.std.specs.List.{concat}
 use Rattle.diva_isa.specs.declared.record.Record.{Record}
-use Rattle.diva_outside.specs.Sink.{Puts}
+use Rattle.diva_outside.specs.Lent.{lent}
+use Rattle.diva_outside.specs.Sink.{PutsTo}
 use Rattle.diva_outside.specs.declared.sink.SinkFailed.{SinkFailed}
 use Rattle.diva_outside.proofs.Sinks.{puts_then, puts_cut, concat_more, concat_parts}
 use Rattle.diva_trace.specs.Lines.{commit_line}
@@ -27,7 +28,7 @@ loop-place-preserved g c =
     let at : ℕ = c.loop-place.place in
     let inside : at < length c.args.records.now = omega arith in
     rw (concat_more lines at c.fill_commit.new.line (inside_lines _ _ at inside) (made c.args.first c.args.records.now at c.fill_commit.new.line _ inside c.fill_commit.ensures))
-    (puts_then _ _ _ _ _ _ _ _ _ c.loop-place.invariant c.in_ok-put_line.ensures)
+    (puts_then _ _ _ _ _ _ _ c.loop-place.invariant c.in_ok-put_line.ensures)
 
 pub returns-in_err-put_line : goal.returns-in_err-put_line
 unfolding commits_text
@@ -37,7 +38,7 @@ returns-in_err-put_line g c =
     let inside : at < length c.args.records.now = omega arith in
     let failed = err_from_is_err_and c.from_residual.result c.from_residual.ensures.1 in
     rw (failed.1, concat_parts lines at c.fill_commit.new.line (inside_lines _ _ at inside) (made c.args.first c.args.records.now at c.fill_commit.new.line _ inside c.fill_commit.ensures))
-    (puts_cut _ _ _ _ _ _ _ (puts_then _ _ _ _ _ _ _ _ _ c.loop-place.invariant c.in_err-put_line.ensures))
+    (puts_cut _ _ _ _ _ _ (puts_then _ _ _ _ _ _ _ c.loop-place.invariant c.in_err-put_line.ensures))
 
 pub returns : goal.returns
 unfolding commits_text
@@ -46,5 +47,4 @@ returns g c =
     let all : length lines ≤ c.loop-place.place = (
     let e = length_commit_lines c.args.first c.args.records.now in let f = c.loop-place.auto.place-end in let h = c.loop-place-test.false in omega arith
     ) in
-    subst (λ (put : List (List ℕ)). Puts {E = SinkFailed} (concat put) (g.S.Sink.contents c.args.sink.now) (g.S.Sink.contents c.loop-place.sink)
-    (g.S.Sink.faults c.args.sink.now) (g.S.Sink.faults c.loop-place.sink) (Ok tt)) (take_all c.loop-place.place lines all) c.loop-place.invariant
+    subst (λ (put : List (List ℕ)). PutsTo {E = SinkFailed} (lent g.S.Sink.account c.args.sink.now c.loop-place.sink) (concat put) (Ok tt)) (take_all c.loop-place.place lines all) c.loop-place.invariant

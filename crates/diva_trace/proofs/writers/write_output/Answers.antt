@@ -8,8 +8,8 @@ pub returns-in_err-put_line : goal.returns-in_err-put_line
 unfolding output_text
 returns-in_err-put_line g c =
     let failed = err_from_is_err_and c.from_residual.result c.from_residual.ensures.1 in
-    rw failed.1 (puts_cut _ _ _ _ _ _ _ (rw c.output_len_line.ensures at c.in_err-put_line.ensures))
+    rw failed.1 (puts_cut _ _ _ _ _ _ (rw c.output_len_line.ensures at c.in_err-put_line.ensures))
 
 pub returns : goal.returns
 unfolding output_text
-returns g c = puts_then _ _ _ _ _ _ _ _ _ (rw c.output_len_line.ensures at c.in_ok-put_line.ensures) c.put_lines.ensures
+returns g c = puts_then _ _ _ _ _ _ _ (rw c.output_len_line.ensures at c.in_ok-put_line.ensures) c.put_lines.ensures

@@ -1,0 +1,45 @@
+-- What a command line asks for of the workbench: it takes the words of `diva`, and has two commands more.
+-- Cited by `read_lab_words`.
+use Rattle.std.specs.Prelude.{ℕ, false, List, Option, Some, None, option_and_then, option_map, codes, if◌then◌else◌}
+use Rattle.std.specs.Str.{bytes_eq}
+use Rattle.clap.specs.Walk.{Row, Text}
+use Rattle.diva_args.specs.Line.{cycles_from, job_from, run_with, taken, values_of, wide_from}
+use Rattle.diva_args.specs.Options.{RunOptions, most_cycles}
+use Rattle.diva_args.specs.Plain.{PlainLine, given_in, value_in}
+use Rattle.diva_args.specs.Values.{liar_of, ranged_or}
+use Rattle.diva_args.specs.declared.lab.Format.{Format}
+use Rattle.diva_args.specs.declared.lab.Format.TheVariants.{Log, Drawing}
+use Rattle.diva_args.specs.declared.lab.LabJob.{LabJob}
+use Rattle.diva_args.specs.declared.lab.LabJob.TheVariants.{Diva, Draw}
+
+-- a run that is drawn has neither commit lines nor a part of memory to show
+unfoldable pub drawn_run_from : (Text → Option Text) → Option RunOptions
+drawn_run_from value = run_with (wide_from value) (cycles_from value) false (Some None) (liar_of (value (codes "liar")))
+
+-- a drawing of the cycles from one to another: all that a run can have, where none is given, and the second is not before the first
+abbrev pub drawing_to : (from : ℕ) → Option Text → Option Format
+drawing_to from to = option_map (λ t. Drawing from t) (ranged_or from most_cycles most_cycles to)
+
+unfoldable pub drawing_from : (Text → Option Text) → Option Format
+drawing_from value = option_and_then (λ from. drawing_to from (value (codes "to"))) (ranged_or 1 most_cycles 1 (value (codes "from")))
+
+abbrev pub drawn_by : Option RunOptions → Option Format → Option LabJob
+drawn_by run format = option_and_then (λ r. option_map (λ f. Draw (record { run = r; format = f })) format) run
+
+-- the job of the command of this name
+abbrev pub lab_job_from : Text → (Text → Option Text) → Option LabJob
+lab_job_from name value =
+    if bytes_eq name (codes "log") then drawn_by (drawn_run_from value) (Some Log)
+    else if bytes_eq name (codes "draw") then drawn_by (drawn_run_from value) (drawing_from value)
+    else option_map Diva (job_from name value)
+
+abbrev pub lab_job_of : Text × List Row → Option LabJob
+lab_job_of found = lab_job_from found.0 (values_of found.1)
+
+-- the job that the words ask for, or `None` where they are not a valid command line
+unfoldable pub lab_of : List Text → Option LabJob
+lab_of words = option_and_then lab_job_of (taken words)
+
+-- what a plain line asks for
+abbrev pub lab_job_on : PlainLine → Option LabJob
+lab_job_on line = lab_job_from line.command.name (value_in (given_in line))

@@ -1,0 +1,166 @@
+// The workbench, from the words to the status.
+ghost use Rattle.std.specs.Prelude.{◌≡◌, ◌⊎◌, [], None};
+ghost use Rattle.diva_outside.specs.Causes.{Rose};
+ghost use Rattle.diva_outside.specs.Lent.{lent};
+ghost use Rattle.diva_outside.specs.Sink.{HasFailed, Takes};
+ghost use Rattle.diva_outside.specs.Text.{Text};
+ghost use Rattle.diva_outside.specs.declared.files.What.{What};
+ghost use Rattle.diva_process.specs.Programs.{asked_by, asked_for, job_in};
+ghost use Rattle.diva_process.specs.Answers.{HasRefused, HasUnread, IsDone, IsMisused};
+ghost use Rattle.diva_process.specs.Statuses.{CanWork, HasEnded, HasLine, HasMissing, HasNoMemory, HasWorked, IsCut, IsHindered, IsStatus, LoadsNothing, MustRefuse};
+ghost use Rattle.diva_process.specs.Promises.{KeepsPromises};
+ghost use Rattle.diva_cli.specs.Changes.{asking};
+ghost use Rattle.diva_cli.specs.Lab.{lab, lab_usage_line, lab_wanted, lab_work_of, own_lab_work};
+ghost use Rattle.diva_cli.specs.Lanes.{AreHonest, are_asked};
+
+use crate::drawing::draw;
+use crate::lanes::Lanes;
+use crate::program::work;
+use diva_args::{ArgsFault, LabJob, read_lab_words};
+use diva_core::Core;
+use diva_outside::{Files, Line, Sink};
+use diva_process::{Failure, Front, run_process};
+use diva_vote::Lane;
+use std::alloc::{AllocError, Global};
+
+/// Runs the workbench on the words of its command line (without its name) over the files, the sink
+/// and the core that it is handed, and answers its status. It does all that [`top`](crate::top) does, and has the commands `log` and
+/// `draw` besides, whose statuses are those of `run`.
+///
+/// | status | comes |
+/// |---|---|
+/// | 0 | the run halted, of two harts both, of a campaign the first run; of the commands that run nothing to its end, the whole text was written |
+/// | 2 | the words are not a valid command line; the usage line is written |
+/// | 3 | the run trapped, of a campaign the first one; of two harts both have ended, and one by a trap at least |
+/// | 4 | exactly the cycles asked for were run, and the machine goes on; of two harts one does, or owes a store |
+/// | 5 | the first file that can't be used has a fault, or is too long; a line says so |
+/// | 8 | the first file that can't be used can't be read; a line says so |
+/// | 9 | the sink failed; a prefix of the text was written |
+/// | 10 | memory ran out; nothing was written |
+pub fn lab_top<F: Files, S: Sink, C: Core>(
+    alloc: Global,
+    words: &[&str],
+    files: &mut F,
+    sink: &mut S,
+    core: &mut C,
+) -> u8
+    ensures status { IsStatus result }
+
+    // The job is done: all its files are sound, its whole text was written, and no load and no put failed. That of a run that is drawn
+    // is told from what is seen of the machine after each cycle, and all that is promised of a run holds of it; that of any other job is
+    // what `top` writes.
+    ensures worked { IsDone result
+        → HasWorked (asked_by lab words.now) (own_lab_work C.gives core.old core.new) (lent F.account files.old files.new)
+        (lent S.account sink.old sink.new) result }
+
+    // Nothing is run: the words, the first file's fault, or the files' count of faults says why. No fault was counted
+    // for a file after the one at which the loading stopped.
+    ensures misused { result ≡ 2
+        → HasLine (IsMisused (asked_by lab words.now) (lent F.account files.old files.new)) (own_lab_work C.gives core.old core.new)
+        (lent S.account sink.old sink.new) }
+    ensures refused { result ≡ 5
+        → HasLine (HasRefused (asked_by lab words.now) (lent F.account files.old files.new)) (own_lab_work C.gives core.old core.new)
+        (lent S.account sink.old sink.new) }
+    ensures unread { result ≡ 8
+        → HasLine (HasUnread (asked_by lab words.now) (lent F.account files.old files.new)) (own_lab_work C.gives core.old core.new)
+        (lent S.account sink.old sink.new) }
+
+    // If the words ask for no file, the files are as they were: none was loaded.
+    ensures unloaded { LoadsNothing lab (job_in lab words.now) → files.new ≡ files.old }
+
+    // The sink's count of faults rose, and the core was not asked again; memory ran out, and no load failed.
+    ensures cut { result ≡ 9
+        → IsCut (asked_by lab words.now) (own_lab_work C.gives core.old core.new) (lent F.account files.old files.new)
+        (lent S.account sink.old sink.new) }
+    ensures memory { result ≡ 10
+        → HasNoMemory (own_lab_work C.gives core.old core.new) (lent F.account files.old files.new) (lent S.account sink.old sink.new) }
+
+    // Words that are not a valid command line are answered by the usage line.
+    ensures usage { (job_in lab words.now) ≡ None → (result ≡ 2) ⊎ ((result ≡ 9) ⊎ (result ≡ 10)) }
+
+    // Of known files, the first that can't be used is refused by its line, or is not there.
+    ensures refuses { (text : Text)
+        → MustRefuse (asked_by lab words.now) (lent F.account files.old files.new) text
+        → ((result ≡ 5) × Takes (lent S.account sink.old sink.new) text) ⊎ IsHindered result }
+    ensures misses { HasMissing (asked_by lab words.now) (lent F.account files.old files.new) → IsHindered result }
+
+    // A job whose files are known and sound is done, if neither they nor the sink fail.
+    ensures complete { CanWork (asked_by lab words.now) (lent F.account files.old files.new)
+        → ((what : What) → Rose ((F.account files.old).faults what) ((F.account files.new).faults what) → ⊥)
+        → (HasFailed (lent S.account sink.old sink.new) → ⊥)
+        → HasEnded (asked_by lab words.now) (own_lab_work C.gives core.old core.new) (lent F.account files.old files.new)
+        (lent S.account sink.old sink.new) result ⊎ (result ≡ 10) }
+{
+    run_process(&Lab, alloc, words, files, sink, core)
+}
+
+/// The workbench, over a core.
+struct Lab;
+
+impl<C: Core> Front<C> for Lab {
+    ghost use Rattle.diva_cli.specs.Lab.{LabEnds, lab, own_lab_done};
+
+    type Job = LabJob;
+
+    ghost program = { lab };
+
+    ghost done = { own_lab_done C.gives };
+
+    ghost can_end = { LabEnds };
+
+    fn job(&self, alloc: Global, words: &[&str]) -> Result<Option<LabJob>, AllocError> {
+        match read_lab_words(alloc, words) {
+            Ok(job) => Ok(Some(job)),
+            Err(ArgsFault::Usage) => Ok(None),
+            Err(ArgsFault::Memory) => Err(AllocError),
+        }
+    }
+
+    fn usage(&self) -> Line {
+        lab_usage_line()
+    }
+
+    fn work<F: Files, S: Sink>(
+        &self,
+        alloc: Global,
+        job: LabJob,
+        files: &mut F,
+        sink: &mut S,
+        core: &mut C,
+    ) -> Result<u8, Failure> {
+        lab_work(alloc, job, files, sink, core, &mut Lanes::own())
+    }
+}
+
+/// Does a job of the workbench over the files, the sink, the core and the lanes that it is handed, as [`work`](crate::work) does one of
+/// `diva`. The lanes are asked in a run that is drawn as they are in `run`.
+pub fn lab_work<F: Files, S: Sink, C: Core, L: Lane>(
+    alloc: Global,
+    job: LabJob,
+    files: &mut F,
+    sink: &mut S,
+    core: &mut C,
+    lanes: &mut Lanes<L>,
+) -> Result<u8, Failure>
+    requires { AreHonest L.honest lanes.old }
+    ensures answers { KeepsPromises (asked_for lab job) (lab_work_of C.gives
+        (asking core.old core.new (are_asked L.says lanes.old lanes.new))) (lent F.account files.old files.new) (lent S.account sink.old sink.new) result }
+    ensures unloaded { lab_wanted job ≡ [] → files.new ≡ files.old }
+{
+    match job {
+        LabJob::Diva(job) => work(alloc, job, files, sink, core, lanes),
+        LabJob::Draw(options) => draw(alloc, options, files, sink, core, lanes),
+    }
+}
+
+/// The line for words that are not a valid command line of the workbench.
+#[tactic(auto, unfolding(crate::specs::Lab::lab_usage_line))]
+fn lab_usage_line() -> Line
+    ensures { result ≡ lab_usage_line }
+{
+    let mut line = Line::new();
+    line.text(
+        b"usage: diva_lab log IMAGE, draw IMAGE [--from CYCLE] [--to CYCLE], with the options of run, or the words of diva\n",
+    );
+    line
+}

@@ -1,0 +1,4 @@
+-- The lemmas of this crate.
+pub mod Answering
+pub mod Completing
+pub mod Refusing

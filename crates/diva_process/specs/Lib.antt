@@ -1,0 +1,9 @@
+-- What the contracts of this crate cite.
+pub mod Programs
+pub mod Lines
+pub mod Stops
+pub mod Answers
+pub mod Statuses
+pub mod Promises
+-- what a command's own functions promise of what they write
+pub mod Writing
