@@ -1,12 +1,14 @@
 -- What a job answers, from what was loaded for it and what was written of it.
-use Rattle.std.proofs.Common.{◌≡◌, ℕ, List, [], Option, None, Some, Result, Ok, Err, IfOk, refl, sym, subst}
-use Rattle.diva_outside.specs.Files.{FilesAccount, IsUncounted, LentFiles}
+use Rattle.std.proofs.Common.{◌≡◌, List, [], None, Some, Result, Ok, Err, IfOk, refl, sym, subst}
+use Rattle.diva_outside.specs.Files.{IsUncounted, LentFiles}
 use Rattle.diva_outside.specs.Lent.{given, left}
 use Rattle.diva_outside.specs.Sink.{LentSink}
 use Rattle.diva_outside.specs.Text.{Text}
 use Rattle.diva_outside.proofs.Sinks.{past_nothing}
 use Rattle.diva_process.specs.declared.stop.Failure.{Failure}
 use Rattle.diva_process.specs.declared.stop.Failure.TheVariants.{Cut, Memory as NoMemory}
+use Rattle.diva_process.specs.declared.status.Status.{Status}
+use Rattle.diva_process.specs.declared.status.Status.TheVariants.{Misused}
 use Rattle.diva_process.specs.declared.stop.Stop.{Stop}
 use Rattle.diva_process.specs.declared.stop.Stop.TheVariants.{Memory, Unread, Refused}
 use Rattle.diva_process.specs.Programs.{Asked, Doing, FileBytes, FileRules, Program, Wanted, asked_for}
@@ -17,19 +19,19 @@ use Rattle.diva_process.specs.Writing.{Stops, WritesLine, WritesStop, WritesText
 
 module _ {J F S : Type 0} (program : Program J) (work : Doing J) (files : LentFiles F) (sink : LentSink S) where
   -- the files are sound, and the job's text was written
-  pub done_answers : (job : J) (bytes : FileBytes) (result : Result ℕ Failure)
+  pub done_answers : (job : J) (bytes : FileBytes) (result : Result Status Failure)
       → AreSound program.rules (given files).contents (program.wanted job) bytes
       → IsUncounted files
-      → ((status : ℕ) (text : Text) → work.done job bytes (Ok status) text → EndsSo work job status)
+      → ((ends : Status) (text : Text) → work.done job bytes (Ok ends) text → EndsSo work job ends)
       → WritesText work job bytes sink result
       → KeepsPromises (asked_for program job) work files sink result
-  done_answers job bytes (Ok status) sound none ends w =
+  done_answers job bytes (Ok status) sound none can w =
       record {
         text = w.text;
-        answer = done (record { job = job; named = refl; bytes = bytes; sound = sound; uncounted = none; means = w.means; ends = ends status w.text w.means });
+        answer = done (record { job = job; named = refl; bytes = bytes; sound = sound; uncounted = none; means = w.means; ends = can status w.text w.means });
         written = w.written;
       }
-  done_answers job bytes (Err Cut) sound none ends w =
+  done_answers job bytes (Err Cut) sound none can w =
       record {
         rose = w.rose;
         put = w.put;
@@ -37,10 +39,10 @@ module _ {J F S : Type 0} (program : Program J) (work : Doing J) (files : LentFi
         answer = done (record { job = job; named = refl; bytes = bytes; sound = sound; uncounted = none; means = w.means; ends = tt });
         written = w.written;
       }
-  done_answers job bytes (Err NoMemory) sound none ends w = absurd w
+  done_answers job bytes (Err NoMemory) sound none can w = absurd w
 
   -- the loading stopped, and a line was written of it
-  pub stop_answers : (job : J) (stop : Stop) (result : Result ℕ Failure)
+  pub stop_answers : (job : J) (stop : Stop) (result : Result Status Failure)
       → work.unused
       → Stops program.rules (given files) (left files) (program.wanted job) stop
       → WritesStop stop sink result
@@ -61,10 +63,10 @@ module _ {J F S : Type 0} (program : Program J) (work : Doing J) (files : LentFi
 
 -- the words ask for no job, and the usage line was written
 module _ {J F S : Type 0} (asked : Asked J) (work : Doing J) (files : LentFiles F) (sink : LentSink S) where
-  pub misused_answers : (line : Text) (result : Result ℕ Failure)
+  pub misused_answers : (line : Text) (result : Result Status Failure)
       → work.unused
       → asked.job ≡ None → line ≡ asked.program.usage → IsUncounted files
-      → WritesLine line 2 sink result
+      → WritesLine line Misused sink result
       → KeepsPromises asked work files sink result
   misused_answers line (Ok status) u none is same w =
       record { text = line; answer = misused (record { none = none; line = is; uncounted = same }) u w.0; written = w.1 }
@@ -76,8 +78,8 @@ module _ {J F S : Type 0} (asked : Asked J) (work : Doing J) (files : LentFiles 
 module _ {J J' F S : Type 0} (program : Program J) (other : Program J') (job : J) (its : J') (work : Doing J) (that : Doing J')
     (files : LentFiles F) (sink : LentSink S)
     (wants : other.wanted its ≡ program.wanted job) (rules : other.rules ≡ program.rules) (unused : work.unused → that.unused)
-    (so : (bytes : FileBytes) (ended : Result ℕ Text) (text : Text) → work.done job bytes ended text → that.done its bytes ended text)
-    (can : (status : ℕ) → work.can_end job status → that.can_end its status) where
+    (so : (bytes : FileBytes) (ended : Result Status Text) (text : Text) → work.done job bytes ended text → that.done its bytes ended text)
+    (can : (ends : Status) → work.can_end job ends → that.can_end its ends) where
   stopped_so : (this : FileRules → Wanted → List Wanted → Type 0) → StopsAt program.rules (given files).contents (this program.rules) (program.wanted job)
       → StopsAt other.rules (given files).contents (this other.rules) (other.wanted its)
   stopped_so this s =
@@ -87,11 +89,11 @@ module _ {J J' F S : Type 0} (program : Program J) (other : Program J') (job : J
   same_job : (k : J) → Some job ≡ Some k → k ≡ job
   same_job k e = cc
 
-  ends_so : (ended : Result ℕ Text) (k : J) → k ≡ job → IfOk ended (EndsSo work k) → IfOk ended (EndsSo that its)
+  ends_so : (ended : Result Status Text) (k : J) → k ≡ job → IfOk ended (EndsSo work k) → IfOk ended (EndsSo that its)
   ends_so (Ok status) k e h = record { done = h.done; can = can status (subst (λ (x : J). work.can_end x status) e h.can) }
   ends_so (Err put) k e h = tt
 
-  answer_so : (ended : Result ℕ Text) (text : Text) → IsAnswer (asked_for program job) work files ended text → IsAnswer (asked_for other its) that files ended text
+  answer_so : (ended : Result Status Text) (text : Text) → IsAnswer (asked_for program job) work files ended text → IsAnswer (asked_for other its) that files ended text
   answer_so ended text (misused m u s) = absurd (let e = m.none in cc)
   answer_so ended text (unread m u s) =
       unread (record {
@@ -121,7 +123,7 @@ module _ {J J' F S : Type 0} (program : Program J) (other : Program J') (job : J
         ends = ends_so ended d.job e d.ends;
       })
 
-  pub promises_so : (result : Result ℕ Failure) → KeepsPromises (asked_for program job) work files sink result → KeepsPromises (asked_for other its) that files sink result
+  pub promises_so : (result : Result Status Failure) → KeepsPromises (asked_for program job) work files sink result → KeepsPromises (asked_for other its) that files sink result
   promises_so (Ok status) w = record { text = w.text; answer = answer_so (Ok status) w.text w.answer; written = w.written }
   promises_so (Err Cut) w = record { rose = w.rose; put = w.put; text = w.text; answer = answer_so (Err w.put) w.text w.answer; written = w.written }
   promises_so (Err NoMemory) w = record { uncounted = w.uncounted; unused = unused w.unused; unput = w.unput }

@@ -1,18 +1,16 @@
--- A job all of whose files are known and sound is done; the usage line, and a text that was cut.
-use Rattle.std.proofs.Common.{◌≡◌, ◌≢◌, ◌≤◌, ◌⊎◌, ℕ, List, [], ◌∷◌, length, Option, Some, None, Result, Ok, Err, inl, inr, sym, ◌∙◌, refl, ap, arith, subst}
+-- A job all of whose files are known and sound is done.
+use Rattle.std.proofs.Common.{◌≡◌, ◌⊎◌, ℕ, List, [], ◌∷◌, length, Option, Some, None, Ok, inl, inr, sym, ◌∙◌, ap, arith, subst}
 use Rattle.diva_outside.specs.Causes.{Rose}
 use Rattle.diva_outside.specs.Files.{Contents, FilesAccount, IsMissing, LentFiles}
 use Rattle.diva_outside.specs.Lent.{given, left}
 use Rattle.diva_outside.specs.Sink.{HasFailed, LentSink, Takes}
 use Rattle.diva_outside.specs.Text.{Text}
 use Rattle.diva_outside.specs.declared.files.What.{What}
-use Rattle.diva_process.specs.declared.stop.Failure.{Failure}
-use Rattle.diva_process.specs.declared.stop.Failure.TheVariants.{Cut, Memory}
+use Rattle.diva_process.specs.declared.status.Status.{Status}
 use Rattle.diva_process.specs.Programs.{Asked, Doing, FileRules, Wanted}
 use Rattle.diva_process.specs.Stops.{HasFirstFault, IsRefused, IsTooLong, IsUnread, StopsAt, StopsLoading}
-use Rattle.diva_process.specs.Answers.{HasDone, IsAnswer, IsDone, IsMisused, misused, unread, refused, done}
-use Rattle.diva_process.specs.Statuses.{AreKnownSound, CanWork, HasEnded, HasLine, IsCut, IsKnownSound}
-use Rattle.diva_process.specs.Promises.{KeepsPromises, status_of}
+use Rattle.diva_process.specs.Answers.{IsAnswer, misused, unread, refused, done}
+use Rattle.diva_process.specs.Statuses.{AreKnownSound, CanWork, HasEnded, IsKnownSound}
 
 -- ---- a file that is known and sound is no cause to stop
 
@@ -56,48 +54,13 @@ module _ {J F S : Type 0} (asked : Asked J) (work : Doing J) (files : LentFiles 
     known_of job named =
         subst (λ (j : J). AreKnownSound asked.program.rules (given files).contents (asked.program.wanted j)) (some_same asked.job can.job job can.named named) can.known
 
-    answered : (status : ℕ) (text : Text) → IsAnswer asked work files (Ok status) text → Takes sink text → HasEnded asked work files sink status
-    answered status text (misused m same s) w = absurd (let e = sym can.named ∙ m.none in cc)
-    answered status text (unread u same s) w =
+    pub completed : (ends : Status) (text : Text) → IsAnswer asked work files (Ok ends) text → Takes sink text → HasEnded asked work files sink ends
+    completed status text (misused m same s) w = absurd (let e = sym can.named ∙ m.none in cc)
+    completed status text (unread u same s) w =
         absurd (known-stops asked.program.rules (given files).contents (IsUnread (given files) (left files) text)
         (λ w later. known-unread asked.program.rules (given files) (left files) text w later files_well) (asked.program.wanted u.job) (known_of u.job u.named) u.first)
-    answered status text (refused r same s) w =
+    completed status text (refused r same s) w =
         absurd (known-stops asked.program.rules (given files).contents (StopsLoading asked.program.rules (given files) (left files) text)
         (λ w later h s. known-refused asked.program.rules (given files).contents text w h s.refused) (asked.program.wanted r.job) (known_of r.job r.named) r.first)
-    answered status text (done d) w =
-        record { job = d.job; named = d.named; ends = d.ends.can; worked = record { text = text; done = d; written = w } }
-
-    pub complete : (result : Result ℕ Failure) → KeepsPromises asked work files sink result
-        → HasEnded asked work files sink (status_of result) ⊎ (status_of result ≡ 10)
-    complete (Ok status) w = inl (answered status w.text w.answer w.written)
-    complete (Err Cut) w = absurd (sink_well w.rose)
-    complete (Err Memory) w = inr refl
-
-  -- ---- the usage line, and a text that was cut: no job ends with 2, nor with 9
-
-  done_few : (status : ℕ) → IsDone status → (status ≤ 4) × (status ≢ 2)
-  done_few status (inl zero) = (omega arith, λ two. absurd (omega arith))
-  done_few status (inr (inl trapped)) = (omega arith, λ two. absurd (omega arith))
-  done_few status (inr (inr goes_on)) = (omega arith, λ two. absurd (omega arith))
-
-  usage_told : (status : ℕ) (text : Text) → status ≡ 2 → IsAnswer asked work files (Ok status) text → Takes sink text → HasLine (IsMisused asked files) work sink
-  usage_told status text two (misused m unused s) w = record { text = text; caused = m; unused = unused; written = w }
-  usage_told status text two (unread u unused s) w = absurd (omega arith)
-  usage_told status text two (refused r unused s) w = absurd (omega arith)
-  usage_told status text two (done d) w = absurd ((done_few status d.ends.done).1 two)
-
-  pub misuses : (result : Result ℕ Failure) → KeepsPromises asked work files sink result → status_of result ≡ 2 → HasLine (IsMisused asked files) work sink
-  misuses (Ok status) a two = usage_told status a.text two a.answer a.written
-  misuses (Err Cut) a two = absurd (omega arith)
-  misuses (Err Memory) a two = absurd (omega arith)
-
-  told_few : (status : ℕ) (text : Text) → IsAnswer asked work files (Ok status) text → status ≤ 8
-  told_few status text (misused m unused s) = omega arith
-  told_few status text (unread u unused s) = omega arith
-  told_few status text (refused r unused s) = omega arith
-  told_few status text (done d) = let few = (done_few status d.ends.done).0 in omega arith
-
-  pub cuts : (result : Result ℕ Failure) → KeepsPromises asked work files sink result → status_of result ≡ 9 → IsCut asked work files sink
-  cuts (Ok status) a nine = absurd (let few = told_few status a.text a.answer in omega arith)
-  cuts (Err Cut) a nine = a
-  cuts (Err Memory) a nine = absurd (omega arith)
+    completed status text (done d) w =
+        record { job = d.job; named = d.named; can = d.ends.can; worked = record { text = text; done = d; written = w } }

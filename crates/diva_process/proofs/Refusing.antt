@@ -1,17 +1,16 @@
 -- Known files, the first of which that can't be used is refused or is not there.
-use Rattle.std.proofs.Common.{◌≡◌, ◌⊎◌, ℕ, List, [], ◌∷◌, length, Option, Some, None, Result, Ok, Err, IsSome, inl, inr, sym, ◌∙◌, refl, ap, arith, subst}
+use Rattle.std.proofs.Common.{◌≡◌, ◌⊎◌, ℕ, List, [], ◌∷◌, length, Option, Some, None, Ok, IsSome, inl, inr, sym, ◌∙◌, refl, ap, arith, subst}
 use Rattle.std.proofs.lemmas.Bool.{true≢false}
-use Rattle.diva_outside.specs.Files.{Contents, FilesAccount, IsMissing, LentFiles}
+use Rattle.diva_outside.specs.Files.{Contents, IsMissing, LentFiles}
 use Rattle.diva_outside.specs.Lent.{given, left}
 use Rattle.diva_outside.specs.Sink.{LentSink, Takes}
 use Rattle.diva_outside.specs.Text.{Text}
-use Rattle.diva_process.specs.declared.stop.Failure.{Failure}
-use Rattle.diva_process.specs.declared.stop.Failure.TheVariants.{Cut, Memory}
+use Rattle.diva_process.specs.declared.status.Status.{Status}
+use Rattle.diva_process.specs.declared.status.Status.TheVariants.{Refused}
 use Rattle.diva_process.specs.Programs.{Asked, Doing, Fault, FileBytes, FileRules, Wanted}
 use Rattle.diva_process.specs.Stops.{AreSound, CanBeUsed, HasFirstFault, IsRefused, IsTooLong, StopsAt, StopsLoading}
 use Rattle.diva_process.specs.Answers.{IsAnswer, misused, unread, refused, done}
 use Rattle.diva_process.specs.Statuses.{HasMissing, IsHindered, MustRefuse}
-use Rattle.diva_process.specs.Promises.{KeepsPromises, status_of}
 use Rattle.diva_process.proofs.Completing.{known-refused, some_same}
 
 -- ---- files that are known
@@ -91,8 +90,8 @@ module _ {J F S : Type 0} (asked : Asked J) (work : Doing J) (files : LentFiles 
       subst (λ (c : Contents). StopsAt rules c this (asked.program.wanted other)) told
       (subst (λ (j : J). StopsAt rules (given files).contents this (asked.program.wanted j)) (some_same asked.job job other named e) s)
 
-  abbrev Refused : Text → Wanted → List Wanted → Type 0
-  Refused text w later = IsRefused rules (given files).contents text w
+  abbrev Refusal : Text → Wanted → List Wanted → Type 0
+  Refusal text w later = IsRefused rules (given files).contents text w
 
   refused_known : (text : Text) (w : Wanted) → IsRefused rules (given files).contents text w → IsRefused rules (Some bytes_of) text w
   refused_known text w r = subst (λ (c : Contents). IsRefused rules c text w) told r
@@ -103,32 +102,26 @@ module _ {J F S : Type 0} (asked : Asked J) (work : Doing J) (files : LentFiles 
   abbrev Stopped : Text → Wanted → List Wanted → Type 0
   Stopped line = StopsLoading rules (given files) (left files) line
 
-  answered_refused : (text : Text) → StopsAt rules (given files).contents (Refused text) (asked.program.wanted job)
-      → (status : ℕ) (line : Text) → IsAnswer asked work files (Ok status) line → Takes sink line → ((status ≡ 5) × Takes sink text) ⊎ IsHindered status
+  answered_refused : (text : Text) → StopsAt rules (given files).contents (Refusal text) (asked.program.wanted job)
+      → (ends : Status) (line : Text) → IsAnswer asked work files (Ok ends) line → Takes sink line → ((ends ≡ Refused) × Takes sink text) ⊎ IsHindered ends
   answered_refused text first status line (misused m same s) w = absurd (let e = sym named ∙ m.none in cc)
   answered_refused text first status line (unread u same s) w = inr (inl s)
   answered_refused text first status line (refused r same s) w =
-      let one : line ≡ text = both_stop rules bytes_of (Stopped line) (Refused text) (line ≡ text)
+      let one : line ≡ text = both_stop rules bytes_of (Stopped line) (Refusal text) (line ≡ text)
       (λ w later u s. usable-refused rules bytes_of line w u (refused_known line w s.refused))
       (λ w later u s. usable-refused rules bytes_of text w u (refused_known text w s))
       (λ w later s t. one_refusal rules bytes_of line text w (refused_known line w s.refused) (refused_known text w t))
-      (asked.program.wanted r.job) (subst (λ (c : Contents). StopsAt rules c (Stopped line) (asked.program.wanted r.job)) told r.first) (first_of (Refused text) r.job r.named first) in
+      (asked.program.wanted r.job) (subst (λ (c : Contents). StopsAt rules c (Stopped line) (asked.program.wanted r.job)) told r.first) (first_of (Refusal text) r.job r.named first) in
       inl (s, subst (λ (t : Text). Takes sink t) one w)
   answered_refused text first status line (done d) w =
-      absurd (sound-stops rules bytes_of (Refused text) (λ w later u s. usable-refused rules bytes_of text w u (refused_known text w s)) (asked.program.wanted d.job) d.bytes
-      (subst (λ (c : Contents). AreSound rules c (asked.program.wanted d.job) d.bytes) told d.sound) (first_of (Refused text) d.job d.named first))
-
-  pub refuses_known : (text : Text) → StopsAt rules (given files).contents (Refused text) (asked.program.wanted job)
-      → (result : Result ℕ Failure) → KeepsPromises asked work files sink result → ((status_of result ≡ 5) × Takes sink text) ⊎ IsHindered (status_of result)
-  refuses_known text first (Ok status) w = answered_refused text first status w.text w.answer w.written
-  refuses_known text first (Err Cut) w = inr (inr (inl refl))
-  refuses_known text first (Err Memory) w = inr (inr (inr refl))
+      absurd (sound-stops rules bytes_of (Refusal text) (λ w later u s. usable-refused rules bytes_of text w u (refused_known text w s)) (asked.program.wanted d.job) d.bytes
+      (subst (λ (c : Contents). AreSound rules c (asked.program.wanted d.job) d.bytes) told d.sound) (first_of (Refusal text) d.job d.named first))
 
   abbrev Missing : Wanted → List Wanted → Type 0
   Missing w later = IsMissing (given files).contents w.name
 
   answered_missing : StopsAt rules (given files).contents Missing (asked.program.wanted job)
-      → (status : ℕ) (line : Text) → IsAnswer asked work files (Ok status) line → IsHindered status
+      → (ends : Status) (line : Text) → IsAnswer asked work files (Ok ends) line → IsHindered ends
   answered_missing first status line (misused m same s) = absurd (let e = sym named ∙ m.none in cc)
   answered_missing first status line (unread u same s) = inl s
   answered_missing first status line (refused r same s) =
@@ -141,29 +134,24 @@ module _ {J F S : Type 0} (asked : Asked J) (work : Doing J) (files : LentFiles 
       absurd (sound-stops rules bytes_of Missing (λ w later u m. usable-missing rules bytes_of w u (missing_known w m)) (asked.program.wanted d.job) d.bytes
       (subst (λ (c : Contents). AreSound rules c (asked.program.wanted d.job) d.bytes) told d.sound) (first_of Missing d.job d.named first))
 
-  pub misses_known : StopsAt rules (given files).contents Missing (asked.program.wanted job)
-      → (result : Result ℕ Failure) → KeepsPromises asked work files sink result → IsHindered (status_of result)
-  misses_known first (Ok status) w = answered_missing first status w.text w.answer
-  misses_known first (Err Cut) w = inr (inl refl)
-  misses_known first (Err Memory) w = inr (inr refl)
-
 nothing-stops : (it : FileRules) (contents : Contents) (ws : List Wanted) → contents ≡ None → StopsAt it contents (λ w later. IsMissing contents w.name) ws → ⊥
 nothing-stops it contents [] e s = s
 nothing-stops it contents (w ∷ ws) e (inl here) = subst (λ (c : Contents). IsMissing c w.name) e here
 nothing-stops it contents (w ∷ ws) e (inr later) = nothing-stops it contents ws e later.1
 
 module _ {J F S : Type 0} (asked : Asked J) (work : Doing J) (files : LentFiles F) (sink : LentSink S)
-    (result : Result ℕ Failure) (answers : KeepsPromises asked work files sink result) where
-  pub refuses : (text : Text) → MustRefuse asked files text → ((status_of result ≡ 5) × Takes sink text) ⊎ IsHindered (status_of result)
-  refuses text must = go (given files).contents refl
+    (ends : Status) (line : Text) (answer : IsAnswer asked work files (Ok ends) line) where
+  pub refuses : Takes sink line → (text : Text) → MustRefuse asked files text → ((ends ≡ Refused) × Takes sink text) ⊎ IsHindered ends
+  refuses written text must = go (given files).contents refl
     where
-      go : (c : Contents) → (given files).contents ≡ c → ((status_of result ≡ 5) × Takes sink text) ⊎ IsHindered (status_of result)
+      go : (c : Contents) → (given files).contents ≡ c → ((ends ≡ Refused) × Takes sink text) ⊎ IsHindered ends
       go None e = absurd (true≢false (sym (subst IsSome e must.known)))
-      go (Some bytes_of) e = refuses_known asked work files sink must.refused.job must.refused.named bytes_of e text must.refused.first result answers
+      go (Some bytes_of) e =
+          answered_refused asked work files sink must.refused.job must.refused.named bytes_of e text must.refused.first ends line answer written
 
-  pub misses : HasMissing asked files → IsHindered (status_of result)
+  pub misses : HasMissing asked files → IsHindered ends
   misses missing = go (given files).contents refl
     where
-      go : (c : Contents) → (given files).contents ≡ c → IsHindered (status_of result)
+      go : (c : Contents) → (given files).contents ≡ c → IsHindered ends
       go None e = absurd (nothing-stops asked.program.rules (given files).contents (asked.program.wanted missing.job) e missing.first)
-      go (Some bytes_of) e = misses_known asked work files sink missing.job missing.named bytes_of e missing.first result answers
+      go (Some bytes_of) e = answered_missing asked work files sink missing.job missing.named bytes_of e missing.first ends line answer

@@ -1,10 +1,12 @@
 -- What a program answers, and why: its text, and how the writing of it ended, which is told by the status that goes with it
 -- where it was written whole (`Ok`), else, where the sink failed, by what of it had been put already (`Err`).
 -- Cited by `run_process`.
-use Rattle.std.specs.Prelude.{◌≡◌, ◌⊎◌, ℕ, List, Some, None, Result, IfOk}
+use Rattle.std.specs.Prelude.{◌≡◌, ◌⊎◌, List, Some, None, Result, IfOk}
 use Rattle.diva_outside.specs.Files.{IsUncounted, LentFiles}
 use Rattle.diva_outside.specs.Lent.{given, left}
 use Rattle.diva_outside.specs.Text.{Text}
+use Rattle.diva_process.specs.declared.status.Status.{Status}
+use Rattle.diva_process.specs.declared.status.Status.TheVariants.{Halted, Misused, Trapped, GoesOn, Refused, Unread}
 use Rattle.diva_process.specs.Programs.{Asked, Doing, FileBytes, Wanted}
 use Rattle.diva_process.specs.Stops.{AreSound, IsUnread, StopsAt, StopsLoading}
 
@@ -29,16 +31,16 @@ abbrev pub HasRefused : {J F : Type 0} → Asked J → LentFiles F → Text → 
 HasRefused asked files text = HasStopped asked files (StopsLoading asked.program.rules (given files) (left files) text)
 
 -- the statuses of jobs whose text was written whole
-abbrev pub IsDone : ℕ → Type 0
-IsDone status = (status ≡ 0) ⊎ ((status ≡ 3) ⊎ (status ≡ 4))
+abbrev pub IsDone : Status → Type 0
+IsDone ends = (ends ≡ Halted) ⊎ ((ends ≡ Trapped) ⊎ (ends ≡ GoesOn))
 
 -- one of these, and one with which the job may end
-pub record EndsSo {J : Type 0} (work : Doing J) (job : J) (status : ℕ) : Type 0 where
-  pub done : IsDone status
-  pub can : work.can_end job status
+pub record EndsSo {J : Type 0} (work : Doing J) (job : J) (ends : Status) : Type 0 where
+  pub done : IsDone ends
+  pub can : work.can_end job ends
 
 -- all files are sound, and no load failed; the text is that of the job
-pub record HasDone {J F : Type 0} (asked : Asked J) (work : Doing J) (files : LentFiles F) (ended : Result ℕ Text) (text : Text) : Type 0 where
+pub record HasDone {J F : Type 0} (asked : Asked J) (work : Doing J) (files : LentFiles F) (ended : Result Status Text) (text : Text) : Type 0 where
   pub job : J
   pub named : asked.job ≡ Some job
   pub bytes : FileBytes
@@ -48,12 +50,12 @@ pub record HasDone {J F : Type 0} (asked : Asked J) (work : Doing J) (files : Le
   pub ends : IfOk ended (EndsSo work job)
 
 -- ---- one of these is the answer; nothing that the program has in its hands was used but where a job is done
-pub data IsAnswer {J F : Type 0} (asked : Asked J) (work : Doing J) (files : LentFiles F) (ended : Result ℕ Text) (text : Text) : Type 0 where
-  misused : IsMisused asked files text → work.unused → IfOk ended (λ s. s ≡ 2)
+pub data IsAnswer {J F : Type 0} (asked : Asked J) (work : Doing J) (files : LentFiles F) (ended : Result Status Text) (text : Text) : Type 0 where
+  misused : IsMisused asked files text → work.unused → IfOk ended (λ s. s ≡ Misused)
       → IsAnswer asked work files ended text
-  unread : HasUnread asked files text → work.unused → IfOk ended (λ s. s ≡ 8)
+  unread : HasUnread asked files text → work.unused → IfOk ended (λ s. s ≡ Unread)
       → IsAnswer asked work files ended text
-  refused : HasRefused asked files text → work.unused → IfOk ended (λ s. s ≡ 5)
+  refused : HasRefused asked files text → work.unused → IfOk ended (λ s. s ≡ Refused)
       → IsAnswer asked work files ended text
   done : HasDone asked work files ended text
       → IsAnswer asked work files ended text

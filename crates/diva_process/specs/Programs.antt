@@ -4,6 +4,7 @@ use Rattle.std.specs.Prelude.{◌≡◌, ℕ, List, Option, Some, Result, map}
 use Rattle.std.specs.Borrow.{Bor}
 use Rattle.diva_outside.specs.Text.{Text}
 use Rattle.diva_outside.specs.declared.files.What.{What}
+use Rattle.diva_process.specs.declared.status.Status.{Status}
 
 -- a file that is wanted: what it is for, its name, and its room: how many bytes of memory follow those that it loads, if it is an
 -- executable
@@ -42,15 +43,15 @@ pub record Program (J : Type 0) : Type 0 where
 pub record Doing (J : Type 0) : Type 1 where
   -- over files with these bytes the job's text was this one, and the writing of it ended so: whole, with this status (`Ok`), or, if
   -- the sink failed, after so much of it had been put (`Err`)
-  pub done : J → FileBytes → (ended : Result ℕ Text) → Text → Type 0
+  pub done : J → FileBytes → (ended : Result Status Text) → Text → Type 0
   -- the job may end with this status if its text was written whole
-  pub can_end : J → ℕ → Type 0
+  pub can_end : J → Status → Type 0
   -- nothing that the program has in its hands (a core, say) was used
   pub unused : Type 0
 
 -- the same, told by what the program had in its hands before and after: unused, it is as it was
-abbrev pub doing : {J H : Type 0} → (done : (before after : H) → J → FileBytes → Result ℕ Text → Text → Type 0)
-    → (can_end : J → ℕ → Type 0) → (before after : H) → Doing J
+abbrev pub doing : {J H : Type 0} → (done : (before after : H) → J → FileBytes → Result Status Text → Text → Type 0)
+    → (can_end : J → Status → Type 0) → (before after : H) → Doing J
 doing done can_end before after = record { done = done before after; can_end = can_end; unused = after ≡ before }
 
 -- ---- what a program was asked

@@ -1,34 +1,48 @@
 -- What each status of a program says.
--- Cited by `run_process`.
+-- Cited by `Status::number`; by `run_process`, through `Process.antt`; `IsNumberOf` by `top` of diva_cli.
 use Rattle.std.specs.Prelude.{◌≡◌, ◌⊎◌, ◌≤◌, ℕ, List, [], ◌∷◌, length, Option, Some, None, IsSome, Ok, Err}
 use Rattle.diva_outside.specs.Files.{Contents, IsMissing, IsKnown, IsUncounted, LentFiles}
 use Rattle.diva_outside.specs.Lent.{given}
 use Rattle.diva_outside.specs.Sink.{HasFailed, LentSink, Takes, TakesPast}
 use Rattle.diva_outside.specs.Text.{Text}
+use Rattle.diva_process.specs.declared.status.Status.{Status}
+use Rattle.diva_process.specs.declared.status.Status.TheVariants.{Halted, Misused, Trapped, GoesOn, Refused, Unread, Cut, NoMemory}
 use Rattle.diva_process.specs.Programs.{Asked, Doing, FileRules, Program, Wanted}
 use Rattle.diva_process.specs.Stops.{IsRefused}
 use Rattle.diva_process.specs.Answers.{HasDone, HasStopped, IsAnswer}
 
--- the statuses that there are
-abbrev pub IsStatus : ℕ → Type 0
-IsStatus status =
-    (status ≡ 0) ⊎ (status ≡ 2) ⊎ (status ≡ 3) ⊎ (status ≡ 4) ⊎ (status ≡ 5) ⊎ (status ≡ 8) ⊎ (status ≡ 9) ⊎ (status ≡ 10)
+-- the number by which a process tells its status
+abbrev pub number_of : Status → ℕ
+number_of Halted = 0
+number_of Misused = 2
+number_of Trapped = 3
+number_of GoesOn = 4
+number_of Refused = 5
+number_of Unread = 8
+number_of Cut = 9
+number_of NoMemory = 10
 
--- statuses 0, 3 and 4: all files are sound, and the job's whole text was written, with the status that goes with it; no load and
+-- the number tells a status of which this holds
+pub record IsNumberOf (this : Status → Type 0) (number : ℕ) : Type 0 where
+  pub ends : Status
+  pub numbered : number ≡ number_of ends
+  pub holds : this ends
+
+-- `Halted`, `Trapped` and `GoesOn`: all files are sound, and the job's whole text was written, with the status that goes with it; no load and
 -- no put failed
-pub record HasWorked {J F S : Type 0} (asked : Asked J) (work : Doing J) (files : LentFiles F) (sink : LentSink S) (status : ℕ) : Type 0 where
+pub record HasWorked {J F S : Type 0} (asked : Asked J) (work : Doing J) (files : LentFiles F) (sink : LentSink S) (ends : Status) : Type 0 where
   pub text : Text
-  pub done : HasDone asked work files (Ok status) text
+  pub done : HasDone asked work files (Ok ends) text
   pub written : Takes sink text
 
--- statuses 2, 5 and 8: no job was done, nothing that the program has in its hands was used, and just the one line was written
+-- `Misused`, `Refused` and `Unread`: no job was done, nothing that the program has in its hands was used, and just the one line was written
 pub record HasLine {J S : Type 0} (cause : Text → Type 0) (work : Doing J) (sink : LentSink S) : Type 0 where
   pub text : Text
   pub caused : cause text
   pub unused : work.unused
   pub written : Takes sink text
 
--- status 9: the sink's count of faults rose, and a prefix of the answer's text was written, with all that had been put already
+-- `Cut`: the sink's count of faults rose, and a prefix of the answer's text was written, with all that had been put already
 pub record IsCut {J F S : Type 0} (asked : Asked J) (work : Doing J) (files : LentFiles F) (sink : LentSink S) : Type 0 where
   pub rose : HasFailed sink
   pub put : Text
@@ -36,7 +50,7 @@ pub record IsCut {J F S : Type 0} (asked : Asked J) (work : Doing J) (files : Le
   pub answer : IsAnswer asked work files (Err put) text
   pub written : TakesPast sink put text
 
--- status 10: memory ran out, and no load failed; nothing that the program has in its hands was used, and the sink is as it was, so
+-- `NoMemory`: memory ran out, and no load failed; nothing that the program has in its hands was used, and the sink is as it was, so
 -- nothing was put to it
 pub record HasNoMemory {J F S : Type 0} (work : Doing J) (files : LentFiles F) (sink : LentSink S) : Type 0 where
   pub uncounted : IsUncounted files
@@ -51,8 +65,8 @@ LoadsNothing program (Some job) = program.wanted job ≡ []
 -- ---- files that are known, the first of which that can't be used is refused or is not there
 
 -- the statuses that may stand in for one that is due: each of them has a cause of its own
-abbrev pub IsHindered : ℕ → Type 0
-IsHindered status = (status ≡ 8) ⊎ ((status ≡ 9) ⊎ (status ≡ 10))
+abbrev pub IsHindered : Status → Type 0
+IsHindered ends = (ends ≡ Unread) ⊎ ((ends ≡ Cut) ⊎ (ends ≡ NoMemory))
 
 -- the contents are known, and the first file that can't be used is refused by this line
 pub record MustRefuse {J F : Type 0} (asked : Asked J) (files : LentFiles F) (text : Text) : Type 0 where
@@ -83,8 +97,8 @@ pub record CanWork {J F : Type 0} (asked : Asked J) (files : LentFiles F) : Type
   pub known : AreKnownSound asked.program.rules (given files).contents (asked.program.wanted job)
 
 -- the whole text of the job was written, and the status is one with which the job may end
-pub record HasEnded {J F S : Type 0} (asked : Asked J) (work : Doing J) (files : LentFiles F) (sink : LentSink S) (status : ℕ) : Type 0 where
+pub record HasEnded {J F S : Type 0} (asked : Asked J) (work : Doing J) (files : LentFiles F) (sink : LentSink S) (ends : Status) : Type 0 where
   pub job : J
   pub named : asked.job ≡ Some job
-  pub ends : work.can_end job status
-  pub worked : HasWorked asked work files sink status
+  pub can : work.can_end job ends
+  pub worked : HasWorked asked work files sink ends

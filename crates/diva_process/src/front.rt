@@ -1,10 +1,12 @@
 // What makes one program of a process: how words are read, and how a job is done.
-ghost use Rattle.std.specs.Prelude.{◌≡◌, ℕ, [], IfOk, List, Option, Result, map};
+ghost use Rattle.std.specs.Prelude.{◌≡◌, [], IfOk, List, Option, Result, map};
 ghost use Rattle.diva_outside.specs.Lent.{lent};
 ghost use Rattle.diva_outside.specs.Text.{Text};
+ghost use Rattle.diva_process.specs.declared.status.Status.{Status};
 ghost use Rattle.diva_process.specs.Programs.{FileBytes, Program, asked_for, doing};
 ghost use Rattle.diva_process.specs.Promises.{KeepsPromises};
 
+use crate::status::Status;
 use crate::stop::Failure;
 use diva_outside::{Files, Line, Sink};
 use std::alloc::{AllocError, Global};
@@ -20,10 +22,10 @@ pub trait Front<H> {
 
     /// Over files with these bytes a job came to this text, and the writing of it ended so, by what the program had in its hands
     /// before and after.
-    ghost done: { H → H → Self.Job → FileBytes → Result ℕ Text → Text → Type 0 };
+    ghost done: { H → H → Self.Job → FileBytes → Result Status Text → Text → Type 0 };
 
     /// A job may end with this status if its text was written whole.
-    ghost can_end: { Self.Job → ℕ → Type 0 };
+    ghost can_end: { Self.Job → Status → Type 0 };
 
     /// The job that the words ask for, without the program's name; `None` if they are not a valid command line. The error is that
     /// memory runs out.
@@ -42,7 +44,7 @@ pub trait Front<H> {
         files: &mut F,
         sink: &mut S,
         hands: &mut H,
-    ) -> Result<u8, Failure>
+    ) -> Result<Status, Failure>
         ensures answers { KeepsPromises (asked_for program job) (doing done can_end hands.old hands.new) (lent F.account files.old files.new)
             (lent S.account sink.old sink.new) result }
         ensures unloaded { program.wanted job ≡ [] → files.new ≡ files.old };
