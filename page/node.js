@@ -78,8 +78,8 @@ function ownWords(words) {
 
 /** The usage line of a program, from its source. */
 function usageLine(program) {
-  const file = { diva: "lines", diva_lab: "lab" }[program];
-  const source = fs.readFileSync(path.join(__dirname, `../crates/diva_cli/src/${file}.rt`), "utf8");
+  const file = { diva: "diva_cli/src/lines.rt", diva_lab: "diva_workbench/src/lab.rt" }[program];
+  const source = fs.readFileSync(path.join(__dirname, "../crates", file), "utf8");
   return Buffer.from(source.match(`b"(usage: ${program} [^"]*)\\\\n"`)[1] + "\n");
 }
 

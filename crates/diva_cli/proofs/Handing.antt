@@ -31,7 +31,8 @@ use Rattle.diva_cli.specs.declared.driving.CoreInUse.TheVariants.{Own, Lockstep,
 use Rattle.diva_cli.specs.Changes.{Change, change}
 use Rattle.diva_cli.specs.Driven.{ByLegs, ByOther, ByRule, scripted_rule}
 use Rattle.diva_cli.specs.Runs.{ByTurns, LegsAreTurns}
-use Rattle.diva_cli.specs.Tasks.{AreHandedBy, DrivesFor, IsOnePart, IsQuiet, Plays, PlaysBy}
+use Rattle.diva_cli.specs.Tasks.{DrivesFor, IsQuiet, Plays}
+use Rattle.diva_cli.specs.Ready.{AreHandedBy, IsOnePart, PlaysBy}
 
 -- ---- under a script
 

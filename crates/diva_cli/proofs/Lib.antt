@@ -11,8 +11,6 @@ pub mod Unfailing
 pub mod Preparing
 pub mod Ending
 pub mod Working
-pub mod DrawRunning
-pub mod LabWorking
 pub mod Alone
 pub mod Listing
 pub mod Migrating

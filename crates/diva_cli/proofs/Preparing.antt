@@ -12,7 +12,8 @@ use Rattle.diva_cli.specs.declared.loading.SessionReady.{SessionReady}
 use Rattle.diva_process.specs.Stops.{AreSound}
 use Rattle.diva_process.specs.Programs.{FileBytes}
 use Rattle.diva_cli.specs.Wanted.{file, file_if, file_rules, file_with, machine_files, tape_name}
-use Rattle.diva_cli.specs.Parts.{AreCommands, Holds, HoldsRows, HoldsCore, HoldsReady, HoldsSession}
+use Rattle.diva_cli.specs.Parts.{AreCommands, Holds, HoldsRows, HoldsCore, HoldsSession}
+use Rattle.diva_cli.specs.Ready.{HoldsReady}
 use Rattle.diva_cli.proofs.Stopping.{sound_both, sound_if}
 
 -- the bytes of an image, a script and a tape

@@ -17,11 +17,15 @@ use Rattle.diva_process.specs.Stops.{AreSound}
 use Rattle.diva_process.specs.Writing.{Stops, WritesStop, WritesText}
 use Rattle.diva_cli.specs.declared.loading.Ready.{Ready}
 use Rattle.diva_cli.specs.Changes.{LanesAsked, asking, core_of}
-use Rattle.diva_cli.specs.Parts.{HoldsReady, IsReady}
-use Rattle.diva_cli.specs.Program.{HasAnswered, diva, work_of}
+use Rattle.diva_cli.specs.Ready.{HoldsReady, IsReady}
+use Rattle.diva_cli.specs.Lanes.{are_asked, own_asked, own_lanes, own_says}
+use Rattle.diva_cli.specs.declared.lanes.Lanes.{Lanes}
+use Rattle.diva_vote.specs.declared.lanes.EitherLane.{EitherLane}
+use Rattle.diva_cli.specs.Program.{HasAnswered, diva, own_work, work_of}
 use Rattle.diva_cli.specs.Texts.{AsksLanes, HasText}
 use Rattle.diva_cli.specs.Wanted.{file_rules, machine_files, wanted}
 use Rattle.diva_cli.proofs.Ending.{ends_so}
+use Rattle.diva_cli.proofs.Polling.{own_asked_by}
 use Rattle.diva_process.proofs.Answering as process
 
 module _ {C F S : Type 0} (gives : Meaning C) (files : LentFiles F) (core : C) (lanes : LanesAsked) (sink : LentSink S) where
@@ -96,3 +100,15 @@ module _ {C : Type 0} (gives : Meaning C) (before after : C) (lanes others : Lan
   promises_less job files sink result =
       process.promises_so diva diva job job (work_of gives (asking before after lanes)) (work_of gives (asking before after others)) files sink refl refl
       (λ u. record { core = u.core; lanes = less None [] u.lanes }) (λ bytes ended text. answered_less job bytes ended text) (λ status c. c) result
+
+-- ---- the program's own lanes
+
+-- what is said of them follows from what is said of any
+pub own_answers : {C F S : Type 0} (gives : Meaning C) (before after : C) (lanes last : Lanes EitherLane) → lanes ≡ own_lanes
+    → (files : LentFiles F) (sink : LentSink S) (job : Job) (result : Result ℕ Failure)
+    → KeepsPromises (asked_for diva job) (work_of gives (asking before after (are_asked own_says lanes last))) files sink result
+    → KeepsPromises (asked_for diva job) (own_work gives before after) files sink result
+own_answers gives before after lanes last own files sink job result =
+    process.promises_so diva diva job job (work_of gives (asking before after (are_asked own_says lanes last))) (own_work gives before after) files sink refl refl (λ u. u.core)
+    (λ bytes ended text. answered_less gives before after (are_asked own_says lanes last) own_asked (λ liar asked are. own_asked_by lanes last liar asked own are) job bytes ended text)
+    (λ status c. c) result

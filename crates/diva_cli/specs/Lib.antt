@@ -16,9 +16,8 @@ pub mod DuoTexts
 pub mod CampaignTexts
 pub mod Texts
 pub mod Watched
-pub mod DrawTexts
+pub mod Ready
 pub mod Program
-pub mod Lab
 pub mod Sure
 pub mod Determined
 -- what only private contracts cite

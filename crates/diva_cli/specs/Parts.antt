@@ -7,12 +7,11 @@ use Rattle.diva_outside.specs.declared.files.What.{What}
 use Rattle.diva_outside.specs.declared.text_fault.TextFault.{TextFault}
 use Rattle.diva_outside.specs.declared.files.What.TheVariants.{Script, Tape as TapeFile, Commands}
 use Rattle.diva_isa.specs.State.{goes_on}
-use Rattle.diva_isa.specs.declared.record.Record.{Record}
 use Rattle.diva_core.specs.Timed.{Timed, default_config, new_timed}
 use Rattle.diva_core.specs.History.{Meaning, Turns}
 use Rattle.diva_faults.specs.declared.rows.Row.{Row}
 use Rattle.diva_tape.specs.Scalar.{new_scalar}
-use Rattle.diva_args.specs.Options.{DebugOptions, DuoOptions, Setup, SoakOptions, longest_soak}
+use Rattle.diva_args.specs.Options.{DebugOptions, DuoOptions, SoakOptions, longest_soak}
 use Rattle.diva_debug.specs.Moves.{IsShort}
 use Rattle.diva_debug.specs.Reading.{commands_of}
 use Rattle.diva_debug.specs.declared.command.Command.{Command}
@@ -22,10 +21,8 @@ use Rattle.diva_args.specs.declared.campaign.CampaignOptions.{CampaignOptions}
 use Rattle.diva_args.specs.declared.job.Job.TheVariants.{Campaign, Duo}
 use Rattle.diva_cli.specs.declared.campaign.CampaignRuns.{CampaignRuns}
 use Rattle.diva_cli.specs.declared.driving.CoreInUse.{CoreInUse}
-use Rattle.diva_cli.specs.declared.driving.CoreInUse.TheVariants.{Own, Lockstep, Scalar, Silent, Flood, Echo, Noise, Tape}
 use Rattle.diva_cli.specs.declared.duo.DuoReady.{DuoReady}
 use Rattle.diva_cli.specs.declared.duo.HartCores.{HartCores}
-use Rattle.diva_cli.specs.declared.loading.Ready.{Ready}
 use Rattle.diva_cli.specs.declared.loading.SessionReady.{SessionReady}
 use Rattle.diva_cli.specs.declared.soak.SoakReady.{SoakReady}
 use Rattle.diva_process.specs.declared.stop.Stop.{Stop}
@@ -33,13 +30,13 @@ use Rattle.diva_process.specs.declared.stop.Stop.TheVariants.{Memory, Unread, Re
 use Rattle.diva_process.specs.Programs.{FileBytes, Wanted}
 use Rattle.diva_process.specs.Stops.{AreSound, IsSound}
 use Rattle.diva_cli.specs.Changes.{Change, LanesAsked}
-use Rattle.diva_cli.specs.Wanted.{file_if, file_rules, first_fault, machine_files, session_files, tape_name, wanted}
-use Rattle.diva_cli.specs.Sessions.{AreRows, AreLists, start_in}
+use Rattle.diva_cli.specs.Wanted.{file_if, file_rules, first_fault, session_files, tape_name, wanted}
+use Rattle.diva_cli.specs.Ready.{IsCore, IsReady}
+use Rattle.diva_cli.specs.Sessions.{AreRows}
 use Rattle.diva_cli.specs.DuoTexts.{duo_start}
 use Rattle.diva_cli.specs.CampaignTexts.{campaign_start, campaign_tally, first_run}
 use Rattle.diva_cli.specs.SoakTexts.{soak_cycles, soak_start}
 use Rattle.diva_outside.specs.declared.text_fault.TextFault.TheVariants as text
-use Rattle.diva_args.specs.declared.job.CoreChoice.TheVariants as choice
 use Rattle.diva_args.specs.declared.job.HartCore.TheVariants as hart
 use Rattle.diva_cli.specs.declared.duo.HartCores.TheVariants as cores
 
@@ -78,38 +75,9 @@ pub record AreCommands (bytes : List ℕ) (commands : List Command) : Type 0 whe
 abbrev pub HoldsRows : Contents → Option (List ℕ) → List Row → Type 0
 HoldsRows contents name script = HoldsIf contents Script name (λ bytes. AreRows name bytes script)
 
--- the core that a choice asks for, with the lists of its tape
-abbrev pub core_for : CoreChoice → (tape : List (List Record)) → CoreInUse
-core_for choice.Own tape = Own
-core_for choice.Lockstep tape = Lockstep
-core_for choice.Scalar tape = Scalar new_scalar
-core_for choice.Silent tape = Silent
-core_for choice.Flood tape = Flood
-core_for choice.Echo tape = Echo
-core_for choice.Noise tape = Noise 0
-core_for (choice.Tape name) tape = Tape tape
-
--- the core is the one that a choice asks for, and plays the tape with these bytes if there is one
-pub record IsCore (asked : CoreChoice) (bytes : List ℕ) (core : CoreInUse) : Type 0 where
-  pub tape : List (List Record)
-  pub lists : AreLists (tape_name asked) bytes tape
-  pub is : core ≡ core_for asked tape
-
 -- the same, of the bytes of a sound file with the tape's name
 abbrev pub HoldsCore : Contents → CoreChoice → CoreInUse → Type 0
 HoldsCore contents asked core = HoldsIf contents TapeFile (tape_name asked) (λ bytes. IsCore asked bytes core)
-
--- the machine is new and begins with the image of these bytes, the script has their rows, and the core is the one asked for
-pub record IsReady (setup : Setup) (bytes : FileBytes) (ready : Ready) : Type 0 where
-  pub begun : ready.machine.timed ≡ new_timed setup.config (start_in setup bytes)
-  pub rows : AreRows setup.script (bytes Script) ready.script
-  pub core : IsCore setup.core (bytes TapeFile) ready.core
-
--- the same, of the bytes of sound files with these names
-pub record HoldsReady (contents : Contents) (setup : Setup) (ready : Ready) : Type 0 where
-  pub bytes : FileBytes
-  pub sound : AreSound file_rules contents (machine_files setup) bytes
-  pub is : IsReady setup bytes ready
 
 -- the machine, the script and the core are those of a session's setup, and the commands those of these bytes
 pub record IsSession (options : DebugOptions) (bytes : FileBytes) (session : SessionReady) : Type 0 where

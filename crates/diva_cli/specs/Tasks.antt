@@ -8,25 +8,13 @@ use Rattle.diva_isa.specs.State.{goes_on}
 use Rattle.diva_isa.specs.declared.record.Record.{Record}
 use Rattle.diva_core.specs.Timed.{Timed}
 use Rattle.diva_core.specs.History.{Meaning, Turns, lists_of}
-use Rattle.diva_core.specs.Legs.{AreLegs, Handed, Leg, Part, handed_in, part_of, run_parts}
-use Rattle.diva_faults.specs.declared.rows.Row.{Row}
-use Rattle.diva_faults.specs.Spoiled.{spoiled}
-use Rattle.diva_tape.specs.Lists.{lockstep_list, silent_list, flood_list, echo_list}
-use Rattle.diva_tape.specs.Noise.{noise_call}
-use Rattle.diva_tape.specs.Scalar.{IsScalarCall}
-use Rattle.diva_tape.specs.TapeCalls.{tape_call}
+use Rattle.diva_core.specs.Legs.{AreLegs, Leg, Part, handed_in, part_of}
 use Rattle.diva_cli.specs.Changes.{Change}
 use Rattle.diva_outside.specs.Sink.{PutsTo, LentSink, TakesPast}
 use Rattle.diva_cli.specs.Cuts.{BeforeLast}
-use Rattle.diva_cli.specs.DrawTexts.{cycle_text, pen_after}
-use Rattle.diva_cli.specs.Driven.{ByLegs, ByRule, ByOther, scripted_rule}
-use Rattle.diva_cli.specs.Watched.{Seen, seen_over}
-use Rattle.diva_cli.specs.declared.drawing.Drawer.{Drawer}
-use Rattle.diva_cli.specs.declared.driving.CoreInUse.{CoreInUse}
-use Rattle.diva_cli.specs.declared.driving.CoreInUse.TheVariants.{Own, Lockstep, Scalar, Silent, Flood, Echo, Noise, Tape as OfTape}
+use Rattle.diva_cli.specs.Watched.{seen_over}
 use Rattle.diva_trace.specs.Text.{commits_text}
 use Rattle.diva_cli.specs.Replies.{AreLed, at_start, cycles_of, keep, newest_after, replies_of}
-use Rattle.diva_drawing.specs.Snapshot.{IsSnapshot}
 use Rattle.diva_vote.specs.Questions.{Question}
 use Rattle.diva_machine.specs.Asked.{asked_over}
 use Rattle.diva_debug.specs.Moves.{IsShort}
@@ -57,13 +45,6 @@ pub record IsRun {S : Type 0} (trace : Bool) (cycles : ℕ) (machine : Change Ti
   -- where the sink failed, it did so in the last cycle; the lines of those before it had been put
   pub cut : OnErr result ((trace ≡ true) × BeforeLast lists (λ earlier. TakesPast sink
       (commits_if true machine.before earlier) (commits_if true machine.before lists)))
-
--- what draws a run becomes another one by what it sees of a turn, and this is the text
-pub record Draws (before : Drawer) (seen : Seen) (after : Drawer) (text : Text) : Type 0 where
-  pub saw : IsSnapshot seen.after after.pen.seen
-  pub pen : after.pen ≡ pen_after before.pen after.pen.seen
-  pub format : after.format ≡ before.format
-  pub drawn : text ≡ cycle_text before.format before.pen after.pen.seen seen.list
 
 -- ---- what is done in a session
 
@@ -100,36 +81,9 @@ pub record DrivesFor {D : Type 0} (gives : Meaning D) (cycles : ℕ) (machine : 
   pub most : machine.after.cycles ≤ machine.before.cycles + cycles
   pub whole : goes_on machine.after.arch ≡ true → machine.after.cycles ≡ machine.before.cycles + cycles
 
--- it is one part: these lists are handed over, and this holds of them
-pub record IsOnePart (this : List (List Record) → Type 0) (parts : List Part) : Type 0 where
-  pub lists : List (List Record)
-  pub one : parts ≡ Handed lists ∷ []
-  pub done : this lists
-
 -- legs lead from a machine and a core to others, with one list for each cycle, and this holds of the parts
 pub record Plays {D : Type 0} (gives : Meaning D) (machine : Change Timed) (core : Change D) (this : List Part → Type 0) : Type 0 where
   pub legs : List (Leg D)
   pub good : AreLegs gives machine.before core.before legs machine.after core.after
   pub each : machine.after.cycles ≡ machine.before.cycles + length (handed_in (map part_of legs))
   pub done : this (map part_of legs)
-
--- where the lists of the parts come from, by the core in use
-abbrev pub AreHandedBy : {C : Type 0} → Meaning C → CoreInUse → (script : List Row) → (machine : Change Timed) → (core : Change C)
-    → List Part → Type 0
-AreHandedBy gives Own script machine core parts = ByLegs (spoiled script gives) machine core parts
-AreHandedBy gives Lockstep script machine core parts = ByRule (scripted_rule script lockstep_list) machine.before core parts
-AreHandedBy gives (Scalar first) script machine core parts = ByOther IsScalarCall first script machine core parts
-AreHandedBy gives Silent script machine core parts = ByRule (scripted_rule script silent_list) machine.before core parts
-AreHandedBy gives Flood script machine core parts = ByRule (scripted_rule script flood_list) machine.before core parts
-AreHandedBy gives Echo script machine core parts = ByRule (scripted_rule script echo_list) machine.before core parts
-AreHandedBy gives (Noise first) script machine core parts = ByOther noise_call first script machine core parts
-AreHandedBy gives (OfTape tape) script machine core parts = ByOther tape_call tape script machine core parts
-
--- the core in use drove a machine in parts under a script, and this holds of the parts
-pub record PlaysBy {C : Type 0} (gives : Meaning C) (used : CoreInUse) (script : List Row) (machine : Change Timed)
-    (core : Change C) (this : List Part → Type 0) : Type 0 where
-  pub parts : List Part
-  pub ran : machine.after ≡ run_parts machine.before parts
-  pub each : machine.after.cycles ≡ machine.before.cycles + length (handed_in parts)
-  pub handed : AreHandedBy gives used script machine core parts
-  pub done : this parts

@@ -3,7 +3,8 @@ ghost use Rattle.diva_faults.specs.Spoiled.{spoiled};
 ghost use Rattle.diva_cli.specs.Changes.{change};
 ghost use Rattle.diva_outside.specs.Lent.{lent};
 ghost use Rattle.diva_cli.specs.Lanes.{AreHonest, are_asked};
-ghost use Rattle.diva_cli.specs.Tasks.{Plays, PlaysBy};
+ghost use Rattle.diva_cli.specs.Tasks.{Plays};
+ghost use Rattle.diva_cli.specs.Ready.{PlaysBy};
 
 use crate::lanes::Lanes;
 use crate::tasks::Task;
@@ -15,7 +16,7 @@ use diva_vote::Lane;
 
 /// The core that drives a machine, with all memory that it ever needs.
 #[derive(Drop)]
-pub(crate) enum CoreInUse {
+pub enum CoreInUse {
     /// The core that the program is handed.
     Own,
     Lockstep,

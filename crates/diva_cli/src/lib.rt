@@ -1,8 +1,7 @@
 //! The whole program, over the files, the sink and the core that it is handed.
 //!
 //! - `program`: `top`, from the words to the status; `work`, which does a job, has an arm for each command;
-//! - `lab`: `lab_top` and `lab_work`, the same for the workbench, which has commands of its own besides;
-//! - `run` (with `tape`), `duo`, `debug`, `asm`, `dis`, `migrate`, `soak`, `campaign`: these commands; `drawing`: `log` and `draw`;
+//! - `run` (with `tape`), `duo`, `debug`, `asm`, `dis`, `migrate`, `soak`, `campaign`: these commands;
 //! - `files`: the kinds of files, and how a file of any kind is loaded and read; `loading`: the files of a job, one after another;
 //! - `driving`: the core that the command line chose, and how a task is done with it; `tasks`: the things that are done with a machine
 //!   or a session and any core, under a script or without one; `scripted`: how a script is kept out of the cycles that none of its rows
@@ -25,10 +24,10 @@
 //! - `Texts`: the text of each command; `Sessions`: what holds of the machine of a session, and of a run, which is a session of one part;
 //!   `Driven`: what drove it; `Runs`: a run, with the text of `run`;
 //! - `TapeTexts`: the text of `tape`; `DebugTexts`, with `Replies`: that of `debug`; `ImageTexts`: those of `asm`, `dis` and `migrate`;
-//!   `SoakTexts`: that of `soak`; `DuoTexts`: that of `duo`; `CampaignTexts`: that of `campaign`; `DrawTexts`: those of `log` and
-//!   `draw`; `Cuts`: in which part of a text a sink failed;
-//! - `Program`: the program `diva`, and what its jobs came to; `Lab`: the same of the workbench;
-//! - `Watched`: what a watcher sees of a run, and what is written of it;
+//!   `SoakTexts`: that of `soak`; `DuoTexts`: that of `duo`; `CampaignTexts`: that of `campaign`; `Cuts`: in which part of a text
+//!   a sink failed;
+//! - `Program`: the program `diva`, and what its jobs came to;
+//! - `Watched`: what a watcher sees of a run, and what is written of it; `Ready`: what a run begins with, and what drives it then;
 //! - `Determined`: what is determined of a run; `Sure`: what files that never fail hold.
 //!
 //! `Tasks` and `Parts` are what the parts of the program promise one another.
@@ -39,11 +38,9 @@ mod campaign;
 mod checking;
 mod debug;
 mod dis;
-mod drawing;
 mod driving;
 mod duo;
 mod files;
-mod lab;
 mod lanes;
 pub mod laws;
 mod lines;
@@ -61,8 +58,11 @@ mod writing;
 
 pub use diva_process::Failure;
 pub use diva_soak::soak_image;
-pub use lab::{lab_top, lab_work};
+pub use driving::CoreInUse;
 pub use lanes::{LanePair, Lanes};
+pub use loading::{Ready, make_ready};
 pub use program::{top, work};
 pub use sure::top_sure;
+pub use tasks::Watched;
 pub use watching::{CommitLines, TapeLines, Watcher, watch};
+pub use writing::end_status;

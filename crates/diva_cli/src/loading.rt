@@ -9,7 +9,8 @@ ghost use Rattle.diva_outside.specs.Files.{IsUncounted};
 ghost use Rattle.diva_cli.specs.Replies.{keep};
 ghost use Rattle.diva_cli.specs.Wanted.{file_if, file_limit, file_with, machine_files, session_files, tape_name, file_rules};
 ghost use Rattle.diva_process.specs.Writing.{Stops};
-ghost use Rattle.diva_cli.specs.Parts.{Holds, HoldsCore, HoldsReady, HoldsRows, HoldsSession};
+ghost use Rattle.diva_cli.specs.Parts.{Holds, HoldsCore, HoldsRows, HoldsSession};
+ghost use Rattle.diva_cli.specs.Ready.{HoldsReady};
 ghost use Rattle.diva_outside.specs.Lent.{lent};
 
 use crate::driving::CoreInUse;
@@ -26,7 +27,7 @@ use std::alloc::Global;
 
 /// What a command needs that drives a machine.
 #[derive(Drop)]
-pub(crate) struct Ready {
+pub struct Ready {
     /// A new machine that begins with the image.
     pub machine: Machine,
     /// The core that drives it, but for one that is handed in.
@@ -37,7 +38,7 @@ pub(crate) struct Ready {
 
 /// A machine that begins with the image of a setup, the core that it asks for, and the script, if
 /// there is one. All memory that they ever need is taken.
-pub(crate) fn make_ready<F: Files>(
+pub fn make_ready<F: Files>(
     alloc: Global,
     files: &mut F,
     setup: &Setup,

@@ -7,9 +7,10 @@ ghost use Rattle.diva_process.specs.Programs.{asked_for, FileBytes};
 ghost use Rattle.diva_cli.specs.Changes.{asking, change};
 ghost use Rattle.diva_outside.specs.Lent.{lent};
 ghost use Rattle.diva_cli.specs.Lanes.{AreHonest, are_asked};
-ghost use Rattle.diva_cli.specs.Tasks.{IsOnePart, IsRun, PlaysBy};
+ghost use Rattle.diva_cli.specs.Tasks.{IsRun};
+ghost use Rattle.diva_cli.specs.Ready.{IsOnePart, PlaysBy};
 ghost use Rattle.diva_process.specs.Promises.{KeepsPromises};
-ghost use Rattle.diva_cli.specs.Parts.{IsReady};
+ghost use Rattle.diva_cli.specs.Ready.{IsReady};
 ghost use Rattle.diva_process.specs.Writing.{WritesText};
 ghost use Rattle.diva_cli.specs.Program.{diva, work_of};
 
@@ -93,11 +94,6 @@ fn drive_run<S: Sink, C: Core, L: Lane>(
         (change ready.old.machine.timed ready.new.machine.timed) lists (lent S.account sink.old sink.new) result
         × are_asked L.says lanes.old lanes.new liar (asked_over ready.old.machine.timed lists))) }
 {
-    let Ready {
-        machine,
-        core: used,
-        script,
-    } = ready;
     if trace {
         let watcher = CommitLines;
         let mut task = Watched {
@@ -105,8 +101,13 @@ fn drive_run<S: Sink, C: Core, L: Lane>(
             liar,
             watcher,
         };
-        perform_by(&mut task, machine, used, script, core, lanes, sink)
+        task.drive(ready, core, lanes, sink)
     } else {
+        let Ready {
+            machine,
+            core: used,
+            script,
+        } = ready;
         let mut task = Quiet { cycles, liar };
         perform_by(&mut task, machine, used, script, core, lanes, sink)
     }
@@ -153,14 +154,6 @@ fn tape_ready<S: Sink, C: Core, L: Lane>(
         liar: None,
         watcher: TapeLines,
     };
-    perform_by(
-        &mut task,
-        &mut ready.machine,
-        &mut ready.core,
-        &ready.script,
-        core,
-        lanes,
-        sink,
-    )?;
+    task.drive(ready, core, lanes, sink)?;
     Ok(end_status(&ready.machine))
 }

@@ -6,7 +6,9 @@ ghost use Rattle.diva_cli.specs.Lanes.{AreHonest, are_asked};
 ghost use Rattle.diva_cli.specs.Tasks.{Plays};
 
 use crate::checking::drive_checked;
+use crate::driving::perform_by;
 use crate::lanes::Lanes;
+use crate::loading::Ready;
 use crate::replying::reply_each;
 use crate::scripted::drive_scripted;
 use crate::watching::{Watcher, watch_checked};
@@ -90,7 +92,8 @@ pub(crate) struct Quiet {
 impl Task for Quiet {
     ghost use Rattle.std.specs.Prelude.{◌+◌, ◌≤◌, ◌^◌};
     ghost use Rattle.diva_machine.specs.Asked.{asked_over};
-    ghost use Rattle.diva_cli.specs.Tasks.{IsOnePart, IsQuiet};
+    ghost use Rattle.diva_cli.specs.Tasks.{IsQuiet};
+    ghost use Rattle.diva_cli.specs.Ready.{IsOnePart};
 
     type On = Machine;
 
@@ -126,19 +129,53 @@ impl Task for Quiet {
     }
 }
 
-/// The same, and a watcher sees each turn, until the sink fails.
+/// A machine is driven for so many cycles at most, and a watcher sees each turn, until the sink fails.
 #[derive(Drop)]
-pub(crate) struct Watched<W> {
+pub struct Watched<W> {
     pub cycles: u64,
+    /// Where a place is given, three lanes vote, and the one in that place is the liar.
     pub liar: Option<LanePlace>,
     pub watcher: W,
+}
+
+impl<W: Watcher> Watched<W> {
+    ghost use Rattle.std.specs.Prelude.{ℕ, ◌+◌, ◌≤◌, ◌^◌};
+    ghost use Rattle.diva_machine.specs.Asked.{asked_over};
+    ghost use Rattle.diva_cli.specs.Ready.{IsOnePart, PlaysBy};
+    ghost use Rattle.diva_cli.specs.Watched.{IsWatched};
+
+    /// Drives a machine with the core in use, under a script, until the machine ends, the cycles are run or the sink fails; `core` is
+    /// the one handed in, and `lanes` are those that may vote.
+    pub fn drive<C: Core, S: Sink, L: Lane>(
+        &mut self,
+        ready: &mut Ready,
+        core: &mut C,
+        lanes: &mut Lanes<L>,
+        sink: &mut S,
+    ) -> Result<(), SinkFailed>
+        requires cycles { ready.old.machine.timed.cycles + self.old.cycles ≤ 2 ^ 60 }
+        requires can { (n : ℕ) → n ≤ self.old.cycles → W.can self.old.watcher n }
+        requires honest { AreHonest L.honest lanes.old }
+        ensures { PlaysBy C.gives ready.old.core ready.old.script (change ready.old.machine.timed ready.new.machine.timed)
+            (change core.old core.new) (IsOnePart (λ lists. IsWatched W.puts W.says self.old.cycles
+            (change ready.old.machine.timed ready.new.machine.timed) (change self.old.watcher self.new.watcher) lists
+            (lent S.account sink.old sink.new) result × are_asked L.says lanes.old lanes.new self.old.liar
+            (asked_over ready.old.machine.timed lists))) }
+    {
+        let Ready {
+            machine,
+            core: used,
+            script,
+        } = ready;
+        perform_by(self, machine, used, script, core, lanes, sink)
+    }
 }
 
 impl<W: Watcher> Task for Watched<W> {
     ghost use Rattle.std.specs.Prelude.{ℕ, ◌+◌, ◌≤◌, ◌^◌};
     ghost use Rattle.diva_machine.specs.Asked.{asked_over};
     ghost use Rattle.diva_cli.specs.Changes.{change};
-    ghost use Rattle.diva_cli.specs.Tasks.{IsOnePart};
+    ghost use Rattle.diva_cli.specs.Ready.{IsOnePart};
     ghost use Rattle.diva_cli.specs.Watched.{IsWatched};
 
     type On = Machine;

@@ -80,7 +80,7 @@ fn counts_line(core: SoakCore, machine: &Machine) -> Line
 
 /// The status that says how a machine ended: 0 where it halted, 3 where it trapped, 4 where it goes
 /// on.
-pub(crate) fn end_status(machine: &Machine) -> u8
+pub fn end_status(machine: &Machine) -> u8
     ensures { result ≡ end_status (end_of machine.now.timed.arch.end) }
 {
     status_by(machine.ended())

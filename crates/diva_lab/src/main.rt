@@ -1,14 +1,14 @@
 //! The workbench: `diva_lab log IMAGE`, `draw IMAGE`, and all that `diva` does, over the real files and standard
 //! output.
 //!
-//! All that it does is `lab_top` of `diva_cli`; this crate hands in the files of the disk, standard
+//! All that it does is `lab_top` of `diva_workbench`; this crate hands in the files of the disk, standard
 //! output and a core, and ends with the status that `lab_top` answers.
 #![tactic(auto)]
 
 ghost use Rattle.std.specs.Prelude.{◌≡◌, IfOk, map};
 ghost use Rattle.std.specs.String.{string_bytes};
 
-use diva_cli::lab_top;
+use diva_workbench::lab_top;
 use diva_ooo::Ooo;
 use diva_outside::{DiskFiles, StdSink};
 use std::alloc::{AllocError, Global};

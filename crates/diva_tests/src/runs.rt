@@ -23,11 +23,12 @@ mod texts;
 mod traces;
 
 use crate::cores::{counting, flipped};
-use diva_cli::{lab_top, top};
+use diva_cli::top;
 use diva_core::Core;
 use diva_isa::Record;
 use diva_outside::{Fail as SinkFail, MemFile, MemFiles, MemSink, What};
 use diva_test_programs::{ASKS, FIVE_FILE, HALTS, Lists, Program, image_file, registers_text};
+use diva_workbench::lab_top;
 use noting::{Load, NotingFiles, NotingSink};
 use std::alloc::{AllocError, Global};
 use std::process::Abort;

@@ -1,8 +1,8 @@
 // Runs that are drawn: in text, and as a log for a viewer.
 use super::{Answer, answer_from, compare_answer, files_and_sink, five_files, words_of};
 use crate::cores::counting;
-use diva_cli::lab_top;
 use diva_outside::What;
+use diva_workbench::lab_top;
 use std::alloc::Global;
 use std::test::Fail;
 

@@ -6,12 +6,13 @@ use super::{
     Answer, FIVE_TEXT, Outside, ROOM, compare, file_name, five_files, run_program, words_of,
 };
 use diva_args::{LabJob, read_lab_words, read_words};
-use diva_cli::{LanePair, Lanes, lab_work};
+use diva_cli::{LanePair, Lanes};
 use diva_core::{Diff, Pending, View};
 use diva_ooo::Ooo;
 use diva_outside::{MemFile, MemFiles, MemSink, What};
 use diva_test_programs::{FIVE_FILE, Program, image_file};
 use diva_vote::{Lane, Stage, check};
+use diva_workbench::lab_work;
 use std::alloc::Global;
 use std::process::Abort;
 use std::test::Fail;

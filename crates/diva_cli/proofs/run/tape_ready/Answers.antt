@@ -5,17 +5,17 @@ use Rattle.diva_args.specs.Options.{TapeOptions}
 use Rattle.diva_cli.proofs.Replaying.{wrote_tape, cut_tape}
 use Rattle.diva_cli.proofs.run.tape_ready.Goals as goal
 
-pub returns-in_err-perform_by : goal.returns-in_err-perform_by
-returns-in_err-perform_by g c = λ bytes is.
+pub returns-in_err-drive : goal.returns-in_err-drive
+returns-in_err-drive g c = λ bytes is.
     let p = err_from_is_err_and c.from_residual.result c.from_residual.ensures.1 in
     rw (p.1, p.2) (cut_tape g.C.Core.gives c.args.options bytes c.args.ready.now _ _ _ _ _ _ _
     (ap (λ (o : TapeOptions). o.cycles) c.options.view_is)
-    c.requires.fits is _ c.in_err-perform_by.ensures.done.done.1 _ c.in_err-perform_by.ensures _ refl)
+    c.requires.fits is _ c.in_err-drive.ensures.done.done.1 _ c.in_err-drive.ensures _ refl)
 
 pub returns : goal.returns
 returns g c = λ bytes is.
     wrote_tape g.C.Core.gives c.args.options bytes c.args.ready.now _ _ _ _ _ _ (Ok tt)
     (ap (λ (o : TapeOptions). o.cycles) c.options.view_is)
-    c.requires.fits is _ c.in_ok-perform_by.ensures.done.done.1 _ c.in_ok-perform_by.ensures c.end_status.result
+    c.requires.fits is _ c.in_ok-drive.ensures.done.done.1 _ c.in_ok-drive.ensures c.end_status.result
     c.end_status.ensures
     refl

@@ -1,5 +1,5 @@
 -- What is said of the program's own lanes follows from what is said of any.
-use Rattle.diva_cli.proofs.LabWorking.{own_answers}
+use Rattle.diva_cli.proofs.Working.{own_answers}
 use Rattle.diva_cli.proofs.program.DivaFront.work.Goals as goal
 
 pub returns-clause-answers : goal.returns-clause-answers

@@ -1,8 +1,8 @@
 -- What was loaded, and what was written of it, come to an answer.
 use Rattle.std.proofs.Common.{ap, refl}
 use Rattle.diva_args.specs.declared.lab.DrawOptions.{DrawOptions}
-use Rattle.diva_cli.proofs.LabWorking.{drawn_answers, undrawn_answers}
-use Rattle.diva_cli.proofs.drawing.draw.Goals as goal
+use Rattle.diva_workbench.proofs.LabWorking.{drawn_answers, undrawn_answers}
+use Rattle.diva_workbench.proofs.drawing.draw.Goals as goal
 
 pub returns-in-Ok : goal.returns-in-Ok
 returns-in-Ok g c =

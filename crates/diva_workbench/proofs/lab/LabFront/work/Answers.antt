@@ -1,6 +1,6 @@
 -- What is said of the workbench's own lanes follows from what is said of any.
-use Rattle.diva_cli.proofs.LabWorking.{own_lab_answers}
-use Rattle.diva_cli.proofs.lab.LabFront.work.Goals as goal
+use Rattle.diva_workbench.proofs.LabWorking.{own_lab_answers}
+use Rattle.diva_workbench.proofs.lab.LabFront.work.Goals as goal
 
 pub returns-clause-answers : goal.returns-clause-answers
 returns-clause-answers g c =

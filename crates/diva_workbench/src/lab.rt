@@ -10,13 +10,12 @@ ghost use Rattle.diva_process.specs.Answers.{HasRefused, HasUnread, IsDone, IsMi
 ghost use Rattle.diva_process.specs.Statuses.{CanWork, HasEnded, HasLine, HasMissing, HasNoMemory, HasWorked, IsCut, IsHindered, IsStatus, LoadsNothing, MustRefuse};
 ghost use Rattle.diva_process.specs.Promises.{KeepsPromises};
 ghost use Rattle.diva_cli.specs.Changes.{asking};
-ghost use Rattle.diva_cli.specs.Lab.{lab, lab_usage_line, lab_wanted, lab_work_of, own_lab_work};
+ghost use Rattle.diva_workbench.specs.Lab.{lab, lab_usage_line, lab_wanted, lab_work_of, own_lab_work};
 ghost use Rattle.diva_cli.specs.Lanes.{AreHonest, are_asked};
 
 use crate::drawing::draw;
-use crate::lanes::Lanes;
-use crate::program::work;
 use diva_args::{ArgsFault, LabJob, read_lab_words};
+use diva_cli::{Lanes, work};
 use diva_core::Core;
 use diva_outside::{Files, Line, Sink};
 use diva_process::{Failure, Front, run_process};
@@ -24,7 +23,7 @@ use diva_vote::Lane;
 use std::alloc::{AllocError, Global};
 
 /// Runs the workbench on the words of its command line (without its name) over the files, the sink
-/// and the core that it is handed, and answers its status. It does all that [`top`](crate::top) does, and has the commands `log` and
+/// and the core that it is handed, and answers its status. It does all that [`top`](diva_cli::top) does, and has the commands `log` and
 /// `draw` besides, whose statuses are those of `run`.
 ///
 /// | status | comes |
@@ -98,7 +97,7 @@ pub fn lab_top<F: Files, S: Sink, C: Core>(
 struct Lab;
 
 impl<C: Core> Front<C> for Lab {
-    ghost use Rattle.diva_cli.specs.Lab.{LabEnds, lab, own_lab_done};
+    ghost use Rattle.diva_workbench.specs.Lab.{LabEnds, lab, own_lab_done};
 
     type Job = LabJob;
 
@@ -132,7 +131,7 @@ impl<C: Core> Front<C> for Lab {
     }
 }
 
-/// Does a job of the workbench over the files, the sink, the core and the lanes that it is handed, as [`work`](crate::work) does one of
+/// Does a job of the workbench over the files, the sink, the core and the lanes that it is handed, as [`work`](diva_cli::work) does one of
 /// `diva`. The lanes are asked in a run that is drawn as they are in `run`.
 pub fn lab_work<F: Files, S: Sink, C: Core, L: Lane>(
     alloc: Global,

@@ -8,19 +8,14 @@ ghost use Rattle.diva_outside.specs.Sink.{PutsTo};
 ghost use Rattle.diva_cli.specs.Changes.{asking};
 ghost use Rattle.diva_outside.specs.Lent.{lent};
 ghost use Rattle.diva_cli.specs.Lanes.{AreHonest, are_asked};
-ghost use Rattle.diva_cli.specs.DrawTexts.{begin_text, end_text};
+ghost use Rattle.diva_workbench.specs.DrawTexts.{begin_text, end_text};
 ghost use Rattle.diva_process.specs.Promises.{KeepsPromises};
-ghost use Rattle.diva_cli.specs.Parts.{IsReady};
+ghost use Rattle.diva_cli.specs.Ready.{IsReady};
 ghost use Rattle.diva_process.specs.Writing.{WritesText};
-ghost use Rattle.diva_cli.specs.Lab.{lab, lab_work_of};
+ghost use Rattle.diva_workbench.specs.Lab.{lab, lab_work_of};
 
-use crate::driving::perform_by;
-use crate::lanes::Lanes;
-use crate::loading::{Ready, make_ready};
-use crate::tasks::Watched;
-use crate::watching::Watcher;
-use crate::writing::end_status;
 use diva_args::{DrawOptions, Format};
+use diva_cli::{Lanes, Ready, Watched, Watcher, end_status, make_ready};
 use diva_core::{Claims, Core};
 use diva_drawing::{Excerpt, Pen, begin_log};
 use diva_machine::Machine;
@@ -73,15 +68,7 @@ fn draw_ready<S: Sink, C: Core, L: Lane>(
         },
     };
     begin(options.format, sink)?;
-    perform_by(
-        &mut task,
-        &mut ready.machine,
-        &mut ready.core,
-        &ready.script,
-        core,
-        lanes,
-        sink,
-    )?;
+    task.drive(ready, core, lanes, sink)?;
     task.watcher.end(sink)?;
     Ok(end_status(&ready.machine))
 }
@@ -95,7 +82,7 @@ pub(crate) struct Drawer {
 
 impl Watcher for Drawer {
     ghost use Rattle.std.specs.Prelude.{◌+◌, ◌*◌, ◌<◌, ◌^◌, ⊤};
-    ghost use Rattle.diva_cli.specs.Tasks.{Draws};
+    ghost use Rattle.diva_workbench.specs.Draws.{Draws};
 
     ghost puts = { Draws };
 

@@ -10,7 +10,7 @@ use Rattle.diva_args.specs.declared.lab.LabJob.TheVariants.{Diva, Draw}
 use Rattle.diva_process.specs.Answers.{IsDone}
 use Rattle.diva_process.specs.Programs.{Doing, FileBytes, Program, Wanted, doing}
 use Rattle.diva_cli.specs.Changes.{Asking, Change, IsUnasked, LanesAsked, change, core_of}
-use Rattle.diva_cli.specs.DrawTexts.{HasDrawing}
+use Rattle.diva_workbench.specs.DrawTexts.{HasDrawing}
 use Rattle.diva_cli.specs.Lanes.{own_asked}
 use Rattle.diva_cli.specs.Program.{HasAnswered}
 use Rattle.diva_cli.specs.Texts.{AsksInRun, CanEnd}

@@ -1,4 +1,4 @@
--- What a command of the workbench answers, and what both programs do with lanes of their own.
+-- What a command of the workbench answers, and what it does with lanes of its own.
 use Rattle.std.proofs.Common.{◌≡◌, ℕ, List, [], Option, None, Result, Ok, inl, inr, refl, subst}
 use Rattle.diva_outside.specs.Files.{IsUncounted, LentFiles}
 use Rattle.diva_outside.specs.Lent.{given, left}
@@ -19,12 +19,12 @@ use Rattle.diva_process.specs.Promises.{KeepsPromises}
 use Rattle.diva_process.specs.Writing.{Stops, WritesStop, WritesText}
 use Rattle.diva_cli.specs.declared.loading.Ready.{Ready}
 use Rattle.diva_cli.specs.Changes.{Asking, LanesAsked, asking, core_of}
-use Rattle.diva_cli.specs.Lab.{HasDrawn, LabAnswered, lab, lab_work_of, own_lab_work}
+use Rattle.diva_workbench.specs.Lab.{HasDrawn, LabAnswered, lab, lab_work_of, own_lab_work}
 use Rattle.diva_cli.specs.Lanes.{are_asked, own_asked, own_lanes, own_says}
 use Rattle.diva_cli.specs.declared.lanes.Lanes.{Lanes}
 use Rattle.diva_vote.specs.declared.lanes.EitherLane.{EitherLane}
-use Rattle.diva_cli.specs.Parts.{HoldsReady, IsReady}
-use Rattle.diva_cli.specs.Program.{diva, own_work, work_of}
+use Rattle.diva_cli.specs.Ready.{HoldsReady, IsReady}
+use Rattle.diva_cli.specs.Program.{diva, work_of}
 use Rattle.diva_cli.specs.Wanted.{file_rules, machine_files}
 use Rattle.diva_cli.proofs.Ending.{ends_done}
 use Rattle.diva_cli.proofs.Polling.{own_asked_by}
@@ -68,7 +68,7 @@ module _ {C F S : Type 0} (gives : Meaning C) (files : LentFiles F) (core : C) (
       process.stop_answers lab (lab_work_of gives (asking core core lanes)) files sink (Draw options) stop result (record { core = refl; lanes = l })
       (subst (λ (s : Setup). Stops file_rules (given files) (left files) (machine_files s) stop) same stopped) wrote
 
--- ---- the program's own lanes
+-- ---- the workbench's own lanes
 
 module _ {C F S : Type 0} (gives : Meaning C) (before after : C) (lanes last : Lanes EitherLane) (own : lanes ≡ own_lanes) (files : LentFiles F) (sink : LentSink S) where
   abbrev asks : Asking C
@@ -77,14 +77,6 @@ module _ {C F S : Type 0} (gives : Meaning C) (before after : C) (lanes last : L
   less : (liar : Option LanePlace) (asked : List Question) → are_asked own_says lanes last liar asked → own_asked liar asked
   less liar asked are = own_asked_by lanes last liar asked own are
 
-  -- a job of `diva`
-  pub own_answers : (job : Job) (result : Result ℕ Failure)
-      → KeepsPromises (asked_for diva job) (work_of gives asks) files sink result → KeepsPromises (asked_for diva job) (own_work gives before after) files sink result
-  own_answers job result =
-      process.promises_so diva diva job job (work_of gives asks) (own_work gives before after) files sink refl refl (λ u. u.core)
-      (λ bytes ended text. answered_less gives before after (are_asked own_says lanes last) own_asked less job bytes ended text) (λ status c. c) result
-
-  -- one of the workbench
   answered : (job : LabJob) (bytes : FileBytes) (ended : Result ℕ (List ℕ)) (text : List ℕ)
       → LabAnswered gives (are_asked own_says lanes last) (core_of asks) job bytes ended text → LabAnswered gives own_asked (core_of asks) job bytes ended text
   answered (Diva job) bytes ended text h = answered_less gives before after (are_asked own_says lanes last) own_asked less job bytes ended text h

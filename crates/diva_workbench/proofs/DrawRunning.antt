@@ -21,17 +21,18 @@ use Rattle.diva_args.specs.declared.job.LanePlace.{LanePlace}
 use Rattle.diva_args.specs.declared.lab.LabJob.TheVariants.{Draw}
 use Rattle.diva_drawing.specs.Rows.{Pen}
 use Rattle.diva_drawing.specs.Snapshot.{AreSnapshots, IsSnapshot, Snapshot}
-use Rattle.diva_cli.specs.declared.drawing.Drawer.{Drawer}
+use Rattle.diva_workbench.specs.declared.drawing.Drawer.{Drawer}
 use Rattle.diva_cli.specs.declared.loading.Ready.{Ready}
 use Rattle.diva_cli.specs.Changes.{LanesAsked, asking, change}
 use Rattle.diva_cli.specs.Cuts.{BeforeLast}
-use Rattle.diva_cli.specs.Lab.{lab_work_of}
-use Rattle.diva_cli.specs.DrawTexts.{HasDrawing, IsDrawnPart, IsDrawnWhole, begin_text, cycle_text, cycles_drawn, drawn_text, end_text, front_text, pen_after, pen_at, pen_behind}
-use Rattle.diva_cli.specs.Parts.{IsReady}
+use Rattle.diva_workbench.specs.Lab.{lab_work_of}
+use Rattle.diva_workbench.specs.DrawTexts.{HasDrawing, IsDrawnPart, IsDrawnWhole, begin_text, cycle_text, cycles_drawn, drawn_text, end_text, front_text, pen_after, pen_at, pen_behind}
+use Rattle.diva_cli.specs.Ready.{IsReady}
 use Rattle.diva_process.specs.Writing.{WritesPart, WritesWhole}
 use Rattle.diva_cli.specs.Runs.{IsRunOfFiles, IsWhole, end_status}
 use Rattle.diva_cli.specs.Sessions.{start_in}
-use Rattle.diva_cli.specs.Tasks.{Draws, IsOnePart, PlaysBy}
+use Rattle.diva_cli.specs.Ready.{IsOnePart, PlaysBy}
+use Rattle.diva_workbench.specs.Draws.{Draws}
 use Rattle.diva_process.specs.Programs.{FileBytes}
 use Rattle.diva_cli.specs.Watched.{AreTexts, IsWatched, seen_over}
 use Rattle.std.specs.Prelude.{⊤}

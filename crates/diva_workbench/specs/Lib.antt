@@ -1,0 +1,5 @@
+-- What the contracts of this crate cite.
+pub mod DrawTexts
+pub mod Lab
+-- what only private contracts cite
+pub mod Draws
