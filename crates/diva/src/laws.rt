@@ -6,6 +6,7 @@ ghost use Rattle.diva_args.specs.declared.job.CoreChoice.TheVariants.{Own};
 ghost use Rattle.diva_cli.specs.Changes.{change};
 ghost use Rattle.diva_cli.specs.Runs.{HasRun};
 ghost use Rattle.diva_cli.specs.SoakTexts.{HasSoaked};
+ghost use Rattle.diva_process.specs.declared.status.Status.{Status};
 ghost use Rattle.diva_process.specs.Programs.{FileBytes};
 ghost use Rattle.diva_ooo.specs.Ooo.{IsOooCall, Ooo, new_ooo};
 
@@ -15,12 +16,12 @@ use diva_ooo::Ooo;
 /// The text of a run under the program's own core, a new one, is determined by the words and the bytes of the files. Of a run
 /// with commit lines that is said where they were all written. The text of `soak` is determined by its words.
 pub fn text_is_determined()
-    ensures run { (options : RunOptions) (bytes : FileBytes) (after last : Ooo) (ended other : Result ℕ Text) (text same : Text)
+    ensures run { (options : RunOptions) (bytes : FileBytes) (after last : Ooo) (ended other : Result Status Text) (text same : Text)
         → options.setup.core ≡ Own
         → HasRun IsOooCall options bytes (change new_ooo after) ended text
         → HasRun IsOooCall options bytes (change new_ooo last) other same
         → (options.trace ≡ true → IsOk ended × IsOk other) → text ≡ same }
-    ensures soak { (options : SoakOptions) (after last : Ooo) (ended other : Result ℕ Text) (text same : Text)
+    ensures soak { (options : SoakOptions) (after last : Ooo) (ended other : Result Status Text) (text same : Text)
         → HasSoaked IsOooCall options (change new_ooo after) ended text
         → HasSoaked IsOooCall options (change new_ooo last) other same → text ≡ same }
 {

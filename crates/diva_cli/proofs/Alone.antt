@@ -7,6 +7,7 @@ use Rattle.diva_outside.proofs.Sinks.{past_nothing}
 use Rattle.diva_outside.specs.declared.sink.SinkFailed.{SinkFailed}
 use Rattle.diva_core.specs.History.{Meaning}
 use Rattle.diva_args.specs.declared.job.Job.{Job}
+use Rattle.diva_process.specs.declared.status.Status.TheVariants.{Halted}
 use Rattle.diva_process.specs.declared.stop.Failure.TheVariants.{Cut}
 use Rattle.diva_process.specs.Programs.{FileBytes, asked_for}
 use Rattle.diva_process.specs.Promises.{KeepsPromises}
@@ -19,11 +20,11 @@ use Rattle.diva_cli.proofs.Working.{done_answers}
 
 module _ {C F S : Type 0} (gives : Meaning C) (job : Job) (files : LentFiles F) (bytes : FileBytes) (core : C) (lanes : LanesAsked)
     (sink : LentSink S) (text : List ℕ) (sound : AreSound file_rules (given files).contents (wanted job) bytes) (none : IsUncounted files) where
-  pub wrote_all : (means : HasText gives job bytes (change core core) (Ok 0) text) → AsksLanes gives job bytes (change core core) (Ok 0) text means lanes
+  pub wrote_all : (means : HasText gives job bytes (change core core) (Ok Halted) text) → AsksLanes gives job bytes (change core core) (Ok Halted) text means lanes
       → PutsTo {E = SinkFailed} sink text (Ok tt)
-      → KeepsPromises (asked_for diva job) (work_of gives (asking core core lanes)) files sink (Ok 0)
+      → KeepsPromises (asked_for diva job) (work_of gives (asking core core lanes)) files sink (Ok Halted)
   wrote_all means asks put =
-      done_answers gives files core lanes sink job bytes core (Ok 0) sound none
+      done_answers gives files core lanes sink job bytes core (Ok Halted) sound none
       (record { text = text; means = record { means = means; lanes = asks }; written = record { appended = put.ok; uncounted = put.uncounted } })
 
   pub wrote_part : (fault : SinkFailed) (means : HasText gives job bytes (change core core) (Err []) text)

@@ -24,6 +24,7 @@ use Rattle.diva_faults.specs.declared.rows.Row.{Row}
 use Rattle.diva_tape.specs.Lists.{IsLockstepCall, lockstep_list}
 use Rattle.diva_args.specs.declared.campaign.CampaignOptions.{CampaignOptions}
 use Rattle.diva_args.specs.declared.job.Job.TheVariants.{Campaign}
+use Rattle.diva_process.specs.declared.status.Status.{Status}
 use Rattle.diva_process.specs.declared.stop.Failure.TheVariants.{Cut}
 use Rattle.diva_cli.specs.declared.campaign.CampaignRuns.{CampaignRuns}
 use Rattle.diva_cli.specs.CampaignTexts.{AreAllSame, HasCampaign, IsCampaignRun, campaign_setup, campaign_start, campaign_tally, first_run, ruled, run_under}
@@ -155,7 +156,7 @@ module _ {C S : Type 0} (gives : Meaning C) (options : CampaignOptions) (bytes :
   abbrev text : Text
   text = campaign_text runs.tally runs.first.timed
 
-  means : (ended : Result ℕ Text) → IfOk ended (λ status. status ≡ end_status (end_of runs.first.timed.arch.end)) → HasCampaign gives options bytes (change core core) ended text
+  means : (ended : Result Status Text) → IfOk ended (λ status. status ≡ end_status (end_of runs.first.timed.arch.end)) → HasCampaign gives options bytes (change core core) ended text
   means ended status = record {
     lines = ap (λ tally. campaign_text tally runs.first.timed) are.tally ∙ ap (campaign_text (campaign_tally options.last options.cycles start)) are.first;
     status = says ended status;
@@ -167,7 +168,7 @@ module _ {C S : Type 0} (gives : Meaning C) (options : CampaignOptions) (bytes :
       first_whole : IsWhole (campaign_setup options) options.cycles start (first_run options.cycles start)
       first_whole = whole_run gives options start core refl []
 
-      says : (e : Result ℕ Text) → IfOk e (λ status. status ≡ end_status (end_of runs.first.timed.arch.end)) → IfOk e (λ status. EndsWith (first_run options.cycles start) options.cycles status)
+      says : (e : Result Status Text) → IfOk e (λ status. status ≡ end_status (end_of runs.first.timed.arch.end)) → IfOk e (λ status. EndsWith (first_run options.cycles start) options.cycles status)
       says (Ok status) is = ends_with (campaign_setup options) options.cycles start (first_run options.cycles start) status first_whole (is ∙ ap (λ (m : Timed). end_status (end_of m.arch.end)) are.first)
       says (Err put) is = tt
 

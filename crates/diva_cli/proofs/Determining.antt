@@ -21,6 +21,7 @@ use Rattle.diva_trace.specs.declared.report.SoakCore.{SoakCore}
 use Rattle.diva_args.specs.Options.{RunOptions, Setup, SoakOptions}
 use Rattle.diva_args.specs.declared.job.CoreChoice.{CoreChoice}
 use Rattle.diva_args.specs.declared.job.CoreChoice.TheVariants.{Own}
+use Rattle.diva_process.specs.declared.status.Status.{Status}
 use Rattle.diva_process.specs.Programs.{FileBytes}
 use Rattle.diva_cli.specs.Determined.{IsDetermined}
 use Rattle.diva_cli.specs.Changes.{change}
@@ -87,7 +88,7 @@ own_turns gives setup cycles tape rows start core last after own run whole =
     let each = off.each in
     record { history = turns.history; good = turns.good; most = omega arith; all = λ on. (let e = whole on in omega arith) }
 
-ran : {C : Type 0} (gives : Meaning C) (options : RunOptions) (bytes : FileBytes) (core after : C) (ended : Result ℕ Text) (text : Text) (rows : List Row)
+ran : {C : Type 0} (gives : Meaning C) (options : RunOptions) (bytes : FileBytes) (core after : C) (ended : Result Status Text) (text : Text) (rows : List Row)
     → options.setup.core ≡ Own → (h : HasRun gives options bytes (change core after) ended text) → (options.trace ≡ true → IsOk ended) → h.of_files.script ≡ rows
     → Ran (spoiled rows gives) options.cycles (new_timed options.setup.config (start_in options.setup bytes)) core h.last after
 ran gives options bytes core after ended text rows own h asked is =
@@ -95,7 +96,7 @@ ran gives options bytes core after ended text rows own h asked is =
     (own_turns gives options.setup options.cycles h.of_files.tape h.of_files.script (start_in options.setup bytes) core h.last after own h.of_files.holds
     (shown_whole gives options bytes core after ended text h asked).0.all)
 
-pub text_same : {C : Type 0} (gives : Meaning C) → IsDetermined gives → (options : RunOptions) (bytes : FileBytes) (core after last : C) (ended other : Result ℕ Text) (text same : Text)
+pub text_same : {C : Type 0} (gives : Meaning C) → IsDetermined gives → (options : RunOptions) (bytes : FileBytes) (core after last : C) (ended other : Result Status Text) (text same : Text)
     → options.setup.core ≡ Own → HasRun gives options bytes (change core after) ended text → HasRun gives options bytes (change core last) other same
     → (options.trace ≡ true → IsOk ended × IsOk other) → text ≡ same
 text_same gives determined options bytes core after last ended other text same own h k asked =
@@ -110,7 +111,7 @@ text_same gives determined options bytes core after last ended other text same o
 -- ---- the text of `soak`
 
 -- the turns of its second run, which has ended
-soak_ran : {C : Type 0} (gives : Meaning C) (options : SoakOptions) (core after : C) (ended : Result ℕ Text) (text : Text)
+soak_ran : {C : Type 0} (gives : Meaning C) (options : SoakOptions) (core after : C) (ended : Result Status Text) (text : Text)
     → (h : HasSoaked gives options (change core after) ended text)
     → Ran (spoiled [] gives) (soak_cycles options.instructions) (new_timed default_config (soak_start options)) core h.second after
 soak_ran gives options core after ended text h =
@@ -120,7 +121,7 @@ soak_ran gives options core after ended text h =
 line_same : (core : SoakCore) (n n' y y' f f' : ℕ) → n ≡ n' → y ≡ y' → f ≡ f' → soak_line core n y f ≡ soak_line core n' y' f'
 line_same core n n' y y' f f' a b c = cc
 
-pub soak_same : {C : Type 0} (gives : Meaning C) → IsDetermined gives → (options : SoakOptions) (core after last : C) (ended other : Result ℕ Text) (text same : Text)
+pub soak_same : {C : Type 0} (gives : Meaning C) → IsDetermined gives → (options : SoakOptions) (core after last : C) (ended other : Result Status Text) (text same : Text)
     → HasSoaked gives options (change core after) ended text → HasSoaked gives options (change core last) other same → text ≡ same
 soak_same gives determined options core after last ended other text same h k =
     let i = soak_ran gives options core after ended text h in

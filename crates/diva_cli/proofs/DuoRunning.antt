@@ -24,6 +24,7 @@ use Rattle.diva_outside.specs.declared.sink.SinkFailed.{SinkFailed}
 use Rattle.diva_outside.proofs.Sinks.{past_nothing}
 use Rattle.diva_args.specs.Options.{DuoOptions}
 use Rattle.diva_args.specs.declared.job.Job.TheVariants.{Duo as Command}
+use Rattle.diva_process.specs.declared.status.Status.{Status}
 use Rattle.diva_process.specs.declared.stop.Failure.TheVariants.{Cut}
 use Rattle.diva_outside.specs.Sink.{PutsTo, LentSink}
 use Rattle.diva_cli.specs.Changes.{change, asking}
@@ -146,7 +147,7 @@ module _ {C S : Type 0} (gives : Meaning C) (options : DuoOptions) (bytes : File
   abbrev text : Text
   text = duo_text last (shown_dump options.dump)
 
-  means : (ended : Result ℕ Text) → IfOk ended (λ s. s ≡ duo_status last) → HasDuo options bytes (change core core) ended text
+  means : (ended : Result Status Text) → IfOk ended (λ s. s ≡ duo_status last) → HasDuo options bytes (change core core) ended text
   means ended status = record { last = last; run = run; lines = refl; status = status; unasked = refl }
 
   pub wrote_duo : (status : ℕ) → status ≡ duo_status last → PutsTo {E = SinkFailed} sink text (Ok tt) → WritesText (work_of gives (asking core core no_lanes)) (Command options) bytes sink (Ok status)

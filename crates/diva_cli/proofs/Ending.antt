@@ -1,6 +1,5 @@
 -- With which statuses a job can end whose text was written whole.
-use Rattle.std.proofs.Common.{◌≡◌, ℕ, List, Ok, inl, inr, sym, refl, arith, subst}
-use Rattle.std.specs.Prelude.{max}
+use Rattle.std.proofs.Common.{◌≡◌, ℕ, List, Ok, inl, inr, sym, refl, subst}
 use Rattle.std.proofs.lemmas.Bool.{cases_Bool}
 use Rattle.diva_isa.specs.End.{end_of}
 use Rattle.diva_isa.specs.declared.end.End.{End}
@@ -10,11 +9,12 @@ use Rattle.diva_core.specs.Timed.{Timed}
 use Rattle.diva_duo.specs.Duo.{Duo, is_over}
 use Rattle.diva_args.specs.declared.job.Job.{Job}
 use Rattle.diva_args.specs.declared.job.Job.TheVariants.{Run, Tape, Duo as Harts, Debug, Asm, Dis, Migrate, Soak, Campaign}
+use Rattle.diva_process.specs.declared.status.Status.{Status}
 use Rattle.diva_process.specs.Answers.{EndsSo, IsDone}
 use Rattle.diva_process.specs.Programs.{FileBytes}
 use Rattle.diva_cli.specs.CampaignTexts.{campaign_start, first_run}
 use Rattle.diva_cli.specs.Changes.{Asking, Change, core_of}
-use Rattle.diva_cli.specs.DuoTexts.{duo_status}
+use Rattle.diva_cli.specs.DuoTexts.{duo_status, status_of_both}
 use Rattle.diva_cli.specs.Program.{HasAnswered, work_of}
 use Rattle.diva_cli.specs.Runs.{EndsWith, end_status}
 use Rattle.diva_cli.specs.Texts.{CanEnd, HasText}
@@ -22,32 +22,28 @@ use Rattle.diva_cli.specs.Texts.{CanEnd, HasText}
 -- ---- the statuses of a job whose text was written whole: a line for each command
 
 done_by : (end : End) → IsDone (end_status end)
-done_by (Halt status) = inl refl
+done_by (Halt code) = inl refl
 done_by (Trap n) = inr (inl refl)
 done_by GoesOn = inr (inr refl)
 
-pub ends_done : (last : Timed) (cycles status : ℕ) → EndsWith last cycles status → IsDone status
+pub ends_done : (last : Timed) (cycles : ℕ) (status : Status) → EndsWith last cycles status → IsDone status
 ends_done last cycles status h = subst IsDone (sym h.by_end) (done_by (end_of last.arch.end))
 
-greater_done : (a b : ℕ) → IsDone a → IsDone b → IsDone (max a b)
-greater_done a b (inl x) (inl y) = inl (omega arith)
-greater_done a b (inl x) (inr (inl y)) = inr (inl (omega arith))
-greater_done a b (inl x) (inr (inr y)) = inr (inr (omega arith))
-greater_done a b (inr (inl x)) (inl y) = inr (inl (omega arith))
-greater_done a b (inr (inl x)) (inr (inl y)) = inr (inl (omega arith))
-greater_done a b (inr (inl x)) (inr (inr y)) = inr (inr (omega arith))
-greater_done a b (inr (inr x)) (inl y) = inr (inr (omega arith))
-greater_done a b (inr (inr x)) (inr (inl y)) = inr (inr (omega arith))
-greater_done a b (inr (inr x)) (inr (inr y)) = inr (inr (omega arith))
+both_done : (first second : End) → IsDone (status_of_both first second)
+both_done (Halt a) (Halt b) = inl refl
+both_done (Halt a) (Trap n) = inr (inl refl)
+both_done (Halt a) GoesOn = inr (inl refl)
+both_done (Trap n) second = inr (inl refl)
+both_done GoesOn second = inr (inl refl)
 
 duo_done : (last : Duo) → IsDone (duo_status last)
 duo_done last =
     elim (cases_Bool (is_over last)) [
-      | inl over ↦ rw over (greater_done _ _ (done_by (end_of last.first.state.end)) (done_by (end_of last.second.state.end)))
+      | inl over ↦ rw over (both_done (end_of last.first.state.end) (end_of last.second.state.end))
       | inr off ↦ rw off (inr (inr refl))
     ]
 
-pub can_end : {C : Type 0} (gives : Meaning C) (job : Job) (bytes : FileBytes) (core : Change C) (status : ℕ) (text : List ℕ)
+pub can_end : {C : Type 0} (gives : Meaning C) (job : Job) (bytes : FileBytes) (core : Change C) (status : Status) (text : List ℕ)
     → HasText gives job bytes core (Ok status) text → CanEnd job status
 can_end gives (Run options) bytes core status text h =
     elim h.written [
@@ -64,7 +60,7 @@ can_end gives (Soak options) bytes core status text h = h.whole
 can_end gives (Campaign options) bytes core status text h =
     ends_done (first_run options.cycles (campaign_start bytes)) options.cycles status h.status
 
-job_done : (job : Job) (status : ℕ) → CanEnd job status → IsDone status
+job_done : (job : Job) (status : Status) → CanEnd job status → IsDone status
 job_done (Run options) status h = h
 job_done (Tape options) status h = h
 job_done (Harts options) status h = h
@@ -75,7 +71,7 @@ job_done (Migrate options) status h = inl h
 job_done (Soak options) status h = inl h
 job_done (Campaign options) status h = h
 
-pub ends_so : {C : Type 0} (gives : Meaning C) (asks : Asking C) (job : Job) (bytes : FileBytes) (status : ℕ) (text : List ℕ)
+pub ends_so : {C : Type 0} (gives : Meaning C) (asks : Asking C) (job : Job) (bytes : FileBytes) (status : Status) (text : List ℕ)
     → HasAnswered gives asks.lanes (core_of asks) job bytes (Ok status) text → EndsSo (work_of gives asks) job status
 ends_so gives asks job bytes status text h =
     let can = can_end gives job bytes (core_of asks) status text h.means in record { done = job_done job status can; can = can }

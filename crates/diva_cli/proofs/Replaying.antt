@@ -28,6 +28,7 @@ use Rattle.diva_trace.specs.Text.{text_of}
 use Rattle.diva_cli.specs.declared.loading.Ready.{Ready}
 use Rattle.diva_cli.specs.Changes.{Change, LanesAsked, asking, change}
 use Rattle.diva_outside.specs.Sink.{PutsTo, LentSink, TakesPast}
+use Rattle.diva_process.specs.declared.status.Status.{Status}
 use Rattle.diva_process.specs.Programs.{FileBytes}
 use Rattle.diva_cli.specs.Wanted.{tape_name}
 use Rattle.diva_cli.specs.Cuts.{BeforeLast}
@@ -104,7 +105,7 @@ module _ (options : TapeOptions) (bytes : FileBytes) (lists : List (List Record)
 
   module _ {C : Type 0} (gives : Meaning C) (text : List ℕ) (reads : tape_of text ≡ Ok lists)
       (replay : RunOptions) (its_bytes : FileBytes) (is : IsReplay options bytes text replay its_bytes)
-      (core after : C) (ended : Result ℕ (List ℕ)) (shown : List ℕ) (run : HasRun gives replay its_bytes (change core after) ended shown)
+      (core after : C) (ended : Result Status (List ℕ)) (shown : List ℕ) (run : HasRun gives replay its_bytes (change core after) ended shown)
       (asked : replay.trace ≡ true → IsOk ended) where
     abbrev whole_run : IsWhole replay.setup replay.cycles (start_in replay.setup its_bytes) run.last
         × (shown ≡ asked_trace replay.trace (start_in replay.setup its_bytes) run.last.count ++ text_of run.last (shown_dump replay.dump))

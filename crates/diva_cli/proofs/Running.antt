@@ -31,6 +31,7 @@ use Rattle.diva_cli.specs.declared.loading.Ready.{Ready}
 use Rattle.diva_machine.specs.Asked.{asked_over}
 use Rattle.diva_cli.specs.Changes.{Change, LanesAsked, asking, change}
 use Rattle.diva_cli.specs.Texts.{AsksInRun}
+use Rattle.diva_process.specs.declared.status.Status.{Status}
 use Rattle.diva_process.specs.Programs.{FileBytes}
 use Rattle.diva_cli.specs.Cuts.{BeforeLast}
 use Rattle.diva_cli.specs.Driven.{AreHanded}
@@ -159,7 +160,7 @@ runs_written {W} cycles m last w says lists sink result d =
 
 -- ---- the text of a run, where its commit lines were all put if they are asked for
 
-pub shown_whole : {C : Type 0} (gives : Meaning C) (options : RunOptions) (bytes : FileBytes) (core after : C) (ended : Result ℕ (List ℕ)) (text : List ℕ)
+pub shown_whole : {C : Type 0} (gives : Meaning C) (options : RunOptions) (bytes : FileBytes) (core after : C) (ended : Result Status (List ℕ)) (text : List ℕ)
     (h : HasRun gives options bytes (change core after) ended text) → (options.trace ≡ true → IsOk ended)
     → IsWhole options.setup options.cycles (start_in options.setup bytes) h.last
     × (text ≡ asked_trace options.trace (start_in options.setup bytes) h.last.count ++ text_of h.last (shown_dump options.dump))

@@ -52,6 +52,8 @@ use Rattle.diva_cli.specs.DebugTexts.{HasReplies}
 use Rattle.diva_cli.specs.Driven.{AreHanded, ByCalls, ByOther, IsDriven, scripted_lists, scripted_rule}
 use Rattle.diva_cli.specs.Parts.{IsSession}
 use Rattle.diva_cli.specs.Ready.{IsReady, core_for}
+use Rattle.diva_process.specs.declared.status.Status.TheVariants.{Halted}
+use Rattle.diva_process.specs.declared.status.Status.{Status}
 use Rattle.diva_process.specs.Writing.{WritesPart, WritesWhole}
 use Rattle.diva_cli.specs.Replies.{AreLed, IsMoved, IsTakenBack, LeadsBy, at_start, cycles_of, newest_after, next_standing, replies_of}
 use Rattle.diva_cli.specs.Runs.{IsRunFrom, RunsAreReadOff}
@@ -348,8 +350,8 @@ module _ {C S : Type 0} (gives : Meaning C) (options : DebugOptions) (bytes : Fi
   abbrev text : List ℕ
   text = replies_of start p.done.done at_start (newest_after first p.parts)
 
-  has_replies : (ended : Result ℕ (List ℕ))
-      → IfOk ended (λ s. (s ≡ 0) × (p.done.left ≡ []))
+  has_replies : (ended : Result Status (List ℕ))
+      → IfOk ended (λ s. (s ≡ Halted) × (p.done.left ≡ []))
       → IfErr ended (λ put. BeforeLast p.done.done (λ earlier. put ≡ replies_of start earlier at_start (newest_after first p.parts)))
       → HasReplies gives options bytes (change core after) ended text
   unfolding session_from_start
@@ -369,11 +371,11 @@ module _ {C S : Type 0} (gives : Meaning C) (options : DebugOptions) (bytes : Fi
   puts : PutsTo sink text result
   puts = subst (λ (m : Timed). PutsTo sink (replies_of m.arch p.done.done at_start (newest_after m p.parts)) result) is.ready.begun p.done.put
 
-  pub wrote_replies : result ≡ Ok tt → WritesWhole (work_of gives (asking core after lanes)) (Debug options) bytes sink 0
+  pub wrote_replies : result ≡ Ok tt → WritesWhole (work_of gives (asking core after lanes)) (Debug options) bytes sink Halted
   wrote_replies ok =
       record {
         text = text;
-        means = record { means = has_replies (Ok 0) (refl, subst (λ (r : Result (Unit {0}) SinkFailed). OnOk r (p.done.left ≡ [])) ok p.done.whole) tt; lanes = played.done.1 };
+        means = record { means = has_replies (Ok Halted) (refl, subst (λ (r : Result (Unit {0}) SinkFailed). OnOk r (p.done.left ≡ [])) ok p.done.whole) tt; lanes = played.done.1 };
         written = (let q = subst (λ (r : Result (Unit {0}) SinkFailed). PutsTo sink text r) ok puts in record { appended = q.ok; uncounted = q.uncounted });
       }
 

@@ -32,6 +32,8 @@ use Rattle.diva_args.specs.declared.job.CoreChoice.TheVariants.{Own, Scalar}
 use Rattle.diva_args.specs.declared.job.Job.TheVariants.{Soak}
 use Rattle.diva_outside.specs.Sink.{PutsTo, LentSink}
 use Rattle.diva_cli.specs.Changes.{change, asking}
+use Rattle.diva_process.specs.declared.status.Status.TheVariants.{Halted}
+use Rattle.diva_process.specs.declared.status.Status.{Status}
 use Rattle.diva_process.specs.Programs.{FileBytes}
 use Rattle.diva_cli.specs.SoakTexts.{HasSoaked, IsSoakRun, soak_cycles, soak_setup, soak_start}
 use Rattle.diva_cli.specs.Driven.{AreHanded, ByLegs}
@@ -169,7 +171,7 @@ module _ {C S : Type 0} (gives : Meaning C) (options : SoakOptions) (bytes : Fil
   first_halts : first.arch.end ≡ halt 0
   first_halts = halted IsScalarCall options new_scalar first ahead few one
 
-  means : (ended : Result ℕ (List ℕ)) → IfOk ended (λ s. s ≡ 0) → HasSoaked gives options (change core after) ended (soak_text first second)
+  means : (ended : Result Status (List ℕ)) → IfOk ended (λ s. s ≡ Halted) → HasSoaked gives options (change core after) ended (soak_text first second)
   means ended whole = record {
     first = first;
     under_scalar = scalar_run gives options core first ahead few one;
@@ -185,7 +187,7 @@ module _ {C S : Type 0} (gives : Meaning C) (options : SoakOptions) (bytes : Fil
   }
 
   pub wrote_soaked : PutsTo {E = SinkFailed} sink (soak_text first second) (Ok tt) → WritesWhole (work_of gives (asking core after no_lanes)) (Soak options) bytes sink 0
-  wrote_soaked put = record { text = soak_text first second; means = record { means = means (Ok 0) refl; lanes = refl }; written = record { appended = put.ok; uncounted = put.uncounted } }
+  wrote_soaked put = record { text = soak_text first second; means = record { means = means (Ok Halted) refl; lanes = refl }; written = record { appended = put.ok; uncounted = put.uncounted } }
 
   pub cut_soaked : (e : SinkFailed) → PutsTo sink (soak_text first second) (Err e) → WritesPart (work_of gives (asking core after no_lanes)) (Soak options) bytes sink
   cut_soaked e put = record { rose = put.failed; put = []; text = soak_text first second; means = record { means = means (Err []) tt; lanes = refl }; written = past_nothing sink (soak_text first second) put.part }

@@ -9,6 +9,7 @@ use Rattle.diva_args.specs.Options.{Setup}
 use Rattle.diva_args.specs.declared.job.Job.{Job}
 use Rattle.diva_args.specs.declared.job.Job.TheVariants.{Run, Tape, Duo, Debug, Asm, Dis, Migrate, Soak, Campaign}
 use Rattle.diva_args.specs.declared.job.LanePlace.{LanePlace}
+use Rattle.diva_process.specs.declared.status.Status.{Status}
 use Rattle.diva_process.specs.declared.stop.Failure.{Failure}
 use Rattle.diva_process.specs.declared.stop.Stop.{Stop}
 use Rattle.diva_process.specs.Programs.{FileBytes, Wanted, asked_for}
@@ -30,7 +31,7 @@ use Rattle.diva_process.proofs.Answering as process
 
 module _ {C F S : Type 0} (gives : Meaning C) (files : LentFiles F) (core : C) (lanes : LanesAsked) (sink : LentSink S) where
   -- the files are sound, and the job's text was written
-  pub done_answers : (job : Job) (bytes : FileBytes) (after : C) (result : Result ℕ Failure)
+  pub done_answers : (job : Job) (bytes : FileBytes) (after : C) (result : Result Status Failure)
       → AreSound file_rules (given files).contents (wanted job) bytes
       → IsUncounted files
       → WritesText (work_of gives (asking core after lanes)) job bytes sink result
@@ -40,7 +41,7 @@ module _ {C F S : Type 0} (gives : Meaning C) (files : LentFiles F) (core : C) (
       (λ status text. ends_so gives (asking core after lanes) job bytes status text) w
 
   -- the loading stopped, and a line was written of it
-  pub stop_answers : (job : Job) (stop : Stop) (result : Result ℕ Failure)
+  pub stop_answers : (job : Job) (stop : Stop) (result : Result Status Failure)
       → lanes None []
       → Stops file_rules (given files) (left files) (wanted job) stop
       → WritesStop stop sink result
@@ -51,7 +52,7 @@ module _ {C F S : Type 0} (gives : Meaning C) (files : LentFiles F) (core : C) (
   -- ---- a job whose files are those of a machine
 
   -- they were loaded, and the job's text was written
-  pub ready_answers : (job : Job) (setup asked : Setup) (ready : Ready) (after : C) (result : Result ℕ Failure)
+  pub ready_answers : (job : Job) (setup asked : Setup) (ready : Ready) (after : C) (result : Result Status Failure)
       → setup ≡ asked → wanted job ≡ machine_files asked
       → HoldsReady (given files).contents setup ready
       → IsUncounted files
@@ -62,7 +63,7 @@ module _ {C F S : Type 0} (gives : Meaning C) (files : LentFiles F) (core : C) (
       done_answers job h.bytes after result (subst (λ (ws : List Wanted). AreSound file_rules (given files).contents ws h.bytes) (sym wants) h.sound) none (writes h.bytes h.is)
 
   -- the loading stopped, and a line was written of it
-  pub unready_answers : (job : Job) (setup asked : Setup) (stop : Stop) (result : Result ℕ Failure)
+  pub unready_answers : (job : Job) (setup asked : Setup) (stop : Stop) (result : Result Status Failure)
       → lanes None []
       → setup ≡ asked → wanted job ≡ machine_files asked
       → Stops file_rules (given files) (left files) (machine_files setup) stop
@@ -76,7 +77,7 @@ module _ {C F S : Type 0} (gives : Meaning C) (files : LentFiles F) (core : C) (
 
 module _ {C : Type 0} (gives : Meaning C) (before after : C) (lanes others : LanesAsked)
     (less : (liar : Option LanePlace) (asked : List Question) → lanes liar asked → others liar asked) where
-  asks_less : (job : Job) (bytes : FileBytes) (ended : Result ℕ (List ℕ)) (text : List ℕ) (means : HasText gives job bytes (core_of (asking before after lanes)) ended text)
+  asks_less : (job : Job) (bytes : FileBytes) (ended : Result Status (List ℕ)) (text : List ℕ) (means : HasText gives job bytes (core_of (asking before after lanes)) ended text)
       → AsksLanes gives job bytes (core_of (asking before after lanes)) ended text means lanes
       → AsksLanes gives job bytes (core_of (asking before after others)) ended text means others
   asks_less (Run options) bytes ended text means l = less options.liar _ l
@@ -89,12 +90,12 @@ module _ {C : Type 0} (gives : Meaning C) (before after : C) (lanes others : Lan
   asks_less (Soak options) bytes ended text means l = less None [] l
   asks_less (Campaign options) bytes ended text means l = less None [] l
 
-  pub answered_less : (job : Job) (bytes : FileBytes) (ended : Result ℕ (List ℕ)) (text : List ℕ)
+  pub answered_less : (job : Job) (bytes : FileBytes) (ended : Result Status (List ℕ)) (text : List ℕ)
       → HasAnswered gives lanes (core_of (asking before after lanes)) job bytes ended text
       → HasAnswered gives others (core_of (asking before after others)) job bytes ended text
   answered_less job bytes ended text h = record { means = h.means; lanes = asks_less job bytes ended text h.means h.lanes }
 
-  pub promises_less : {F S : Type 0} (job : Job) (files : LentFiles F) (sink : LentSink S) (result : Result ℕ Failure)
+  pub promises_less : {F S : Type 0} (job : Job) (files : LentFiles F) (sink : LentSink S) (result : Result Status Failure)
       → KeepsPromises (asked_for diva job) (work_of gives (asking before after lanes)) files sink result
       → KeepsPromises (asked_for diva job) (work_of gives (asking before after others)) files sink result
   promises_less job files sink result =
@@ -105,7 +106,7 @@ module _ {C : Type 0} (gives : Meaning C) (before after : C) (lanes others : Lan
 
 -- what is said of them follows from what is said of any
 pub own_answers : {C F S : Type 0} (gives : Meaning C) (before after : C) (lanes last : Lanes EitherLane) → lanes ≡ own_lanes
-    → (files : LentFiles F) (sink : LentSink S) (job : Job) (result : Result ℕ Failure)
+    → (files : LentFiles F) (sink : LentSink S) (job : Job) (result : Result Status Failure)
     → KeepsPromises (asked_for diva job) (work_of gives (asking before after (are_asked own_says lanes last))) files sink result
     → KeepsPromises (asked_for diva job) (own_work gives before after) files sink result
 own_answers gives before after lanes last own files sink job result =

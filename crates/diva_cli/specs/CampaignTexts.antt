@@ -22,6 +22,7 @@ use Rattle.diva_args.specs.declared.job.CoreChoice.TheVariants.{Lockstep}
 use Rattle.diva_trace.specs.declared.report.Tally.{Tally}
 use Rattle.diva_trace.specs.Text.{campaign_text}
 use Rattle.diva_cli.specs.Changes.{Change}
+use Rattle.diva_process.specs.declared.status.Status.{Status}
 use Rattle.diva_process.specs.Programs.{FileBytes}
 use Rattle.diva_cli.specs.Driven.{scripted_rule}
 use Rattle.diva_cli.specs.Runs.{EndsWith, IsRunFrom, IsWhole}
@@ -97,7 +98,7 @@ pub record AreAllSame (last : ℕ) (tally : Tally) : Type 0 where
 -- the text of `campaign` over a file with these bytes, and the status that goes with it where it was written whole, which is the first
 -- run's. The core that is handed in is not asked
 pub record HasCampaign {C : Type 0} (gives : Meaning C) (options : CampaignOptions) (bytes : FileBytes) (core : Change C)
-    (ended : Result ℕ Text) (text : Text) : Type 0 where
+    (ended : Result Status Text) (text : Text) : Type 0 where
   pub lines : text ≡ campaign_text (campaign_tally options.last options.cycles (campaign_start bytes)) (first_run options.cycles (campaign_start bytes))
   pub status : IfOk ended (EndsWith (first_run options.cycles (campaign_start bytes)) options.cycles)
   -- so it is of the first run, and of each with a flip

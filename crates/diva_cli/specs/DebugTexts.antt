@@ -9,6 +9,8 @@ use Rattle.diva_args.specs.Options.{DebugOptions}
 use Rattle.diva_debug.specs.Reading.{commands_of}
 use Rattle.diva_debug.specs.declared.command.Command.{Command}
 use Rattle.diva_cli.specs.Changes.{Change}
+use Rattle.diva_process.specs.declared.status.Status.{Status}
+use Rattle.diva_process.specs.declared.status.Status.TheVariants.{Halted}
 use Rattle.diva_process.specs.Programs.{FileBytes}
 use Rattle.diva_cli.specs.Sessions.{IsSessionOfFiles, start_in}
 use Rattle.diva_cli.specs.Cuts.{BeforeLast}
@@ -17,11 +19,11 @@ use Rattle.diva_cli.specs.Replies.{AreLed, at_start, cycles_of, newest_after, re
 -- the text of `debug` over files with these bytes, and how the writing of it ended. Each reply is told from the table's state at
 -- its place, but for the newest flush; that is the machine's, which is driven as in any run, with undos between what is handed over
 pub record HasReplies {C : Type 0} (gives : Meaning C) (options : DebugOptions) (bytes : FileBytes) (core : Change C)
-    (ended : Result ℕ Text) (text : Text) : Type 0 where
+    (ended : Result Status Text) (text : Text) : Type 0 where
   pub done : List Command
   pub left : List Command
   pub read : commands_of (bytes Commands) ≡ Ok (done ++ left)
-  pub whole : IfOk ended (λ s. (s ≡ 0) × (left ≡ []))
+  pub whole : IfOk ended (λ s. (s ≡ Halted) × (left ≡ []))
   pub last : Timed
   pub of_files : IsSessionOfFiles gives options.setup (cycles_of (length done) options.setup.config.limit) bytes core last
   -- a part for each command

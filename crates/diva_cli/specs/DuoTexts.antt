@@ -1,12 +1,14 @@
 -- The text that the command `duo` writes: what a run of two harts over one memory came to, each hart under a new core of the kind
 -- that is asked for.
 -- Cited in `Texts.antt`, for `top`.
-use Rattle.std.specs.Prelude.{ℕ, zero, suc, ◌≡◌, ◌==◌, List, [], max, Bool, true, false, Option, Some, Result, IfOk, if◌then◌else◌}
+use Rattle.std.specs.Prelude.{ℕ, zero, suc, ◌≡◌, ◌==◌, List, [], Bool, true, false, Option, Some, Result, IfOk, if◌then◌else◌}
 use Rattle.diva_outside.specs.Text.{Text}
 use Rattle.diva_outside.specs.declared.files.What.TheVariants.{Image}
 use Rattle.diva_image.specs.Programs.{image_in}
 use Rattle.diva_isa.specs.End.{end_of}
 use Rattle.diva_isa.specs.State.{State}
+use Rattle.diva_isa.specs.declared.end.End.{End}
+use Rattle.diva_isa.specs.declared.end.End.TheVariants.{Halt}
 use Rattle.diva_isa.specs.declared.record.Record.{Record}
 use Rattle.diva_core.specs.Told.{Told, told_of}
 use Rattle.diva_hart.specs.Start.{start_of}
@@ -25,8 +27,10 @@ use Rattle.diva_args.specs.declared.job.HartCore.TheVariants.{Scalar, Lockstep, 
 use Rattle.diva_trace.specs.declared.report.Dump.{Dump}
 use Rattle.diva_trace.specs.Text.{harts_text}
 use Rattle.diva_cli.specs.Changes.{Change}
+use Rattle.diva_process.specs.declared.status.Status.{Status}
+use Rattle.diva_process.specs.declared.status.Status.TheVariants as status
 use Rattle.diva_process.specs.Programs.{FileBytes}
-use Rattle.diva_cli.specs.Runs.{end_status, shown_dump}
+use Rattle.diva_cli.specs.Runs.{shown_dump}
 
 -- ---- the run
 
@@ -80,13 +84,18 @@ duo_start options bytes = new_duo options.config (start_of (image_in options.roo
 abbrev pub duo_text : Duo → Option Dump → Text
 duo_text d dump = harts_text d.cycles (machine_at First d) (machine_at Second d) d.memory dump
 
--- the status by how the harts ended: where both have, and both buffers are empty, 0 if both halted, and 3 if one trapped; else 4
-abbrev pub duo_status : Duo → ℕ
-duo_status d = if is_over d then max (end_status (end_of d.first.state.end)) (end_status (end_of d.second.state.end)) else 4
+-- how two harts that have ended did so: both halted, or one trapped
+abbrev pub status_of_both : (first second : End) → Status
+status_of_both (Halt a) (Halt b) = status.Halted
+status_of_both first second = status.Trapped
+
+-- the same of two harts; they go on until both have ended and both buffers are empty
+abbrev pub duo_status : Duo → Status
+duo_status d = if is_over d then status_of_both (end_of d.first.state.end) (end_of d.second.state.end) else status.GoesOn
 
 -- the text of `duo` over a file with these bytes, and the status that goes with it where it was written whole. The core that is
 -- handed in is not asked
-pub record HasDuo {C : Type 0} (options : DuoOptions) (bytes : FileBytes) (core : Change C) (ended : Result ℕ Text) (text : Text) : Type 0 where
+pub record HasDuo {C : Type 0} (options : DuoOptions) (bytes : FileBytes) (core : Change C) (ended : Result Status Text) (text : Text) : Type 0 where
   pub last : Duo
   pub run : IsDuoRun options.core options.cycles (duo_start options bytes) last
   pub lines : text ≡ duo_text last (shown_dump options.dump)

@@ -12,27 +12,29 @@ use Rattle.diva_hart.specs.Start.{start_of}
 use Rattle.diva_asm.specs.Listing.{listing_of}
 use Rattle.diva_asm.specs.Sources.{source_of}
 use Rattle.diva_cli.specs.Changes.{Change}
+use Rattle.diva_process.specs.declared.status.Status.{Status}
+use Rattle.diva_process.specs.declared.status.Status.TheVariants.{Halted}
 use Rattle.diva_process.specs.Programs.{FileBytes}
 
--- the core stays as it was, and the status is 0 where the text was written whole
-pub record IsAlone {C : Type 0} (core : Change C) (ended : Result ℕ Text) : Type 0 where
+-- the core stays as it was, and the status is `Halted` where the text was written whole
+pub record IsAlone {C : Type 0} (core : Change C) (ended : Result Status Text) : Type 0 where
   pub unasked : core.after ≡ core.before
-  pub whole : IfOk ended (λ s. s ≡ 0)
+  pub whole : IfOk ended (λ s. s ≡ Halted)
 
 -- the bytes of the image of a source
-pub record HasAssembled {C : Type 0} (bytes : FileBytes) (core : Change C) (ended : Result ℕ Text) (text : Text) : Type 0 where
+pub record HasAssembled {C : Type 0} (bytes : FileBytes) (core : Change C) (ended : Result Status Text) (text : Text) : Type 0 where
   pub image : Layout
   pub assembled : source_of (bytes Source) ≡ Ok image
   pub written : text ≡ image_bytes image
   pub alone : IsAlone core ended
 
 -- a line for each word of an image; an executable has no room here
-pub record HasListing {C : Type 0} (bytes : FileBytes) (core : Change C) (ended : Result ℕ Text) (text : Text) : Type 0 where
+pub record HasListing {C : Type 0} (bytes : FileBytes) (core : Change C) (ended : Result Status Text) (text : Text) : Type 0 where
   pub lines : text ≡ concat (listing_of (image_in 0 (bytes Image)))
   pub alone : IsAlone core ended
 
 -- the bytes of an image file in version 2, without a fault, which start the state that the image starts with this room
-pub record HasMigrated {C : Type 0} (room : ℕ) (bytes : FileBytes) (core : Change C) (ended : Result ℕ Text)
+pub record HasMigrated {C : Type 0} (room : ℕ) (bytes : FileBytes) (core : Change C) (ended : Result Status Text)
     (text : Text) : Type 0 where
   pub written : text ≡ segmented_bytes (image_in room (bytes Image))
   pub faultless : fault_of text ≡ None

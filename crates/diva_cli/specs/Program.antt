@@ -1,10 +1,11 @@
 -- The program `diva`: its words, the files of its jobs, and what each job came to.
 -- Cited by `top`, `top_sure` and `work`.
-use Rattle.std.specs.Prelude.{ℕ, Result}
+use Rattle.std.specs.Prelude.{Result}
 use Rattle.diva_outside.specs.Text.{Text}
 use Rattle.diva_core.specs.History.{Meaning}
 use Rattle.diva_args.specs.Line.{command_of}
 use Rattle.diva_args.specs.declared.job.Job.{Job}
+use Rattle.diva_process.specs.declared.status.Status.{Status}
 use Rattle.diva_process.specs.Programs.{Doing, FileBytes, Program, doing}
 use Rattle.diva_cli.specs.Changes.{Asking, Change, IsUnasked, LanesAsked, change, core_of}
 use Rattle.diva_cli.specs.Lanes.{own_asked}
@@ -17,7 +18,7 @@ diva = record { job_of = command_of; usage = usage_line; wanted = wanted; rules 
 
 -- the text of a job, for which lanes were asked as it wants them
 pub record HasAnswered {C : Type 0} (gives : Meaning C) (heard : LanesAsked) (core : Change C) (job : Job) (bytes : FileBytes)
-    (ended : Result ℕ Text) (text : Text) : Type 0 where
+    (ended : Result Status Text) (text : Text) : Type 0 where
   pub means : HasText gives job bytes core ended text
   pub lanes : AsksLanes gives job bytes core ended text means heard
 
@@ -26,7 +27,7 @@ abbrev pub work_of : {C : Type 0} → Meaning C → Asking C → Doing Job
 work_of gives asks = record { done = HasAnswered gives asks.lanes (core_of asks); can_end = CanEnd; unused = IsUnasked asks }
 
 -- the same by the core alone; lanes are the program's own
-abbrev pub own_done : {C : Type 0} → Meaning C → (before after : C) → Job → FileBytes → Result ℕ Text → Text → Type 0
+abbrev pub own_done : {C : Type 0} → Meaning C → (before after : C) → Job → FileBytes → Result Status Text → Text → Type 0
 own_done gives before after job bytes ended text = HasAnswered gives own_asked (change before after) job bytes ended text
 
 abbrev pub own_work : {C : Type 0} → Meaning C → (before after : C) → Doing Job

@@ -20,6 +20,8 @@ use Rattle.diva_args.specs.Options.{Setup, RunOptions, DumpRange}
 use Rattle.diva_trace.specs.declared.report.Dump.{Dump}
 use Rattle.diva_trace.specs.Text.{text_of, trace_of}
 use Rattle.diva_cli.specs.Changes.{Change}
+use Rattle.diva_process.specs.declared.status.Status.{Status}
+use Rattle.diva_process.specs.declared.status.Status.TheVariants as status
 use Rattle.diva_process.specs.Programs.{FileBytes}
 use Rattle.diva_cli.specs.Cuts.{BeforeLast}
 use Rattle.diva_cli.specs.Driven.{ByLegs}
@@ -79,15 +81,15 @@ pub record IsWhole (setup : Setup) (cycles : ℕ) (start : State) (last : Timed)
       → (last.arch ≡ steps n start) × (last.count ≡ n)
 
 -- the status by how a run ended: it halted, it trapped, or it goes on
-abbrev pub end_status : End → ℕ
-end_status (Halt status) = 0
-end_status (Trap n) = 3
-end_status GoesOn = 4
+abbrev pub end_status : End → Status
+end_status (Halt code) = status.Halted
+end_status (Trap n) = status.Trapped
+end_status GoesOn = status.GoesOn
 
 -- a run ended with its status; one that goes on has run exactly the cycles that were asked for
-pub record EndsWith (last : Timed) (cycles status : ℕ) : Type 0 where
-  pub by_end : status ≡ end_status (end_of last.arch.end)
-  pub all : status ≡ 4 → last.cycles ≡ cycles
+pub record EndsWith (last : Timed) (cycles : ℕ) (ends : Status) : Type 0 where
+  pub by_end : ends ≡ end_status (end_of last.arch.end)
+  pub all : ends ≡ status.GoesOn → last.cycles ≡ cycles
 
 -- ---- the command
 
@@ -103,7 +105,7 @@ asked_trace true start count = trace_of start count
 
 -- the text of a run that was not broken off: its commit lines, if they are asked for, and what the machine shows. Where the sink
 -- failed, it did so behind the commit lines
-pub record IsShown (options : RunOptions) (start : State) (last : Timed) (ended : Result ℕ Text) (text : Text) : Type 0 where
+pub record IsShown (options : RunOptions) (start : State) (last : Timed) (ended : Result Status Text) (text : Text) : Type 0 where
   pub whole : IsWhole options.setup options.cycles start last
   pub says : IfOk ended (EndsWith last options.cycles)
   pub lines : text ≡ asked_trace options.trace start last.count ++ text_of last (shown_dump options.dump)
@@ -111,7 +113,7 @@ pub record IsShown (options : RunOptions) (start : State) (last : Timed) (ended 
 
 -- the sink failed among the commit lines, which are written as the machine runs: in the last cycle that was run, and those of the
 -- cycles before it had been put
-pub record IsBrokenOff (options : RunOptions) (start : State) (lists : List (List Record)) (last : Timed) (ended : Result ℕ Text)
+pub record IsBrokenOff (options : RunOptions) (start : State) (lists : List (List Record)) (last : Timed) (ended : Result Status Text)
     (text : Text) : Type 0 where
   pub traced : options.trace ≡ true
   pub lines : text ≡ trace_of start last.count
@@ -119,7 +121,7 @@ pub record IsBrokenOff (options : RunOptions) (start : State) (lists : List (Lis
 
 -- the text of `run` over files with these bytes, and how the writing of it ended
 pub record HasRun {C : Type 0} (gives : Meaning C) (options : RunOptions) (bytes : FileBytes) (core : Change C)
-    (ended : Result ℕ Text) (text : Text) : Type 0 where
+    (ended : Result Status Text) (text : Text) : Type 0 where
   pub last : Timed
   pub of_files : IsRunOfFiles gives options.setup options.cycles bytes core last
   pub written : IsShown options (start_in options.setup bytes) last ended text

@@ -13,6 +13,8 @@ use Rattle.diva_trace.specs.Text.{soak_text}
 use Rattle.diva_args.specs.Options.{Setup, SoakOptions}
 use Rattle.diva_args.specs.declared.job.CoreChoice.{CoreChoice}
 use Rattle.diva_args.specs.declared.job.CoreChoice.TheVariants.{Own, Scalar}
+use Rattle.diva_process.specs.declared.status.Status.{Status}
+use Rattle.diva_process.specs.declared.status.Status.TheVariants.{Halted}
 use Rattle.diva_cli.specs.Changes.{Change, change}
 use Rattle.diva_cli.specs.Runs.{IsRunFrom}
 
@@ -38,7 +40,7 @@ IsSoakRun gives options choice core last =
 -- ---- the command
 
 -- the text of `soak`, and the status that goes with it where it was written whole. Both runs have ended by then
-pub record HasSoaked {C : Type 0} (gives : Meaning C) (options : SoakOptions) (core : Change C) (ended : Result ℕ Text) (text : Text) : Type 0 where
+pub record HasSoaked {C : Type 0} (gives : Meaning C) (options : SoakOptions) (core : Change C) (ended : Result Status Text) (text : Text) : Type 0 where
   pub first : Timed
   pub under_scalar : IsSoakRun gives options Scalar (change core.before core.before) first
   pub second : Timed
@@ -51,4 +53,4 @@ pub record HasSoaked {C : Type 0} (gives : Meaning C) (options : SoakOptions) (c
   pub paced : first.cycles ≡ first.count + depth
   pub unflushed : first.under.log.flushes ≡ 0
   pub lines : text ≡ soak_text first second
-  pub whole : IfOk ended (λ s. s ≡ 0)
+  pub whole : IfOk ended (λ s. s ≡ Halted)

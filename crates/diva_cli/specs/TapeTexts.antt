@@ -15,6 +15,7 @@ use Rattle.diva_trace.specs.Text.{text_of}
 use Rattle.diva_args.specs.Options.{RunOptions, TapeOptions}
 use Rattle.diva_args.specs.declared.job.CoreChoice.TheVariants.{Tape as OfTape}
 use Rattle.diva_cli.specs.Changes.{Change, change}
+use Rattle.diva_process.specs.declared.status.Status.{Status}
 use Rattle.diva_process.specs.Programs.{FileBytes}
 use Rattle.diva_cli.specs.Cuts.{BeforeLast}
 use Rattle.diva_cli.specs.Runs.{IsRunOfFiles, IsWhole, EndsWith, HasRun, asked_trace, shown_dump}
@@ -39,9 +40,9 @@ pub record IsHandedFor (cycles : ℕ) (m : Timed) (lists : List (List Record)) :
 -- ---- the text was written whole
 
 pub record IsTapeOf {C : Type 0} (gives : Meaning C) (options : TapeOptions) (bytes : FileBytes) (lists : List (List Record))
-    (last : Timed) (text : Text) (status : ℕ) : Type 0 where
+    (last : Timed) (text : Text) (ends : Status) : Type 0 where
   pub whole : IsWhole options.setup options.cycles (start_in options.setup bytes) last
-  pub ended : EndsWith last options.cycles status
+  pub ended : EndsWith last options.cycles ends
   -- what was written is a tape of just the lists that were handed over
   pub reads : tape_of text ≡ Ok lists
   -- the lists of that tape, and then empty ones, lead from the same start under the same numbers to this machine again
@@ -50,14 +51,14 @@ pub record IsTapeOf {C : Type 0} (gives : Meaning C) (options : TapeOptions) (by
       → run_of (new_timed options.setup.config (start_in options.setup bytes)) others ≡ last
   -- so running the image with that tape leaves the text of this machine; with commit lines, where they are all written
   pub replays : (replay : RunOptions) → (its_bytes : FileBytes) → IsReplay options bytes text replay its_bytes
-      → (core after : C) → (ended : Result ℕ Text) → (shown : Text) → HasRun gives replay its_bytes (change core after) ended shown
+      → (core after : C) → (ended : Result Status Text) → (shown : Text) → HasRun gives replay its_bytes (change core after) ended shown
       → (replay.trace ≡ true → IsOk ended)
       → shown ≡ asked_trace replay.trace (start_in options.setup bytes) last.count ++ text_of last (shown_dump replay.dump)
 
 -- the text of `tape` over files with these bytes, and how the writing of it ended: a line for each cycle. Where the sink failed, it
 -- did so in the last of these cycles, and the lines of those before it had been put
 pub record HasTape {C : Type 0} (gives : Meaning C) (options : TapeOptions) (bytes : FileBytes) (core : Change C)
-    (ended : Result ℕ Text) (text : Text) : Type 0 where
+    (ended : Result Status Text) (text : Text) : Type 0 where
   pub last : Timed
   pub of_files : IsRunOfFiles gives options.setup options.cycles bytes core last
   pub lines : text ≡ tape_text of_files.holds.lists

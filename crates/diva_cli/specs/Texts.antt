@@ -1,7 +1,7 @@
 -- The text of each command, and how the writing of it ended: with a status where it was written whole (`Ok`). Where the sink
 -- failed, the text is what was to be written by that time, and the end has what of it had been put already (`Err`).
 -- Cited in `Program.antt`, for `top`.
-use Rattle.std.specs.Prelude.{◌≡◌, ℕ, List, [], Option, None, Result}
+use Rattle.std.specs.Prelude.{◌≡◌, List, [], Option, None, Result}
 use Rattle.diva_outside.specs.Text.{Text}
 use Rattle.diva_core.specs.History.{Meaning}
 use Rattle.diva_isa.specs.declared.record.Record.{Record}
@@ -12,6 +12,8 @@ use Rattle.diva_args.specs.Options.{Setup}
 use Rattle.diva_args.specs.declared.job.LanePlace.{LanePlace}
 use Rattle.diva_core.specs.Timed.{new_timed}
 use Rattle.diva_machine.specs.Asked.{asked_over}
+use Rattle.diva_process.specs.declared.status.Status.{Status}
+use Rattle.diva_process.specs.declared.status.Status.TheVariants.{Halted}
 use Rattle.diva_process.specs.Programs.{FileBytes}
 use Rattle.diva_process.specs.Answers.{IsDone}
 use Rattle.diva_cli.specs.Runs.{HasRun}
@@ -25,7 +27,7 @@ use Rattle.diva_cli.specs.CampaignTexts.{HasCampaign}
 
 -- ---- a line for each command
 
-abbrev pub HasText : {C : Type 0} → Meaning C → Job → FileBytes → Change C → (ended : Result ℕ Text) → Text → Type 0
+abbrev pub HasText : {C : Type 0} → Meaning C → Job → FileBytes → Change C → (ended : Result Status Text) → Text → Type 0
 HasText gives (Run options) bytes core ended text = HasRun gives options bytes core ended text
 HasText gives (Tape options) bytes core ended text = HasTape gives options bytes core ended text
 HasText gives (Duo options) bytes core ended text = HasDuo options bytes core ended text
@@ -43,7 +45,7 @@ abbrev pub AsksInRun : Setup → (liar : Option LanePlace) → FileBytes → Lis
 AsksInRun setup liar bytes lists lanes = lanes liar (asked_over (new_timed setup.config (start_in setup bytes)) lists)
 
 -- only a run asks lanes, where a place is given for a liar
-abbrev pub AsksLanes : {C : Type 0} → (gives : Meaning C) (job : Job) (bytes : FileBytes) (core : Change C) (ended : Result ℕ Text) (text : Text)
+abbrev pub AsksLanes : {C : Type 0} → (gives : Meaning C) (job : Job) (bytes : FileBytes) (core : Change C) (ended : Result Status Text) (text : Text)
     → HasText gives job bytes core ended text → LanesAsked → Type 0
 AsksLanes gives (Run options) bytes core ended text means lanes =
     AsksInRun options.setup options.liar bytes means.of_files.holds.lists lanes
@@ -59,13 +61,13 @@ AsksLanes gives (Campaign options) bytes core ended text means lanes = lanes Non
 -- ---- how a command ends
 
 -- the statuses of a command whose text was written whole
-abbrev pub CanEnd : Job → ℕ → Type 0
-CanEnd (Run options) status = IsDone status
-CanEnd (Tape options) status = IsDone status
-CanEnd (Duo options) status = IsDone status
-CanEnd (Debug options) status = status ≡ 0
-CanEnd (Asm name) status = status ≡ 0
-CanEnd (Dis name) status = status ≡ 0
-CanEnd (Migrate options) status = status ≡ 0
-CanEnd (Soak options) status = status ≡ 0
-CanEnd (Campaign options) status = IsDone status
+abbrev pub CanEnd : Job → Status → Type 0
+CanEnd (Run options) ends = IsDone ends
+CanEnd (Tape options) ends = IsDone ends
+CanEnd (Duo options) ends = IsDone ends
+CanEnd (Debug options) ends = ends ≡ Halted
+CanEnd (Asm name) ends = ends ≡ Halted
+CanEnd (Dis name) ends = ends ≡ Halted
+CanEnd (Migrate options) ends = ends ≡ Halted
+CanEnd (Soak options) ends = ends ≡ Halted
+CanEnd (Campaign options) ends = IsDone ends

@@ -12,7 +12,7 @@ use diva_args::FileName;
 use diva_core::Core;
 use diva_image::write;
 use diva_outside::{Files, Sink};
-use diva_process::{Failure, write_stop};
+use diva_process::{Failure, Status, write_stop};
 use std::alloc::Global;
 
 /// Assembles a source, and writes the bytes of its image in one put. All memory is taken before that, and the core can't be
@@ -24,7 +24,7 @@ pub(crate) fn asm<F: Files, S: Sink, C: Core>(
     files: &mut F,
     sink: &mut S,
     _core: &C,
-) -> Result<u8, Failure>
+) -> Result<Status, Failure>
     ensures { KeepsPromises (asked_for diva (Asm source)) (work_of C.gives
         (asking _core.now _core.now no_lanes)) (lent F.account files.old files.new) (lent S.account sink.old sink.new) result }
 {
@@ -34,5 +34,5 @@ pub(crate) fn asm<F: Files, S: Sink, C: Core>(
     };
     let bytes = write(alloc, &image)?;
     sink.put(&bytes)?;
-    Ok(0)
+    Ok(Status::Halted)
 }

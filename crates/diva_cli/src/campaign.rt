@@ -30,7 +30,7 @@ use diva_faults::{FLIPS_IN_CYCLE, Script, flip_at};
 use diva_image::Image;
 use diva_machine::{Config, Machine};
 use diva_outside::{Files, Sink, SinkFailed, put_lines};
-use diva_process::{Failure, Stop, write_stop};
+use diva_process::{Failure, Status, Stop, write_stop};
 use diva_tape::Lockstep;
 use diva_trace::{Tally, count_line, end_line_of, write_output, write_registers, write_tally};
 use diva_vote::Lane;
@@ -46,7 +46,7 @@ pub(crate) fn campaign<F: Files, S: Sink, C: Core, L: Lane>(
     sink: &mut S,
     _core: &C,
     lanes: &mut Lanes<L>,
-) -> Result<u8, Failure>
+) -> Result<Status, Failure>
     requires { AreHonest L.honest lanes.old }
     ensures { KeepsPromises (asked_for diva (Command options)) (work_of C.gives
         (asking _core.now _core.now (are_asked L.says lanes.old lanes.new))) (lent F.account files.old files.new) (lent S.account sink.old sink.new) result }
@@ -185,7 +185,7 @@ fn is_same(first: &Machine, last: &Machine) -> bool
 }
 
 /// Writes what the runs came to, and answers the status of the first one.
-fn show<S: Sink, C: Core>(runs: &CampaignRuns, sink: &mut S, _core: &C) -> Result<u8, Failure>
+fn show<S: Sink, C: Core>(runs: &CampaignRuns, sink: &mut S, _core: &C) -> Result<Status, Failure>
     ensures { (options : Options) (bytes : FileBytes) → AreCampaignRuns options bytes runs.now
         → WritesText (work_of C.gives
         (asking _core.now _core.now no_lanes)) (Command options) bytes (lent S.account sink.old sink.new) result }

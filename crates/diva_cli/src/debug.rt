@@ -23,7 +23,7 @@ use diva_args::DebugOptions;
 use diva_core::Core;
 use diva_debug::Rewindable;
 use diva_outside::{Files, Sink};
-use diva_process::{Failure, write_stop};
+use diva_process::{Failure, Status, write_stop};
 use diva_vote::Lane;
 use std::alloc::Global;
 
@@ -37,7 +37,7 @@ pub(crate) fn debug<F: Files, S: Sink, C: Core, L: Lane>(
     sink: &mut S,
     core: &mut C,
     lanes: &mut Lanes<L>,
-) -> Result<u8, Failure>
+) -> Result<Status, Failure>
     requires { AreHonest L.honest lanes.old }
     ensures { KeepsPromises (asked_for diva (Debug options)) (work_of C.gives
         (asking core.old core.new (are_asked L.says lanes.old lanes.new))) (lent F.account files.old files.new) (lent S.account sink.old sink.new) result }
@@ -55,7 +55,7 @@ fn debug_ready<S: Sink, C: Core, L: Lane>(
     sink: &mut S,
     core: &mut C,
     lanes: &mut Lanes<L>,
-) -> Result<u8, Failure>
+) -> Result<Status, Failure>
     requires honest { AreHonest L.honest lanes.old }
     requires fits { IsConfig options.setup.config }
     requires new { session.ready.machine.timed.cycles ≡ 0 }
@@ -91,5 +91,5 @@ fn debug_ready<S: Sink, C: Core, L: Lane>(
         lanes,
         sink,
     )?;
-    Ok(0)
+    Ok(Status::Halted)
 }

@@ -15,7 +15,7 @@ use diva_asm::list_line;
 use diva_core::Core;
 use diva_image::Image;
 use diva_outside::{Files, Line, LineList, Sink, put_lines};
-use diva_process::{Failure, write_stop};
+use diva_process::{Failure, Status, write_stop};
 use std::alloc::Global;
 
 /// Lists an image, each line in one put. The core can't be asked.
@@ -26,7 +26,7 @@ pub(crate) fn dis<F: Files, S: Sink, C: Core>(
     files: &mut F,
     sink: &mut S,
     _core: &C,
-) -> Result<u8, Failure>
+) -> Result<Status, Failure>
     ensures { KeepsPromises (asked_for diva (Dis image)) (work_of C.gives
         (asking _core.now _core.now no_lanes)) (lent F.account files.old files.new) (lent S.account sink.old sink.new) result }
 {
@@ -35,7 +35,7 @@ pub(crate) fn dis<F: Files, S: Sink, C: Core>(
         Err(stop) => return write_stop(stop, sink),
     };
     put_lines(&ListingLines { image: &listed }, sink)?;
-    Ok(0)
+    Ok(Status::Halted)
 }
 
 /// The lines of an image: one for each word in which its payload has a byte.

@@ -18,12 +18,13 @@ ghost use Rattle.diva_process.specs.Writing.{Stops, WritesText};
 ghost use Rattle.diva_cli.specs.Program.{diva, work_of};
 
 use crate::files::{ImageFile, load};
-use crate::writing::{shown_dump, status_by};
+use crate::writing::shown_dump;
 use diva_args::{DumpRange, DuoOptions, HartCore};
 use diva_core::Core;
 use diva_duo::{Duo, drive2};
+use diva_isa::End;
 use diva_outside::{Files, Sink, SinkFailed, put_line};
-use diva_process::{Failure, Stop, write_stop};
+use diva_process::{Failure, Status, Stop, write_stop};
 use diva_tape::{Lockstep, Scalar, Silent};
 use diva_trace::{HartReport, cycles_line, write_dump, write_hart};
 use std::alloc::{AllocError, Global};
@@ -37,7 +38,7 @@ pub(crate) fn duo<F: Files, S: Sink, C: Core>(
     files: &mut F,
     sink: &mut S,
     _core: &C,
-) -> Result<u8, Failure>
+) -> Result<Status, Failure>
     ensures { KeepsPromises (asked_for diva (Command options)) (work_of C.gives
         (asking _core.now _core.now no_lanes)) (lent F.account files.old files.new) (lent S.account sink.old sink.new) result }
 {
@@ -95,7 +96,7 @@ fn duo_ready<S: Sink, C: Core>(
     options: &DuoOptions,
     sink: &mut S,
     _core: &C,
-) -> Result<u8, Failure>
+) -> Result<Status, Failure>
     requires { ready.old.duo.duo.cycles ≡ 0 }
     ensures { (bytes : FileBytes) → IsDuoReady options.now bytes ready.old
         → WritesText (work_of C.gives
@@ -148,13 +149,15 @@ fn write_hart_of<S: Sink>(duo: &Duo, h: u8, sink: &mut S) -> Result<(), SinkFail
     write_hart(h, &report, sink)
 }
 
-/// The status that says how both harts ended: 0 where both halted, 3 where one trapped, 4 where they go on.
-fn duo_status(duo: &Duo) -> u8
+/// How both harts ended: both halted, or one trapped; or that they go on.
+fn duo_status(duo: &Duo) -> Status
     ensures { result ≡ duo_status duo.now.duo }
 {
-    if duo.ended() {
-        status_by(duo.end(0)).max(status_by(duo.end(1)))
-    } else {
-        4
+    if !duo.ended() {
+        return Status::GoesOn;
+    }
+    match (duo.end(0), duo.end(1)) {
+        (End::Halt(_), End::Halt(_)) => Status::Halted,
+        _ => Status::Trapped,
     }
 }

@@ -8,6 +8,7 @@ ghost use Rattle.diva_cli.specs.Changes.{Change, change};
 ghost use Rattle.diva_cli.specs.Determined.{IsDetermined};
 ghost use Rattle.diva_cli.specs.Runs.{HasRun, LegsAreTurns, RunsAreReadOff};
 ghost use Rattle.diva_cli.specs.SoakTexts.{HasSoaked};
+ghost use Rattle.diva_process.specs.declared.status.Status.{Status};
 ghost use Rattle.diva_process.specs.Programs.{FileBytes};
 
 use diva_core::Core;
@@ -17,12 +18,12 @@ use diva_core::Core;
 /// determined by its words and the core.
 pub fn own_run_is_determined<C: Core>()
     requires { IsDetermined C.gives }
-    ensures run { (options : RunOptions) (bytes : FileBytes) (core after last : C) (ended other : Result ℕ Text) (text same : Text)
+    ensures run { (options : RunOptions) (bytes : FileBytes) (core after last : C) (ended other : Result Status Text) (text same : Text)
         → options.setup.core ≡ Own
         → HasRun C.gives options bytes (change core after) ended text → HasRun C.gives options bytes (change core last) other same
         → (options.trace ≡ true → IsOk ended × IsOk other)
         → text ≡ same }
-    ensures soak { (options : SoakOptions) (core after last : C) (ended other : Result ℕ Text) (text same : Text)
+    ensures soak { (options : SoakOptions) (core after last : C) (ended other : Result Status Text) (text same : Text)
         → HasSoaked C.gives options (change core after) ended text → HasSoaked C.gives options (change core last) other same
         → text ≡ same }
 {}
@@ -31,7 +32,7 @@ pub fn own_run_is_determined<C: Core>()
 /// due without is the text that is due with a liar in any place, and the other way round.
 #[tactic(auto, using(crate::proofs::Voting::run_with_liar))]
 pub fn one_liar_is_outvoted<C: Core>()
-    ensures { (options : RunOptions) (liar : Option LanePlace) (bytes : FileBytes) (core : Change C) (ended : Result ℕ Text) (text : Text)
+    ensures { (options : RunOptions) (liar : Option LanePlace) (bytes : FileBytes) (core : Change C) (ended : Result Status Text) (text : Text)
         → HasRun C.gives options bytes core ended text
         → HasRun C.gives (record options { liar = liar }) bytes core ended text }
 {}

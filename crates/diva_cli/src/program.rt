@@ -1,13 +1,9 @@
 // The program `diva`, from the words to the status, and what each of its jobs does.
-ghost use Rattle.std.specs.Prelude.{◌≡◌, ◌⊎◌, [], None};
-ghost use Rattle.diva_outside.specs.Causes.{Rose};
+ghost use Rattle.std.specs.Prelude.{◌≡◌, []};
 ghost use Rattle.diva_outside.specs.Lent.{lent};
-ghost use Rattle.diva_outside.specs.Sink.{HasFailed, Takes};
-ghost use Rattle.diva_outside.specs.Text.{Text};
-ghost use Rattle.diva_outside.specs.declared.files.What.{What};
-ghost use Rattle.diva_process.specs.Programs.{asked_by, asked_for, job_in};
-ghost use Rattle.diva_process.specs.Answers.{HasRefused, HasUnread, IsDone, IsMisused};
-ghost use Rattle.diva_process.specs.Statuses.{CanWork, HasEnded, HasLine, HasMissing, HasNoMemory, HasWorked, IsCut, IsHindered, IsStatus, LoadsNothing, MustRefuse};
+ghost use Rattle.diva_process.specs.Programs.{asked_by, asked_for};
+ghost use Rattle.diva_process.specs.Process.{IsProcess};
+ghost use Rattle.diva_process.specs.Statuses.{IsNumberOf};
 ghost use Rattle.diva_process.specs.Promises.{KeepsPromises};
 ghost use Rattle.diva_cli.specs.Changes.{asking};
 ghost use Rattle.diva_cli.specs.Lanes.{AreHonest, are_asked};
@@ -27,12 +23,17 @@ use crate::soak::soak;
 use diva_args::{ArgsFault, Job, read_words};
 use diva_core::Core;
 use diva_outside::{Files, Line, Sink};
-use diva_process::{Failure, Front, run_process};
+use diva_process::{Failure, Front, Status, run_process};
 use diva_vote::Lane;
 use std::alloc::{AllocError, Global};
 
 /// Runs the program on the words of its command line (without its name) over the files, the sink
-/// and the core that it is handed, and answers its status.
+/// and the core that it is handed, and answers the number of its status.
+///
+/// Whatever the core hands over and a script makes of it, the text of a run is that of a machine whose committed state is the table's
+/// after the counted instructions, from the state that the bytes of its image or executable start; and the text of a tape is all that was
+/// handed to such a machine, and leads another one to its state. The replies of a session show the table's states, and the flushes of
+/// such a machine. Both runs of a seed's image halt, in the same state.
 ///
 /// | status | comes |
 /// |---|---|
@@ -51,58 +52,10 @@ pub fn top<F: Files, S: Sink, C: Core>(
     sink: &mut S,
     core: &mut C,
 ) -> u8
-    ensures status { IsStatus result }
-
-    // The job is done: all its files are sound, its whole text was written, and no load and no put failed. Whatever the core
-    // hands over and a script makes of it, the text of a run is that of a machine whose committed
-    // state is the table's after the counted instructions, from the state that the bytes of its image
-    // or executable start; and the text of a tape is all that was handed to such a machine, and leads
-    // another one to its state.
-    // The replies of a session show the table's states, and the flushes of such a machine. Both runs of
-    // a seed's image halt, in the same state.
-    ensures worked { IsDone result
-        → HasWorked (asked_by diva words.now) (own_work C.gives core.old core.new) (lent F.account files.old files.new)
-        (lent S.account sink.old sink.new) result }
-
-    // Nothing is run: the words, the first file's fault, or the files' count of faults says why. No fault was counted
-    // for a file after the one at which the loading stopped.
-    ensures misused { result ≡ 2
-        → HasLine (IsMisused (asked_by diva words.now) (lent F.account files.old files.new)) (own_work C.gives core.old core.new)
-        (lent S.account sink.old sink.new) }
-    ensures refused { result ≡ 5
-        → HasLine (HasRefused (asked_by diva words.now) (lent F.account files.old files.new)) (own_work C.gives core.old core.new)
-        (lent S.account sink.old sink.new) }
-    ensures unread { result ≡ 8
-        → HasLine (HasUnread (asked_by diva words.now) (lent F.account files.old files.new)) (own_work C.gives core.old core.new)
-        (lent S.account sink.old sink.new) }
-
-    // If the words ask for no file, the files are as they were: none was loaded.
-    ensures unloaded { LoadsNothing diva (job_in diva words.now) → files.new ≡ files.old }
-
-    // The sink's count of faults rose, and the core was not asked again; memory ran out, and no load failed.
-    ensures cut { result ≡ 9
-        → IsCut (asked_by diva words.now) (own_work C.gives core.old core.new) (lent F.account files.old files.new)
-        (lent S.account sink.old sink.new) }
-    ensures memory { result ≡ 10
-        → HasNoMemory (own_work C.gives core.old core.new) (lent F.account files.old files.new) (lent S.account sink.old sink.new) }
-
-    // Words that are not a valid command line are answered by the usage line.
-    ensures usage { (job_in diva words.now) ≡ None → (result ≡ 2) ⊎ ((result ≡ 9) ⊎ (result ≡ 10)) }
-
-    // Of known files, the first that can't be used is refused by its line, or is not there.
-    ensures refuses { (text : Text)
-        → MustRefuse (asked_by diva words.now) (lent F.account files.old files.new) text
-        → ((result ≡ 5) × Takes (lent S.account sink.old sink.new) text) ⊎ IsHindered result }
-    ensures misses { HasMissing (asked_by diva words.now) (lent F.account files.old files.new) → IsHindered result }
-
-    // A job whose files are known and sound is done, if neither they nor the sink fail.
-    ensures complete { CanWork (asked_by diva words.now) (lent F.account files.old files.new)
-        → ((what : What) → Rose ((F.account files.old).faults what) ((F.account files.new).faults what) → ⊥)
-        → (HasFailed (lent S.account sink.old sink.new) → ⊥)
-        → HasEnded (asked_by diva words.now) (own_work C.gives core.old core.new) (lent F.account files.old files.new)
-        (lent S.account sink.old sink.new) result ⊎ (result ≡ 10) }
+    ensures { IsNumberOf (IsProcess (asked_by diva words.now) (own_work C.gives core.old core.new) (lent F.account files.old files.new)
+        (lent S.account sink.old sink.new)) result }
 {
-    run_process(&Diva, alloc, words, files, sink, core)
+    run_process(&Diva, alloc, words, files, sink, core).number()
 }
 
 /// The program `diva`, over a core.
@@ -139,7 +92,7 @@ impl<C: Core> Front<C> for Diva {
         files: &mut F,
         sink: &mut S,
         core: &mut C,
-    ) -> Result<u8, Failure> {
+    ) -> Result<Status, Failure> {
         work(alloc, job, files, sink, core, &mut Lanes::own())
     }
 }
@@ -158,7 +111,7 @@ pub fn work<F: Files, S: Sink, C: Core, L: Lane>(
     sink: &mut S,
     core: &mut C,
     lanes: &mut Lanes<L>,
-) -> Result<u8, Failure>
+) -> Result<Status, Failure>
     requires { AreHonest L.honest lanes.old }
     ensures answers { KeepsPromises (asked_for diva job) (work_of C.gives
         (asking core.old core.new (are_asked L.says lanes.old lanes.new))) (lent F.account files.old files.new) (lent S.account sink.old sink.new) result }

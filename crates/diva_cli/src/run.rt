@@ -23,7 +23,7 @@ use crate::writing::{end_status, write_finished};
 use diva_args::{LanePlace, RunOptions, TapeOptions};
 use diva_core::Core;
 use diva_outside::{Files, Sink, SinkFailed};
-use diva_process::{Failure, write_stop};
+use diva_process::{Failure, Status, write_stop};
 use diva_vote::Lane;
 use std::alloc::Global;
 
@@ -37,7 +37,7 @@ pub(crate) fn run<F: Files, S: Sink, C: Core, L: Lane>(
     sink: &mut S,
     core: &mut C,
     lanes: &mut Lanes<L>,
-) -> Result<u8, Failure>
+) -> Result<Status, Failure>
     requires { AreHonest L.honest lanes.old }
     ensures { KeepsPromises (asked_for diva (Run options)) (work_of C.gives
         (asking core.old core.new (are_asked L.says lanes.old lanes.new))) (lent F.account files.old files.new) (lent S.account sink.old sink.new) result }
@@ -55,7 +55,7 @@ fn run_ready<S: Sink, C: Core, L: Lane>(
     sink: &mut S,
     core: &mut C,
     lanes: &mut Lanes<L>,
-) -> Result<u8, Failure>
+) -> Result<Status, Failure>
     requires honest { AreHonest L.honest lanes.old }
     requires new { ready.old.machine.timed.cycles ≡ 0 }
     requires fits { IsConfig options.setup.config }
@@ -123,7 +123,7 @@ pub(crate) fn tape<F: Files, S: Sink, C: Core, L: Lane>(
     sink: &mut S,
     core: &mut C,
     lanes: &mut Lanes<L>,
-) -> Result<u8, Failure>
+) -> Result<Status, Failure>
     requires { AreHonest L.honest lanes.old }
     ensures { KeepsPromises (asked_for diva (Tape options)) (work_of C.gives
         (asking core.old core.new (are_asked L.says lanes.old lanes.new))) (lent F.account files.old files.new) (lent S.account sink.old sink.new) result }
@@ -141,7 +141,7 @@ fn tape_ready<S: Sink, C: Core, L: Lane>(
     sink: &mut S,
     core: &mut C,
     lanes: &mut Lanes<L>,
-) -> Result<u8, Failure>
+) -> Result<Status, Failure>
     requires honest { AreHonest L.honest lanes.old }
     requires new { ready.old.machine.timed.cycles ≡ 0 }
     requires fits { IsConfig options.setup.config }

@@ -18,7 +18,7 @@ use diva_args::SoakOptions;
 use diva_core::Core;
 use diva_machine::{Config, DEPTH, Machine, drive};
 use diva_outside::{Files, Sink};
-use diva_process::Failure;
+use diva_process::{Failure, Status};
 use diva_soak::soak_image;
 use diva_tape::Scalar;
 use std::alloc::{AllocError, Global};
@@ -32,7 +32,7 @@ pub(crate) fn soak<F: Files, S: Sink, C: Core>(
     _files: &F,
     sink: &mut S,
     core: &mut C,
-) -> Result<u8, Failure>
+) -> Result<Status, Failure>
     ensures { KeepsPromises (asked_for diva (Soak options)) (work_of C.gives
         (asking core.old core.new no_lanes)) (lent F.account _files.now _files.now) (lent S.account sink.old sink.new) result }
 {
@@ -71,14 +71,14 @@ fn soak_ready<S: Sink, C: Core>(
     options: SoakOptions,
     sink: &mut S,
     core: &mut C,
-) -> Result<u8, Failure>
+) -> Result<Status, Failure>
     requires { IsSoakReady options ready.old }
     ensures { (bytes : FileBytes) → WritesText (work_of C.gives
         (asking core.old core.new no_lanes)) (Soak options) bytes (lent S.account sink.old sink.new) result }
 {
     drive_both(ready, &options, core);
     write_soaked(&ready.first, &ready.second, sink)?;
-    Ok(0)
+    Ok(Status::Halted)
 }
 
 /// Drives both machines to their ends: the first under its `Scalar`, and then the second under the core that is handed in.

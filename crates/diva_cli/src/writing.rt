@@ -11,6 +11,7 @@ ghost use Rattle.diva_cli.specs.Runs.{end_status, shown_dump};
 use diva_args::DumpRange;
 use diva_machine::{End, Machine};
 use diva_outside::{Line, Sink, SinkFailed, put_lines};
+use diva_process::Status;
 use diva_trace::{
     Dump, Report, SoakCore, end_line_of, soak_line, write_output, write_registers, write_run,
 };
@@ -78,21 +79,13 @@ fn counts_line(core: SoakCore, machine: &Machine) -> Line
     soak_line(core, machine.count(), machine.cycles(), machine.flushes())
 }
 
-/// The status that says how a machine ended: 0 where it halted, 3 where it trapped, 4 where it goes
-/// on.
-pub fn end_status(machine: &Machine) -> u8
+/// How a machine ended: it halted, it trapped, or it goes on.
+pub fn end_status(machine: &Machine) -> Status
     ensures { result ≡ end_status (end_of machine.now.timed.arch.end) }
 {
-    status_by(machine.ended())
-}
-
-/// The status that goes with an end.
-pub(crate) fn status_by(end: End) -> u8
-    ensures { result ≡ end_status end }
-{
-    match end {
-        End::Halt(_) => 0,
-        End::Trap(_) => 3,
-        End::GoesOn => 4,
+    match machine.ended() {
+        End::Halt(_) => Status::Halted,
+        End::Trap(_) => Status::Trapped,
+        End::GoesOn => Status::GoesOn,
     }
 }

@@ -28,6 +28,7 @@ use Rattle.diva_cli.specs.Cuts.{BeforeLast}
 use Rattle.diva_workbench.specs.Lab.{lab_work_of}
 use Rattle.diva_workbench.specs.DrawTexts.{HasDrawing, IsDrawnPart, IsDrawnWhole, begin_text, cycle_text, cycles_drawn, drawn_text, end_text, front_text, pen_after, pen_at, pen_behind}
 use Rattle.diva_cli.specs.Ready.{IsReady}
+use Rattle.diva_process.specs.declared.status.Status.{Status}
 use Rattle.diva_process.specs.Writing.{WritesPart, WritesWhole}
 use Rattle.diva_cli.specs.Runs.{IsRunOfFiles, IsWhole, end_status}
 use Rattle.diva_cli.specs.Sessions.{start_in}
@@ -202,7 +203,7 @@ module _ {C S : Type 0} (gives : Meaning C) (options : DrawOptions) (bytes : Fil
   drawn_by : (some : List (List Record)) (seen : List Snapshot) → cycles_drawn drawer.format drawer.pen some seen ≡ cycles_drawn options.format (pen_at first) some seen
   drawn_by some seen = ap (λ (x : Format). cycles_drawn x drawer.pen some seen) f ∙ ap (λ (q : Pen). cycles_drawn options.format q some seen) (new_pen drawer.pen none)
 
-  means : (seen : List Snapshot) → AreSnapshots ready.machine.timed lists seen → (ended : Result ℕ (List ℕ)) (text : List ℕ)
+  means : (seen : List Snapshot) → AreSnapshots ready.machine.timed lists seen → (ended : Result Status (List ℕ)) (text : List ℕ)
       → IsDrawnWhole options start last first lists seen ended text ⊎ IsDrawnPart options first lists seen ended text
       → HasDrawing gives options bytes (change core after) ended text
   means seen are ended text written =

@@ -11,6 +11,7 @@ use Rattle.diva_args.specs.declared.lab.LabJob.{LabJob}
 use Rattle.diva_args.specs.declared.lab.LabJob.TheVariants.{Diva, Draw}
 use Rattle.diva_args.specs.declared.job.Job.{Job}
 use Rattle.diva_args.specs.declared.job.LanePlace.{LanePlace}
+use Rattle.diva_process.specs.declared.status.Status.{Status}
 use Rattle.diva_process.specs.declared.stop.Failure.{Failure}
 use Rattle.diva_process.specs.declared.stop.Stop.{Stop}
 use Rattle.diva_process.specs.Answers.{EndsSo, IsDone}
@@ -46,7 +47,7 @@ draw_ends gives asks options bytes status text h =
 
 module _ {C F S : Type 0} (gives : Meaning C) (files : LentFiles F) (core : C) (lanes : LanesAsked) (sink : LentSink S) (options : DrawOptions) where
   -- the files of a machine were loaded, and its drawing was written
-  pub drawn_answers : (setup : Setup) (ready : Ready) (after : C) (result : Result ℕ Failure)
+  pub drawn_answers : (setup : Setup) (ready : Ready) (after : C) (result : Result Status Failure)
       → setup ≡ options.run.setup
       → HoldsReady (given files).contents setup ready
       → IsUncounted files
@@ -58,7 +59,7 @@ module _ {C F S : Type 0} (gives : Meaning C) (files : LentFiles F) (core : C) (
       (λ status text. draw_ends gives (asking core after lanes) options h.bytes status text) (writes h.bytes h.is)
 
   -- the loading stopped, and a line was written of it
-  pub undrawn_answers : (setup : Setup) (stop : Stop) (result : Result ℕ Failure)
+  pub undrawn_answers : (setup : Setup) (stop : Stop) (result : Result Status Failure)
       → lanes None []
       → setup ≡ options.run.setup
       → Stops file_rules (given files) (left files) (machine_files setup) stop
@@ -77,18 +78,18 @@ module _ {C F S : Type 0} (gives : Meaning C) (before after : C) (lanes last : L
   less : (liar : Option LanePlace) (asked : List Question) → are_asked own_says lanes last liar asked → own_asked liar asked
   less liar asked are = own_asked_by lanes last liar asked own are
 
-  answered : (job : LabJob) (bytes : FileBytes) (ended : Result ℕ (List ℕ)) (text : List ℕ)
+  answered : (job : LabJob) (bytes : FileBytes) (ended : Result Status (List ℕ)) (text : List ℕ)
       → LabAnswered gives (are_asked own_says lanes last) (core_of asks) job bytes ended text → LabAnswered gives own_asked (core_of asks) job bytes ended text
   answered (Diva job) bytes ended text h = answered_less gives before after (are_asked own_says lanes last) own_asked less job bytes ended text h
   answered (Draw options) bytes ended text h = record { means = h.means; lanes = less options.run.liar _ h.lanes }
 
-  pub own_lab_answers : (job : LabJob) (result : Result ℕ Failure)
+  pub own_lab_answers : (job : LabJob) (result : Result Status Failure)
       → KeepsPromises (asked_for lab job) (lab_work_of gives asks) files sink result → KeepsPromises (asked_for lab job) (own_lab_work gives before after) files sink result
   own_lab_answers job result =
       process.promises_so lab lab job job (lab_work_of gives asks) (own_lab_work gives before after) files sink refl refl (λ u. u.core) (answered job) (λ status c. c) result
 
 -- what `diva` answers of a job the workbench answers
-pub lab_answers : {C F S : Type 0} (gives : Meaning C) (asks : Asking C) (files : LentFiles F) (sink : LentSink S) (job : Job) (result : Result ℕ Failure)
+pub lab_answers : {C F S : Type 0} (gives : Meaning C) (asks : Asking C) (files : LentFiles F) (sink : LentSink S) (job : Job) (result : Result Status Failure)
     → KeepsPromises (asked_for diva job) (work_of gives asks) files sink result → KeepsPromises (asked_for lab (Diva job)) (lab_work_of gives asks) files sink result
 lab_answers gives asks files sink job result =
     process.promises_so diva lab job (Diva job) (work_of gives asks) (lab_work_of gives asks) files sink refl refl (λ u. u) (λ bytes ended text h. h) (λ status c. c) result

@@ -15,6 +15,7 @@ use Rattle.diva_drawing.specs.Log.{log_begin, log_cycle}
 use Rattle.diva_drawing.specs.Rows.{Pen, begun_rows}
 use Rattle.diva_drawing.specs.Snapshot.{AreSnapshots, IsSnapshot, Snapshot}
 use Rattle.diva_cli.specs.Changes.{Change}
+use Rattle.diva_process.specs.declared.status.Status.{Status}
 use Rattle.diva_process.specs.Programs.{FileBytes}
 use Rattle.diva_cli.specs.Cuts.{BeforeLast}
 use Rattle.diva_cli.specs.Runs.{EndsWith, IsRunOfFiles, IsWhole}
@@ -70,25 +71,25 @@ drawn_text format first lists seen = front_text format first lists seen ++ end_t
 
 -- the run was drawn to its end. Where the sink failed, it did so behind the last cycle
 pub record IsDrawnWhole (options : DrawOptions) (start : State) (last : Timed) (first : Snapshot) (lists : List (List Record))
-    (seen : List Snapshot) (ended : Result ℕ Text) (text : Text) : Type 0 where
+    (seen : List Snapshot) (ended : Result Status Text) (text : Text) : Type 0 where
   pub whole : IsWhole options.run.setup options.run.cycles start last
   pub says : IfOk ended (EndsWith last options.run.cycles)
   pub lines : text ≡ drawn_text options.format first lists seen
   pub cut : IfErr ended (λ put. put ≡ front_text options.format first lists seen)
 
 -- where the sink failed before, it did so in the first lines, or in the last of the cycles, and the text of those before it had been put
-abbrev pub HasFailedIn : Format → (first : Snapshot) → List (List Record) → List Snapshot → (ended : Result ℕ Text) → Type 0
+abbrev pub HasFailedIn : Format → (first : Snapshot) → List (List Record) → List Snapshot → (ended : Result Status Text) → Type 0
 HasFailedIn format first lists seen ended =
     ((lists ≡ []) × (ended ≡ Err [])) ⊎ BeforeLast lists (λ earlier. ended ≡ Err (front_text format first earlier seen))
 
 pub record IsDrawnPart (options : DrawOptions) (first : Snapshot) (lists : List (List Record)) (seen : List Snapshot)
-    (ended : Result ℕ Text) (text : Text) : Type 0 where
+    (ended : Result Status Text) (text : Text) : Type 0 where
   pub lines : text ≡ front_text options.format first lists seen
   pub cut : HasFailedIn options.format first lists seen ended
 
 -- the text of `log` or `draw` over files with these bytes, and how the writing of it ended
 pub record HasDrawing {C : Type 0} (gives : Meaning C) (options : DrawOptions) (bytes : FileBytes) (core : Change C)
-    (ended : Result ℕ Text) (text : Text) : Type 0 where
+    (ended : Result Status Text) (text : Text) : Type 0 where
   pub last : Timed
   -- all that is promised of a run holds of it
   pub of_files : IsRunOfFiles gives options.run.setup options.run.cycles bytes core last

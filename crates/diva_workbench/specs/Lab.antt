@@ -7,6 +7,7 @@ use Rattle.diva_args.specs.Lab.{lab_of}
 use Rattle.diva_args.specs.declared.lab.DrawOptions.{DrawOptions}
 use Rattle.diva_args.specs.declared.lab.LabJob.{LabJob}
 use Rattle.diva_args.specs.declared.lab.LabJob.TheVariants.{Diva, Draw}
+use Rattle.diva_process.specs.declared.status.Status.{Status}
 use Rattle.diva_process.specs.Answers.{IsDone}
 use Rattle.diva_process.specs.Programs.{Doing, FileBytes, Program, Wanted, doing}
 use Rattle.diva_cli.specs.Changes.{Asking, Change, IsUnasked, LanesAsked, change, core_of}
@@ -27,17 +28,17 @@ lab_wanted (Draw options) = machine_files options.run.setup
 
 -- the drawing of a run, for which lanes were asked as for any run
 pub record HasDrawn {C : Type 0} (gives : Meaning C) (heard : LanesAsked) (core : Change C) (options : DrawOptions) (bytes : FileBytes)
-    (ended : Result ℕ Text) (text : Text) : Type 0 where
+    (ended : Result Status Text) (text : Text) : Type 0 where
   pub means : HasDrawing gives options bytes core ended text
   pub lanes : AsksInRun options.run.setup options.run.liar bytes means.of_files.holds.lists heard
 
-abbrev pub LabAnswered : {C : Type 0} → Meaning C → LanesAsked → Change C → LabJob → FileBytes → Result ℕ Text → Text → Type 0
+abbrev pub LabAnswered : {C : Type 0} → Meaning C → LanesAsked → Change C → LabJob → FileBytes → Result Status Text → Text → Type 0
 LabAnswered gives lanes core (Diva job) bytes ended text = HasAnswered gives lanes core job bytes ended text
 LabAnswered gives lanes core (Draw options) bytes ended text = HasDrawn gives lanes core options bytes ended text
 
-abbrev pub LabEnds : LabJob → ℕ → Type 0
-LabEnds (Diva job) status = CanEnd job status
-LabEnds (Draw options) status = IsDone status
+abbrev pub LabEnds : LabJob → Status → Type 0
+LabEnds (Diva job) ends = CanEnd job ends
+LabEnds (Draw options) ends = IsDone ends
 
 -- ---- the program
 
@@ -49,7 +50,7 @@ abbrev pub lab_work_of : {C : Type 0} → Meaning C → Asking C → Doing LabJo
 lab_work_of gives asks = record { done = LabAnswered gives asks.lanes (core_of asks); can_end = LabEnds; unused = IsUnasked asks }
 
 -- the same by the core alone; lanes are the program's own
-abbrev pub own_lab_done : {C : Type 0} → Meaning C → (before after : C) → LabJob → FileBytes → Result ℕ Text → Text → Type 0
+abbrev pub own_lab_done : {C : Type 0} → Meaning C → (before after : C) → LabJob → FileBytes → Result Status Text → Text → Type 0
 own_lab_done gives before after job bytes ended text = LabAnswered gives own_asked (change before after) job bytes ended text
 
 abbrev pub own_lab_work : {C : Type 0} → Meaning C → (before after : C) → Doing LabJob

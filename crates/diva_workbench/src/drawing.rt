@@ -20,7 +20,7 @@ use diva_core::{Claims, Core};
 use diva_drawing::{Excerpt, Pen, begin_log};
 use diva_machine::Machine;
 use diva_outside::{Files, Sink, SinkFailed};
-use diva_process::{Failure, write_stop};
+use diva_process::{Failure, Status, write_stop};
 use diva_vote::Lane;
 use std::alloc::Global;
 
@@ -33,7 +33,7 @@ pub(crate) fn draw<F: Files, S: Sink, C: Core, L: Lane>(
     sink: &mut S,
     core: &mut C,
     lanes: &mut Lanes<L>,
-) -> Result<u8, Failure>
+) -> Result<Status, Failure>
     requires { AreHonest L.honest lanes.old }
     ensures { KeepsPromises (asked_for lab (Draw options)) (lab_work_of C.gives
         (asking core.old core.new (are_asked L.says lanes.old lanes.new))) (lent F.account files.old files.new) (lent S.account sink.old sink.new) result }
@@ -51,7 +51,7 @@ fn draw_ready<S: Sink, C: Core, L: Lane>(
     sink: &mut S,
     core: &mut C,
     lanes: &mut Lanes<L>,
-) -> Result<u8, Failure>
+) -> Result<Status, Failure>
     requires honest { AreHonest L.honest lanes.old }
     requires new { ready.old.machine.timed.cycles ≡ 0 }
     requires fits { IsConfig options.run.setup.config }

@@ -1,13 +1,9 @@
 // The workbench, from the words to the status.
-ghost use Rattle.std.specs.Prelude.{◌≡◌, ◌⊎◌, [], None};
-ghost use Rattle.diva_outside.specs.Causes.{Rose};
+ghost use Rattle.std.specs.Prelude.{◌≡◌, []};
 ghost use Rattle.diva_outside.specs.Lent.{lent};
-ghost use Rattle.diva_outside.specs.Sink.{HasFailed, Takes};
-ghost use Rattle.diva_outside.specs.Text.{Text};
-ghost use Rattle.diva_outside.specs.declared.files.What.{What};
-ghost use Rattle.diva_process.specs.Programs.{asked_by, asked_for, job_in};
-ghost use Rattle.diva_process.specs.Answers.{HasRefused, HasUnread, IsDone, IsMisused};
-ghost use Rattle.diva_process.specs.Statuses.{CanWork, HasEnded, HasLine, HasMissing, HasNoMemory, HasWorked, IsCut, IsHindered, IsStatus, LoadsNothing, MustRefuse};
+ghost use Rattle.diva_process.specs.Programs.{asked_by, asked_for};
+ghost use Rattle.diva_process.specs.Process.{IsProcess};
+ghost use Rattle.diva_process.specs.Statuses.{IsNumberOf};
 ghost use Rattle.diva_process.specs.Promises.{KeepsPromises};
 ghost use Rattle.diva_cli.specs.Changes.{asking};
 ghost use Rattle.diva_workbench.specs.Lab.{lab, lab_usage_line, lab_wanted, lab_work_of, own_lab_work};
@@ -18,13 +14,14 @@ use diva_args::{ArgsFault, LabJob, read_lab_words};
 use diva_cli::{Lanes, work};
 use diva_core::Core;
 use diva_outside::{Files, Line, Sink};
-use diva_process::{Failure, Front, run_process};
+use diva_process::{Failure, Front, Status, run_process};
 use diva_vote::Lane;
 use std::alloc::{AllocError, Global};
 
 /// Runs the workbench on the words of its command line (without its name) over the files, the sink
-/// and the core that it is handed, and answers its status. It does all that [`top`](diva_cli::top) does, and has the commands `log` and
-/// `draw` besides, whose statuses are those of `run`.
+/// and the core that it is handed, and answers the number of its status. It does all that [`top`](diva_cli::top) does, and has the
+/// commands `log` and `draw` besides, whose statuses are those of `run`: what is drawn of a run is told from what is seen of the machine
+/// after each cycle, and all that is promised of a run holds of it.
 ///
 /// | status | comes |
 /// |---|---|
@@ -43,54 +40,10 @@ pub fn lab_top<F: Files, S: Sink, C: Core>(
     sink: &mut S,
     core: &mut C,
 ) -> u8
-    ensures status { IsStatus result }
-
-    // The job is done: all its files are sound, its whole text was written, and no load and no put failed. That of a run that is drawn
-    // is told from what is seen of the machine after each cycle, and all that is promised of a run holds of it; that of any other job is
-    // what `top` writes.
-    ensures worked { IsDone result
-        → HasWorked (asked_by lab words.now) (own_lab_work C.gives core.old core.new) (lent F.account files.old files.new)
-        (lent S.account sink.old sink.new) result }
-
-    // Nothing is run: the words, the first file's fault, or the files' count of faults says why. No fault was counted
-    // for a file after the one at which the loading stopped.
-    ensures misused { result ≡ 2
-        → HasLine (IsMisused (asked_by lab words.now) (lent F.account files.old files.new)) (own_lab_work C.gives core.old core.new)
-        (lent S.account sink.old sink.new) }
-    ensures refused { result ≡ 5
-        → HasLine (HasRefused (asked_by lab words.now) (lent F.account files.old files.new)) (own_lab_work C.gives core.old core.new)
-        (lent S.account sink.old sink.new) }
-    ensures unread { result ≡ 8
-        → HasLine (HasUnread (asked_by lab words.now) (lent F.account files.old files.new)) (own_lab_work C.gives core.old core.new)
-        (lent S.account sink.old sink.new) }
-
-    // If the words ask for no file, the files are as they were: none was loaded.
-    ensures unloaded { LoadsNothing lab (job_in lab words.now) → files.new ≡ files.old }
-
-    // The sink's count of faults rose, and the core was not asked again; memory ran out, and no load failed.
-    ensures cut { result ≡ 9
-        → IsCut (asked_by lab words.now) (own_lab_work C.gives core.old core.new) (lent F.account files.old files.new)
-        (lent S.account sink.old sink.new) }
-    ensures memory { result ≡ 10
-        → HasNoMemory (own_lab_work C.gives core.old core.new) (lent F.account files.old files.new) (lent S.account sink.old sink.new) }
-
-    // Words that are not a valid command line are answered by the usage line.
-    ensures usage { (job_in lab words.now) ≡ None → (result ≡ 2) ⊎ ((result ≡ 9) ⊎ (result ≡ 10)) }
-
-    // Of known files, the first that can't be used is refused by its line, or is not there.
-    ensures refuses { (text : Text)
-        → MustRefuse (asked_by lab words.now) (lent F.account files.old files.new) text
-        → ((result ≡ 5) × Takes (lent S.account sink.old sink.new) text) ⊎ IsHindered result }
-    ensures misses { HasMissing (asked_by lab words.now) (lent F.account files.old files.new) → IsHindered result }
-
-    // A job whose files are known and sound is done, if neither they nor the sink fail.
-    ensures complete { CanWork (asked_by lab words.now) (lent F.account files.old files.new)
-        → ((what : What) → Rose ((F.account files.old).faults what) ((F.account files.new).faults what) → ⊥)
-        → (HasFailed (lent S.account sink.old sink.new) → ⊥)
-        → HasEnded (asked_by lab words.now) (own_lab_work C.gives core.old core.new) (lent F.account files.old files.new)
-        (lent S.account sink.old sink.new) result ⊎ (result ≡ 10) }
+    ensures { IsNumberOf (IsProcess (asked_by lab words.now) (own_lab_work C.gives core.old core.new) (lent F.account files.old files.new)
+        (lent S.account sink.old sink.new)) result }
 {
-    run_process(&Lab, alloc, words, files, sink, core)
+    run_process(&Lab, alloc, words, files, sink, core).number()
 }
 
 /// The workbench, over a core.
@@ -126,7 +79,7 @@ impl<C: Core> Front<C> for Lab {
         files: &mut F,
         sink: &mut S,
         core: &mut C,
-    ) -> Result<u8, Failure> {
+    ) -> Result<Status, Failure> {
         lab_work(alloc, job, files, sink, core, &mut Lanes::own())
     }
 }
@@ -140,7 +93,7 @@ pub fn lab_work<F: Files, S: Sink, C: Core, L: Lane>(
     sink: &mut S,
     core: &mut C,
     lanes: &mut Lanes<L>,
-) -> Result<u8, Failure>
+) -> Result<Status, Failure>
     requires { AreHonest L.honest lanes.old }
     ensures answers { KeepsPromises (asked_for lab job) (lab_work_of C.gives
         (asking core.old core.new (are_asked L.says lanes.old lanes.new))) (lent F.account files.old files.new) (lent S.account sink.old sink.new) result }
