@@ -8,9 +8,9 @@
 ghost use Rattle.std.specs.Prelude.{◌≡◌, IfOk, map};
 ghost use Rattle.std.specs.String.{string_bytes};
 
-use diva_workbench::lab_top;
 use diva_ooo::Ooo;
 use diva_outside::{DiskFiles, StdSink};
+use diva_workbench::lab_top;
 use std::alloc::{AllocError, Global};
 use std::process::ExitCode;
 use std::{env, io};
