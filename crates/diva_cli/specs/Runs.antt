@@ -1,5 +1,5 @@
 -- What is promised of a run, and the text that the command `run` leaves of it.
--- Cited in `Texts.antt`, for `top`; by `one_liar_is_outvoted` and `own_run_is_determined`.
+-- Cited in `Texts.antt`, for `top`; by `one_liar_is_outvoted`, `own_run_is_determined` and `end_status`.
 use Rattle.std.specs.Prelude.{◌≡◌, ◌⊎◌, ◌≤◌, ◌/◌, ◌*◌, ◌+◌, ◌++◌, ℕ, Bool, true, false, List, [], ◌∷◌, length, Option, Some, None, Result, Err, IfOk, IfErr}
 use Rattle.diva_outside.specs.Text.{Text}
 use Rattle.diva_isa.specs.State.{State, goes_on}

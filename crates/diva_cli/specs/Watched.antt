@@ -1,5 +1,5 @@
 -- What is seen of a run turn by turn, and what is written of it.
--- Cited by `Watcher` and `watch`.
+-- Cited by `Watcher`, `watch` and `Watched::drive`.
 use Rattle.std.specs.Prelude.{ℕ, ◌≡◌, ◌≤◌, List, [], ◌∷◌, length, true, Result, OnOk, OnErr}
 use Rattle.std.specs.List.{All, concat}
 use Rattle.diva_outside.specs.Text.{Text}

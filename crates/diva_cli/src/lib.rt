@@ -1,4 +1,4 @@
-//! The whole program, over the files, the sink and the core that it is handed.
+//! The program over the files, the sink and the core that it is handed.
 //!
 //! - `program`: `top`, from the words to the status; `work`, which does a job, has an arm for each command;
 //! - `run` (with `tape`), `duo`, `debug`, `asm`, `dis`, `migrate`, `soak`, `campaign`: these commands;
@@ -15,6 +15,9 @@
 //! - `laws`: that the text of a run, and that of `soak`, is determined (`own_run_is_determined`), that what is promised of
 //!   the text of a run is the same with a liar in any place and without (`one_liar_is_outvoted`), and what a session of one part says of its
 //!   lists (`run_is_one_part`).
+//!
+//! A program that has commands of its own, as the workbench does (`diva_workbench`), does any other job by `work`, and drives a run of its
+//! own by `make_ready`, `Watched::drive` and `end_status`.
 //!
 //! What a process is (words to a job, files in order, a status with its cause) stands in `diva_process`. What is promised here, each part in a
 //! file of `specs/`, in the order in which it is best read:

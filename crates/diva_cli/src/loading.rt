@@ -38,11 +38,7 @@ pub struct Ready {
 
 /// A machine that begins with the image of a setup, the core that it asks for, and the script, if
 /// there is one. All memory that they ever need is taken.
-pub fn make_ready<F: Files>(
-    alloc: Global,
-    files: &mut F,
-    setup: &Setup,
-) -> Result<Ready, Stop>
+pub fn make_ready<F: Files>(alloc: Global, files: &mut F, setup: &Setup) -> Result<Ready, Stop>
     ensures stays { (F.account files.new).contents ≡ (F.account files.old).contents }
     ensures later { (w : What) → (F.account files.old).faults w ≤ (F.account files.new).faults w }
     ensures others { (w : What) → w ≢ What.Image → w ≢ What.Script → w ≢ What.Tape
