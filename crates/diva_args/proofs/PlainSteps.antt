@@ -12,7 +12,8 @@ use Rattle.clap.specs.Kinds.{Kinds, or_else}
 use Rattle.clap.specs.declared.parser.ValueSource.TheVariants.{CommandLine}
 use Rattle.clap.specs.declared.builder.value_parser.Reading.TheVariants as reading
 use Rattle.diva_args.specs.Command.{flag_rule, option_rule, positional_rule}
-use Rattle.diva_args.specs.Plain.{dashed, is_plain_word, value_in}
+use Rattle.diva_args.specs.Plain.{dashed, is_plain_word}
+use Rattle.diva_args.specs.Values.{named}
 
 -- ---- arguments of a built command
 
@@ -172,11 +173,11 @@ flag_passes s name h p rows is by_long new stands =
     flag_fault s name h p is by_long ∙ rw (stands.passes, stands.rows_are, no_row name rows new) refl
 
 -- the rows of what was given give it back
-pub first_given : (gs : List (Text × Text)) (id : Text) → first_of id (map given_row gs) ≡ value_in gs id
+pub first_given : (gs : List (Text × Text)) (id : Text) → first_of id (map given_row gs) ≡ named gs id
 first_given [] id = refl
 first_given (g ∷ gs) id = go (bytes_eq g.0 id) refl (first_given gs id)
   where
-    go : (b : Bool) → bytes_eq g.0 id ≡ b → first_of id (map given_row gs) ≡ value_in gs id
-        → first_of id (given_row g ∷ map given_row gs) ≡ value_in (g ∷ gs) id
+    go : (b : Bool) → bytes_eq g.0 id ≡ b → first_of id (map given_row gs) ≡ named gs id
+        → first_of id (given_row g ∷ map given_row gs) ≡ named (g ∷ gs) id
     go true e rest = rw e refl
     go false e rest = rw e rest
