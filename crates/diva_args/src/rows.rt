@@ -2,6 +2,7 @@
 use crate::ranged::Ranged;
 
 /// A number from `LEAST` to `MOST` that words can give.
+#[derive(Drop)]
 pub(crate) struct NumberRow<const LEAST: u32, const MOST: u32> {
     /// The name of its option, or the id of its positional.
     pub word: &'static str,
