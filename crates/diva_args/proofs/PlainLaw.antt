@@ -65,7 +65,7 @@ run_same f g s =
     (by cycles_row refl i) (s.flag (codes "trace") i) (dump_of (at (codes "dump") refl i)) (liar_of (at (codes "liar") refl i))
 
 run_sound : IsSound run
-unfolding diva walked
+unfolding diva walked job_from
 run_sound = record {
   enters = record { walk_is = refl; turn = refl; sub = refl; label = refl; bare = refl; negates = refl };
   places = (refl, refl, refl, tt);

@@ -155,7 +155,7 @@ jobs value =
     ∷ []
 
 -- the job of the command of this name
-abbrev pub job_from : Text → (Text → Option Text) → Option Job
+unfoldable pub job_from : Text → (Text → Option Text) → Option Job
 job_from name value = option_and_then (λ job. job) (named (jobs value) name)
 
 -- the first value of each positional, option and flag in the matches

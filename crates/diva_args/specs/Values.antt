@@ -19,7 +19,7 @@ use Rattle.diva_args.specs.declared.job.CoreChoice.TheVariants.{Own, Lockstep, S
 -- what stands beside this name in a list of rows
 abbrev pub named : {A : Type 0} → List (Text × A) → Text → Option A
 named [] name = None
-named (row ∷ rows) name = if bytes_eq row.0 name then Some row.1 else named rows name
+named (row ∷ rows) name = if bytes_eq name row.0 then Some row.1 else named rows name
 
 -- the cores that take no tape
 abbrev pub cores : List (Text × CoreChoice)

@@ -63,6 +63,7 @@ fn job(alloc: Global, matches: &ArgMatches<'_>) -> Result<Job, ArgsFault>
 }
 
 /// The job of the subcommand of this name.
+#[tactic(auto, unfolding(crate::specs::Line::job_from))]
 pub(crate) fn job_named(alloc: Global, name: &str, found: &ArgMatches<'_>) -> Result<Job, ArgsFault>
     ensures { Reads (job_from name.now (values_of (rows_of (found_of found.now)))) result }
 {
