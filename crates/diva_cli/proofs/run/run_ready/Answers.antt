@@ -1,7 +1,7 @@
 -- What is written of a run is the text of the machine that was driven.
 use Rattle.std.proofs.Common.{Ok, ap, refl}
 use Rattle.std.proofs.lemmas.Result.{err_from_is_err_and}
-use Rattle.diva_args.specs.Options.{RunOptions}
+use Rattle.diva_args.specs.declared.job.RunOptions.{RunOptions}
 use Rattle.diva_cli.proofs.Running.{wrote_run, cut_run, cut_trace}
 use Rattle.diva_cli.proofs.run.run_ready.Goals as goal
 

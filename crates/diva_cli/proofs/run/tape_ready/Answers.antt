@@ -1,7 +1,7 @@
 -- What is written is a tape of all that was handed over.
 use Rattle.std.proofs.Common.{Ok, ap, refl}
 use Rattle.std.proofs.lemmas.Result.{err_from_is_err_and}
-use Rattle.diva_args.specs.Options.{TapeOptions}
+use Rattle.diva_args.specs.declared.job.TapeOptions.{TapeOptions}
 use Rattle.diva_cli.proofs.Replaying.{wrote_tape, cut_tape}
 use Rattle.diva_cli.proofs.run.tape_ready.Goals as goal
 

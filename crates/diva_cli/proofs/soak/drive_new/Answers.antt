@@ -1,6 +1,6 @@
 -- The drive led as far as the cycles of the image.
 use Rattle.std.proofs.Common.{◌∙◌, ap}
-use Rattle.diva_args.specs.Options.{SoakOptions}
+use Rattle.diva_args.specs.declared.job.SoakOptions.{SoakOptions}
 use Rattle.diva_cli.specs.SoakTexts.{soak_cycles}
 use Rattle.diva_cli.proofs.Soaking.{drove}
 use Rattle.diva_cli.proofs.soak.drive_new.Goals as goal
