@@ -1,7 +1,8 @@
 //! What follows of the program's runs. The function has no body of its own: its clauses are about the definitions.
 ghost use Rattle.std.specs.Prelude.{◌≡◌, ℕ, true, Result, IsOk};
 ghost use Rattle.diva_outside.specs.Text.{Text};
-ghost use Rattle.diva_args.specs.Options.{RunOptions, SoakOptions};
+ghost use Rattle.diva_args.specs.declared.job.RunOptions.{RunOptions};
+ghost use Rattle.diva_args.specs.declared.job.SoakOptions.{SoakOptions};
 ghost use Rattle.diva_args.specs.declared.job.CoreChoice.TheVariants.{Own};
 ghost use Rattle.diva_cli.specs.Changes.{change};
 ghost use Rattle.diva_cli.specs.Runs.{HasRun};

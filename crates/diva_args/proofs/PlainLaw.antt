@@ -8,13 +8,13 @@ use Rattle.std.proofs.lemmas.Slice.Eq.{bytes_eq-Decides}
 use Rattle.clap.specs.Walk.{Row, Text, nothing_held, walked}
 use Rattle.clap.specs.Simple.{Shape, argument_words, built}
 use Rattle.clap.proofs.WalkLemmas.{both}
-use Rattle.diva_core.specs.Timed.{default_config}
 use Rattle.diva_args.specs.Command.{Leaf, asm, campaign, debug, dis, diva, draw, duo, leaves, log, migrate, run, soak, tape}
 use Rattle.diva_args.specs.Lab.{lab_job_from, lab_job_on, lab_of}
-use Rattle.diva_args.specs.Line.{command_of, config_from, config_with, cycles_from, job_from, room_from, run_from, run_with, setup_from, setup_with, taken, values_of}
-use Rattle.diva_args.specs.Options.{RunOptions, default_cycles, most_cycles}
-use Rattle.diva_args.specs.Plain.{IsPlainLine, PlainLine, Use, are_distinct, flagged, given_by, given_in, has_text, is_plain_word, is_use_of, job_on, name_of, names_in, use_words, value_in, valued, values_in}
-use Rattle.diva_args.specs.Values.{core_of, dump_of, is_set_by, liar_of, ranged_or, room_behind, number_or}
+use Rattle.diva_args.specs.Line.{command_of, config_from, config_with, job_from, room_from, run_from, run_with, setup_from, setup_with, taken, values_of}
+use Rattle.diva_args.specs.Plain.{IsPlainLine, PlainLine, Use, are_distinct, flagged, given_by, given_in, has_text, is_plain_word, is_use_of, job_on, name_of, names_in, use_words, valued, values_in}
+use Rattle.diva_args.specs.Rows.{NumberRow, cycles_row, port_row, stores_row, watchdog_row, width_row, window_row}
+use Rattle.diva_args.specs.Values.{core_of, dump_of, is_set_by, liar_of, named, number_by, number_of, room_behind}
+use Rattle.diva_args.specs.declared.job.RunOptions.{RunOptions}
 use Rattle.diva_args.specs.declared.job.Job.TheVariants.{Run}
 use Rattle.diva_args.specs.declared.lab.LabJob.TheVariants.{Diva}
 use Rattle.diva_args.proofs.PlainSteps.{Stands, first_given, given_row}
@@ -29,7 +29,7 @@ pub record SameValues (flags : List Text) (f g : Text → Option Text) : Type 0 
   pub value : (id : Text) → has_text id flags ≡ false → f id ≡ g id
   pub flag : (id : Text) → is_set_by (f id) ≡ is_set_by (g id)
 
-same_values : (flags : List Text) (gs : Given) → SameValues flags (values_of (with_flags flags (map given_row gs))) (value_in gs)
+same_values : (flags : List Text) (gs : Given) → SameValues flags (values_of (with_flags flags (map given_row gs))) (named gs)
 same_values flags gs = record {
   value = λ id none. value_kept flags (map given_row gs) id none ∙ first_given gs id;
   flag = λ id. flag_kept flags (map given_row gs) id ∙ ap is_set_by (first_given gs id);
@@ -44,26 +44,32 @@ one_source f g s = λ i id. s.value id refl i
 pub record IsSound (l : Leaf) : Type 0 where
   pub enters : Enters (built diva) l.name (built_shape l)
   pub places : Places (built_rules l) 1 l.positionals
-  pub named : (list_all is_name l.options && list_all is_name l.flags && are_apart l.options l.positionals && are_apart l.flags l.options
+  pub names : (list_all is_name l.options && list_all is_name l.flags && are_apart l.options l.positionals && are_apart l.flags l.options
       && are_apart l.flags l.positionals && are_distinct l.positionals) ≡ true
   pub same : (f g : Text → Option Text) → SameValues l.flags f g → job_from l.name f ≡ job_from l.name g
   pub lab_same : (f g : Text → Option Text) → SameValues l.flags f g → lab_job_from l.name f ≡ lab_job_from l.name g
 
+-- the same number
+same_number : (f g : Text → Option Text) → SameValues run.flags f g → (row : NumberRow) → has_text row.word run.flags ≡ false
+    → number_of row f ≡ number_of row g
+same_number f g s row other = ap (number_by row) (s.value row.word other)
+
 run_same : (f g : Text → Option Text) → SameValues run.flags f g → run_from f ≡ run_from g
-unfolding run_from setup_from room_from config_from cycles_from
+unfolding run_from setup_from room_from config_from
 run_same f g s =
     let at = s.value in
+    let by = same_number f g s in
     λ i. run_with
     (setup_with (at (codes "IMAGE") refl i) (room_behind (at (codes "room") refl i)) (core_of (at (codes "core") refl i) (at (codes "tape") refl i)) (at (codes "script") refl i)
-    (config_with (number_or default_config.width (at (codes "width") refl i)) (number_or default_config.window (at (codes "window") refl i)) (number_or default_config.stores (at (codes "stores") refl i)) (number_or default_config.limit (at (codes "watchdog") refl i)) (number_or default_config.port (at (codes "port") refl i))))
-    (ranged_or 1 most_cycles default_cycles (at (codes "cycles") refl i)) (s.flag (codes "trace") i) (dump_of (at (codes "dump") refl i)) (liar_of (at (codes "liar") refl i))
+    (config_with (by width_row refl i) (by window_row refl i) (by stores_row refl i) (by watchdog_row refl i) (by port_row refl i)))
+    (by cycles_row refl i) (s.flag (codes "trace") i) (dump_of (at (codes "dump") refl i)) (liar_of (at (codes "liar") refl i))
 
 run_sound : IsSound run
-unfolding diva walked
+unfolding diva walked job_from
 run_sound = record {
   enters = record { walk_is = refl; turn = refl; sub = refl; label = refl; bare = refl; negates = refl };
   places = (refl, refl, refl, tt);
-  named = refl;
+  names = refl;
   same = λ f g s. ap (option_map Run) (run_same f g s);
   lab_same = λ f g s. ap (λ (r : Option RunOptions). option_map Diva (option_map Run r)) (run_same f g s);
 }
@@ -72,10 +78,10 @@ run_sound = record {
 sound_without_flags : (l : Leaf) → l.flags ≡ [] → Enters (built diva) l.name (built_shape l) → Places (built_rules l) 1 l.positionals
     → (list_all is_name l.options && list_all is_name l.flags && are_apart l.options l.positionals && are_apart l.flags l.options
     && are_apart l.flags l.positionals && are_distinct l.positionals) ≡ true → IsSound l
-sound_without_flags l none enters places named = record {
+sound_without_flags l none enters places names = record {
   enters = enters;
   places = places;
-  named = named;
+  names = names;
   same = λ f g s. ap (job_from l.name) (one_source f g (subst (λ (flags : List Text). SameValues flags f g) none s));
   lab_same = λ f g s. ap (lab_job_from l.name) (one_source f g (subst (λ (flags : List Text). SameValues flags f g) none s));
 }
@@ -156,12 +162,12 @@ taken_at l rest gs sound level =
     (entered_rows (built diva) l.name (built_shape l) rest sound.enters ∙ ap (λ (rs : List Row). Some (l.name, rs)) level.rows_are)
 
 line_at : (l : Leaf) (rest : List Text) (gs : Given) → IsSound l → PlainLevel l rest (map given_row gs)
-    → command_of (l.name ∷ rest) ≡ job_from l.name (value_in gs)
+    → command_of (l.name ∷ rest) ≡ job_from l.name (named gs)
 unfolding command_of
 line_at l rest gs sound level = rw (taken_at l rest gs sound level) (sound.same _ _ (same_values l.flags gs))
 
 lab_at : (l : Leaf) (rest : List Text) (gs : Given) → IsSound l → PlainLevel l rest (map given_row gs)
-    → lab_of (l.name ∷ rest) ≡ lab_job_from l.name (value_in gs)
+    → lab_of (l.name ∷ rest) ≡ lab_job_from l.name (named gs)
 unfolding lab_of
 lab_at l rest gs sound level = rw (taken_at l rest gs sound level) (sound.lab_same _ _ (same_values l.flags gs))
 
@@ -174,7 +180,7 @@ level_at line words plain sound =
     let l = line.command in
     let s = built_shape l in
     let parts = all_parts line.positionals (values_in line.uses) plain.plain in
-    let ids = both _ _ sound.named in
+    let ids = both _ _ sound.names in
     let flags = both _ _ ids.0 in
     let options = both _ _ flags.0 in
     let apart = both _ _ options.0 in

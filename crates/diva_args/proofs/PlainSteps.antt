@@ -1,5 +1,5 @@
 -- What a simple command makes of plain words, one option at a time.
-use Rattle.std.proofs.Common.{◌≡◌, ◌∙◌, ◌&&◌, ◌==◌, ◌+◌, ℕ, Bool, true, false, not, List, [], ◌∷◌, ◌++◌, map, refl, ap, Some, None, codes}
+use Rattle.std.proofs.Common.{◌≡◌, ◌∙◌, ◌&&◌, ◌==◌, ◌+◌, ℕ, Bool, true, false, not, List, [], ◌∷◌, ◌++◌, map, refl, ap, sym, Some, None, codes}
 use Rattle.std.specs.Prelude.{min}
 use Rattle.std.specs.Str.{bytes_eq}
 use Rattle.std.proofs.lemmas.Slice.Eq.{bytes_eq-Decides}
@@ -12,7 +12,8 @@ use Rattle.clap.specs.Kinds.{Kinds, or_else}
 use Rattle.clap.specs.declared.parser.ValueSource.TheVariants.{CommandLine}
 use Rattle.clap.specs.declared.builder.value_parser.Reading.TheVariants as reading
 use Rattle.diva_args.specs.Command.{flag_rule, option_rule, positional_rule}
-use Rattle.diva_args.specs.Plain.{dashed, is_plain_word, value_in}
+use Rattle.diva_args.specs.Plain.{dashed, is_plain_word}
+use Rattle.diva_args.specs.Values.{named}
 
 -- ---- arguments of a built command
 
@@ -171,12 +172,23 @@ pub flag_passes : (s : Shape) (name : Text) (h : Held) (p : ℕ) (rows : List Ro
 flag_passes s name h p rows is by_long new stands =
     flag_fault s name h p is by_long ∙ rw (stands.passes, stands.rows_are, no_row name rows new) refl
 
+-- either text can be compared with the other
+flipped : (xs ys : Text) → bytes_eq xs ys ≡ bytes_eq ys xs
+flipped xs ys = go (bytes_eq xs ys) refl (bytes_eq ys xs) refl
+  where
+    go : (a : Bool) → bytes_eq xs ys ≡ a → (b : Bool) → bytes_eq ys xs ≡ b → bytes_eq xs ys ≡ bytes_eq ys xs
+    go true e b f = e ∙ sym ((bytes_eq-Decides ys xs).1 (sym ((bytes_eq-Decides xs ys).0 e)))
+    go false e true f =
+        let same : bytes_eq xs ys ≡ true = (bytes_eq-Decides xs ys).1 (sym ((bytes_eq-Decides ys xs).0 f)) in
+        cc
+    go false e false f = e ∙ sym f
+
 -- the rows of what was given give it back
-pub first_given : (gs : List (Text × Text)) (id : Text) → first_of id (map given_row gs) ≡ value_in gs id
+pub first_given : (gs : List (Text × Text)) (id : Text) → first_of id (map given_row gs) ≡ named gs id
 first_given [] id = refl
 first_given (g ∷ gs) id = go (bytes_eq g.0 id) refl (first_given gs id)
   where
-    go : (b : Bool) → bytes_eq g.0 id ≡ b → first_of id (map given_row gs) ≡ value_in gs id
-        → first_of id (given_row g ∷ map given_row gs) ≡ value_in (g ∷ gs) id
-    go true e rest = rw e refl
-    go false e rest = rw e rest
+    go : (b : Bool) → bytes_eq g.0 id ≡ b → first_of id (map given_row gs) ≡ named gs id
+        → first_of id (given_row g ∷ map given_row gs) ≡ named (g ∷ gs) id
+    go true e rest = rw (flipped id g.0, e) refl
+    go false e rest = rw (flipped id g.0, e) rest

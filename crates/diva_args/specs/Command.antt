@@ -4,6 +4,7 @@ use Rattle.std.specs.Prelude.{true, List, [], ◌∷◌, ◌++◌, map, Some, co
 use Rattle.clap.specs.Walk.{Rule, Text}
 use Rattle.clap.specs.Simple.{App, Shape, new_rule, new_shape, with_subcommand}
 use Rattle.clap.specs.declared.builder.action.ArgAction.TheVariants.{SetTrue}
+use Rattle.diva_args.specs.Rows.{campaign_cycles_row, cycles_row, from_row, last_row, length_row, port_row, room_row, seed_row, stores_row, to_row, watchdog_row, width_row, window_row}
 
 -- a command: its name, the ids of its positionals in order, the names of its options, and those of its flags
 pub record Leaf : Type 0 where
@@ -20,23 +21,23 @@ abbrev pub core_options : List Text
 core_options = codes "core" ∷ codes "script" ∷ codes "tape" ∷ []
 
 abbrev pub hart_options : List Text
-hart_options = codes "window" ∷ codes "stores" ∷ codes "watchdog" ∷ []
+hart_options = window_row.word ∷ stores_row.word ∷ watchdog_row.word ∷ []
 
 abbrev pub machine_options : List Text
-machine_options = hart_options ++ codes "port" ∷ []
+machine_options = hart_options ++ port_row.word ∷ []
 
 -- that of what loads one: how much memory follows what an executable loads
 abbrev pub room_option : List Text
-room_option = codes "room" ∷ []
+room_option = room_row.word ∷ []
 
 abbrev pub setup_options : List Text
-setup_options = core_options ++ codes "width" ∷ machine_options ++ room_option
+setup_options = core_options ++ width_row.word ∷ machine_options ++ room_option
 
 abbrev pub run : Leaf
 run = record {
   name = codes "run";
   positionals = codes "IMAGE" ∷ [];
-  options = setup_options ++ codes "cycles" ∷ codes "dump" ∷ codes "liar" ∷ [];
+  options = setup_options ++ cycles_row.word ∷ codes "dump" ∷ codes "liar" ∷ [];
   flags = codes "trace" ∷ [];
 }
 
@@ -44,7 +45,7 @@ abbrev pub tape : Leaf
 tape = record {
   name = codes "tape";
   positionals = codes "IMAGE" ∷ [];
-  options = setup_options ++ codes "cycles" ∷ [];
+  options = setup_options ++ cycles_row.word ∷ [];
   flags = [];
 }
 
@@ -52,7 +53,7 @@ abbrev pub duo : Leaf
 duo = record {
   name = codes "duo";
   positionals = codes "IMAGE" ∷ [];
-  options = codes "core" ∷ codes "width" ∷ hart_options ++ room_option ++ codes "cycles" ∷ codes "dump" ∷ [];
+  options = codes "core" ∷ width_row.word ∷ hart_options ++ room_option ++ cycles_row.word ∷ codes "dump" ∷ [];
   flags = [];
 }
 
@@ -74,19 +75,19 @@ abbrev pub migrate : Leaf
 migrate = record { name = codes "migrate"; positionals = codes "IMAGE" ∷ []; options = room_option; flags = [] }
 
 abbrev pub soak : Leaf
-soak = record { name = codes "soak"; positionals = codes "SEED" ∷ codes "LENGTH" ∷ []; options = []; flags = [] }
+soak = record { name = codes "soak"; positionals = seed_row.word ∷ length_row.word ∷ []; options = []; flags = [] }
 
 abbrev pub campaign : Leaf
 campaign = record {
   name = codes "campaign";
-  positionals = codes "IMAGE" ∷ codes "LAST" ∷ [];
-  options = codes "cycles" ∷ [];
+  positionals = codes "IMAGE" ∷ last_row.word ∷ [];
+  options = campaign_cycles_row.word ∷ [];
   flags = [];
 }
 
 -- the options of a run that is drawn: those of `run`, but for the part of memory to show
 abbrev pub drawn_options : List Text
-drawn_options = setup_options ++ codes "cycles" ∷ codes "liar" ∷ []
+drawn_options = setup_options ++ cycles_row.word ∷ codes "liar" ∷ []
 
 abbrev pub log : Leaf
 log = record { name = codes "log"; positionals = codes "IMAGE" ∷ []; options = drawn_options; flags = [] }
@@ -95,7 +96,7 @@ abbrev pub draw : Leaf
 draw = record {
   name = codes "draw";
   positionals = codes "IMAGE" ∷ [];
-  options = drawn_options ++ codes "from" ∷ codes "to" ∷ [];
+  options = drawn_options ++ from_row.word ∷ to_row.word ∷ [];
   flags = [];
 }
 

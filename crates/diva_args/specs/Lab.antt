@@ -1,12 +1,13 @@
 -- What a command line asks for of the workbench: it takes the words of `diva`, and has two commands more.
 -- Cited by `read_lab_words`.
-use Rattle.std.specs.Prelude.{ℕ, false, List, Option, Some, None, option_and_then, option_map, codes, if◌then◌else◌}
+use Rattle.std.specs.Prelude.{ℕ, false, nat_le, List, Option, Some, None, option_and_then, option_map, codes, if◌then◌else◌}
 use Rattle.std.specs.Str.{bytes_eq}
 use Rattle.clap.specs.Walk.{Row, Text}
-use Rattle.diva_args.specs.Line.{cycles_from, job_from, run_with, taken, values_of, wide_from}
-use Rattle.diva_args.specs.Options.{RunOptions, most_cycles}
-use Rattle.diva_args.specs.Plain.{PlainLine, given_in, value_in}
-use Rattle.diva_args.specs.Values.{liar_of, ranged_or}
+use Rattle.diva_args.specs.Line.{job_from, run_with, taken, values_of, wide_from}
+use Rattle.diva_args.specs.Plain.{PlainLine, given_in}
+use Rattle.diva_args.specs.Rows.{cycles_row, from_row, to_row}
+use Rattle.diva_args.specs.Values.{liar_of, named, number_of}
+use Rattle.diva_args.specs.declared.job.RunOptions.{RunOptions}
 use Rattle.diva_args.specs.declared.lab.Format.{Format}
 use Rattle.diva_args.specs.declared.lab.Format.TheVariants.{Log, Drawing}
 use Rattle.diva_args.specs.declared.lab.LabJob.{LabJob}
@@ -14,14 +15,14 @@ use Rattle.diva_args.specs.declared.lab.LabJob.TheVariants.{Diva, Draw}
 
 -- a run that is drawn has neither commit lines nor a part of memory to show
 unfoldable pub drawn_run_from : (Text → Option Text) → Option RunOptions
-drawn_run_from value = run_with (wide_from value) (cycles_from value) false (Some None) (liar_of (value (codes "liar")))
+drawn_run_from value = run_with (wide_from value) (number_of cycles_row value) false (Some None) (liar_of (value (codes "liar")))
 
--- a drawing of the cycles from one to another: all that a run can have, where none is given, and the second is not before the first
-abbrev pub drawing_to : (from : ℕ) → Option Text → Option Format
-drawing_to from to = option_map (λ t. Drawing from t) (ranged_or from most_cycles most_cycles to)
+-- a drawing of the cycles from one to another, which is not before the first
+abbrev pub drawing_to : (from to : ℕ) → Option Format
+drawing_to from to = if nat_le from to then Some (Drawing from to) else None
 
 unfoldable pub drawing_from : (Text → Option Text) → Option Format
-drawing_from value = option_and_then (λ from. drawing_to from (value (codes "to"))) (ranged_or 1 most_cycles 1 (value (codes "from")))
+drawing_from value = option_and_then (λ from. option_and_then (drawing_to from) (number_of to_row value)) (number_of from_row value)
 
 abbrev pub drawn_by : Option RunOptions → Option Format → Option LabJob
 drawn_by run format = option_and_then (λ r. option_map (λ f. Draw (record { run = r; format = f })) format) run
@@ -42,4 +43,4 @@ lab_of words = option_and_then lab_job_of (taken words)
 
 -- what a plain line asks for
 abbrev pub lab_job_on : PlainLine → Option LabJob
-lab_job_on line = lab_job_from line.command.name (value_in (given_in line))
+lab_job_on line = lab_job_from line.command.name (named (given_in line))

@@ -5,6 +5,7 @@ pub mod Line
 pub mod Lab
 pub mod Options
 pub mod Plain
+pub mod Rows
 pub mod Values
 -- what only private contracts cite
 pub mod Table

@@ -7,15 +7,19 @@ use Rattle.clap.specs.Walk.{Row, Text, first_of}
 use Rattle.clap.specs.Simple.{subcommand_of}
 use Rattle.clap.specs.Faults.{fault_of}
 use Rattle.clap.specs.Kinds.{Kinds}
-use Rattle.diva_core.specs.Timed.{Config, default_config}
+use Rattle.diva_core.specs.Timed.{Config}
 use Rattle.diva_core.specs.Machine.{config_in_range}
 use Rattle.diva_args.specs.Command.{diva}
-use Rattle.diva_args.specs.Options.{DebugOptions, DumpRange, DuoOptions, MigrateOptions, RunOptions, Setup, SoakOptions, TapeOptions, default_campaign_cycles, default_cycles, latest_flip, longest_soak, most_campaign_cycles, most_cycles}
-use Rattle.diva_args.specs.Values.{core_of, dump_of, given_number, hart_core_of, is_set_by, liar_of, ranged_or, room_behind, number_or}
+use Rattle.diva_args.specs.Options.{DebugOptions, DumpRange, DuoOptions, MigrateOptions, Setup}
+use Rattle.diva_args.specs.Rows.{campaign_cycles_row, cycles_row, last_row, length_row, port_row, room_row, seed_row, stores_row, watchdog_row, width_row, window_row}
+use Rattle.diva_args.specs.Values.{core_of, dump_of, hart_core_of, is_set_by, liar_of, named, number_of, room_behind}
 use Rattle.diva_args.specs.declared.campaign.CampaignOptions.{CampaignOptions}
 use Rattle.diva_args.specs.declared.job.CoreChoice.{CoreChoice}
 use Rattle.diva_args.specs.declared.job.HartCore.{HartCore}
 use Rattle.diva_args.specs.declared.job.LanePlace.{LanePlace}
+use Rattle.diva_args.specs.declared.job.RunOptions.{RunOptions}
+use Rattle.diva_args.specs.declared.job.SoakOptions.{SoakOptions}
+use Rattle.diva_args.specs.declared.job.TapeOptions.{TapeOptions}
 use Rattle.diva_args.specs.declared.job.Job.{Job}
 use Rattle.diva_args.specs.declared.job.Job.TheVariants as job
 
@@ -40,25 +44,14 @@ config_with width window stores watchdog port =
       port = p;
     })) port) watchdog) stores) window) width
 
--- the width and the port that the words ask for
-abbrev pub width_from : (Text → Option Text) → Option ℕ
-width_from value = number_or default_config.width (value (codes "width"))
-
-abbrev pub port_from : (Text → Option Text) → Option ℕ
-port_from value = number_or default_config.port (value (codes "port"))
-
 -- the numbers of a machine of this width and port, where they are in their ranges
 unfoldable pub config_from : (width port : Option ℕ) → (Text → Option Text) → Option Config
-config_from width port value = config_with
-    width
-    (number_or default_config.window (value (codes "window")))
-    (number_or default_config.stores (value (codes "stores")))
-    (number_or default_config.limit (value (codes "watchdog")))
-    port
+config_from width port value =
+    config_with width (number_of window_row value) (number_of stores_row value) (number_of watchdog_row value) port
 
 -- how many bytes of memory follow those that an executable loads
 unfoldable pub room_from : (Text → Option Text) → Option ℕ
-room_from value = room_behind (value (codes "room"))
+room_from value = room_behind (value room_row.word)
 
 abbrev pub setup_with : Option Text → (room : Option ℕ) → Option CoreChoice → (script : Option Text) → Option Config → Option Setup
 setup_with image room core script config = option_and_then (λ i. option_and_then (λ r. option_and_then (λ c. option_map (λ z. record {
@@ -76,15 +69,11 @@ setup_from width value = setup_with
     (room_from value)
     (core_of (value (codes "core")) (value (codes "tape")))
     (value (codes "script"))
-    (config_from width (port_from value) value)
+    (config_from width (number_of port_row value) value)
 
 -- the same on a machine of the width that the words ask for
 abbrev pub wide_from : (Text → Option Text) → Option Setup
-wide_from value = setup_from (width_from value) value
-
--- the cycles to run at most
-unfoldable pub cycles_from : (Text → Option Text) → Option ℕ
-cycles_from value = ranged_or 1 most_cycles default_cycles (value (codes "cycles"))
+wide_from value = setup_from (number_of width_row value) value
 
 abbrev pub run_with : Option Setup → Option ℕ → Bool → Option (Option DumpRange) → Option (Option LanePlace) → Option RunOptions
 run_with setup cycles trace dump liar = option_and_then (λ s. option_and_then (λ c. option_and_then (λ d. option_map (λ l.
@@ -92,7 +81,7 @@ run_with setup cycles trace dump liar = option_and_then (λ s. option_and_then (
 
 -- `run`
 unfoldable pub run_from : (Text → Option Text) → Option RunOptions
-run_from value = run_with (wide_from value) (cycles_from value)
+run_from value = run_with (wide_from value) (number_of cycles_row value)
     (is_set_by (value (codes "trace"))) (dump_of (value (codes "dump"))) (liar_of (value (codes "liar")))
 
 abbrev pub tape_with : Option Setup → Option ℕ → Option TapeOptions
@@ -101,7 +90,7 @@ tape_with setup cycles = option_and_then (λ s. option_map (λ c.
 
 -- `tape`
 unfoldable pub tape_from : (Text → Option Text) → Option TapeOptions
-tape_from value = tape_with (wide_from value) (cycles_from value)
+tape_from value = tape_with (wide_from value) (number_of cycles_row value)
 
 abbrev pub duo_with : Option Text → (room : Option ℕ) → Option HartCore → Option Config → (cycles : Option ℕ)
     → Option (Option DumpRange) → Option DuoOptions
@@ -115,8 +104,8 @@ duo_from value = duo_with
     (value (codes "IMAGE"))
     (room_from value)
     (hart_core_of (value (codes "core")))
-    (config_from (width_from value) (Some 1) value)
-    (cycles_from value)
+    (config_from (number_of width_row value) (Some 1) value)
+    (number_of cycles_row value)
     (dump_of (value (codes "dump")))
 
 abbrev pub debug_with : Option Setup → (commands : Option Text) → Option DebugOptions
@@ -141,7 +130,7 @@ soak_with seed instructions = option_and_then (λ s. option_map (λ n.
 
 -- `soak`
 unfoldable pub soak_from : (Text → Option Text) → Option SoakOptions
-soak_from value = soak_with (given_number 0 4294967295 (value (codes "SEED"))) (given_number 1 longest_soak (value (codes "LENGTH")))
+soak_from value = soak_with (number_of seed_row value) (number_of length_row value)
 
 abbrev pub campaign_with : (image : Option Text) → (last cycles : Option ℕ) → Option CampaignOptions
 campaign_with image last cycles = option_and_then (λ i. option_and_then (λ l. option_map (λ c.
@@ -149,24 +138,25 @@ campaign_with image last cycles = option_and_then (λ i. option_and_then (λ l. 
 
 -- `campaign`
 unfoldable pub campaign_from : (Text → Option Text) → Option CampaignOptions
-campaign_from value = campaign_with
-    (value (codes "IMAGE"))
-    (given_number 1 latest_flip (value (codes "LAST")))
-    (ranged_or 1 most_campaign_cycles default_campaign_cycles (value (codes "cycles")))
+campaign_from value = campaign_with (value (codes "IMAGE")) (number_of last_row value) (number_of campaign_cycles_row value)
+
+-- what each command of `diva` asks for
+abbrev pub jobs : (Text → Option Text) → List (Text × Option Job)
+jobs value =
+    (codes "run", option_map job.Run (run_from value))
+    ∷ (codes "tape", option_map job.Tape (tape_from value))
+    ∷ (codes "duo", option_map job.Duo (duo_from value))
+    ∷ (codes "debug", option_map job.Debug (debug_from value))
+    ∷ (codes "asm", option_map job.Asm (value (codes "SRC")))
+    ∷ (codes "dis", option_map job.Dis (value (codes "IMAGE")))
+    ∷ (codes "migrate", option_map job.Migrate (migrate_from value))
+    ∷ (codes "soak", option_map job.Soak (soak_from value))
+    ∷ (codes "campaign", option_map job.Campaign (campaign_from value))
+    ∷ []
 
 -- the job of the command of this name
-abbrev pub job_from : Text → (Text → Option Text) → Option Job
-job_from name value =
-    if bytes_eq name (codes "run") then option_map job.Run (run_from value)
-    else if bytes_eq name (codes "tape") then option_map job.Tape (tape_from value)
-    else if bytes_eq name (codes "duo") then option_map job.Duo (duo_from value)
-    else if bytes_eq name (codes "debug") then option_map job.Debug (debug_from value)
-    else if bytes_eq name (codes "asm") then option_map job.Asm (value (codes "SRC"))
-    else if bytes_eq name (codes "dis") then option_map job.Dis (value (codes "IMAGE"))
-    else if bytes_eq name (codes "migrate") then option_map job.Migrate (migrate_from value)
-    else if bytes_eq name (codes "soak") then option_map job.Soak (soak_from value)
-    else if bytes_eq name (codes "campaign") then option_map job.Campaign (campaign_from value)
-    else None
+unfoldable pub job_from : Text → (Text → Option Text) → Option Job
+job_from name value = option_and_then (λ job. job) (named (jobs value) name)
 
 -- the first value of each positional, option and flag in the matches
 abbrev pub values_of : List Row → Text → Option Text

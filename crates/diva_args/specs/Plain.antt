@@ -8,6 +8,7 @@ use Rattle.std.specs.Str.{bytes_eq}
 use Rattle.clap.specs.Walk.{Text}
 use Rattle.diva_args.specs.Command.{Leaf, leaves}
 use Rattle.diva_args.specs.Line.{job_from}
+use Rattle.diva_args.specs.Values.{named}
 use Rattle.diva_args.specs.declared.job.Job.{Job}
 
 -- an option with its value, or a flag
@@ -79,11 +80,6 @@ pub record IsPlainLine (words : List Text) (line : PlainLine) : Type 0 where
 
 -- ---- what is read off it
 
--- the text that stands beside this name, if any
-abbrev pub value_in : List (Text × Text) → Text → Option Text
-value_in [] name = None
-value_in (given ∷ rest) name = if bytes_eq given.0 name then Some given.1 else value_in rest name
-
 -- a flag stands for the text `true`
 abbrev pub given_by : Use → Text × Text
 given_by (valued name value) = (name, value)
@@ -94,4 +90,4 @@ abbrev pub given_in : PlainLine → List (Text × Text)
 given_in line = zip line.command.positionals line.positionals ++ map given_by line.uses
 
 abbrev pub job_on : PlainLine → Option Job
-job_on line = job_from line.command.name (value_in (given_in line))
+job_on line = job_from line.command.name (named (given_in line))

@@ -1,12 +1,14 @@
 -- What the texts of a command line stand for: the rules on the values of options.
 -- Cited in `Line.antt`, for `read_words`.
-use Rattle.std.specs.Prelude.{ℕ, zero, suc, ◌+◌, ◌%◌, ◌==◌, ◌&&◌, Bool, false, nat_le, codes}
+use Rattle.std.specs.Prelude.{ℕ, zero, suc, ◌+◌, ◌%◌, ◌==◌, Bool, false, nat_le, List, [], ◌∷◌, codes}
 use Rattle.std.specs.Prelude.{Option, Some, None, option_and_then, option_map, if◌then◌else◌}
 use Rattle.std.specs.List.{before_first, after_first}
 use Rattle.std.specs.Str.{bytes_eq}
 use Rattle.clap.specs.Walk.{Text}
+use Rattle.diva_outside.specs.NextWords.{ranged}
 use Rattle.diva_outside.specs.Numbers.{decimal_of, hex_of}
-use Rattle.diva_args.specs.Options.{DumpRange, most_dumped, most_room}
+use Rattle.diva_args.specs.Options.{DumpRange, most_dumped}
+use Rattle.diva_args.specs.Rows.{NumberRow, room_row}
 use Rattle.diva_args.specs.declared.job.CoreChoice.{CoreChoice}
 use Rattle.diva_args.specs.declared.job.HartCore.{HartCore}
 use Rattle.diva_args.specs.declared.job.HartCore.TheVariants as hart
@@ -14,38 +16,39 @@ use Rattle.diva_args.specs.declared.job.LanePlace.{LanePlace}
 use Rattle.diva_args.specs.declared.job.LanePlace.TheVariants.{First, Second, Third}
 use Rattle.diva_args.specs.declared.job.CoreChoice.TheVariants.{Own, Lockstep, Scalar, Silent, Flood, Echo, Noise, Tape}
 
--- the core of this name, for one that takes no tape
-unfoldable pub core_named : Text → Option CoreChoice
-core_named word =
-    if bytes_eq word (codes "own") then Some Own
-    else if bytes_eq word (codes "lockstep") then Some Lockstep
-    else if bytes_eq word (codes "scalar") then Some Scalar
-    else if bytes_eq word (codes "silent") then Some Silent
-    else if bytes_eq word (codes "flood") then Some Flood
-    else if bytes_eq word (codes "echo") then Some Echo
-    else if bytes_eq word (codes "noise") then Some Noise
-    else None
+-- what stands beside this name in a list of rows
+abbrev pub named : {A : Type 0} → List (Text × A) → Text → Option A
+named [] name = None
+named (row ∷ rows) name = if bytes_eq name row.0 then Some row.1 else named rows name
+
+-- the cores that take no tape
+abbrev pub cores : List (Text × CoreChoice)
+cores =
+    (codes "own", Own)
+    ∷ (codes "lockstep", Lockstep)
+    ∷ (codes "scalar", Scalar)
+    ∷ (codes "silent", Silent)
+    ∷ (codes "flood", Flood)
+    ∷ (codes "echo", Echo)
+    ∷ (codes "noise", Noise)
+    ∷ []
 
 -- the core of `--core` and `--tape`: a tape is given exactly where the core is `tape`
 abbrev pub core_of : (core tape : Option Text) → Option CoreChoice
 core_of None None = Some Own
 core_of None (Some tape) = None
-core_of (Some word) None = core_named word
+core_of (Some word) None = named cores word
 core_of (Some word) (Some tape) =
     if bytes_eq word (codes "tape") then Some (Tape tape) else None
 
--- the core of this name, for one that a hart takes
-unfoldable pub hart_core_named : Text → Option HartCore
-hart_core_named word =
-    if bytes_eq word (codes "scalar") then Some hart.Scalar
-    else if bytes_eq word (codes "lockstep") then Some hart.Lockstep
-    else if bytes_eq word (codes "silent") then Some hart.Silent
-    else None
+-- the cores that a hart takes
+abbrev pub hart_cores : List (Text × HartCore)
+hart_cores = (codes "scalar", hart.Scalar) ∷ (codes "lockstep", hart.Lockstep) ∷ (codes "silent", hart.Silent) ∷ []
 
 -- the core of `--core` for harts: `scalar` where none is given
 abbrev pub hart_core_of : Option Text → Option HartCore
 hart_core_of None = Some hart.Scalar
-hart_core_of (Some word) = hart_core_named word
+hart_core_of (Some word) = named hart_cores word
 
 -- whether a flag was given
 abbrev pub is_set_by : Option Text → Bool
@@ -53,32 +56,28 @@ is_set_by None = false
 is_set_by (Some word) = bytes_eq word (codes "true")
 
 -- the number that the word spells, where it is within these bounds
-abbrev pub within : ℕ → ℕ → ℕ → Option ℕ
-within least most n = if nat_le least n && nat_le n most then Some n else None
-
 abbrev pub number_in_range : ℕ → ℕ → Text → Option ℕ
-number_in_range least most word = option_and_then (within least most) (decimal_of word)
+number_in_range least most word = option_and_then (ranged least most) (decimal_of word)
 
--- the same, of a word that has to be given
-abbrev pub given_number : ℕ → ℕ → Option Text → Option ℕ
-given_number least most word = option_and_then (number_in_range least most) word
+-- the number that the word spells, or the default where there is no word
+abbrev pub spelled_or : (default : Option ℕ) → Option Text → Option ℕ
+spelled_or default None = default
+spelled_or default (Some word) = decimal_of word
 
--- a number from `least` to `most`, or what stands for one that is not given
-abbrev pub ranged_or : ℕ → ℕ → ℕ → Option Text → Option ℕ
-ranged_or least most otherwise None = Some otherwise
-ranged_or least most otherwise (Some word) = number_in_range least most word
+-- the number of a row whose word has this value, where it is within the row's range
+abbrev pub number_by : NumberRow → Option Text → Option ℕ
+number_by row word = option_and_then (ranged row.least row.most) (spelled_or row.default word)
 
--- a number below 2 ^ 32, or what stands for one that is not given
-abbrev pub number_or : (otherwise : ℕ) → Option Text → Option ℕ
-number_or otherwise = ranged_or 0 4294967295 otherwise
+abbrev pub number_of : NumberRow → (Text → Option Text) → Option ℕ
+number_of row value = number_by row (value row.word)
 
 -- the number, where it is a multiple of 4
 abbrev pub in_words : ℕ → Option ℕ
 in_words n = if n % 4 == 0 then Some n else None
 
--- how many bytes of memory follow those that an executable loads: none where no number is given
+-- how many bytes of memory follow those that an executable loads
 abbrev pub room_behind : Option Text → Option ℕ
-room_behind word = option_and_then in_words (ranged_or 0 most_room 0 word)
+room_behind word = option_and_then in_words (number_by room_row word)
 
 -- `:`
 abbrev pub is_colon : ℕ → Bool

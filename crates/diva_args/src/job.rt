@@ -1,23 +1,12 @@
 // What a command line asks for.
 use crate::campaign::CampaignOptions;
 use crate::file_name::FileName;
+use crate::rows::{Cycles, SoakLength};
 use diva_core::Config;
 use std::marker::Model;
 
-/// The most cycles that a run can be given.
-pub(crate) const MOST_CYCLES: u32 = 1_000_000_000;
-
-/// The cycles of a run for which none are asked.
-pub(crate) const DEFAULT_CYCLES: u32 = 1_000_000;
-
 /// The most bytes of memory that are shown.
 pub(crate) const MOST_DUMPED: u32 = 4096;
-
-/// The most bytes of memory that follow those that an executable loads.
-pub(crate) const MOST_ROOM: u32 = 16_777_212;
-
-/// The most instructions that are drawn for `soak`.
-pub(crate) const LONGEST_SOAK: u32 = 65_536;
 
 /// A command with its options. On the command line, numbers are spelled with 1 to 10 decimal digits.
 #[derive(Debug, Drop)]
@@ -81,8 +70,8 @@ impl Model for Setup {
 pub struct RunOptions {
     /// The image, its core and its machine.
     pub setup: Setup,
-    /// `--cycles`: the cycles to run at most, 1 to 1,000,000,000; 1,000,000 by default.
-    pub cycles: u64,
+    /// `--cycles`: the cycles to run at most; 1,000,000 by default.
+    pub cycles: Cycles,
     /// `--trace`: a line for each committed instruction.
     pub trace: bool,
     /// `--dump ADDR:LEN`, with 1 to 8 hex digits for the address: the part of memory to show at the end; `None` where
@@ -93,33 +82,13 @@ pub struct RunOptions {
     pub liar: Option<LanePlace>,
 }
 
-impl Model for RunOptions {
-    ghost use Rattle.diva_args.specs.Options.{IsBudget, RunOptions};
-
-    ghost Value = { RunOptions };
-
-    ghost view = { λ r. record { setup = r.setup; cycles = r.cycles; trace = r.trace; dump = r.dump; liar = r.liar } };
-
-    ghost invariant = { λ r. IsBudget r.cycles };
-}
-
 /// `tape IMAGE` with its options.
 #[derive(Debug, Drop)]
 pub struct TapeOptions {
     /// The image, its core and its machine.
     pub setup: Setup,
-    /// `--cycles`: the cycles to run at most, 1 to 1,000,000,000; 1,000,000 by default.
-    pub cycles: u64,
-}
-
-impl Model for TapeOptions {
-    ghost use Rattle.diva_args.specs.Options.{IsBudget, TapeOptions};
-
-    ghost Value = { TapeOptions };
-
-    ghost view = { λ t. record { setup = t.setup; cycles = t.cycles } };
-
-    ghost invariant = { λ t. IsBudget t.cycles };
+    /// `--cycles`: the cycles to run at most; 1,000,000 by default.
+    pub cycles: Cycles,
 }
 
 /// `duo IMAGE` with its options.
@@ -135,8 +104,8 @@ pub struct DuoOptions {
     /// `--width`, `--window`, `--stores` and `--watchdog`: the numbers of each hart, as they are for `run`. Memory's port takes
     /// a store in any cycle: that number is 1.
     pub config: Config,
-    /// `--cycles`: the cycles to run at most, 1 to 1,000,000,000; 1,000,000 by default.
-    pub cycles: u64,
+    /// `--cycles`: the cycles to run at most; 1,000,000 by default.
+    pub cycles: Cycles,
     /// `--dump ADDR:LEN`, with 1 to 8 hex digits for the address: the part of the shared memory to show at the end; `None`
     /// where the option is not given.
     pub dump: Option<DumpRange>,
@@ -144,14 +113,14 @@ pub struct DuoOptions {
 
 impl Model for DuoOptions {
     ghost use Rattle.std.specs.Prelude.{◌≡◌};
-    ghost use Rattle.diva_args.specs.Options.{DuoOptions, IsBudget, IsRoomBehind};
+    ghost use Rattle.diva_args.specs.Options.{DuoOptions, IsRoomBehind};
     ghost use Rattle.diva_core.specs.Machine.{IsConfig};
 
     ghost Value = { DuoOptions };
 
     ghost view = { λ d. record { image = d.image; room = d.room; core = d.core; config = d.config; cycles = d.cycles; dump = d.dump } };
 
-    ghost invariant = { λ d. IsConfig d.config × (d.config.port ≡ 1) × IsRoomBehind d.room × IsBudget d.cycles };
+    ghost invariant = { λ d. IsConfig d.config × (d.config.port ≡ 1) × IsRoomBehind d.room };
 }
 
 /// The core that each of two harts' checkers watches.
@@ -210,18 +179,8 @@ impl Model for MigrateOptions {
 pub struct SoakOptions {
     /// `SEED`: the number from which the image's instructions are drawn, 0 to 4,294,967,295.
     pub seed: u32,
-    /// `LENGTH`: how many instructions are drawn, 1 to 65,536.
-    pub instructions: u32,
-}
-
-impl Model for SoakOptions {
-    ghost use Rattle.diva_args.specs.Options.{IsSoak, SoakOptions};
-
-    ghost Value = { SoakOptions };
-
-    ghost view = { λ s. record { seed = s.seed; instructions = s.instructions } };
-
-    ghost invariant = { λ s. IsSoak s.instructions };
+    /// `LENGTH`: how many instructions are drawn.
+    pub instructions: SoakLength,
 }
 
 /// The core that the checker watches.

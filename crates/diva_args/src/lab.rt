@@ -8,9 +8,10 @@ ghost use Rattle.diva_args.specs.Line.{taken, values_of};
 ghost use Rattle.diva_args.specs.Plain.{IsPlainLine, PlainLine};
 
 use crate::fault::ArgsFault;
-use crate::job::{Job, MOST_CYCLES, RunOptions};
-use crate::read::{cycles, job_named, matches, or_usage, setup, text_of, width};
-use crate::values::{liar, number};
+use crate::job::{Job, RunOptions};
+use crate::read::{job_named, matches, number_of, or_usage, setup, text_of, width};
+use crate::rows::{CYCLES, FROM, TO};
+use crate::values::liar;
 use clap::ArgMatches;
 use std::alloc::Global;
 
@@ -91,7 +92,7 @@ fn drawn_run(alloc: Global, found: &ArgMatches<'_>) -> Result<RunOptions, ArgsFa
     ensures { Reads (drawn_run_from (values_of (rows_of (found_of found.now)))) result }
 {
     let setup = setup(alloc, found, width(found))?;
-    let cycles = or_usage(cycles(found))?;
+    let cycles = or_usage(number_of(found, &CYCLES))?;
     let liar = or_usage(liar(text_of(found, "liar")))?;
     Ok(RunOptions {
         setup,
@@ -107,10 +108,11 @@ fn drawn_run(alloc: Global, found: &ArgMatches<'_>) -> Result<RunOptions, ArgsFa
 fn drawing(found: &ArgMatches<'_>) -> Option<Format>
     ensures { result ≡ drawing_from (values_of (rows_of (found_of found.now))) }
 {
-    let from = number(text_of(found, "from"), 1, MOST_CYCLES, 1)?;
-    let to = number(text_of(found, "to"), from, MOST_CYCLES, MOST_CYCLES)?;
-    Some(Format::Drawing {
-        from: u64::from(from),
-        to: u64::from(to),
-    })
+    let from = u64::from(number_of(found, &FROM)?.get());
+    let to = u64::from(number_of(found, &TO)?.get());
+    if from <= to {
+        Some(Format::Drawing { from, to })
+    } else {
+        None
+    }
 }

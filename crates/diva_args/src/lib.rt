@@ -7,14 +7,15 @@
 //!   commands of its own besides.
 //! - `command`: the table of commands, and `clap`'s command of it.
 //! - `values`: the values of options as cores, numbers, parts of memory and places of voting lanes.
+//! - `rows`: the numbers that words can give, a row for each, with its word, its range and its default.
 //! - `job`: `Job` and its parts, whose types keep the ranges of the numbers. `campaign`: those of the command `campaign`.
 //! - `file_name`: `FileName`, the name of a file. `ranged`: `Ranged`, a number that keeps a range.
 //! - `fault`: `ArgsFault`, why there is no job.
 //!
-//! `specs/Line.antt` says which job the words ask for, over the table of commands (`Command`) and the rules on values (`Values`);
-//! `specs/Lab.antt` the same of the workbench. `specs/Options.antt` has what contracts see of a job, with the ranges
-//! of its numbers, `specs/Fault.antt` why there is none, and `specs/Plain.antt` what a plain line is. `Table` is for private
-//! contracts alone.
+//! `specs/Line.antt` says which job the words ask for, over the table of commands (`Command`), the numbers (`Rows`) and the
+//! rules on values (`Values`); `specs/Lab.antt` the same of the workbench. `specs/Options.antt` has what contracts see of a
+//! job, `specs/Fault.antt` why there is none, and `specs/Plain.antt` what a plain line is. `Table` is for private contracts
+//! alone.
 #![tactic(auto)]
 
 mod campaign;
@@ -25,9 +26,10 @@ mod job;
 mod lab;
 mod ranged;
 mod read;
+mod rows;
 mod values;
 
-pub use campaign::{CampaignCycles, CampaignOptions, LastCycle};
+pub use campaign::CampaignOptions;
 pub use fault::ArgsFault;
 pub use file_name::FileName;
 pub use job::{
@@ -37,3 +39,4 @@ pub use job::{
 pub use lab::{DrawOptions, Format, LabJob, read_lab_words};
 pub use ranged::Ranged;
 pub use read::read_words;
+pub use rows::{CampaignCycles, Cycles, LastCycle, SoakLength};

@@ -1,6 +1,6 @@
 // Numbers that keep a range.
 ghost use Rattle.std.specs.Prelude.{◌≡◌, ◌↔◌, IsSome, IfSome};
-ghost use Rattle.diva_outside.specs.NextWords.{IsInRange};
+ghost use Rattle.diva_outside.specs.NextWords.{IsInRange, ranged};
 
 use std::marker::Model;
 
@@ -25,12 +25,15 @@ impl<const LEAST: u32, const MOST: u32> Model for Ranged<LEAST, MOST> {
 
 impl<const LEAST: u32, const MOST: u32> Ranged<LEAST, MOST> {
     /// The number, `None` exactly if it is out of the range.
-    pub fn new(number: u32) -> Option<Self>
+    pub fn new(number: u64) -> Option<Self>
         ensures in_range { IsSome result ↔ IsInRange LEAST MOST number }
         ensures value { IfSome result (λ r. r ≡ number) }
+        ensures checked { result ≡ ranged LEAST MOST number }
     {
-        if LEAST <= number && number <= MOST {
-            Some(Ranged { number })
+        if u64::from(LEAST) <= number && number <= u64::from(MOST) {
+            Some(Ranged {
+                number: number as u32,
+            })
         } else {
             None
         }

@@ -1,27 +1,26 @@
 // From words to a job.
-ghost use Rattle.std.specs.Prelude.{◌≡◌, ◌≤◌, IfOk, IfSome, None, Some, codes, map, option_and_then, option_map};
+ghost use Rattle.std.specs.Prelude.{◌≡◌, IfOk, IfSome, None, Some, map, option_and_then, option_map};
 ghost use Rattle.clap.specs.Walk.{rows_of};
 ghost use Rattle.clap.specs.Words.{found_of, subcommand_rows_of};
 ghost use Rattle.diva_args.specs.Fault.{Reads};
-ghost use Rattle.diva_args.specs.Line.{campaign_from, command_of, config_from, cycles_from, debug_from, duo_from, job_from, job_of, migrate_from, port_from};
-ghost use Rattle.diva_args.specs.Line.{room_from, run_from, setup_from, soak_from, taken, tape_from, values_of, width_from};
-ghost use Rattle.diva_args.specs.Options.{IsBudget, IsRoomBehind, default_campaign_cycles, latest_flip, most_campaign_cycles};
+ghost use Rattle.diva_args.specs.Line.{campaign_from, command_of, config_from, debug_from, duo_from, job_from, job_of, migrate_from};
+ghost use Rattle.diva_args.specs.Line.{room_from, run_from, setup_from, soak_from, taken, tape_from, values_of};
+ghost use Rattle.diva_args.specs.Options.{IsRoomBehind};
 ghost use Rattle.diva_args.specs.Plain.{IsPlainLine, PlainLine, job_on};
-ghost use Rattle.diva_args.specs.Values.{given_number, is_set_by, number_or, ranged_or};
+ghost use Rattle.diva_args.specs.Rows.{cycles_row, machine_row, port_row, width_row};
+ghost use Rattle.diva_args.specs.Values.{is_set_by, number_of};
 ghost use Rattle.diva_core.specs.Machine.{IsConfig};
 
-use crate::campaign::{
-    CampaignCycles, CampaignOptions, DEFAULT_CAMPAIGN_CYCLES, LATEST_FLIP, LastCycle,
-    MOST_CAMPAIGN_CYCLES,
-};
+use crate::campaign::CampaignOptions;
 use crate::command::command;
 use crate::fault::ArgsFault;
 use crate::file_name::FileName;
 use crate::job::{
-    DEFAULT_CYCLES, DebugOptions, DuoOptions, Job, LONGEST_SOAK, MOST_CYCLES, MOST_ROOM,
-    MigrateOptions, RunOptions, Setup, SoakOptions, TapeOptions,
+    DebugOptions, DuoOptions, Job, MigrateOptions, RunOptions, Setup, SoakOptions, TapeOptions,
 };
-use crate::values::{core, dump, hart_core, liar, number, number_within};
+use crate::ranged::Ranged;
+use crate::rows::{CAMPAIGN_CYCLES, CYCLES, LAST, LENGTH, NumberRow, ROOM, SEED};
+use crate::values::{core, dump, hart_core, liar, number_within};
 use clap::ArgMatches;
 use diva_core::Config;
 use std::alloc::{AllocError, Global};
@@ -64,6 +63,7 @@ fn job(alloc: Global, matches: &ArgMatches<'_>) -> Result<Job, ArgsFault>
 }
 
 /// The job of the subcommand of this name.
+#[tactic(auto, unfolding(crate::specs::Line::job_from))]
 pub(crate) fn job_named(alloc: Global, name: &str, found: &ArgMatches<'_>) -> Result<Job, ArgsFault>
     ensures { Reads (job_from name.now (values_of (rows_of (found_of found.now)))) result }
 {
@@ -87,7 +87,7 @@ fn run(alloc: Global, found: &ArgMatches<'_>) -> Result<RunOptions, ArgsFault>
     ensures { Reads (run_from (values_of (rows_of (found_of found.now)))) result }
 {
     let setup = setup(alloc, found, width(found))?;
-    let cycles = or_usage(cycles(found))?;
+    let cycles = or_usage(number_of(found, &CYCLES))?;
     let dump = or_usage(dump(text_of(found, "dump")))?;
     let liar = or_usage(liar(text_of(found, "liar")))?;
     Ok(RunOptions {
@@ -105,7 +105,7 @@ fn tape(alloc: Global, found: &ArgMatches<'_>) -> Result<TapeOptions, ArgsFault>
     ensures { Reads (tape_from (values_of (rows_of (found_of found.now)))) result }
 {
     let setup = setup(alloc, found, width(found))?;
-    let cycles = or_usage(cycles(found))?;
+    let cycles = or_usage(number_of(found, &CYCLES))?;
     Ok(TapeOptions { setup, cycles })
 }
 
@@ -118,7 +118,7 @@ fn duo(alloc: Global, found: &ArgMatches<'_>) -> Result<DuoOptions, ArgsFault>
     let room = or_usage(room(found))?;
     let core = or_usage(hart_core(text_of(found, "core")))?;
     let config = or_usage(config(found, width(found), Some(1)))?;
-    let cycles = or_usage(cycles(found))?;
+    let cycles = or_usage(number_of(found, &CYCLES))?;
     let dump = or_usage(dump(text_of(found, "dump")))?;
     Ok(DuoOptions {
         image,
@@ -173,8 +173,8 @@ fn migrate(alloc: Global, found: &ArgMatches<'_>) -> Result<MigrateOptions, Args
 fn soak(found: &ArgMatches<'_>) -> Result<SoakOptions, ArgsFault>
     ensures { Reads (soak_from (values_of (rows_of (found_of found.now)))) result }
 {
-    let seed = or_usage(number_of(found, "SEED", 0, u32::MAX))?;
-    let instructions = or_usage(number_of(found, "LENGTH", 1, LONGEST_SOAK))?;
+    let seed = or_usage(number_of(found, &SEED))?.get();
+    let instructions = or_usage(number_of(found, &LENGTH))?;
     Ok(SoakOptions { seed, instructions })
 }
 
@@ -184,8 +184,8 @@ fn campaign(alloc: Global, found: &ArgMatches<'_>) -> Result<CampaignOptions, Ar
     ensures { Reads (campaign_from (values_of (rows_of (found_of found.now)))) result }
 {
     let image = file_of(alloc, found, "IMAGE")?;
-    let last = or_usage(last_cycle(found))?;
-    let cycles = or_usage(campaign_cycles(found))?;
+    let last = or_usage(number_of(found, &LAST))?;
+    let cycles = or_usage(number_of(found, &CAMPAIGN_CYCLES))?;
     Ok(CampaignOptions {
         image,
         last,
@@ -193,32 +193,18 @@ fn campaign(alloc: Global, found: &ArgMatches<'_>) -> Result<CampaignOptions, Ar
     })
 }
 
-/// The last cycle in which a campaign flips a bit.
-fn last_cycle(found: &ArgMatches<'_>) -> Option<LastCycle>
-    ensures { result ≡ given_number 1 latest_flip (values_of (rows_of (found_of found.now)) (codes "LAST")) }
+/// The number of a row, `None` where the words spell none in its range.
+pub(crate) fn number_of<const LEAST: u32, const MOST: u32>(
+    found: &ArgMatches<'_>,
+    row: &NumberRow<LEAST, MOST>,
+) -> Option<Ranged<LEAST, MOST>>
+    ensures { result ≡ number_of (record { word = row.now.word.now; least = LEAST; most = MOST; default = row.now.default })
+        (values_of (rows_of (found_of found.now))) }
 {
-    LastCycle::new(number_of(found, "LAST", 1, LATEST_FLIP)?)
-}
-
-/// The cycles of each run of a campaign at most.
-fn campaign_cycles(found: &ArgMatches<'_>) -> Option<CampaignCycles>
-    ensures { result ≡ ranged_or 1 most_campaign_cycles default_campaign_cycles
-        (values_of (rows_of (found_of found.now)) (codes "cycles")) }
-{
-    CampaignCycles::new(number(
-        text_of(found, "cycles"),
-        1,
-        MOST_CAMPAIGN_CYCLES,
-        DEFAULT_CAMPAIGN_CYCLES,
-    )?)
-}
-
-/// The number from `least` to `most` that a positional spells.
-fn number_of(found: &ArgMatches<'_>, id: &str, least: u32, most: u32) -> Option<u32>
-    ensures value { result ≡ given_number least most (values_of (rows_of (found_of found.now)) id.now) }
-    ensures in_range { IfSome result (λ n. (least ≤ n) × (n ≤ most)) }
-{
-    number_within(text_of(found, id)?, least, most)
+    match text_of(found, row.word) {
+        Some(word) => number_within(word),
+        None => Ranged::new(u64::from(row.default?)),
+    }
 }
 
 /// What commands have in common that run an image, on a machine of this width.
@@ -253,42 +239,36 @@ fn config(found: &ArgMatches<'_>, width: Option<u32>, port: Option<u32>) -> Opti
     let usual = Config::default();
     Config::new(
         width?,
-        number_or(found, "window", usual.window())?,
-        number_or(found, "stores", usual.stores())?,
-        number_or(found, "watchdog", usual.limit())?,
+        machine_number(found, "window", usual.window())?,
+        machine_number(found, "stores", usual.stores())?,
+        machine_number(found, "watchdog", usual.limit())?,
     )?
     .with_port(port?)
 }
 
 /// The width that the words ask for.
 pub(crate) fn width(found: &ArgMatches<'_>) -> Option<u32>
-    ensures { result ≡ width_from (values_of (rows_of (found_of found.now))) }
+    ensures { result ≡ number_of width_row (values_of (rows_of (found_of found.now))) }
 {
-    number_or(found, "width", Config::default().width())
+    machine_number(found, "width", Config::default().width())
 }
 
 /// The port that the words ask for.
 fn port(found: &ArgMatches<'_>) -> Option<u32>
-    ensures { result ≡ port_from (values_of (rows_of (found_of found.now))) }
+    ensures { result ≡ number_of port_row (values_of (rows_of (found_of found.now))) }
 {
-    number_or(found, "port", Config::default().port())
+    machine_number(found, "port", Config::default().port())
 }
 
-/// The number of an option of the machine, or what stands for one that is not given.
-fn number_or(found: &ArgMatches<'_>, name: &str, otherwise: u32) -> Option<u32>
-    ensures { result ≡ number_or otherwise (values_of (rows_of (found_of found.now)) name.now) }
+/// A number of the machine, whose range `Config` has.
+fn machine_number(found: &ArgMatches<'_>, word: &'static str, default: u32) -> Option<u32>
+    ensures { result ≡ number_of (machine_row word.now default) (values_of (rows_of (found_of found.now))) }
 {
-    number(text_of(found, name), 0, u32::MAX, otherwise)
-}
-
-/// The cycles to run at most.
-#[tactic(auto, unfolding(crate::specs::Line::cycles_from))]
-pub(crate) fn cycles(found: &ArgMatches<'_>) -> Option<u64>
-    ensures value { result ≡ cycles_from (values_of (rows_of (found_of found.now))) }
-    ensures in_range { IfSome result IsBudget }
-{
-    let cycles = number(text_of(found, "cycles"), 1, MOST_CYCLES, DEFAULT_CYCLES)?;
-    Some(u64::from(cycles))
+    let row = NumberRow::<0, { u32::MAX }> {
+        word,
+        default: Some(default),
+    };
+    Some(number_of(found, &row)?.get())
 }
 
 /// How many bytes of memory follow those that an executable loads.
@@ -297,7 +277,7 @@ fn room(found: &ArgMatches<'_>) -> Option<u32>
     ensures value { result ≡ room_from (values_of (rows_of (found_of found.now))) }
     ensures in_range { IfSome result IsRoomBehind }
 {
-    let room = number(text_of(found, "room"), 0, MOST_ROOM, 0)?;
+    let room = number_of(found, &ROOM)?.get();
     if room % 4 == 0 { Some(room) } else { None }
 }
 

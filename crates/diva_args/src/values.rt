@@ -1,12 +1,12 @@
 // The values of options as cores, numbers, parts of memory and places of voting lanes.
-ghost use Rattle.std.specs.Prelude.{◌≡◌, ◌≤◌, IfOk, IfSome, None, Some, option_map};
+ghost use Rattle.std.specs.Prelude.{◌≡◌, IfOk, None, Some, option_map};
 ghost use Rattle.diva_args.specs.Fault.{Reads};
-ghost use Rattle.diva_args.specs.Values.{core_named, core_of, dump_of, dump_range_of, hart_core_named, hart_core_of, liar_of, number_in_range};
-ghost use Rattle.diva_args.specs.Values.{place_numbered, ranged_or};
+ghost use Rattle.diva_args.specs.Values.{core_of, cores, dump_of, dump_range_of, hart_core_of, hart_cores, liar_of, named, number_in_range, place_numbered};
 
 use crate::fault::ArgsFault;
 use crate::file_name::FileName;
 use crate::job::{CoreChoice, DumpRange, HartCore, LanePlace, MOST_DUMPED};
+use crate::ranged::Ranged;
 use diva_outside::{decimal, hex};
 use std::alloc::Global;
 
@@ -30,9 +30,8 @@ pub(crate) fn core(
 }
 
 /// The core of that name, for one that takes no tape.
-#[tactic(auto, unfolding(crate::specs::Values::core_named))]
 fn named_core(name: &str) -> Option<CoreChoice>
-    ensures { result ≡ core_named name.now }
+    ensures { result ≡ named cores name.now }
 {
     match name {
         "own" => Some(CoreChoice::Own),
@@ -57,9 +56,8 @@ pub(crate) fn hart_core(name: Option<&str>) -> Option<HartCore>
 }
 
 /// The core of that name, for one that a hart takes.
-#[tactic(auto, unfolding(crate::specs::Values::hart_core_named))]
 fn named_hart_core(name: &str) -> Option<HartCore>
-    ensures { result ≡ hart_core_named name.now }
+    ensures { result ≡ named hart_cores name.now }
 {
     match name {
         "scalar" => Some(HartCore::Scalar),
@@ -69,32 +67,11 @@ fn named_hart_core(name: &str) -> Option<HartCore>
     }
 }
 
-/// The number of an option: `otherwise` where the option is not given, and `None` where the word does not spell a
-/// number from `least` to `most`.
-pub(crate) fn number(word: Option<&str>, least: u32, most: u32, otherwise: u32) -> Option<u32>
-    requires low { least ≤ otherwise }
-    requires high { otherwise ≤ most }
-    ensures value { result
-        ≡ ranged_or least most otherwise (option_map (λ text. text.now) word.entry) }
-    ensures in_range { IfSome result (λ n. (least ≤ n) × (n ≤ most)) }
+/// The number from `LEAST` to `MOST` that the word spells.
+pub(crate) fn number_within<const LEAST: u32, const MOST: u32>(word: &str) -> Option<Ranged<LEAST, MOST>>
+    ensures { result ≡ number_in_range LEAST MOST word.now }
 {
-    match word {
-        Some(word) => number_within(word, least, most),
-        None => Some(otherwise),
-    }
-}
-
-/// The number from `least` to `most` that the word spells.
-pub(crate) fn number_within(word: &str, least: u32, most: u32) -> Option<u32>
-    ensures value { result ≡ number_in_range least most word.now }
-    ensures in_range { IfSome result (λ n. (least ≤ n) × (n ≤ most)) }
-{
-    let number = decimal(word.as_bytes())?;
-    if u64::from(least) <= number && number <= u64::from(most) {
-        Some(number as u32)
-    } else {
-        None
-    }
+    Ranged::new(decimal(word.as_bytes())?)
 }
 
 /// The memory of `--dump`: `Some(None)` where the option is not given, and `None` where the word is not `ADDR:LEN`.
@@ -114,7 +91,7 @@ fn dump_range(word: &str) -> Option<DumpRange>
 {
     let (addr, len) = word.split_once(':')?;
     let addr = hex(addr.as_bytes())?;
-    let len = number_within(len, 1, MOST_DUMPED)?;
+    let len = number_within::<1, MOST_DUMPED>(len)?.get();
     if u64::from(addr) + u64::from(len) <= 1 << 32 {
         Some(DumpRange { addr, len })
     } else {
@@ -128,7 +105,7 @@ pub(crate) fn liar(word: Option<&str>) -> Option<Option<LanePlace>>
     ensures { result ≡ liar_of (option_map (λ text. text.now) word.entry) }
 {
     match word {
-        Some(word) => Some(Some(place_numbered(number_within(word, 0, 2)?))),
+        Some(word) => Some(Some(place_numbered(number_within::<0, 2>(word)?.get()))),
         None => Some(None),
     }
 }

@@ -18,7 +18,9 @@ use Rattle.diva_faults.specs.Lists.{scripted}
 use Rattle.diva_trace.specs.Lines.{end_line_of, soak_line}
 use Rattle.diva_trace.specs.Text.{output_text, registers_text, soak_text, text_of}
 use Rattle.diva_trace.specs.declared.report.SoakCore.{SoakCore}
-use Rattle.diva_args.specs.Options.{RunOptions, Setup, SoakOptions}
+use Rattle.diva_args.specs.Options.{Setup}
+use Rattle.diva_args.specs.declared.job.RunOptions.{RunOptions}
+use Rattle.diva_args.specs.declared.job.SoakOptions.{SoakOptions}
 use Rattle.diva_args.specs.declared.job.CoreChoice.{CoreChoice}
 use Rattle.diva_args.specs.declared.job.CoreChoice.TheVariants.{Own}
 use Rattle.diva_process.specs.declared.status.Status.{Status}

@@ -21,7 +21,8 @@ use Rattle.diva_tape.proofs.Playing.{played-next}
 use Rattle.diva_tape.proofs.ReadingBack.{tape_read_back}
 use Rattle.diva_outside.specs.declared.files.What.TheVariants.{Image, Script, Tape as TapeFile}
 use Rattle.diva_outside.specs.declared.sink.SinkFailed.{SinkFailed}
-use Rattle.diva_args.specs.Options.{RunOptions, TapeOptions}
+use Rattle.diva_args.specs.declared.job.RunOptions.{RunOptions}
+use Rattle.diva_args.specs.declared.job.TapeOptions.{TapeOptions}
 use Rattle.diva_args.specs.declared.job.CoreChoice.{CoreChoice}
 use Rattle.diva_args.specs.declared.job.Job.TheVariants.{Tape}
 use Rattle.diva_trace.specs.Text.{text_of}

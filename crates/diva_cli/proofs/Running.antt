@@ -23,7 +23,8 @@ use Rattle.diva_outside.specs.Lent.{lent}
 use Rattle.diva_outside.specs.Sink.{TakesPast, PutsTo, LentSink, SinkAccount}
 use Rattle.diva_outside.specs.declared.sink.SinkFailed.{SinkFailed}
 use Rattle.diva_outside.proofs.Sinks.{puts_nothing, puts_past, puts_then}
-use Rattle.diva_args.specs.Options.{Setup, RunOptions, DumpRange}
+use Rattle.diva_args.specs.Options.{Setup, DumpRange}
+use Rattle.diva_args.specs.declared.job.RunOptions.{RunOptions}
 use Rattle.diva_args.specs.declared.job.Job.TheVariants.{Run}
 use Rattle.diva_trace.specs.Text.{commits_text, text_of, trace_of}
 use Rattle.diva_trace.proofs.Numbered.{commits_text-append, commits_text-none}

@@ -26,7 +26,8 @@ use Rattle.diva_soak.specs.Halts.{HaltsWithin}
 use Rattle.diva_soak.specs.Soak.{soak_size}
 use Rattle.diva_soak.proofs.Halting.{soak_halts}
 use Rattle.diva_trace.specs.Text.{soak_text}
-use Rattle.diva_args.specs.Options.{SoakOptions, longest_soak}
+use Rattle.diva_args.specs.Rows.{length_row}
+use Rattle.diva_args.specs.declared.job.SoakOptions.{SoakOptions}
 use Rattle.diva_args.specs.declared.job.CoreChoice.{CoreChoice}
 use Rattle.diva_args.specs.declared.job.CoreChoice.TheVariants.{Own, Scalar}
 use Rattle.diva_args.specs.declared.job.Job.TheVariants.{Soak}
@@ -62,11 +63,11 @@ abbrev soak_new : SoakOptions → Timed
 soak_new options = new_timed default_config (soak_start options)
 
 -- memory has room for the longest
-soak_fits : (n : ℕ) → n ≤ longest_soak → soak_size n ≤ most_size
+soak_fits : (n : ℕ) → n ≤ length_row.most → soak_size n ≤ most_size
 soak_fits n few = omega arith
 
 -- the table's run from the image of a seed halts
-abbrev table_halts : (options : SoakOptions) → options.instructions ≤ longest_soak → HaltsWithin (options.instructions + 3) (soak_start options)
+abbrev table_halts : (options : SoakOptions) → options.instructions ≤ length_row.most → HaltsWithin (options.instructions + 3) (soak_start options)
 table_halts options few = soak_halts options.seed options.instructions (soak_fits options.instructions few)
 
 -- ---- a drive from there
@@ -90,7 +91,7 @@ drove gives options m core last after budget r is all t within ended ran =
     }
 
 module _ {D : Type 0} (gives : Meaning D) (options : SoakOptions) (core : D) (last : Timed) (after : D)
-    (few : options.instructions ≤ longest_soak) (s : Soaks gives options (change core after) last) where
+    (few : options.instructions ≤ length_row.most) (s : Soaks gives options (change core after) last) where
   abbrev lists : List (List Record)
   lists = lists_of s.turns.history
 
@@ -122,7 +123,7 @@ module _ {D : Type 0} (gives : Meaning D) (options : SoakOptions) (core : D) (la
 -- it is a run by the core of a choice, where its lists are those of that core
 soak_run :
     {C D : Type 0} (gives : Meaning C) (its : Meaning D) (options : SoakOptions) (choice : CoreChoice) (core after : C) (first : D) (last : Timed) (final : D)
-    (few : options.instructions ≤ longest_soak) (s : Soaks its options (change first final) last)
+    (few : options.instructions ≤ length_row.most) (s : Soaks its options (change first final) last)
     → AreHanded gives choice [] [] (change (soak_new options) last) (change core after) (Handed (lists its options first last final few s) ∷ [])
     → IsSoakRun gives options choice (change core after) last
 soak_run gives its options choice core after first last final few s handed =
@@ -133,7 +134,7 @@ soak_run gives its options choice core after first last final few s handed =
 -- its turns are those of the core under a script that has no rows
 soak_turns :
     {D : Type 0} (its : Meaning D) (options : SoakOptions) (first : D) (last : Timed) (final : D)
-    (few : options.instructions ≤ longest_soak) (s : Soaks its options (change first final) last)
+    (few : options.instructions ≤ length_row.most) (s : Soaks its options (change first final) last)
     → ByLegs (spoiled [] its) (change (soak_new options) last) (change first final) (Handed (lists its options first last final few s) ∷ [])
 soak_turns its options first last final few s =
     let t = Turns-none its (soak_new options) first last final s.turns in
@@ -142,14 +143,14 @@ soak_turns its options first last final few s =
 
 own_run :
     {C : Type 0} (gives : Meaning C) (options : SoakOptions) (core : C) (last : Timed) (after : C)
-    → options.instructions ≤ longest_soak → Soaks gives options (change core after) last
+    → options.instructions ≤ length_row.most → Soaks gives options (change core after) last
     → IsSoakRun gives options Own (change core after) last
 own_run gives options core last after few s =
     soak_run gives gives options Own core after core last after few s (soak_turns gives options core last after few s)
 
 scalar_run :
     {C : Type 0} (gives : Meaning C) (options : SoakOptions) (core : C) (last : Timed) (ahead : Ahead)
-    → options.instructions ≤ longest_soak → Soaks IsScalarCall options (change new_scalar ahead) last
+    → options.instructions ≤ length_row.most → Soaks IsScalarCall options (change new_scalar ahead) last
     → IsSoakRun gives options Scalar (change core core) last
 scalar_run gives options core last ahead few s =
     soak_run gives IsScalarCall options Scalar core core new_scalar last ahead few s
@@ -160,7 +161,7 @@ scalar_run gives options core last ahead few s =
 -- ---- what is written of them
 
 module _ {C S : Type 0} (gives : Meaning C) (options : SoakOptions) (bytes : FileBytes) (core : C) (ahead : Ahead) (first second : Timed) (after : C)
-    (few : options.instructions ≤ longest_soak) (one : Soaks IsScalarCall options (change new_scalar ahead) first) (two : Soaks gives options (change core after) second)
+    (few : options.instructions ≤ length_row.most) (one : Soaks IsScalarCall options (change new_scalar ahead) first) (two : Soaks gives options (change core after) second)
     (sink : LentSink S) where
   abbrev first_end : (first.arch ≡ steps (table_halts options few).after (soak_start options)) × (first.count ≡ (table_halts options few).after)
   first_end = at_end IsScalarCall options new_scalar first ahead few one

@@ -4,7 +4,7 @@ use Rattle.diva_core.specs.History.{Meaning}
 use Rattle.diva_core.specs.Timed.{Timed}
 use Rattle.diva_isa.specs.State.{State}
 use Rattle.diva_isa.specs.declared.record.Record.{Record}
-use Rattle.diva_args.specs.Options.{RunOptions}
+use Rattle.diva_args.specs.declared.job.RunOptions.{RunOptions}
 use Rattle.diva_args.specs.declared.job.LanePlace.{LanePlace}
 use Rattle.diva_cli.specs.Changes.{Change}
 use Rattle.diva_cli.specs.Runs.{HasRun, IsBrokenOff, IsShown}

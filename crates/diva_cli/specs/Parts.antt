@@ -11,7 +11,9 @@ use Rattle.diva_core.specs.Timed.{Timed, default_config, new_timed}
 use Rattle.diva_core.specs.History.{Meaning, Turns}
 use Rattle.diva_faults.specs.declared.rows.Row.{Row}
 use Rattle.diva_tape.specs.Scalar.{new_scalar}
-use Rattle.diva_args.specs.Options.{DebugOptions, DuoOptions, SoakOptions, longest_soak}
+use Rattle.diva_args.specs.Options.{DebugOptions, DuoOptions}
+use Rattle.diva_args.specs.Rows.{length_row}
+use Rattle.diva_args.specs.declared.job.SoakOptions.{SoakOptions}
 use Rattle.diva_debug.specs.Moves.{IsShort}
 use Rattle.diva_debug.specs.Reading.{commands_of}
 use Rattle.diva_debug.specs.declared.command.Command.{Command}
@@ -92,7 +94,7 @@ pub record HoldsSession (contents : Contents) (options : DebugOptions) (session 
 
 -- both machines are new and begin with the image of the seed, which is not too long, and the core of the first is new
 pub record IsSoakReady (options : SoakOptions) (ready : SoakReady) : Type 0 where
-  pub few : options.instructions ≤ longest_soak
+  pub few : options.instructions ≤ length_row.most
   pub first : ready.first.timed ≡ new_timed default_config (soak_start options)
   pub second : ready.second.timed ≡ new_timed default_config (soak_start options)
   pub scalar : ready.scalar ≡ new_scalar

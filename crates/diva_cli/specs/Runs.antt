@@ -16,7 +16,8 @@ use Rattle.diva_core.specs.Headline.{AddsRows, AreCommitted, EndsAfter}
 use Rattle.diva_core.specs.Right.{AreRight}
 use Rattle.diva_faults.specs.declared.rows.Row.{Row}
 use Rattle.diva_faults.specs.Spoiled.{spoiled}
-use Rattle.diva_args.specs.Options.{Setup, RunOptions, DumpRange}
+use Rattle.diva_args.specs.Options.{Setup, DumpRange}
+use Rattle.diva_args.specs.declared.job.RunOptions.{RunOptions}
 use Rattle.diva_trace.specs.declared.report.Dump.{Dump}
 use Rattle.diva_trace.specs.Text.{text_of, trace_of}
 use Rattle.diva_cli.specs.Changes.{Change}

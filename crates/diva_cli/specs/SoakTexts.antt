@@ -10,7 +10,8 @@ use Rattle.diva_core.specs.History.{Meaning}
 use Rattle.diva_hart.specs.Start.{start_of}
 use Rattle.diva_soak.specs.Soak.{soak_of}
 use Rattle.diva_trace.specs.Text.{soak_text}
-use Rattle.diva_args.specs.Options.{Setup, SoakOptions}
+use Rattle.diva_args.specs.Options.{Setup}
+use Rattle.diva_args.specs.declared.job.SoakOptions.{SoakOptions}
 use Rattle.diva_args.specs.declared.job.CoreChoice.{CoreChoice}
 use Rattle.diva_args.specs.declared.job.CoreChoice.TheVariants.{Own, Scalar}
 use Rattle.diva_process.specs.declared.status.Status.{Status}

@@ -12,7 +12,8 @@ use Rattle.diva_tape.specs.TapeCalls.{played}
 use Rattle.diva_tape.specs.Tapes.{tape_of}
 use Rattle.diva_tape.specs.TapeText.{tape_text}
 use Rattle.diva_trace.specs.Text.{text_of}
-use Rattle.diva_args.specs.Options.{RunOptions, TapeOptions}
+use Rattle.diva_args.specs.declared.job.RunOptions.{RunOptions}
+use Rattle.diva_args.specs.declared.job.TapeOptions.{TapeOptions}
 use Rattle.diva_args.specs.declared.job.CoreChoice.TheVariants.{Tape as OfTape}
 use Rattle.diva_cli.specs.Changes.{Change, change}
 use Rattle.diva_process.specs.declared.status.Status.{Status}

@@ -102,7 +102,8 @@ fn duo_ready<S: Sink, C: Core>(
         → WritesText (work_of C.gives
         (asking _core.now _core.now no_lanes)) (Command options.now) bytes (lent S.account sink.old sink.new) result }
 {
-    drive_both(&mut ready.duo, &mut ready.cores, options.cycles);
+    let cycles = u64::from(options.cycles.get());
+    drive_both(&mut ready.duo, &mut ready.cores, cycles);
     write_duo(&ready.duo, options.dump, sink)?;
     Ok(duo_status(&ready.duo))
 }

@@ -1,7 +1,8 @@
 //! What follows of the text of a run, and of the text of `soak`. The functions have no body: their clauses are about the definitions.
 ghost use Rattle.std.specs.Prelude.{◌≡◌, ℕ, true, Option, Result, IsOk};
 ghost use Rattle.diva_outside.specs.Text.{Text};
-ghost use Rattle.diva_args.specs.Options.{RunOptions, SoakOptions};
+ghost use Rattle.diva_args.specs.declared.job.RunOptions.{RunOptions};
+ghost use Rattle.diva_args.specs.declared.job.SoakOptions.{SoakOptions};
 ghost use Rattle.diva_args.specs.declared.job.CoreChoice.TheVariants.{Own};
 ghost use Rattle.diva_args.specs.declared.job.LanePlace.{LanePlace};
 ghost use Rattle.diva_cli.specs.Changes.{Change, change};

@@ -66,7 +66,7 @@ fn run_ready<S: Sink, C: Core, L: Lane>(
     drive_run(
         ready,
         options.trace,
-        options.cycles,
+        u64::from(options.cycles.get()),
         options.liar,
         core,
         lanes,
@@ -150,7 +150,7 @@ fn tape_ready<S: Sink, C: Core, L: Lane>(
         (asking core.old core.new (are_asked L.says lanes.old lanes.new))) (Tape options) bytes (lent S.account sink.old sink.new) result }
 {
     let mut task = Watched {
-        cycles: options.cycles,
+        cycles: u64::from(options.cycles.get()),
         liar: None,
         watcher: TapeLines,
     };

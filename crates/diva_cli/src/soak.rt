@@ -55,7 +55,7 @@ fn make_soak(alloc: Global, options: &SoakOptions) -> Result<SoakReady, AllocErr
     ensures { IfOk result (IsSoakReady options.now) }
 {
     let scalar = Scalar::new(alloc)?;
-    let image = soak_image(alloc, options.seed, options.instructions)?;
+    let image = soak_image(alloc, options.seed, options.instructions.get())?;
     let first = Machine::new(alloc, &image, Config::default())?;
     let second = Machine::new(alloc, &image, Config::default())?;
     Ok(SoakReady {
@@ -96,7 +96,7 @@ fn drive_new<D: Core>(machine: &mut Machine, core: &mut D, options: &SoakOptions
     requires { machine.old.timed ≡ new_timed default_config (soak_start options.now) }
     ensures { Soaks D.gives options.now (change core.old core.new) machine.new.timed }
 {
-    drive(machine, core, soak_cycles(options.instructions));
+    drive(machine, core, soak_cycles(options.instructions.get()));
 }
 
 /// The cycles in which a machine ends for sure whose image has so many drawn instructions: W + 6 for each that may commit, W being

@@ -60,7 +60,7 @@ fn draw_ready<S: Sink, C: Core, L: Lane>(
         (asking core.old core.new (are_asked L.says lanes.old lanes.new))) (Draw options) bytes (lent S.account sink.old sink.new) result }
 {
     let mut task = Watched {
-        cycles: options.run.cycles,
+        cycles: u64::from(options.run.cycles.get()),
         liar: options.run.liar,
         watcher: Drawer {
             format: options.format,

@@ -203,7 +203,7 @@ fn text_of(alloc: Global, job: &Job) -> Result<String, AllocError> {
     match job {
         Job::Run(options) => run_text(alloc, options),
         Job::Tape(TapeOptions { setup, cycles }) => {
-            let setup = setup_text(alloc, setup)?;
+            let (setup, cycles) = (setup_text(alloc, setup)?, cycles.get());
             format!(in alloc; "tape {setup} {cycles}")
         }
         Job::Duo(options) => duo_text(alloc, options),
@@ -217,7 +217,7 @@ fn text_of(alloc: Global, job: &Job) -> Result<String, AllocError> {
             format!(in alloc; "migrate {:?} {room}", image.as_str())
         }
         Job::Soak(SoakOptions { seed, instructions }) => {
-            format!(in alloc; "soak {seed} {instructions}")
+            format!(in alloc; "soak {seed} {}", instructions.get())
         }
         Job::Campaign(
             CampaignOptions {
@@ -245,7 +245,7 @@ fn lab_text_of(alloc: Global, job: &LabJob) -> Result<String, AllocError> {
 
 fn run_text(alloc: Global, options: &RunOptions) -> Result<String, AllocError> {
     let setup = setup_text(alloc, &options.setup)?;
-    let (cycles, trace) = (options.cycles, options.trace);
+    let (cycles, trace) = (options.cycles.get(), options.trace);
     let (dump, liar) = (&options.dump, &options.liar);
     format!(in alloc; "run {setup} {cycles} {trace} {dump:?} {liar:?}")
 }
@@ -260,7 +260,7 @@ fn setup_text(alloc: Global, setup: &Setup) -> Result<String, AllocError> {
 fn duo_text(alloc: Global, options: &DuoOptions) -> Result<String, AllocError> {
     let (image, room, core) = (options.image.as_str(), options.room, options.core);
     let config = config_text(alloc, &options.config)?;
-    let (cycles, dump) = (options.cycles, &options.dump);
+    let (cycles, dump) = (options.cycles.get(), &options.dump);
     format!(in alloc; "duo {image:?} {room} {core:?} {config} {cycles} {dump:?}")
 }
 

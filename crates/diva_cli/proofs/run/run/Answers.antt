@@ -1,6 +1,6 @@
 -- What was loaded, and what was written of it, come to an answer.
 use Rattle.std.proofs.Common.{ap, refl}
-use Rattle.diva_args.specs.Options.{RunOptions}
+use Rattle.diva_args.specs.declared.job.RunOptions.{RunOptions}
 use Rattle.diva_args.specs.declared.job.Job.TheVariants.{Run}
 use Rattle.diva_cli.proofs.Working.{ready_answers, unready_answers}
 use Rattle.diva_cli.proofs.run.run.Goals as goal

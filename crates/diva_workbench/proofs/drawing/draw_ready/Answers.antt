@@ -1,5 +1,5 @@
 -- What is written of a run that is drawn.
-use Rattle.std.proofs.Common.{Ok, ap, refl}
+use Rattle.std.proofs.Common.{◌∙◌, Ok, ap, refl}
 use Rattle.std.proofs.lemmas.Result.{err_from_is_err_and}
 use Rattle.diva_args.specs.declared.lab.DrawOptions.{DrawOptions}
 use Rattle.diva_workbench.proofs.DrawRunning.{cut_begin, cut_end, cut_turns, wrote_drawing}
@@ -17,7 +17,7 @@ returns-in_err-drive g c = λ bytes is.
     let p = err_from_is_err_and c.from_residual-in_err-drive.result c.from_residual-in_err-drive.ensures.1 in
     rw (p.1, p.2) (cut_turns g.C.Core.gives c.args.options bytes c.args.ready.now c.args.core.now _ _ _ _ _ _ g.S.Sink.account _ _ _ _
     (ap (λ (o : DrawOptions). o.format) c.options.view_is) c.new.ensures.rows c.new.ensures.seen
-    (ap (λ (o : DrawOptions). o.run.cycles) c.options.view_is) (ap (λ (o : DrawOptions). o.run.liar) c.options.view_is)
+    (c.get.ensures.value ∙ ap (λ (o : DrawOptions). o.run.cycles) c.options.view_is) (ap (λ (o : DrawOptions). o.run.liar) c.options.view_is)
     c.requires.fits is _ c.in_err-drive.ensures c.in_ok-begin.ensures _ refl)
 
 pub returns-in_err-end : goal.returns-in_err-end
@@ -25,12 +25,12 @@ returns-in_err-end g c = λ bytes is.
     let p = err_from_is_err_and c.from_residual-in_err-end.result c.from_residual-in_err-end.ensures.1 in
     rw (p.1, p.2) (cut_end g.C.Core.gives c.args.options bytes c.args.ready.now c.args.core.now _ _ _ _ _ _ g.S.Sink.account _ _ _ (Ok tt)
     (ap (λ (o : DrawOptions). o.format) c.options.view_is) c.new.ensures.rows c.new.ensures.seen
-    (ap (λ (o : DrawOptions). o.run.cycles) c.options.view_is) (ap (λ (o : DrawOptions). o.run.liar) c.options.view_is)
+    (c.get.ensures.value ∙ ap (λ (o : DrawOptions). o.run.cycles) c.options.view_is) (ap (λ (o : DrawOptions). o.run.liar) c.options.view_is)
     c.requires.fits is _ c.in_ok-drive.ensures c.in_ok-begin.ensures _ refl _ c.in_err-end.ensures _ refl)
 
 pub returns : goal.returns
 returns g c = λ bytes is.
     wrote_drawing g.C.Core.gives c.args.options bytes c.args.ready.now c.args.core.now _ _ _ _ _ _ g.S.Sink.account _ _ _ (Ok tt)
     (ap (λ (o : DrawOptions). o.format) c.options.view_is) c.new.ensures.rows c.new.ensures.seen
-    (ap (λ (o : DrawOptions). o.run.cycles) c.options.view_is) (ap (λ (o : DrawOptions). o.run.liar) c.options.view_is)
+    (c.get.ensures.value ∙ ap (λ (o : DrawOptions). o.run.cycles) c.options.view_is) (ap (λ (o : DrawOptions). o.run.liar) c.options.view_is)
     c.requires.fits is _ c.in_ok-drive.ensures c.in_ok-begin.ensures _ refl _ c.in_ok-end.ensures refl c.end_status.result c.end_status.ensures
