@@ -1,2 +1,2 @@
 -- What follows from the definitions.
-mod Padding
+mod Registers

@@ -2,7 +2,7 @@
 use Rattle.std.proofs.Common.{rules, ◌≡◌, ◌++◌, OnOk, string_bytes, ℕ, List, Option, Some, ap, codes, subst}
 use Rattle.std.specs.Fmt.{decimal, AppendsText, ◌++?◌, styled_digits_output}
 use Rattle.diva_test_programs.specs.Texts.{end_text, hex_text}
-use Rattle.diva_test_programs.proofs.Padding.{five_texts, padded_word}
+use Rattle.diva_test_programs.proofs.Registers.{five_texts, padded_word}
 use Rattle.diva_test_programs.proofs.push_register.Goals as goal
 
 pub returns : goal.returns
