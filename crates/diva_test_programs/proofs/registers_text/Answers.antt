@@ -1,5 +1,5 @@
 -- The text of one register more is written.
-use Rattle.std.proofs.Common.{◌≡◌, ◌∙◌, ◌++◌, ℕ, List, ap, string_bytes}
+use Rattle.std.proofs.Common.{◌∙◌, ◌++◌, ℕ, List, ap, string_bytes}
 use Rattle.diva_test_programs.specs.Texts.{register_text, value_in}
 use Rattle.diva_test_programs.proofs.Registers.{texts_more}
 use Rattle.diva_test_programs.proofs.registers_text.Goals as goal
