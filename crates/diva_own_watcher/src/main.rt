@@ -44,7 +44,9 @@ impl Watcher for FlushNotes {
         _list: &Claims,
         _sink: &mut S,
     ) -> Result<(), SinkFailed> {
-        if let Some(row) = m.newest() && row.cycle == m.cycles() {
+        if let Some(row) = m.newest()
+            && row.cycle == m.cycles()
+        {
             let view = m.view();
             if let Some(word) = view.word(view.pc()) {
                 self.words.push(word);
@@ -89,7 +91,9 @@ fn put_mnemonic<S: Sink>(word: u32, sink: &mut S) -> Result<(), SinkFailed> {
 fn machine(rt: &HostRuntime, name: &str) -> Option<Machine>
     ensures { IfSome result (λ m. m.timed.cycles ≡ 0) }
 {
-    let bytes = DiskFiles::new(rt).load(rt.alloc(), What::Image, name, 1 << 16).ok()?;
+    let bytes = DiskFiles::new(rt)
+        .load(rt.alloc(), What::Image, name, 1 << 16)
+        .ok()?;
     let image = diva_image::read(rt.alloc(), &bytes).ok()?;
     Machine::new(rt.alloc(), &image, Config::new(2, 16, 4, 64)?).ok()
 }
@@ -103,9 +107,15 @@ fn main(rt: HostRuntime) -> io::Result<ExitCode> {
     let Some(mut machine) = machine(&rt, name.as_str()) else {
         return Ok(ExitCode::FAILURE);
     };
-    let mut notes = FlushNotes { words: ArrayVec::new() };
+    let mut notes = FlushNotes {
+        words: ArrayVec::new(),
+    };
     let mut sink = StdSink::new(io::writer(&rt));
     let watched = watch(&mut machine, &mut Echo, MOST as u64, &mut notes, &mut sink);
     let put = watched.and_then(|()| put_counts(&notes.words, &mut sink));
-    Ok(if put.is_ok() { ExitCode::SUCCESS } else { ExitCode::FAILURE })
+    Ok(if put.is_ok() {
+        ExitCode::SUCCESS
+    } else {
+        ExitCode::FAILURE
+    })
 }

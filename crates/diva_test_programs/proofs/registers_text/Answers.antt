@@ -10,5 +10,5 @@ loop-register-preserved c =
     let register = c.loop-register.register in
     rw (texts_more text register)
     (c.in_ok-push_register.ensures
-        ∙ ap (λ (value : ℕ). string_bytes c.loop-register.text ++ register_text register value) c.value_in.ensures
-        ∙ ap (λ (before : List ℕ). before ++ text register) c.loop-register.invariant)
+    ∙ ap (λ (value : ℕ). string_bytes c.loop-register.text ++ register_text register value) c.value_in.ensures
+    ∙ ap (λ (before : List ℕ). before ++ text register) c.loop-register.invariant)
