@@ -1,6 +1,12 @@
 //! What tests of several crates begin with: small programs, the image files that they are, the records of one of them and the lines of
 //! registers; `cores` has cores of the tests' own.
+//!
+//! `specs/Files.antt` says which bytes its files have, and `specs/Texts.antt` which lines the registers have.
 #![tactic(auto)]
+
+ghost use Rattle.std.specs.Prelude.{◌≡◌, ◌++◌, IfOk, OnOk, string_bytes};
+ghost use Rattle.diva_test_programs.specs.Files.{altered_bytes, file_bytes, image_bytes, pairs_bytes, words_bytes};
+ghost use Rattle.diva_test_programs.specs.Texts.{register_text, registers_text, value_in};
 
 mod cores;
 
@@ -106,13 +112,13 @@ pub const THREE_READS: Program = program![
 pub const LOOP: Program = program![0x0000006f];
 
 /// The image file of a program.
-pub fn image_file(alloc: Global, program: Program) -> Result<Vec<u8>, Fail> {
-    let length = u32::try_from(program.words.len())?.saturating_mul(4);
-    let mut bytes = file_of(alloc, [1, 0, program.size, 0, length], &[], &[])?;
-    for word in program.words {
-        bytes.extend_from_slice(&word.to_le_bytes())?;
-    }
-    Ok(bytes)
+pub fn image_file(alloc: Global, program: Program) -> Result<Vec<u8>, Fail>
+    ensures { IfOk result (λ file. file.items ≡ image_bytes program) }
+{
+    let length = u32::try_from(program.words.len() * 4)?;
+    let mut file = file_of(alloc, [1, 0, program.size, 0, length], &[], &[])?;
+    push_words(&mut file, program.words)?;
+    Ok(file)
 }
 
 /// An image file of these numbers, which are the version, base, size, entry and one more; then come pairs of
@@ -122,17 +128,34 @@ pub fn file_of(
     header: [u32; 5],
     pairs: &[(u32, u32)],
     bytes: &[u8],
-) -> Result<Vec<u8>, AllocError> {
+) -> Result<Vec<u8>, AllocError>
+    ensures { IfOk result (λ file. file.items ≡ file_bytes header pairs.now bytes.now) }
+{
     let mut file = Vec::from_slice(alloc, b"DIVA")?;
-    for number in header {
-        file.extend_from_slice(&number.to_le_bytes())?;
-    }
-    for (addr, len) in pairs {
-        file.extend_from_slice(&addr.to_le_bytes())?;
-        file.extend_from_slice(&len.to_le_bytes())?;
-    }
+    push_words(&mut file, &header)?;
+    push_pairs(&mut file, pairs)?;
     file.extend_from_slice(bytes)?;
     Ok(file)
+}
+
+/// Appends the four bytes of each number, the lowest first.
+fn push_words(file: &mut Vec<u8>, words: &[u32]) -> Result<(), AllocError>
+    ensures { OnOk result (file.new.items ≡ file.old.items ++ words_bytes words.now) }
+{
+    for word in words {
+        file.extend_from_slice(&word.to_le_bytes())?;
+    }
+    Ok(())
+}
+
+/// The same of both numbers of each pair.
+fn push_pairs(file: &mut Vec<u8>, pairs: &[(u32, u32)]) -> Result<(), AllocError>
+    ensures { OnOk result (file.new.items ≡ file.old.items ++ pairs_bytes pairs.now) }
+{
+    for (first, second) in pairs {
+        push_words(file, &[*first, *second])?;
+    }
+    Ok(())
 }
 
 /// A file as long as this, with zeros where it was shorter, in which one byte is another.
@@ -142,7 +165,9 @@ pub fn altered(
     len: usize,
     at: usize,
     byte: u8,
-) -> Result<Vec<u8>, AllocError> {
+) -> Result<Vec<u8>, AllocError>
+    ensures { IfOk result (λ altered. altered.items ≡ altered_bytes file.now len at byte) }
+{
     let mut altered = Vec::from_slice(alloc, file)?;
     altered.resize(len, 0)?;
     if let Some(old) = altered.get_mut(at) {
@@ -152,17 +177,31 @@ pub fn altered(
 }
 
 /// The eight lines of the registers, of which these are not 0.
-pub fn registers_text(alloc: Global, set: &[(u8, u32)]) -> Result<String, Fail> {
+pub fn registers_text(alloc: Global, set: &[(u8, u32)]) -> Result<String, Fail>
+    ensures { IfOk result (λ text. string_bytes text ≡ registers_text set.now) }
+{
     let mut text = String::new(alloc);
-    for n in 0..32 {
-        let value = set
-            .iter()
-            .find(|(reg, _)| *reg == n)
-            .map_or(0, |(_, value)| *value);
-        let end = if n % 4 == 3 { "\n" } else { " " };
-        write!(text, "x{n} {value:08x}{end}")?;
+    for register in 0..32 {
+        push_register(&mut text, register, value_in(set, register))?;
     }
     Ok(text)
+}
+
+/// Appends the name of a register and its value, and what stands behind it.
+fn push_register(text: &mut String, register: u8, value: u32) -> Result<(), AllocError>
+    ensures { OnOk result (string_bytes text.new ≡ string_bytes text.old ++ register_text register value) }
+{
+    let end = if register % 4 == 3 { "\n" } else { " " };
+    write!(text, "x{register} {value:08x}{end}")
+}
+
+/// The number that the first pair of a register gives it, or 0.
+fn value_in(set: &[(u8, u32)], register: u8) -> u32
+    ensures { result ≡ value_in set.now register }
+{
+    set.iter()
+        .find(|(given, _)| *given == register)
+        .map_or(0, |(_, value)| *value)
 }
 
 /// What a core is told but for the cycle: the count, pc, the epoch, how many claims are pending, the room, idle, whether a claim is due,
@@ -170,7 +209,9 @@ pub fn registers_text(alloc: Global, set: &[(u8, u32)]) -> Result<String, Fail> 
 pub type Numbers = (u64, u32, u64, u32, u32, u32, bool, bool);
 
 /// The numbers that a core is told.
-pub fn numbers(told: Told) -> Numbers {
+pub fn numbers(told: Told) -> Numbers
+    ensures { result ≡ (told.count, told.pc, told.epoch, told.pending, told.room, told.idle, told.due, told.ended) }
+{
     (
         told.count,
         told.pc,
