@@ -1,6 +1,6 @@
 -- What a program answers, and why: its text, and how the writing of it ended, which is told by the status that goes with it
 -- where it was written whole (`Ok`), else, where the sink failed, by what of it had been put already (`Err`).
--- Cited by `run_process`.
+-- Cited in `Process.antt`, for `run_process`.
 use Rattle.std.specs.Prelude.{◌≡◌, ◌⊎◌, List, Some, None, Result, IfOk}
 use Rattle.diva_outside.specs.Files.{IsUncounted, LentFiles}
 use Rattle.diva_outside.specs.Lent.{given, left}

@@ -1,5 +1,5 @@
 -- What a program promises of a job, and so of its words: how its answer was written, with its status, or why there is no whole answer.
--- Cited by `Front::work`; by `run_process`, through `Process.antt`.
+-- Cited by `Front` and by `work` of diva_cli.
 use Rattle.std.specs.Prelude.{Result, Ok, Err}
 use Rattle.diva_outside.specs.Files.{LentFiles}
 use Rattle.diva_outside.specs.Sink.{LentSink, Takes}

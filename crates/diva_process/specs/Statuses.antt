@@ -1,5 +1,5 @@
 -- What each status of a program says.
--- Cited by `Status::number`; by `run_process`, through `Process.antt`; `IsNumberOf` by `top` of diva_cli.
+-- Cited by `Status::number` and by `top` of diva_cli; in `Process.antt`, for `run_process`.
 use Rattle.std.specs.Prelude.{◌≡◌, ◌⊎◌, ◌≤◌, ℕ, List, [], ◌∷◌, length, Option, Some, None, IsSome, Ok, Err}
 use Rattle.diva_outside.specs.Files.{Contents, IsMissing, IsKnown, IsUncounted, LentFiles}
 use Rattle.diva_outside.specs.Lent.{given}
