@@ -68,7 +68,9 @@ fn named_hart_core(name: &str) -> Option<HartCore>
 }
 
 /// The number from `LEAST` to `MOST` that the word spells.
-pub(crate) fn number_within<const LEAST: u32, const MOST: u32>(word: &str) -> Option<Ranged<LEAST, MOST>>
+pub(crate) fn number_within<const LEAST: u32, const MOST: u32>(
+    word: &str,
+) -> Option<Ranged<LEAST, MOST>>
     ensures { result ≡ number_in_range LEAST MOST word.now }
 {
     Ranged::new(decimal(word.as_bytes())?)
