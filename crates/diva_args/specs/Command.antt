@@ -4,7 +4,8 @@ use Rattle.std.specs.Prelude.{true, List, [], ◌∷◌, ◌++◌, map, Some, co
 use Rattle.clap.specs.Walk.{Rule, Text}
 use Rattle.clap.specs.Simple.{App, Shape, new_rule, new_shape, with_subcommand}
 use Rattle.clap.specs.declared.builder.action.ArgAction.TheVariants.{SetTrue}
-use Rattle.diva_args.specs.Rows.{campaign_cycles_row, cycles_row, from_row, last_row, length_row, port_row, room_row, seed_row, stores_row, to_row, watchdog_row, width_row, window_row}
+use Rattle.diva_args.specs.Rows.{campaign_cycles_row, cycles_row, from_row, last_row, length_row, room_row, seed_row, to_row}
+use Rattle.diva_args.specs.Rows.{port_row, stores_row, watchdog_row, width_row, window_row}
 
 -- a command: its name, the ids of its positionals in order, the names of its options, and those of its flags
 pub record Leaf : Type 0 where

@@ -1,8 +1,7 @@
 -- What a command line asks for: the words as `clap` matches them, then the rules on the options' values.
 -- Cited by `read_words`.
-use Rattle.std.specs.Prelude.{ℕ, Bool, List, [], ◌∷◌, Option, Some, None, codes, if◌then◌else◌}
+use Rattle.std.specs.Prelude.{ℕ, Bool, List, [], ◌∷◌, Option, Some, None, codes}
 use Rattle.std.specs.Prelude.{option_and_then, option_map}
-use Rattle.std.specs.Str.{bytes_eq}
 use Rattle.clap.specs.Walk.{Row, Text, first_of}
 use Rattle.clap.specs.Simple.{subcommand_of}
 use Rattle.clap.specs.Faults.{fault_of}
@@ -11,7 +10,8 @@ use Rattle.diva_core.specs.Timed.{Config}
 use Rattle.diva_core.specs.Machine.{config_in_range}
 use Rattle.diva_args.specs.Command.{diva}
 use Rattle.diva_args.specs.Options.{DebugOptions, DumpRange, DuoOptions, MigrateOptions, Setup}
-use Rattle.diva_args.specs.Rows.{campaign_cycles_row, cycles_row, last_row, length_row, port_row, room_row, seed_row, stores_row, watchdog_row, width_row, window_row}
+use Rattle.diva_args.specs.Rows.{campaign_cycles_row, cycles_row, last_row, length_row, room_row, seed_row}
+use Rattle.diva_args.specs.Rows.{port_row, stores_row, watchdog_row, width_row, window_row}
 use Rattle.diva_args.specs.Values.{core_of, dump_of, hart_core_of, is_set_by, liar_of, named, number_of, room_behind}
 use Rattle.diva_args.specs.declared.campaign.CampaignOptions.{CampaignOptions}
 use Rattle.diva_args.specs.declared.job.CoreChoice.{CoreChoice}

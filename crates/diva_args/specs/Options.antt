@@ -1,11 +1,10 @@
 -- What contracts see of a job, and the ranges that its numbers keep.
 -- Cited by the types `Setup`, `DumpRange` and those of some commands' options.
-use Rattle.std.specs.Prelude.{ℕ, ◌+◌, ◌%◌, ◌^◌, ◌≡◌, ◌≤◌, Bool, List, Option}
+use Rattle.std.specs.Prelude.{ℕ, ◌+◌, ◌%◌, ◌^◌, ◌≡◌, ◌≤◌, List, Option}
 use Rattle.diva_core.specs.Timed.{Config}
 use Rattle.diva_args.specs.Rows.{room_row}
 use Rattle.diva_args.specs.declared.job.CoreChoice.{CoreChoice}
 use Rattle.diva_args.specs.declared.job.HartCore.{HartCore}
-use Rattle.diva_args.specs.declared.job.LanePlace.{LanePlace}
 
 -- a part of memory: the address of its first byte, and the number of its bytes
 pub record DumpRange : Type 0 where

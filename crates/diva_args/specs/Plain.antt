@@ -2,7 +2,7 @@
 -- with its value as the next word, where no positional and no value is empty or begins with `-`.
 -- Cited by `read_words` and `read_lab_words`.
 use Rattle.std.specs.Prelude.{◌≡◌, ◌==◌, Bool, true, false, not, ◌&&◌, List, [], ◌∷◌, ◌++◌, length, map}
-use Rattle.std.specs.Prelude.{Option, Some, None, codes, if◌then◌else◌}
+use Rattle.std.specs.Prelude.{Option, codes}
 use Rattle.std.specs.List.{Contains, flat_map, list_all, list_any, zip}
 use Rattle.std.specs.Str.{bytes_eq}
 use Rattle.clap.specs.Walk.{Text}

@@ -1,10 +1,10 @@
 // The words of the workbench: those of `diva`, and two commands more.
-ghost use Rattle.std.specs.Prelude.{◌≡◌, ◌≤◌, IfOk, Err, None, Some, map, option_and_then};
+ghost use Rattle.std.specs.Prelude.{◌≡◌, IfOk, Err, None, Some, map, option_and_then};
 ghost use Rattle.clap.specs.Walk.{rows_of};
 ghost use Rattle.clap.specs.Words.{found_of, subcommand_rows_of};
 ghost use Rattle.diva_args.specs.Lab.{drawing_from, drawn_by, drawn_run_from, lab_job_of, lab_job_on, lab_of};
 ghost use Rattle.diva_args.specs.Fault.{Reads};
-ghost use Rattle.diva_args.specs.Line.{taken, values_of};
+ghost use Rattle.diva_args.specs.Line.{values_of};
 ghost use Rattle.diva_args.specs.Plain.{IsPlainLine, PlainLine};
 
 use crate::fault::ArgsFault;

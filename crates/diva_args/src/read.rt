@@ -7,7 +7,7 @@ ghost use Rattle.diva_args.specs.Line.{campaign_from, command_of, config_from, d
 ghost use Rattle.diva_args.specs.Line.{room_from, run_from, setup_from, soak_from, taken, tape_from, values_of};
 ghost use Rattle.diva_args.specs.Options.{IsRoomBehind};
 ghost use Rattle.diva_args.specs.Plain.{IsPlainLine, PlainLine, job_on};
-ghost use Rattle.diva_args.specs.Rows.{cycles_row, machine_row, port_row, width_row};
+ghost use Rattle.diva_args.specs.Rows.{machine_row, port_row, width_row};
 ghost use Rattle.diva_args.specs.Values.{is_set_by, number_of};
 ghost use Rattle.diva_core.specs.Machine.{IsConfig};
 

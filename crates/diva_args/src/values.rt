@@ -1,5 +1,5 @@
 // The values of options as cores, numbers, parts of memory and places of voting lanes.
-ghost use Rattle.std.specs.Prelude.{◌≡◌, IfOk, None, Some, option_map};
+ghost use Rattle.std.specs.Prelude.{◌≡◌, None, Some, option_map};
 ghost use Rattle.diva_args.specs.Fault.{Reads};
 ghost use Rattle.diva_args.specs.Values.{core_of, cores, dump_of, dump_range_of, hart_core_of, hart_cores, liar_of, named, number_in_range, place_numbered};
 
@@ -68,7 +68,9 @@ fn named_hart_core(name: &str) -> Option<HartCore>
 }
 
 /// The number from `LEAST` to `MOST` that the word spells.
-pub(crate) fn number_within<const LEAST: u32, const MOST: u32>(word: &str) -> Option<Ranged<LEAST, MOST>>
+pub(crate) fn number_within<const LEAST: u32, const MOST: u32>(
+    word: &str,
+) -> Option<Ranged<LEAST, MOST>>
     ensures { result ≡ number_in_range LEAST MOST word.now }
 {
     Ranged::new(decimal(word.as_bytes())?)

@@ -14,8 +14,8 @@ pub returns-in_err-write_duo : goal.returns-in_err-write_duo
 returns-in_err-write_duo g c = λ bytes is.
     let o : DuoOptions = c.args.options.now in
     let last : Duo = c.drive_both.new.duo.duo in
-    let begun = subst (λ (d : Duo). IsDuoRun o.core c.get.result d last) is.begun (c.drive_both.ensures o.core is.cores c.requires) in
-    let run : IsDuoRun o.core o.cycles (duo_start o bytes) last = subst (λ n. IsDuoRun o.core n (duo_start o bytes) last) (c.get.ensures.value ∙ ap (λ (z : DuoOptions). z.cycles) c.options.view_is) begun in
+    let begun = subst (λ (d : Duo). IsDuoRun o.core c.from-cycles.result d last) is.begun (c.drive_both.ensures o.core is.cores c.requires) in
+    let run : IsDuoRun o.core o.cycles (duo_start o bytes) last = subst (λ n. IsDuoRun o.core n (duo_start o bytes) last) (c.from-cycles.ensures ∙ c.get.ensures.value ∙ ap (λ (z : DuoOptions). z.cycles) c.options.view_is) begun in
     let p = err_from_is_err_and c.from_residual.result c.from_residual.ensures.1 in
     let put = subst (λ (z : DuoOptions). PutsTo (lent g.S.Sink.account c.args.sink.now c.write_duo.new.sink) (duo_text last (shown_dump z.dump)) c.write_duo.result) c.options.view_is c.write_duo.ensures in
     rw (p.1, p.2) (cut_duo g.C.Core.gives o bytes c.args._core.now _ last run _ (rw c.in_err-write_duo.was at put))
@@ -24,7 +24,7 @@ pub returns : goal.returns
 returns g c = λ bytes is.
     let o : DuoOptions = c.args.options.now in
     let last : Duo = c.drive_both.new.duo.duo in
-    let begun = subst (λ (d : Duo). IsDuoRun o.core c.get.result d last) is.begun (c.drive_both.ensures o.core is.cores c.requires) in
-    let run : IsDuoRun o.core o.cycles (duo_start o bytes) last = subst (λ n. IsDuoRun o.core n (duo_start o bytes) last) (c.get.ensures.value ∙ ap (λ (z : DuoOptions). z.cycles) c.options.view_is) begun in
+    let begun = subst (λ (d : Duo). IsDuoRun o.core c.from-cycles.result d last) is.begun (c.drive_both.ensures o.core is.cores c.requires) in
+    let run : IsDuoRun o.core o.cycles (duo_start o bytes) last = subst (λ n. IsDuoRun o.core n (duo_start o bytes) last) (c.from-cycles.ensures ∙ c.get.ensures.value ∙ ap (λ (z : DuoOptions). z.cycles) c.options.view_is) begun in
     let put = subst (λ (z : DuoOptions). PutsTo (lent g.S.Sink.account c.args.sink.now c.write_duo.new.sink) (duo_text last (shown_dump z.dump)) c.write_duo.result) c.options.view_is c.write_duo.ensures in
     wrote_duo g.C.Core.gives o bytes c.args._core.now _ last run c.duo_status.result c.duo_status.ensures (rw c.in_ok-write_duo.was at put)

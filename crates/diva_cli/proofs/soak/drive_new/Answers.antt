@@ -1,6 +1,5 @@
 -- The drive led as far as the cycles of the image.
 use Rattle.std.proofs.Common.{◌∙◌, ap}
-use Rattle.diva_args.specs.declared.job.SoakOptions.{SoakOptions}
 use Rattle.diva_cli.specs.SoakTexts.{soak_cycles}
 use Rattle.diva_cli.proofs.Soaking.{drove}
 use Rattle.diva_cli.proofs.soak.drive_new.Goals as goal
@@ -8,5 +7,5 @@ use Rattle.diva_cli.proofs.soak.drive_new.Goals as goal
 pub returns : goal.returns
 returns g c =
     drove g.D.Core.gives c.args.options.now _ _ _ _ _ c.drive.result c.requires
-    (c.soak_cycles.ensures ∙ ap soak_cycles (c.get.ensures.value ∙ ap (λ (o : SoakOptions). o.instructions) c.options.view_is))
+    (c.soak_cycles.ensures ∙ ap soak_cycles c.get.ensures.value)
     c.drive.ensures.is.drives.turns c.drive.ensures.is.within c.drive.ensures.is.ended c.drive.ensures.is.budget
