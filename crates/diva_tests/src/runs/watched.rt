@@ -86,7 +86,7 @@ fn each_turn_is_seen(rt: HostRuntime) -> Result<(), Fail> {
     compare_watched(&rt, alloc, &mut Silent, 1000, 210, 3)
 }
 
-/// Behind a put that failed no turn is taken: of three dots the last one does not fit.
+/// After a put that failed no turn is taken: of three dots the last one does not fit.
 #[test]
 fn a_failed_put_ends_the_watch(rt: HostRuntime) -> Result<(), Fail> {
     let alloc = rt.alloc();
