@@ -74,6 +74,7 @@ fn put_counts<S: Sink>(words: &[u32], sink: &mut S) -> Result<(), SinkFailed> {
     Ok(())
 }
 
+/// The operation of a word, if it is an instruction.
 fn op_of(word: u32) -> Option<Op> {
     decode(word).map(|i| i.op)
 }

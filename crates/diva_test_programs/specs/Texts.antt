@@ -12,11 +12,11 @@ value_in set register = unwrap_or (option_map (λ pair. pair.1) (find (λ pair. 
 abbrev pub hex_text : ℕ → List ℕ
 hex_text n = replicate (8 - length (digits 16 false n)) 48 ++ digits 16 false n
 
--- what stands behind a register: a line feed behind each fourth, a blank behind the others
+-- what stands after a register: a line feed after each fourth, a blank after the others
 abbrev pub end_text : (register : ℕ) → List ℕ
 end_text register = if register % 4 == 3 then codes "\n" else codes " "
 
--- the name of a register and its value, and what stands behind it
+-- the name of a register and its value, and what stands after it
 abbrev pub register_text : (register value : ℕ) → List ℕ
 register_text register value = codes "x" ++ decimal register ++ codes " " ++ hex_text value ++ end_text register
 

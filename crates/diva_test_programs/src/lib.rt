@@ -187,7 +187,7 @@ pub fn registers_text(alloc: Global, set: &[(u8, u32)]) -> Result<String, Fail>
     Ok(text)
 }
 
-/// Appends the name of a register and its value, and what stands behind it.
+/// Appends the name of a register and its value, and what stands after it.
 fn push_register(text: &mut String, register: u8, value: u32) -> Result<(), AllocError>
     ensures { OnOk result (string_bytes text.new ≡ string_bytes text.old ++ register_text register value) }
 {

@@ -8,7 +8,7 @@
 //!   images that are listed, `runs/harts` runs on two harts, `runs/campaigns` campaigns of flips, `runs/lanes` runs in which lanes vote,
 //!   `runs/hostile` cores that are wrong by their rule, `runs/segments` images in version 2, also as `migrate` writes them,
 //!   `runs/executables` small executables, which `runs/executables/files` has as other tools laid them, `runs/soaks` images of seeds,
-//!   `runs/drawings` runs that are drawn, `runs/refusals` what is not run, and `runs/failing` the order of loads and puts, which also
+//!   `runs/drawings` runs that are drawn, `runs/watched` runs that a watcher sees, `runs/refusals` what is not run, and `runs/failing` the order of loads and puts, which also
 //!   fail in turn; `runs/noting` notes them, and `runs/texts` writes the text that is due.
 //!
 //! What is due was worked out by hand from the rules, or came from an outside tool; none of it is taken from what this repository's

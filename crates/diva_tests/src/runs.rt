@@ -21,6 +21,7 @@ mod tables;
 mod tapes;
 mod texts;
 mod traces;
+mod watched;
 
 use crate::cores::{counting, flipped};
 use diva_cli::top;
