@@ -64,8 +64,9 @@ fn draw_ready<S: Sink, C: Core, L: Lane>(
         → WritesText (lab_work_of C.gives
         (asking core.old core.new (are_asked L.says lanes.old lanes.new))) (Draw options) bytes (lent S.account sink.old sink.new) result }
 {
+    let cycles = u64::from(options.run.cycles.get());
     let mut task = Watched {
-        cycles: u64::from(options.run.cycles.get()),
+        cycles,
         liar: options.run.liar,
         watcher: Drawer {
             format: options.format,
