@@ -59,15 +59,16 @@ fn draw_ready<S: Sink, C: Core, L: Lane>(
         → WritesText (lab_work_of C.gives
         (asking core.old core.new (are_asked L.says lanes.old lanes.new))) (Draw options) bytes (lent S.account sink.old sink.new) result }
 {
+    let DrawOptions { run, format } = options;
     let mut task = Watched {
-        cycles: u64::from(options.run.cycles.get()),
-        liar: options.run.liar,
+        cycles: u64::from(run.cycles.get()),
+        liar: run.liar,
         watcher: Drawer {
-            format: options.format,
+            format,
             pen: Pen::new(&ready.machine),
         },
     };
-    begin(options.format, sink)?;
+    begin(format, sink)?;
     task.drive(ready, core, lanes, sink)?;
     task.watcher.end(sink)?;
     Ok(end_status(&ready.machine))
