@@ -4,7 +4,6 @@ use Rattle.std.specs.Prelude.{ℕ, ◌==◌, ◌++◌, Bool, false, List, [], �
 use Rattle.diva_isa.specs.State.{word_of}
 use Rattle.diva_core.specs.Timed.{Timed}
 use Rattle.diva_core.specs.declared.flushes.FlushRow.{FlushRow}
-use Rattle.diva_cli.specs.Watched.{Seen}
 
 -- whether the newest flush, if there is one, came in this cycle
 abbrev pub came_in : (cycle : ℕ) → Option FlushRow → Bool

@@ -79,7 +79,7 @@ fn op_of(word: u32) -> Option<Op> {
     decode(word).map(|i| i.op)
 }
 
-/// Puts what stands third in the listing's line of a word, behind an address and the word.
+/// Puts what stands third in the line of the listing for a word, after an address and the word.
 fn put_mnemonic<S: Sink>(word: u32, sink: &mut S) -> Result<(), SinkFailed> {
     let line = list_line(0, word);
     match line.bytes().split(|byte| byte.is_ascii_whitespace()).nth(2) {
