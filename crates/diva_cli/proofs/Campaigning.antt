@@ -172,7 +172,7 @@ module _ {C S : Type 0} (gives : Meaning C) (options : CampaignOptions) (bytes :
       says (Ok status) is = ends_with (campaign_setup options) options.cycles start (first_run options.cycles start) status first_whole (is ∙ ap (λ (m : Timed). end_status (end_of m.arch.end)) are.first)
       says (Err put) is = tt
 
-  pub wrote_campaign : (status : ℕ) → status ≡ end_status (end_of runs.first.timed.arch.end) → PutsTo {E = SinkFailed} sink text (Ok tt)
+  pub wrote_campaign : (status : Status) → status ≡ end_status (end_of runs.first.timed.arch.end) → PutsTo {E = SinkFailed} sink text (Ok tt)
       → WritesText (work_of gives (asking core core no_lanes)) (Campaign options) bytes sink (Ok status)
   wrote_campaign status is put = record { text = text; means = record { means = means (Ok status) is; lanes = refl }; written = record { appended = put.ok; uncounted = put.uncounted } }
 

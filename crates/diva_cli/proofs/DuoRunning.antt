@@ -150,7 +150,7 @@ module _ {C S : Type 0} (gives : Meaning C) (options : DuoOptions) (bytes : File
   means : (ended : Result Status Text) → IfOk ended (λ s. s ≡ duo_status last) → HasDuo options bytes (change core core) ended text
   means ended status = record { last = last; run = run; lines = refl; status = status; unasked = refl }
 
-  pub wrote_duo : (status : ℕ) → status ≡ duo_status last → PutsTo {E = SinkFailed} sink text (Ok tt) → WritesText (work_of gives (asking core core no_lanes)) (Command options) bytes sink (Ok status)
+  pub wrote_duo : (status : Status) → status ≡ duo_status last → PutsTo {E = SinkFailed} sink text (Ok tt) → WritesText (work_of gives (asking core core no_lanes)) (Command options) bytes sink (Ok status)
   wrote_duo status is put = record { text = text; means = record { means = means (Ok status) is; lanes = refl }; written = record { appended = put.ok; uncounted = put.uncounted } }
 
   pub cut_duo : (e : SinkFailed) → PutsTo sink text (Err e) → WritesText (work_of gives (asking core core no_lanes)) (Command options) bytes sink (Err Cut)

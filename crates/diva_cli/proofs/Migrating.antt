@@ -11,10 +11,11 @@ use Rattle.diva_hart.proofs.Beginning.{starts_as}
 use Rattle.diva_cli.specs.Changes.{change}
 use Rattle.diva_cli.specs.ImageTexts.{HasMigrated}
 use Rattle.diva_process.specs.declared.status.Status.{Status}
+use Rattle.diva_process.specs.declared.status.Status.TheVariants.{Halted}
 use Rattle.diva_process.specs.Programs.{FileBytes}
 
 pub has_migrated : {C : Type 0} (room : ℕ) (bytes : FileBytes) (core : C) (ended : Result Status Text) (text : Text) (i : Layout) (spelled : List ℕ)
-    → text ≡ spelled → image_in room (bytes ImageFile) ≡ i → spelled ≡ segmented_bytes i → BeginsAgain i spelled → IfOk ended (λ s. s ≡ 0)
+    → text ≡ spelled → image_in room (bytes ImageFile) ≡ i → spelled ≡ segmented_bytes i → BeginsAgain i spelled → IfOk ended (λ s. s ≡ Halted)
     → HasMigrated room bytes (change core core) ended text
 has_migrated room bytes core ended text i spelled put read written begins whole =
     let again : BeginsAgain i text = subst (BeginsAgain i) (sym put) begins in

@@ -217,7 +217,7 @@ module _ {C W S : Type 0} (gives : Meaning C) (options : TapeOptions) (bytes : F
   puts : PutsTo sink (tape_text lists) result
   puts = lines_put w IsList cycles ready.machine.timed last lists sink result done
 
-  pub wrote_tape : (status : ℕ) → status ≡ end_status (end_of last.arch.end) → result ≡ Ok tt → WritesWhole (work_of gives (asking core after lanes)) (Tape options) bytes sink status
+  pub wrote_tape : (status : Status) → status ≡ end_status (end_of last.arch.end) → result ≡ Ok tt → WritesWhole (work_of gives (asking core after lanes)) (Tape options) bytes sink status
   wrote_tape status says ok =
       let all : goes_on last.arch ≡ true → length lists ≡ cycles = subst (λ (r : Result (Unit {0}) SinkFailed). OnOk r (goes_on last.arch ≡ true → length lists ≡ cycles)) ok done.whole in
       let are : All IsList lists = subst (λ (r : Result (Unit {0}) SinkFailed). OnOk r (All IsList lists)) ok done.said in

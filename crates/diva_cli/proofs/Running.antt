@@ -33,6 +33,7 @@ use Rattle.diva_machine.specs.Asked.{asked_over}
 use Rattle.diva_cli.specs.Changes.{Change, LanesAsked, asking, change}
 use Rattle.diva_cli.specs.Texts.{AsksInRun}
 use Rattle.diva_process.specs.declared.status.Status.{Status}
+use Rattle.diva_process.specs.declared.status.Status.TheVariants as status
 use Rattle.diva_process.specs.Programs.{FileBytes}
 use Rattle.diva_cli.specs.Cuts.{BeforeLast}
 use Rattle.diva_cli.specs.Driven.{AreHanded}
@@ -88,17 +89,17 @@ module _ {C : Type 0} (gives : Meaning C) (setup : Setup) (cycles : ℕ) (bytes 
 
 -- ---- how it ended
 
--- 4 is the status of an end that is none
-unfinished : (none low : Bool) (n status : ℕ) → end_status (cond none GoesOn (cond low (Trap n) (Halt status))) ≡ 4 → none ≡ true
-unfinished true low n status h = refl
-unfinished false true n status h = absurd (omega arith)
-unfinished false false n status h = absurd (omega arith)
+-- what goes on has not ended
+unfinished : (none low : Bool) (n code : ℕ) → end_status (cond none GoesOn (cond low (Trap n) (Halt code))) ≡ status.GoesOn → none ≡ true
+unfinished true low n code h = refl
+unfinished false true n code h = cc
+unfinished false false n code h = cc
 
-pub ends_with : (setup : Setup) (cycles : ℕ) (start : State) (last : Timed) (status : ℕ) → IsWhole setup cycles start last
+pub ends_with : (setup : Setup) (cycles : ℕ) (start : State) (last : Timed) (status : Status) → IsWhole setup cycles start last
     → status ≡ end_status (end_of last.arch.end) → EndsWith last cycles status
 ends_with setup cycles start last status whole is =
     let end = last.arch.end in
-    record { by_end = is; all = λ four. whole.all (unfinished (end == 0) (nat_lt end 256) (end - 1) (end % 2 ^ 8) (sym is ∙ four)) }
+    record { by_end = is; all = λ on. whole.all (unfinished (end == 0) (nat_lt end 256) (end - 1) (end % 2 ^ 8) (sym is ∙ on)) }
 
 -- ---- what is written of it, with commit lines or without
 
@@ -222,7 +223,7 @@ module _ {C S : Type 0} (gives : Meaning C) (options : RunOptions) (bytes : File
       puts_past account _ _ s0 s1 s2 e (subst (λ (x : Result (Unit {0}) SinkFailed). PutsTo (lent account s0 s1) (asked_trace options.trace (start_in options.setup bytes) last.count) x) ok puts_trace)
       (subst (λ (x : Option DumpRange). PutsTo (lent account s1 s2) (text_of last (shown_dump x)) (Err e)) d puts)
 
-  pub wrote_run : result ≡ Ok tt → (status : ℕ) → status ≡ end_status (end_of last.arch.end) → PutsTo {E = SinkFailed} (lent account s1 s2) (text_of last (shown_dump dump)) (Ok tt)
+  pub wrote_run : result ≡ Ok tt → (status : Status) → status ≡ end_status (end_of last.arch.end) → PutsTo {E = SinkFailed} (lent account s1 s2) (text_of last (shown_dump dump)) (Ok tt)
       → WritesWhole (work_of gives (asking core after lanes)) (Run options) bytes (lent account s0 s2) status
   wrote_run ok status says puts =
       record {

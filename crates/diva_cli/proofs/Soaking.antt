@@ -187,7 +187,7 @@ module _ {C S : Type 0} (gives : Meaning C) (options : SoakOptions) (bytes : Fil
     whole = whole;
   }
 
-  pub wrote_soaked : PutsTo {E = SinkFailed} sink (soak_text first second) (Ok tt) → WritesWhole (work_of gives (asking core after no_lanes)) (Soak options) bytes sink 0
+  pub wrote_soaked : PutsTo {E = SinkFailed} sink (soak_text first second) (Ok tt) → WritesWhole (work_of gives (asking core after no_lanes)) (Soak options) bytes sink Halted
   wrote_soaked put = record { text = soak_text first second; means = record { means = means (Ok Halted) refl; lanes = refl }; written = record { appended = put.ok; uncounted = put.uncounted } }
 
   pub cut_soaked : (e : SinkFailed) → PutsTo sink (soak_text first second) (Err e) → WritesPart (work_of gives (asking core after no_lanes)) (Soak options) bytes sink

@@ -258,7 +258,7 @@ module _ {C S : Type 0} (gives : Meaning C) (options : DrawOptions) (bytes : Fil
         (ap (λ (x : Format). end_text x drawn.pen.seen) (w.format ∙ f)
         ∙ ap (λ (q : Pen). end_text options.format q.seen) (w.behind ∙ ap (λ (q : Pen). pen_behind q w.seen) (new_pen drawer.pen none))) end
 
-    pub wrote_drawing : r ≡ Ok tt → (status : ℕ) → status ≡ end_status (end_of last.arch.end)
+    pub wrote_drawing : r ≡ Ok tt → (status : Status) → status ≡ end_status (end_of last.arch.end)
         → WritesWhole (lab_work_of gives (asking core after lanes)) (Draw options) bytes (lent account s0 s3) status
     unfolding means
     wrote_drawing fine status says =

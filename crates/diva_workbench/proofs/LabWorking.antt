@@ -33,7 +33,7 @@ use Rattle.diva_cli.proofs.Working.{answered_less}
 use Rattle.diva_process.proofs.Answering as process
 
 -- with which statuses a drawing can end
-draw_ends : {C : Type 0} (gives : Meaning C) (asks : Asking C) (options : DrawOptions) (bytes : FileBytes) (status : ℕ) (text : List ℕ)
+draw_ends : {C : Type 0} (gives : Meaning C) (asks : Asking C) (options : DrawOptions) (bytes : FileBytes) (status : Status) (text : List ℕ)
     → HasDrawn gives asks.lanes (core_of asks) options bytes (Ok status) text → EndsSo (lab_work_of gives asks) (Draw options) status
 draw_ends gives asks options bytes status text h =
     let done : IsDone status = elim h.means.written [
