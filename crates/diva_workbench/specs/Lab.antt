@@ -1,6 +1,6 @@
 -- The workbench: its words, which are those of `diva` and some of its own, the files of its jobs, and what each job came to.
 -- Cited by `lab_top`.
-use Rattle.std.specs.Prelude.{◌≡◌, ℕ, List, Result, codes}
+use Rattle.std.specs.Prelude.{ℕ, List, Result, codes}
 use Rattle.diva_outside.specs.Text.{Text}
 use Rattle.diva_core.specs.History.{Meaning}
 use Rattle.diva_args.specs.Lab.{lab_of}
