@@ -1,5 +1,5 @@
 -- With which statuses a job can end whose text was written whole.
-use Rattle.std.proofs.Common.{◌≡◌, ℕ, List, Ok, inl, inr, sym, refl, subst}
+use Rattle.std.proofs.Common.{ℕ, List, Ok, inl, inr, sym, refl, subst}
 use Rattle.std.proofs.lemmas.Bool.{cases_Bool}
 use Rattle.diva_isa.specs.End.{end_of}
 use Rattle.diva_isa.specs.declared.end.End.{End}

@@ -3,7 +3,7 @@ use Rattle.diva_outside.specs.Lent.{lent}
 use Rattle.diva_outside.specs.Sink.{SinkAccount}
 use Rattle.diva_machine.specs.Asked.{asked_over}
 use Rattle.diva_vote.specs.Questions.{Question}
-use Rattle.std.proofs.Common.{◌≡◌, ◌↔◌, ℕ, ◌+◌, ◌≤◌, ◌==◌, true, false, List, [], ◌∷◌, Option, Ok, refl, sym, ◌∙◌, ap, subst, arith, length, length-append, map}
+use Rattle.std.proofs.Common.{◌≡◌, ◌↔◌, ℕ, ◌+◌, ◌≤◌, ◌==◌, true, false, List, [], ◌∷◌, Ok, refl, sym, ◌∙◌, ap, subst, arith, length, length-append, map}
 use Rattle.std.proofs.lemmas.Bool.{true≢false}
 use Rattle.std.proofs.lemmas.Bool.Decides.{nat_tests}
 use Rattle.diva_isa.specs.State.{goes_on}

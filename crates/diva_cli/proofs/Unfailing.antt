@@ -1,17 +1,14 @@
 -- What a program promises over files that never fail and a sink that keeps nothing, of what it promises over any.
-use Rattle.std.proofs.Common.{◌≡◌, ◌≢◌, ◌⊎◌, ℕ, List, [], ◌∷◌, Option, None, sym, refl, subst, inl, inr, arith}
+use Rattle.std.proofs.Common.{◌≡◌, ◌≢◌, ◌⊎◌, ℕ, List, [], ◌∷◌, None, sym, inl, inr, arith}
 use Rattle.std.proofs.lemmas.Option.{none-some}
-use Rattle.diva_outside.specs.Files.{Contents, FilesAccount, LentFiles}
-use Rattle.diva_outside.specs.Lent.{given, lent}
-use Rattle.diva_outside.specs.Sink.{HasFailed, LentSink}
+use Rattle.diva_outside.specs.Files.{FilesAccount}
+use Rattle.diva_outside.specs.Lent.{lent}
 use Rattle.diva_outside.specs.Text.{Text}
-use Rattle.diva_outside.specs.declared.files.What.{What}
 use Rattle.diva_process.specs.declared.status.Status.{Status}
-use Rattle.diva_process.specs.declared.status.Status.TheVariants.{Misused, Refused, Unread, Cut, NoMemory}
-use Rattle.diva_process.specs.Answers.{IsDone}
+use Rattle.diva_process.specs.declared.status.Status.TheVariants.{Refused, Unread, Cut, NoMemory}
 use Rattle.diva_process.specs.Process.{IsProcess}
 use Rattle.diva_process.specs.Programs.{Asked, Doing, FileRules, Wanted}
-use Rattle.diva_process.specs.Statuses.{CanWork, HasEnded, HasWorked, IsHindered, IsNumberOf, MustRefuse}
+use Rattle.diva_process.specs.Statuses.{CanWork, HasEnded, HasWorked, IsNumberOf, MustRefuse}
 use Rattle.diva_process.specs.Stops.{IsUnread, StopsAt}
 use Rattle.diva_cli.specs.Sure.{IsSure, sure_contents, sure_files, unseen}
 

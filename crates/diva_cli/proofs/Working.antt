@@ -1,5 +1,5 @@
 -- What a command answers, from what was loaded for it and what was written of it.
-use Rattle.std.proofs.Common.{◌≡◌, ◌∙◌, ℕ, List, [], Option, None, Result, Ok, Err, refl, sym, ap, subst}
+use Rattle.std.proofs.Common.{◌≡◌, ◌∙◌, ℕ, List, [], Option, None, Result, refl, sym, ap, subst}
 use Rattle.diva_outside.specs.Files.{IsUncounted, LentFiles}
 use Rattle.diva_outside.specs.Lent.{given, left}
 use Rattle.diva_outside.specs.Sink.{LentSink}

@@ -1,6 +1,6 @@
 -- The text that the command `debug` writes: the replies to commands.
 -- Cited in `Texts.antt`, for `top`.
-use Rattle.std.specs.Prelude.{ℕ, ◌≡◌, List, [], ◌++◌, length, Result, Ok, IfOk, IfErr}
+use Rattle.std.specs.Prelude.{◌≡◌, List, [], ◌++◌, length, Result, Ok, IfOk, IfErr}
 use Rattle.diva_outside.specs.Text.{Text}
 use Rattle.diva_outside.specs.declared.files.What.TheVariants.{Commands}
 use Rattle.diva_core.specs.Timed.{Timed, new_timed}
