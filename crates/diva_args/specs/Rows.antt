@@ -35,7 +35,7 @@ seed_row = record { word = codes "SEED"; least = 0; most = 4294967295; default =
 abbrev pub length_row : NumberRow
 length_row = record { word = codes "LENGTH"; least = 1; most = 65536; default = None }
 
--- the first and the last cycle that are drawn: all that a run can have, where the words give none
+-- the first and the last cycle that are drawn: all that a run can have, if the words give none
 abbrev pub from_row : NumberRow
 from_row = record { word = codes "from"; least = 1; most = 1000000000; default = Some 1 }
 

@@ -6,7 +6,7 @@ use crate::ranged::Ranged;
 pub(crate) struct NumberRow<const LEAST: u32, const MOST: u32> {
     /// The name of its option, or the id of its positional.
     pub word: &'static str,
-    /// What it is if the words do not give it; `None` where they have to.
+    /// What it is if the words do not give it; `None` if they have to.
     pub default: Option<u32>,
 }
 

@@ -15,6 +15,6 @@ abbrev pub with_item : List ℕ → Option ℕ → List ℕ
 with_item items None = items
 with_item items (Some item) = items ++ item ∷ []
 
--- where the last cycle of a machine flushed, the words with the one at its pc, which is the instruction that is due
+-- if the last cycle of a machine flushed, the words with the one at its pc, which is the instruction that is due
 abbrev pub noted : List ℕ → Timed → List ℕ
 noted words m = if came_in m.cycles m.under.log.newest then with_item words (word_of m.arch m.arch.pc) else words

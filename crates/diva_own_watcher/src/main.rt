@@ -99,7 +99,7 @@ fn machine(rt: &HostRuntime, name: &str) -> Option<Machine>
     Machine::new(rt.alloc(), &image, Config::new(2, 16, 4, 64)?).ok()
 }
 
-/// Runs the image that is named, and puts the counts. The status is 1 where there is no such image, or standard output fails.
+/// Runs the image that is named, and puts the counts. The status is 1 if there is no such image, or standard output fails.
 fn main(rt: HostRuntime) -> io::Result<ExitCode> {
     let words: Vec<String> = env::args(&rt)?.skip(1).collect(rt.alloc())?;
     let Some(name) = words.first() else {

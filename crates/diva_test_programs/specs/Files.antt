@@ -23,6 +23,6 @@ image_bytes program =
     let words = program.words.now in
     file_bytes (1 ∷ 0 ∷ program.size ∷ 0 ∷ length words * 4 ∷ []) [] (words_bytes words)
 
--- the first `size` bytes of a file, with zeros after them where it has fewer, in which the byte at a place, if there is one, is another
+-- the first `size` bytes of a file, with zeros after them if it has fewer, in which the byte at a place, if there is one, is another
 abbrev pub altered_bytes : (file : List ℕ) → (size at byte : ℕ) → List ℕ
 altered_bytes file size at byte = slice_set (take size file ++ replicate (size - length file) 0) at byte

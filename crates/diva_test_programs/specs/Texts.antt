@@ -8,7 +8,7 @@ use Rattle.std.specs.List.{flat_map, range_with_len}
 abbrev pub value_in : List (ℕ × ℕ) → (register : ℕ) → ℕ
 value_in set register = unwrap_or (option_map (λ pair. pair.1) (find (λ pair. pair.0 == register) set)) 0
 
--- the hex digits of a number in lower case, with zeros before them where they are fewer than eight
+-- the hex digits of a number in lower case, with zeros before them if they are fewer than eight
 abbrev pub hex_text : ℕ → List ℕ
 hex_text n = replicate (8 - length (digits 16 false n)) 48 ++ digits 16 false n
 
