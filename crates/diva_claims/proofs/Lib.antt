@@ -1,0 +1,6 @@
+mod Barking
+mod Finding
+mod Masking
+mod Placing
+mod Righting
+mod Saying

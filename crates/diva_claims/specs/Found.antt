@@ -1,0 +1,49 @@
+-- What a flush tells of a line.
+-- Cited by the laws of `ClaimsCore`, as `flushes_tell_wrong_lines`.
+use Rattle.std.specs.Prelude.{ℕ, ◌≡◌, ◌==◌, ◌⊎◌, List, [], ◌∷◌, Option, Some, None, slice_get, true, if◌then◌else◌, ⊤}
+use Rattle.diva_isa.specs.State.{State}
+use Rattle.diva_isa.specs.Step.{record_of, steps}
+use Rattle.diva_isa.specs.declared.record.Record.{Record}
+use Rattle.diva_core.specs.Cycle.{cycle_of, is_silent}
+use Rattle.diva_core.specs.Difference.{first_difference}
+use Rattle.diva_core.specs.Timed.{Timed}
+use Rattle.diva_core.specs.declared.differences.Diff.{Diff}
+use Rattle.diva_core.specs.declared.flushes.FlushRow.{FlushRow}
+use Rattle.diva_core.specs.declared.flushes.Cause.{Cause}
+use Rattle.diva_core.specs.declared.flushes.Cause.TheVariants.{Differs, Silent}
+use Rattle.diva_claims.specs.Said.{filled, IsLineOf}
+use Rattle.diva_claims.specs.declared.said.Said.{Said}
+
+-- a line is there, and what it says differs from the due record first in d
+abbrev pub IsWrongIn : Option Said → Record → Diff → Type 0
+IsWrongIn None due d = ⊥
+IsWrongIn (Some said) due d = first_difference (filled said due) due ≡ Some d
+
+-- a flush for a difference tells that a line is wrong, and in which field first; the due record is that of the flush's place
+abbrev pub IsTold : Option Said → Record → Cause → Type 0
+IsTold line due (Differs d) = IsWrongIn line due d
+IsTold line due (Silent limit) = ⊤
+
+-- so does a row of the line at its place, from the state on with which a machine began
+abbrev pub TellsWrongLine : List Said → State → FlushRow → Type 0
+TellsWrongLine lines s row = IsTold (slice_get lines row.at) (record_of (steps row.at s)) row.cause
+
+-- a flush for silence tells that there is no line at its place
+abbrev pub TellsMissingLine : List Said → FlushRow → Type 0
+TellsMissingLine lines row = is_silent row.cause ≡ true → slice_get lines row.at ≡ None
+
+-- ---- the places of flushes
+
+abbrev pub IsAmong : ℕ → List ℕ → Type 0
+IsAmong k [] = ⊥
+IsAmong k (x ∷ xs) = (k ≡ x) ⊎ IsAmong k xs
+
+-- the places at which a run was flushed, the newest first, and before them those of earlier flushes
+abbrev pub flush_places : (earlier : List ℕ) → Timed → List (List Record) → List ℕ
+flush_places earlier m [] = earlier
+flush_places earlier m (list ∷ rest) =
+    flush_places (if (cycle_of m list).under.log.flushes == m.under.log.flushes then earlier else (cycle_of m list).count ∷ earlier) (cycle_of m list) rest
+
+-- an instruction has a line, and all that it says is due; or a flush came at its place
+abbrev pub IsRightOrFlushed : List Said → State → List ℕ → ℕ → Type 0
+IsRightOrFlushed lines s places k = IsLineOf (slice_get lines k) (record_of (steps k s)) ⊎ IsAmong k places
