@@ -1,5 +1,5 @@
 -- The watchdog barks only if there is no line.
-use Rattle.std.proofs.Common.{◌≡◌, ◌≢◌, ℕ, zero, suc, ◌+◌, ◌-◌, ◌%◌, ◌<◌, ◌≤◌, true, List, [], ◌∷◌, ◌++◌, length, map, take, Option, Some, None, ap, sym, ◌∙◌, refl, arith, subst, inl, inr}
+use Rattle.std.proofs.Common.{◌≡◌, ◌≢◌, ℕ, zero, suc, ◌+◌, ◌%◌, ◌≤◌, true, List, [], ◌∷◌, ◌++◌, map, take, Option, Some, None, ap, sym, ◌∙◌, refl, arith, subst, inl, inr}
 use Rattle.std.specs.Int.{next_multiple_of}
 use Rattle.std.specs.Prelude.{slice_get, IfSome}
 use Rattle.std.proofs.lemmas.Bool.{cases_lt, lt-ltb}
@@ -21,7 +21,7 @@ use Rattle.diva_claims.specs.Calls.{claims_call, IsClaimsCall}
 use Rattle.diva_claims.specs.Found.{TellsMissingLine}
 use Rattle.diva_claims.specs.Said.{filled}
 use Rattle.diva_claims.specs.declared.said.Said.{Said}
-use Rattle.diva_claims.proofs.Finding.{Goes, after, flushes-of, newest-of, new-goes, ran-empty}
+use Rattle.diva_claims.proofs.Finding.{Goes, after, newest-of, new-goes, ran-empty}
 use Rattle.diva_claims.proofs.Righting.{moved}
 
 -- ---- the port opens in each of six cycles in a row
@@ -49,11 +49,11 @@ opened first last p low high long closed =
 -- ---- how long a line's claim has waited
 
 -- it was accepted in the first cycle since the last commit, and since it was ready the port has not opened
-record Waits (m : Timed) (p : PendingClaim) : Type 0 where
-  idled : m.under.idle + p.cycle ≤ m.cycles + 1
-  closed : (c : ℕ) → p.cycle + depth ≤ c → c ≤ m.cycles → c % m.config.port ≢ 0
+pub record Waits (m : Timed) (p : PendingClaim) : Type 0 where
+  pub idled : m.under.idle + p.cycle ≤ m.cycles + 1
+  pub closed : (c : ℕ) → p.cycle + depth ≤ c → c ≤ m.cycles → c % m.config.port ≢ 0
 
-abbrev WaitsBy : Timed → List PendingClaim → Type 0
+abbrev pub WaitsBy : Timed → List PendingClaim → Type 0
 WaitsBy m [] = m.under.idle ≡ 0
 WaitsBy m (p ∷ rest) = Waits m p
 
@@ -75,7 +75,7 @@ take-one (suc zero) x h = refl
 take-one (suc (suc r)) x h = refl
 
 module _ (lines : List Said) (s : State) where
-  record Prompt (m : Timed) : Type 0 where
+  pub record Prompt (m : Timed) : Type 0 where
     pub waits : (said : Said) → slice_get lines m.count ≡ Some said → m.under.solo ≡ None → WaitsBy m m.under.pending
     pub newest : IfSome m.under.log.newest (TellsMissingLine lines)
 
@@ -130,7 +130,7 @@ module _ (lines : List Said) (s : State) where
     no-line r None e = refl
     no-line r (Some said) e = absurd (no_bark m n r m.under.pending g.machine.config (p.waits said e r.was))
 
-    prompt-after : Cycled stores_wait m list n → Prompt n
+    pub prompt-after : Cycled stores_wait m list n → Prompt n
     prompt-after (idled r) =
         let c : n.count ≡ m.count = r.base.counted ∙ omega arith in
         record {
@@ -153,6 +153,9 @@ module _ (lines : List Said) (s : State) where
     prompt-after (waited r) =
         record { waits = λ said line none. absurd (none-some _ (sym none ∙ r.solo)); newest = rw (newest-of r.log) p.newest }
 
+  pub new-prompt : (config : Config) → Prompt (new_timed config s)
+  new-prompt config = record { waits = λ said line none. refl; newest = tt }
+
   history-prompt : (m last : Timed) (before final : List Said) (history : List (List Record × List Said))
       → Goes lines s m → Prompt m → before ≡ lines → IsHistory IsClaimsCall m before history last final → Prompt last
   history-prompt m last before final [] g p same h = subst Prompt (sym h.0) p
@@ -172,5 +175,5 @@ pub silent_tells :
     → IfSome last.under.log.newest (TellsMissingLine lines)
 silent_tells config s lines ok none last final history h =
     let p : Prompt lines s last =
-    history-prompt lines s (new_timed config s) last lines final history (new-goes lines s config ok none) (record { waits = λ said line none. refl; newest = tt }) refl h in
+    history-prompt lines s (new_timed config s) last lines final history (new-goes lines s config ok none) (new-prompt lines s config) refl h in
     p.newest

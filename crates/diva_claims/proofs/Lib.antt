@@ -4,3 +4,4 @@ mod Masking
 mod Placing
 mod Righting
 mod Saying
+mod Telling

@@ -5,7 +5,7 @@ use Rattle.diva_isa.specs.declared.effect.Effect.{Effect}
 use Rattle.diva_isa.specs.declared.effect.Effect.TheVariants.{Stores}
 use Rattle.diva_isa.specs.declared.kind.Width.{Width}
 use Rattle.diva_isa.specs.declared.kind.Width.TheVariants.{Byte, Half, Word}
-use Rattle.diva_claims.specs.Said.{mask_of}
+use Rattle.diva_claims.specs.Said.{mask_stored}
 
 shifted : (w : Width) (place : ℕ) → place < 4 → (2 ^ size w - 1) * 2 ^ place % 2 ^ 32 ≡ 2 ^ (place + size w) - 2 ^ place
 shifted Byte zero h = refl
@@ -22,6 +22,6 @@ shifted Word (suc (suc zero)) h = refl
 shifted Word (suc (suc (suc zero))) h = refl
 shifted w (suc (suc (suc (suc n)))) h = absurd (omega arith)
 
-pub shifted_mask : (e : Effect) (w : Width) (addr value ones : ℕ) → e ≡ Stores w addr value → ones ≡ 2 ^ size w - 1 → ones * 2 ^ (addr % 4) % 2 ^ 32 ≡ mask_of e
+pub shifted_mask : (e : Effect) (w : Width) (addr value ones : ℕ) → e ≡ Stores w addr value → ones ≡ 2 ^ size w - 1 → ones * 2 ^ (addr % 4) % 2 ^ 32 ≡ mask_stored e
 shifted_mask e w addr value ones stores is =
-    ap (λ n. n * 2 ^ (addr % 4) % 2 ^ 32) is ∙ shifted w (addr % 4) (omega arith) ∙ ap mask_of (sym stores)
+    ap (λ n. n * 2 ^ (addr % 4) % 2 ^ 32) is ∙ shifted w (addr % 4) (omega arith) ∙ ap mask_stored (sym stores)

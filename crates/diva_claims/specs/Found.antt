@@ -1,12 +1,11 @@
 -- What a flush tells of a line.
 -- Cited by the laws of `ClaimsCore`, as `flushes_tell_wrong_lines`.
-use Rattle.std.specs.Prelude.{ℕ, ◌≡◌, ◌==◌, ◌⊎◌, List, [], ◌∷◌, Option, Some, None, slice_get, true, if◌then◌else◌, ⊤}
+use Rattle.std.specs.Prelude.{ℕ, ◌≡◌, ◌⊎◌, List, [], ◌∷◌, Option, Some, None, slice_get, true, ⊤}
 use Rattle.diva_isa.specs.State.{State}
 use Rattle.diva_isa.specs.Step.{record_of, steps}
 use Rattle.diva_isa.specs.declared.record.Record.{Record}
-use Rattle.diva_core.specs.Cycle.{cycle_of, is_silent}
+use Rattle.diva_core.specs.Cycle.{is_silent}
 use Rattle.diva_core.specs.Difference.{first_difference}
-use Rattle.diva_core.specs.Timed.{Timed}
 use Rattle.diva_core.specs.declared.differences.Diff.{Diff}
 use Rattle.diva_core.specs.declared.flushes.FlushRow.{FlushRow}
 use Rattle.diva_core.specs.declared.flushes.Cause.{Cause}
@@ -32,18 +31,13 @@ TellsWrongLine lines s row = IsTold (slice_get lines row.at) (record_of (steps r
 abbrev pub TellsMissingLine : List Said → FlushRow → Type 0
 TellsMissingLine lines row = is_silent row.cause ≡ true → slice_get lines row.at ≡ None
 
--- ---- the places of flushes
+-- ---- the rows of a run
 
-abbrev pub IsAmong : ℕ → List ℕ → Type 0
-IsAmong k [] = ⊥
-IsAmong k (x ∷ xs) = (k ≡ x) ⊎ IsAmong k xs
+-- one of these rows has this place
+abbrev pub HasRowAt : ℕ → List FlushRow → Type 0
+HasRowAt k [] = ⊥
+HasRowAt k (row ∷ rows) = (row.at ≡ k) ⊎ HasRowAt k rows
 
--- the places at which a run was flushed, the newest first, and before them those of earlier flushes
-abbrev pub flush_places : (earlier : List ℕ) → Timed → List (List Record) → List ℕ
-flush_places earlier m [] = earlier
-flush_places earlier m (list ∷ rest) =
-    flush_places (if (cycle_of m list).under.log.flushes == m.under.log.flushes then earlier else (cycle_of m list).count ∷ earlier) (cycle_of m list) rest
-
--- an instruction has a line, and all that it says is due; or a flush came at its place
-abbrev pub IsRightOrFlushed : List Said → State → List ℕ → ℕ → Type 0
-IsRightOrFlushed lines s places k = IsLineOf (slice_get lines k) (record_of (steps k s)) ⊎ IsAmong k places
+-- the instruction at a place has a line, and all that it says is due; or a flush came there
+abbrev pub IsRightOrFlushed : List Said → State → List FlushRow → ℕ → Type 0
+IsRightOrFlushed lines s rows k = IsLineOf (slice_get lines k) (record_of (steps k s)) ⊎ HasRowAt k rows

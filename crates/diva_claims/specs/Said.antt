@@ -23,18 +23,18 @@ abbrev pub done_by : Record → Effect
 done_by due = if due.end == 0 then effect_of due else Nothing
 
 -- the register that is written, 0 if none is
-abbrev pub register_of : Effect → ℕ
-register_of Nothing = 0
-register_of (Writes rd value) = rd
-register_of (Stores width addr value) = 0
-register_of (Puts byte) = 0
+abbrev pub register_written : Effect → ℕ
+register_written Nothing = 0
+register_written (Writes rd value) = rd
+register_written (Stores width addr value) = 0
+register_written (Puts byte) = 0
 
 -- the bytes that are stored of the word in which they lie, the lowest in bit 0
-abbrev pub mask_of : Effect → ℕ
-mask_of Nothing = 0
-mask_of (Writes rd value) = 0
-mask_of (Stores width addr value) = (entry_at addr (size width) value).mask
-mask_of (Puts byte) = 0
+abbrev pub mask_stored : Effect → ℕ
+mask_stored Nothing = 0
+mask_stored (Writes rd value) = 0
+mask_stored (Stores width addr value) = (entry_at addr (size width) value).mask
+mask_stored (Puts byte) = 0
 
 abbrev pub is_trap : End → Bool
 is_trap GoesOn = false
@@ -50,7 +50,7 @@ differs (Some number) due = not (number == due)
 
 -- another register is said to have been written, or other bytes
 abbrev pub contradicts : Said → Record → Bool
-contradicts said due = differs said.rd (register_of (done_by due)) || differs said.mask (mask_of (done_by due))
+contradicts said due = differs said.rd (register_written (done_by due)) || differs said.mask (mask_stored (done_by due))
 
 -- an end that is never due
 abbrev pub never : ℕ
@@ -107,5 +107,5 @@ pub record SaysOf (said : Said) (due : Record) : Type 0 where
   pub value : IsSaid said.value due.value
   pub next : IsSaid said.next due.next
   pub end : IsEndSaid said.end due.end
-  pub rd : IsSaid said.rd (register_of (done_by due))
-  pub mask : IsSaid said.mask (mask_of (done_by due))
+  pub rd : IsSaid said.rd (register_written (done_by due))
+  pub mask : IsSaid said.mask (mask_stored (done_by due))

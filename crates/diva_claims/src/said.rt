@@ -1,7 +1,7 @@
 // What a line of a log says of an instruction.
 ghost use Rattle.std.specs.Prelude.{◌≡◌, ◌≤◌, ◌-◌, ◌^◌};
 ghost use Rattle.diva_isa.specs.Kind.{size};
-ghost use Rattle.diva_claims.specs.Said.{contradicts, differs, done_by, end_said, filled, mask_of, register_of};
+ghost use Rattle.diva_claims.specs.Said.{contradicts, differs, done_by, end_said, filled, mask_stored, register_written};
 
 use diva_isa::{Effect, End, Record, Width, effect_of};
 
@@ -70,7 +70,7 @@ impl Said {
         ensures { result ≡ contradicts self due.now }
     {
         let effect = done_by(due);
-        differs(self.rd, register_of(effect)) || differs(self.mask, mask_of(effect))
+        differs(self.rd, register_written(effect)) || differs(self.mask, mask_stored(effect))
     }
 }
 
@@ -110,8 +110,8 @@ fn differs(said: Option<u32>, due: u32) -> bool
 }
 
 /// The register that is written, 0 if none is.
-fn register_of(effect: Effect) -> u32
-    ensures { result ≡ register_of effect }
+fn register_written(effect: Effect) -> u32
+    ensures { result ≡ register_written effect }
 {
     match effect {
         Effect::Writes { rd, .. } => u32::from(rd),
@@ -120,8 +120,8 @@ fn register_of(effect: Effect) -> u32
 }
 
 /// The bytes that are stored of the word in which they lie, the lowest in bit 0.
-fn mask_of(effect: Effect) -> u32
-    ensures { result ≡ mask_of effect }
+fn mask_stored(effect: Effect) -> u32
+    ensures { result ≡ mask_stored effect }
 {
     match effect {
         Effect::Stores { width, addr, .. } => lowest(width) << (addr % 4),
