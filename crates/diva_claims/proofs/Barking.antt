@@ -107,15 +107,15 @@ module _ (lines : List Said) (s : State) where
         let since = w.idled in
         let port : n.config.port ≡ m.config.port = ap (λ (z : Config). z.port) r.base.config in
         let closed : (d : ℕ) → q.cycle + depth ≤ d → d ≤ n.cycles → d % m.config.port ≢ 0 = λ d low high.
-            elim (cases_lt d n.cycles) [
-              | inl before ↦ w.closed d low (omega arith)
-              | inr now ↦
-                  let here : m.cycles + 1 ≡ d = omega arith in
-                  elim (not_yet m q rest g.machine r.was e r.unjudged) [
-                    | inl young ↦ absurd (omega arith)
-                    | inr shut ↦ subst (λ x. x % m.config.port ≢ 0) here shut
-                  ]
-            ] in
+        elim (cases_lt d n.cycles) [
+          | inl before ↦ w.closed d low (omega arith)
+          | inr now ↦
+              let here : m.cycles + 1 ≡ d = omega arith in
+              elim (not_yet m q rest g.machine r.was e r.unjudged) [
+                | inl young ↦ absurd (omega arith)
+                | inr shut ↦ subst (λ x. x % m.config.port ≢ 0) here shut
+              ]
+        ] in
         subst (WaitsBy n) (sym is) (record { idled = omega arith; closed = subst (λ x. (d : ℕ) → q.cycle + depth ≤ d → d ≤ n.cycles → d % x ≢ 0) (sym port) closed })
 
     waits-on : (r : Idled stores_wait m list n) (said : Said) (xs : List PendingClaim) → m.under.pending ≡ xs → slice_get lines m.count ≡ Some said → WaitsBy m xs → WaitsBy n n.under.pending

@@ -1,0 +1,154 @@
+// Runs of a core that has a line of a log for each instruction.
+use super::calls::drives_to;
+use diva_claims::{ClaimsCore, Said, SaidEnd};
+use diva_core::{Cause, Diff, Field, FlushRow};
+use std::test::Fail;
+
+/// A line that says nothing.
+const OPEN: Said = Said {
+    pc: None,
+    word: None,
+    src1: None,
+    src2: None,
+    addr: None,
+    value: None,
+    next: None,
+    end: None,
+    rd: None,
+    mask: None,
+};
+
+/// All of the first instruction of `FIVE`, `addi x1, x0, 5`.
+const ADDED: Said = Said {
+    pc: Some(0),
+    word: Some(0x00500093),
+    src1: Some(0),
+    src2: Some(0),
+    addr: Some(0),
+    value: Some(5),
+    next: Some(4),
+    end: Some(SaidEnd::Number(0)),
+    rd: Some(1),
+    mask: Some(0),
+};
+
+/// Some of the second, `addi x17, x0, 93`.
+const ASKED: Said = Said {
+    pc: Some(4),
+    value: Some(93),
+    rd: Some(17),
+    ..OPEN
+};
+
+/// Some of the third, `ecall`, which halts with status 0.
+const HALTED: Said = Said {
+    pc: Some(8),
+    src1: Some(93),
+    end: Some(SaidEnd::Number(256)),
+    rd: Some(0),
+    ..OPEN
+};
+
+/// An end that is never due.
+const NEVER: u32 = 0xffff_ffff;
+
+/// The lines of a core, the cycle in which `FIVE` ends under it, and if a flush comes, its cycle, its place and its cause.
+///
+/// A claim is handed over in the cycle after a commit and judged six cycles later, so right lines commit in the cycles 7, 14 and 21. A
+/// wrong line is flushed in the cycle in which it would have committed, and the checker's own instruction commits six cycles later.
+/// If there is no line, the watchdog barks 64 cycles after the commit before.
+static RUNS: [(&[Said], u64, Option<(u64, u64, Cause)>); 7] = [
+    (&[ADDED, ASKED, HALTED], 21, None),
+    (&[OPEN, OPEN, OPEN], 21, None),
+    (
+        &[
+            ADDED,
+            Said {
+                value: Some(92),
+                ..ASKED
+            },
+            HALTED,
+        ],
+        27,
+        Some((
+            14,
+            1,
+            Cause::Differs(Diff {
+                field: Field::Value,
+                claimed: 92,
+                due: 93,
+            }),
+        )),
+    ),
+    (
+        &[
+            Said {
+                rd: Some(2),
+                ..ADDED
+            },
+            ASKED,
+            HALTED,
+        ],
+        27,
+        Some((
+            7,
+            0,
+            Cause::Differs(Diff {
+                field: Field::End,
+                claimed: NEVER,
+                due: 0,
+            }),
+        )),
+    ),
+    (
+        &[
+            ADDED,
+            Said {
+                mask: Some(15),
+                ..ASKED
+            },
+            HALTED,
+        ],
+        27,
+        Some((
+            14,
+            1,
+            Cause::Differs(Diff {
+                field: Field::End,
+                claimed: NEVER,
+                due: 0,
+            }),
+        )),
+    ),
+    (
+        &[
+            ADDED,
+            ASKED,
+            Said {
+                end: Some(SaidEnd::SomeTrap),
+                ..HALTED
+            },
+        ],
+        27,
+        Some((
+            21,
+            2,
+            Cause::Differs(Diff {
+                field: Field::End,
+                claimed: NEVER,
+                due: 256,
+            }),
+        )),
+    ),
+    (&[ADDED, ASKED], 84, Some((78, 2, Cause::Silent(64)))),
+];
+
+#[test]
+fn lines_of_a_log(rt: HostRuntime) -> Result<(), Fail> {
+    for &(lines, cycles, flush) in &RUNS {
+        let mut core = ClaimsCore::new(Vec::from_slice(rt.alloc(), lines)?);
+        let row = flush.map(|(cycle, at, cause)| FlushRow { cycle, at, cause });
+        drives_to(&rt, rt.alloc(), 64, &mut core, cycles, row)?;
+    }
+    Ok(())
+}
