@@ -49,106 +49,90 @@ const HALTED: Said = Said {
     ..OPEN
 };
 
+/// The second with a wrong value.
+const WRONG_VALUE: Said = Said {
+    value: Some(92),
+    ..ASKED
+};
+
+/// The first, as if it wrote x2.
+const OTHER_REGISTER: Said = Said {
+    rd: Some(2),
+    ..ADDED
+};
+
+/// The second, as if it stored a word.
+const STORED: Said = Said {
+    mask: Some(15),
+    ..ASKED
+};
+
+/// The third, as if it trapped.
+const TRAPPED: Said = Said {
+    end: Some(SaidEnd::SomeTrap),
+    ..HALTED
+};
+
 /// An end that is never due.
 const NEVER: u32 = 0xffff_ffff;
 
-/// The lines of a core, the cycle in which `FIVE` ends under it, and if a flush comes, its cycle, its place and its cause.
+/// The lines of a core, the cycle in which `FIVE` ends under it, and if a flush comes, its cycle and place, and the first field that
+/// differs with what is claimed and due.
 ///
 /// A claim is handed over in the cycle after a commit and judged six cycles later, so right lines commit in the cycles 7, 14 and 21. A
 /// wrong line is flushed in the cycle in which it would have committed, and the checker's own instruction commits six cycles later.
-/// If there is no line, the watchdog barks 64 cycles after the commit before.
-static RUNS: [(&[Said], u64, Option<(u64, u64, Cause)>); 7] = [
+static RUNS: [(&[Said], u64, Option<(u64, u64, Field, u32, u32)>); 6] = [
     (&[ADDED, ASKED, HALTED], 21, None),
     (&[OPEN, OPEN, OPEN], 21, None),
     (
-        &[
-            ADDED,
-            Said {
-                value: Some(92),
-                ..ASKED
-            },
-            HALTED,
-        ],
+        &[ADDED, WRONG_VALUE, HALTED],
         27,
-        Some((
-            14,
-            1,
-            Cause::Differs(Diff {
-                field: Field::Value,
-                claimed: 92,
-                due: 93,
-            }),
-        )),
+        Some((14, 1, Field::Value, 92, 93)),
     ),
     (
-        &[
-            Said {
-                rd: Some(2),
-                ..ADDED
-            },
-            ASKED,
-            HALTED,
-        ],
+        &[OTHER_REGISTER, ASKED, HALTED],
         27,
-        Some((
-            7,
-            0,
-            Cause::Differs(Diff {
-                field: Field::End,
-                claimed: NEVER,
-                due: 0,
-            }),
-        )),
+        Some((7, 0, Field::End, NEVER, 0)),
     ),
     (
-        &[
-            ADDED,
-            Said {
-                mask: Some(15),
-                ..ASKED
-            },
-            HALTED,
-        ],
+        &[ADDED, STORED, HALTED],
         27,
-        Some((
-            14,
-            1,
-            Cause::Differs(Diff {
-                field: Field::End,
-                claimed: NEVER,
-                due: 0,
-            }),
-        )),
+        Some((14, 1, Field::End, NEVER, 0)),
     ),
     (
-        &[
-            ADDED,
-            ASKED,
-            Said {
-                end: Some(SaidEnd::SomeTrap),
-                ..HALTED
-            },
-        ],
+        &[ADDED, ASKED, TRAPPED],
         27,
-        Some((
-            21,
-            2,
-            Cause::Differs(Diff {
-                field: Field::End,
-                claimed: NEVER,
-                due: 256,
-            }),
-        )),
+        Some((21, 2, Field::End, NEVER, 256)),
     ),
-    (&[ADDED, ASKED], 84, Some((78, 2, Cause::Silent(64)))),
 ];
 
 #[test]
-fn lines_of_a_log(rt: HostRuntime) -> Result<(), Fail> {
+fn lines_right_and_wrong(rt: HostRuntime) -> Result<(), Fail> {
     for &(lines, cycles, flush) in &RUNS {
         let mut core = ClaimsCore::new(Vec::from_slice(rt.alloc(), lines)?);
-        let row = flush.map(|(cycle, at, cause)| FlushRow { cycle, at, cause });
+        let row = flush.map(|(cycle, at, field, claimed, due)| FlushRow {
+            cycle,
+            at,
+            cause: Cause::Differs(Diff {
+                field,
+                claimed,
+                due,
+            }),
+        });
         drives_to(&rt, rt.alloc(), 64, &mut core, cycles, row)?;
     }
     Ok(())
+}
+
+/// The second line commits in cycle 14, and there is no third: the watchdog barks 64 cycles later, and the checker's own instruction
+/// commits in cycle 84.
+#[test]
+fn lines_that_end_first(rt: HostRuntime) -> Result<(), Fail> {
+    let mut core = ClaimsCore::new(Vec::from_slice(rt.alloc(), &[ADDED, ASKED])?);
+    let row = FlushRow {
+        cycle: 78,
+        at: 2,
+        cause: Cause::Silent(64),
+    };
+    drives_to(&rt, rt.alloc(), 64, &mut core, 84, Some(row))
 }
