@@ -1,5 +1,5 @@
 -- What a flush tells of a line.
--- Cited by the laws of `ClaimsCore`, as `flushes_tell_wrong_lines`.
+-- Cited by the laws of this crate, as `flushes_tell_wrong_lines`.
 use Rattle.std.specs.Prelude.{ℕ, ◌≡◌, ◌⊎◌, List, [], ◌∷◌, Option, Some, None, slice_get, true, ⊤}
 use Rattle.diva_isa.specs.State.{State}
 use Rattle.diva_isa.specs.Step.{record_of, steps}
