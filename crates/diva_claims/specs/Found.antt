@@ -23,7 +23,7 @@ abbrev pub IsTold : Option Said → Record → Cause → Type 0
 IsTold line due (Differs d) = IsWrongIn line due d
 IsTold line due (Silent limit) = ⊤
 
--- so does a row of the line at its place, from the state on with which a machine began
+-- so does a row, of the line at its place; the machine began with the state s
 abbrev pub TellsWrongLine : List Said → State → FlushRow → Type 0
 TellsWrongLine lines s row = IsTold (slice_get lines row.at) (record_of (steps row.at s)) row.cause
 
