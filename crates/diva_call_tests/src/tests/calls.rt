@@ -24,7 +24,7 @@ fn machine(alloc: Global, program: Program, limit: u32) -> Result<Machine, Fail>
 }
 
 /// Drives a machine of `FIVE`, and compares the end, the cycles and the one flush, where there is one.
-fn drives_to<C: Core>(
+pub(super) fn drives_to<C: Core>(
     rt: &impl Abort,
     alloc: Global,
     limit: u32,

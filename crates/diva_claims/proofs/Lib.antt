@@ -1,0 +1,7 @@
+mod Barking
+mod Finding
+mod Masking
+mod Placing
+mod Righting
+mod Saying
+mod Telling
