@@ -85,17 +85,19 @@ fn lasting_lines(alloc: Global, text: &str) -> Result<String, Fail> {
     Ok(lines)
 }
 
-/// Runs an image under each core, and compares status and lasting lines.
-fn compare_cores(
-    rt: &impl Abort,
+/// What these lines are due to be of a run that halts with status 0 and puts nothing.
+fn lasting_due(
     alloc: Global,
-    file: &[u8],
     count: u32,
     registers: &[(u8, u32)],
     pc: u32,
-) -> Result<(), Fail> {
+) -> Result<String, Fail> {
     let registers = registers_text(alloc, registers)?;
-    let due = format!(in alloc; "end halt 0\ncount {count}\noutput 0\n{registers}pc {pc:08x}\n")?;
+    Ok(format!(in alloc; "end halt 0\ncount {count}\noutput 0\n{registers}pc {pc:08x}\n")?)
+}
+
+/// Runs an image under each core, and compares status and lasting lines.
+fn compare_cores(rt: &impl Abort, alloc: Global, file: &[u8], due: &str) -> Result<(), Fail> {
     let script = spoiling_script(alloc)?;
     for &core in CORES.iter().chain(&[SPOILED]) {
         let outside = Outside::sound(alloc, Vec::from_slice(alloc, file)?).with(
@@ -106,7 +108,7 @@ fn compare_cores(
         let answer = run_program(&mut Ooo::new(alloc)?, line.as_str(), outside)?;
         assert_eq!(rt; answer.status, 0, "{line}");
         let lines = lasting_lines(alloc, str::from_utf8(&answer.text)?)?;
-        assert_eq!(rt; lines.as_str(), due.as_str(), "{line}");
+        assert_eq!(rt; lines.as_str(), due, "{line}");
     }
     Ok(())
 }
@@ -116,7 +118,9 @@ fn the_same_under_every_core(rt: HostRuntime) -> Result<(), Fail> {
     let alloc = rt.alloc();
     for row in &OUTCOMES {
         let file = image_file(alloc, row.program)?;
-        compare_cores(&rt, alloc, &file, row.count, row.registers, row.pc)?;
+        let due = lasting_due(alloc, row.count, row.registers, row.pc)?;
+        compare_cores(&rt, alloc, &file, due.as_str())?;
     }
-    compare_cores(&rt, alloc, &drawn_file(alloc)?, 4, &[(17, 0x5d)], 0x80c)
+    let due = lasting_due(alloc, 4, &[(17, 0x5d)], 0x80c)?;
+    compare_cores(&rt, alloc, &drawn_file(alloc)?, due.as_str())
 }
