@@ -6,7 +6,7 @@ use Rattle.diva_outside.specs.Files.{IsUncounted, LentFiles}
 use Rattle.diva_outside.specs.Lent.{given, left}
 use Rattle.diva_outside.specs.Text.{Text}
 use Rattle.diva_process.specs.declared.status.Status.{Status}
-use Rattle.diva_process.specs.declared.status.Status.TheVariants.{Halted, Misused, Trapped, GoesOn, Refused, Unread}
+use Rattle.diva_process.specs.declared.status.Status.TheVariants.{Halted, Misused, Trapped, GoesOn, Refused, Wrong, Unread}
 use Rattle.diva_process.specs.Programs.{Asked, Doing, FileBytes, Wanted}
 use Rattle.diva_process.specs.Stops.{AreSound, IsUnread, StopsAt, StopsLoading}
 
@@ -34,9 +34,13 @@ HasRefused asked files text = HasStopped asked files (StopsLoading asked.program
 abbrev pub IsDone : Status → Type 0
 IsDone ends = (ends ≡ Halted) ⊎ ((ends ≡ Trapped) ⊎ (ends ≡ GoesOn))
 
+-- the statuses of a job that judges a text as it reads it: the text is wrong, has a fault, or can't be read to its end
+abbrev pub IsJudged : Status → Type 0
+IsJudged ends = (ends ≡ Wrong) ⊎ ((ends ≡ Refused) ⊎ (ends ≡ Unread))
+
 -- one of these, and one with which the job may end
 pub record EndsSo {J : Type 0} (work : Doing J) (job : J) (ends : Status) : Type 0 where
-  pub done : IsDone ends
+  pub done : IsDone ends ⊎ IsJudged ends
   pub can : work.can_end job ends
 
 -- all files are sound, and no load failed; the text is that of the job

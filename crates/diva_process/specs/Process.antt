@@ -8,7 +8,7 @@ use Rattle.diva_outside.specs.Sink.{HasFailed, LentSink, Takes}
 use Rattle.diva_outside.specs.Text.{Text}
 use Rattle.diva_outside.specs.declared.files.What.{What}
 use Rattle.diva_process.specs.declared.status.Status.{Status}
-use Rattle.diva_process.specs.declared.status.Status.TheVariants.{Misused, Refused, Unread, Cut, NoMemory}
+use Rattle.diva_process.specs.declared.status.Status.TheVariants.{Misused, Refused, Wrong, Unread, Cut, NoMemory}
 use Rattle.diva_process.specs.Programs.{Asked, Doing}
 use Rattle.diva_process.specs.Answers.{HasRefused, HasUnread, IsDone, IsMisused}
 use Rattle.diva_process.specs.Statuses.{CanWork, HasEnded, HasLine, HasMissing, HasNoMemory, HasWorked, IsCut, IsHindered, LoadsNothing, MustRefuse}
@@ -19,8 +19,11 @@ pub record IsProcess {J F S : Type 0} (asked : Asked J) (work : Doing J) (files 
   -- no job is done: the words, the first file's fault, or the files' count of faults says why; no fault was counted for a file after
   -- the one at which the loading stopped
   pub misused : ends ≡ Misused → HasLine (IsMisused asked files) work sink
-  pub refused : ends ≡ Refused → HasLine (HasRefused asked files) work sink
-  pub unread : ends ≡ Unread → HasLine (HasUnread asked files) work sink
+  -- or the job is done, and judges a text as it reads it, which has a fault or can't be read to its end
+  pub refused : ends ≡ Refused → HasLine (HasRefused asked files) work sink ⊎ HasEnded asked work files sink ends
+  pub unread : ends ≡ Unread → HasLine (HasUnread asked files) work sink ⊎ HasEnded asked work files sink ends
+  -- or is wrong
+  pub wrong : ends ≡ Wrong → HasEnded asked work files sink ends
   -- the sink's count of faults rose, and what the program has in its hands was not used again
   pub cut : ends ≡ Cut → IsCut asked work files sink
   -- memory ran out, and no load failed

@@ -6,7 +6,7 @@ use Rattle.diva_outside.specs.Lent.{given}
 use Rattle.diva_outside.specs.Sink.{HasFailed, LentSink, Takes, TakesPast}
 use Rattle.diva_outside.specs.Text.{Text}
 use Rattle.diva_process.specs.declared.status.Status.{Status}
-use Rattle.diva_process.specs.declared.status.Status.TheVariants.{Halted, Misused, Trapped, GoesOn, Refused, Unread, Cut, NoMemory}
+use Rattle.diva_process.specs.declared.status.Status.TheVariants.{Halted, Misused, Trapped, GoesOn, Refused, Wrong, Unread, Cut, NoMemory}
 use Rattle.diva_process.specs.Programs.{Asked, Doing, FileRules, Program, Wanted}
 use Rattle.diva_process.specs.Stops.{IsRefused}
 use Rattle.diva_process.specs.Answers.{HasDone, HasStopped, IsAnswer}
@@ -18,6 +18,7 @@ number_of Misused = 2
 number_of Trapped = 3
 number_of GoesOn = 4
 number_of Refused = 5
+number_of Wrong = 6
 number_of Unread = 8
 number_of Cut = 9
 number_of NoMemory = 10

@@ -13,9 +13,12 @@ pub enum Status {
     Trapped,
     /// 4: exactly the cycles asked for were run, and the machine goes on; the whole text was written.
     GoesOn,
-    /// 5: the first file that can't be used has a fault, or is too long; a line says so.
+    /// 5: the first file that can't be used has a fault, or is too long; a line says so. Or so it is with a text that the job reads as it
+    /// goes.
     Refused,
-    /// 8: the first file that can't be used can't be read; a line says so.
+    /// 6: the job judges a text, and something of it is wrong; the whole text was written.
+    Wrong,
+    /// 8: the first file that can't be used can't be read; a line says so. Or so it is with a text that the job reads as it goes.
     Unread,
     /// 9: the sink failed; a prefix of the text was written.
     Cut,
@@ -34,6 +37,7 @@ impl Status {
             Status::Trapped => 3,
             Status::GoesOn => 4,
             Status::Refused => 5,
+            Status::Wrong => 6,
             Status::Unread => 8,
             Status::Cut => 9,
             Status::NoMemory => 10,
