@@ -4,7 +4,7 @@ use Rattle.std.specs.Prelude.{true, List, [], ◌∷◌, ◌++◌, map, Some, co
 use Rattle.clap.specs.Walk.{Rule, Text}
 use Rattle.clap.specs.Simple.{App, Shape, new_rule, new_shape, with_subcommand}
 use Rattle.clap.specs.declared.builder.action.ArgAction.TheVariants.{SetTrue}
-use Rattle.diva_args.specs.Rows.{campaign_cycles_row, cycles_row, from_row, last_row, length_row, room_row, seed_row, to_row}
+use Rattle.diva_args.specs.Rows.{campaign_cycles_row, cycles_row, from_row, last_row, length_row, room_row, seed_row, stop_row, to_row}
 use Rattle.diva_args.specs.Rows.{port_row, stores_row, watchdog_row, width_row, window_row}
 
 -- a command: its name, the ids of its positionals in order, the names of its options, and those of its flags
@@ -101,9 +101,17 @@ draw = record {
   flags = [];
 }
 
+abbrev pub judge : Leaf
+judge = record {
+  name = codes "judge";
+  positionals = codes "IMAGE" ∷ codes "LOG" ∷ [];
+  options = width_row.word ∷ machine_options ++ room_option ++ stop_row.word ∷ [];
+  flags = codes "answer" ∷ [];
+}
+
 -- the commands of `diva`, and after them those for which only the workbench has a job
 abbrev pub leaves : List Leaf
-leaves = run ∷ tape ∷ duo ∷ debug ∷ asm ∷ dis ∷ migrate ∷ soak ∷ campaign ∷ log ∷ draw ∷ []
+leaves = run ∷ tape ∷ duo ∷ debug ∷ asm ∷ dis ∷ migrate ∷ soak ∷ campaign ∷ log ∷ draw ∷ judge ∷ []
 
 -- ---- the same for `clap`
 

@@ -1,17 +1,19 @@
--- What a command line asks for of the workbench: it takes the words of `diva`, and has two commands more.
+-- What a command line asks for of the workbench: it takes the words of `diva`, and has three commands more.
 -- Cited by `read_lab_words`.
-use Rattle.std.specs.Prelude.{ℕ, false, nat_le, List, Option, Some, None, option_and_then, option_map, codes, if◌then◌else◌}
+use Rattle.std.specs.Prelude.{ℕ, Bool, false, nat_le, List, Option, Some, None, option_and_then, option_map, codes, if◌then◌else◌}
 use Rattle.std.specs.Str.{bytes_eq}
 use Rattle.clap.specs.Walk.{Row, Text}
 use Rattle.diva_args.specs.Line.{job_from, run_with, taken, values_of, wide_from}
 use Rattle.diva_args.specs.Plain.{PlainLine, given_in}
-use Rattle.diva_args.specs.Rows.{cycles_row, from_row, to_row}
-use Rattle.diva_args.specs.Values.{liar_of, named, number_of}
+use Rattle.diva_args.specs.Options.{Setup}
+use Rattle.diva_args.specs.Rows.{cycles_row, from_row, stop_row, to_row}
+use Rattle.diva_args.specs.Values.{is_set_by, liar_of, named, number_of, optional_of}
 use Rattle.diva_args.specs.declared.job.RunOptions.{RunOptions}
+use Rattle.diva_args.specs.declared.judge.JudgeOptions.{JudgeOptions}
 use Rattle.diva_args.specs.declared.lab.Format.{Format}
 use Rattle.diva_args.specs.declared.lab.Format.TheVariants.{Log, Drawing}
 use Rattle.diva_args.specs.declared.lab.LabJob.{LabJob}
-use Rattle.diva_args.specs.declared.lab.LabJob.TheVariants.{Diva, Draw}
+use Rattle.diva_args.specs.declared.lab.LabJob.TheVariants.{Diva, Draw, Judge}
 
 -- a run that is drawn has neither commit lines nor a part of memory to show
 unfoldable pub drawn_run_from : (Text → Option Text) → Option RunOptions
@@ -27,11 +29,20 @@ drawing_from value = option_and_then (λ from. option_and_then (drawing_to from)
 abbrev pub drawn_by : Option RunOptions → Option Format → Option LabJob
 drawn_by run format = option_and_then (λ r. option_map (λ f. Draw (record { run = r; format = f })) format) run
 
+abbrev pub judge_with : Option Setup → (log : Option Text) → (stop : Option (Option ℕ)) → (answers : Bool) → Option JudgeOptions
+judge_with setup log stop answers = option_and_then (λ s. option_and_then (λ l. option_map (λ n.
+    record { setup = s; log = l; stop = n; answers = answers }) stop) log) setup
+
+-- a log that is judged
+unfoldable pub judge_from : (Text → Option Text) → Option JudgeOptions
+judge_from value = judge_with (wide_from value) (value (codes "LOG")) (optional_of stop_row value) (is_set_by (value (codes "answer")))
+
 -- the job of the command of this name
 abbrev pub lab_job_from : Text → (Text → Option Text) → Option LabJob
 lab_job_from name value =
     if bytes_eq name (codes "log") then drawn_by (drawn_run_from value) (Some Log)
     else if bytes_eq name (codes "draw") then drawn_by (drawn_run_from value) (drawing_from value)
+    else if bytes_eq name (codes "judge") then option_map Judge (judge_from value)
     else option_map Diva (job_from name value)
 
 abbrev pub lab_job_of : Text × List Row → Option LabJob

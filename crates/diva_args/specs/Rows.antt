@@ -42,6 +42,10 @@ from_row = record { word = codes "from"; least = 1; most = 1000000000; default =
 abbrev pub to_row : NumberRow
 to_row = record { word = codes "to"; least = 1; most = 1000000000; default = Some 1000000000 }
 
+-- after so many wrong lines of a log no further one is judged
+abbrev pub stop_row : NumberRow
+stop_row = record { word = codes "stop"; least = 1; most = 4294967295; default = None }
+
 -- a number of the machine, whose range `config_in_range` has
 abbrev pub machine_row : Text → ℕ → NumberRow
 machine_row word default = record { word = word; least = 0; most = 4294967295; default = Some default }

@@ -19,7 +19,7 @@ pub(crate) struct Leaf {
 }
 
 /// The commands of `diva`, and after them those of the workbench alone.
-static LEAVES: [Leaf; 11] = [
+static LEAVES: [Leaf; 12] = [
     Leaf {
         name: "run",
         positionals: &["IMAGE"],
@@ -101,6 +101,14 @@ static LEAVES: [Leaf; 11] = [
             "cycles", "liar", "from", "to",
         ],
         flags: &[],
+    },
+    Leaf {
+        name: "judge",
+        positionals: &["IMAGE", "LOG"],
+        options: &[
+            "width", "window", "stores", "watchdog", "port", "room", "stop",
+        ],
+        flags: &["answer"],
     },
 ];
 

@@ -1,4 +1,4 @@
-// The words of the workbench: those of `diva`, and two commands more.
+// The words of the workbench: those of `diva`, and three commands more.
 ghost use Rattle.std.specs.Prelude.{◌≡◌, IfOk, Err, None, Some, map, option_and_then};
 ghost use Rattle.clap.specs.Walk.{rows_of};
 ghost use Rattle.clap.specs.Words.{found_of, subcommand_rows_of};
@@ -8,6 +8,7 @@ ghost use Rattle.diva_args.specs.Line.{values_of};
 ghost use Rattle.diva_args.specs.Plain.{IsPlainLine, PlainLine};
 
 use crate::fault::ArgsFault;
+use crate::judge::{JudgeOptions, judge};
 use crate::job::{Job, RunOptions};
 use crate::read::{job_named, matches, number_of, or_usage, setup, text_of, width};
 use crate::rows::{CYCLES, FROM, TO};
@@ -22,6 +23,8 @@ pub enum LabJob {
     Diva(Job),
     /// `log IMAGE` or `draw IMAGE`: runs an image, and shows what becomes of each claim in each cycle.
     Draw(DrawOptions),
+    /// `judge IMAGE LOG`: judges what a log says of each instruction of an image.
+    Judge(JudgeOptions),
 }
 
 /// `log IMAGE` or `draw IMAGE`, with the options of `run` but `--trace` and `--dump`; `draw` with two more.
@@ -47,7 +50,7 @@ pub enum Format {
     },
 }
 
-/// The job that the words ask for of the workbench. `words` are those after the program's name: `log` or `draw` with an
+/// The job that the words ask for of the workbench. `words` are those after the program's name: `log`, `draw` or `judge` with an
 /// image and options, or any words of `diva`.
 ///
 /// The error is `Usage` where the words are not a valid command line, and `Memory` where memory runs out.
@@ -73,6 +76,7 @@ fn job(alloc: Global, matches: &ArgMatches<'_>) -> Result<LabJob, ArgsFault>
     match name {
         "log" => drawn(alloc, found, Some(Format::Log)),
         "draw" => drawn(alloc, found, drawing(found)),
+        "judge" => Ok(LabJob::Judge(judge(alloc, found)?)),
         _ => Ok(LabJob::Diva(job_named(alloc, name, found)?)),
     }
 }

@@ -8,7 +8,8 @@
 //! - `command`: the table of commands, and `clap`'s command of it.
 //! - `values`: the values of options as cores, numbers, parts of memory and places of voting lanes.
 //! - `rows`: the numbers that words can give, a row for each, with its word, its range and its default.
-//! - `job`: `Job` and its parts, whose types keep the ranges of the numbers. `campaign`: those of the command `campaign`.
+//! - `job`: `Job` and its parts, whose types keep the ranges of the numbers. `campaign`, `judge`: those of the commands `campaign`
+//!   and `judge`.
 //! - `file_name`: `FileName`, the name of a file. `ranged`: `Ranged`, a number that keeps a range.
 //! - `fault`: `ArgsFault`, why there is no job.
 //!
@@ -23,6 +24,7 @@ mod command;
 mod fault;
 mod file_name;
 mod job;
+mod judge;
 mod lab;
 mod ranged;
 mod read;
@@ -36,6 +38,7 @@ pub use job::{
     CoreChoice, DebugOptions, DumpRange, DuoOptions, HartCore, Job, LanePlace, MigrateOptions,
     RunOptions, Setup, SoakOptions, TapeOptions,
 };
+pub use judge::JudgeOptions;
 pub use lab::{DrawOptions, Format, LabJob, read_lab_words};
 pub use ranged::Ranged;
 pub use read::read_words;

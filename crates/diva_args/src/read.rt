@@ -141,7 +141,7 @@ pub(crate) fn or_usage<T>(asked: Option<T>) -> Result<T, ArgsFault>
 }
 
 /// The name of the file that a positional names.
-fn file_of(alloc: Global, found: &ArgMatches<'_>, id: &str) -> Result<FileName, ArgsFault>
+pub(crate) fn file_of(alloc: Global, found: &ArgMatches<'_>, id: &str) -> Result<FileName, ArgsFault>
     ensures { Reads (values_of (rows_of (found_of found.now)) id.now) result }
 {
     let name = or_usage(text_of(found, id))?;
@@ -292,7 +292,7 @@ fn name_of(alloc: Global, text: Option<&str>) -> Result<Option<FileName>, AllocE
 }
 
 /// Whether the words have a flag.
-fn is_set(found: &ArgMatches<'_>, name: &str) -> bool
+pub(crate) fn is_set(found: &ArgMatches<'_>, name: &str) -> bool
     ensures { result ≡ is_set_by (values_of (rows_of (found_of found.now)) name.now) }
 {
     match text_of(found, name) {

@@ -34,6 +34,12 @@ pub(crate) static TO: NumberRow<1, MOST_CYCLES> = NumberRow {
     default: Some(MOST_CYCLES),
 };
 
+/// `--stop`: after so many wrong lines of a log no further one is judged; there is no such number if the words give none.
+pub(crate) static STOP: NumberRow<1, { u32::MAX }> = NumberRow {
+    word: "stop",
+    default: None,
+};
+
 /// The most cycles that each run of a campaign can be given.
 const MOST_CAMPAIGN_CYCLES: u32 = 100_000;
 

@@ -60,7 +60,7 @@ can_end gives (Soak options) bytes core status text h = h.whole
 can_end gives (Campaign options) bytes core status text h =
     ends_done (first_run options.cycles (campaign_start bytes)) options.cycles status h.status
 
-job_done : (job : Job) (status : Status) → CanEnd job status → IsDone status
+pub job_done : (job : Job) (status : Status) → CanEnd job status → IsDone status
 job_done (Run options) status h = h
 job_done (Tape options) status h = h
 job_done (Harts options) status h = h
@@ -74,4 +74,4 @@ job_done (Campaign options) status h = h
 pub ends_so : {C : Type 0} (gives : Meaning C) (asks : Asking C) (job : Job) (bytes : FileBytes) (status : Status) (text : List ℕ)
     → HasAnswered gives asks.lanes (core_of asks) job bytes (Ok status) text → EndsSo (work_of gives asks) job status
 ends_so gives asks job bytes status text h =
-    let can = can_end gives job bytes (core_of asks) status text h.means in record { done = job_done job status can; can = can }
+    let can = can_end gives job bytes (core_of asks) status text h.means in record { done = inl (job_done job status can); can = can }

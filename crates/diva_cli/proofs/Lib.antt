@@ -22,3 +22,4 @@ pub mod Counting
 pub mod Campaigning
 pub mod DuoRunning
 pub mod Voting
+pub mod Judging

@@ -6,10 +6,12 @@ use Rattle.diva_outside.specs.Lent.{lent}
 use Rattle.diva_outside.specs.Text.{Text}
 use Rattle.diva_process.specs.declared.status.Status.{Status}
 use Rattle.diva_process.specs.declared.status.Status.TheVariants.{Refused, Unread, Cut, NoMemory}
+use Rattle.diva_process.specs.Answers.{IsDone}
 use Rattle.diva_process.specs.Process.{IsProcess}
 use Rattle.diva_process.specs.Programs.{Asked, Doing, FileRules, Wanted}
 use Rattle.diva_process.specs.Statuses.{CanWork, HasEnded, HasWorked, IsNumberOf, MustRefuse}
 use Rattle.diva_process.specs.Stops.{IsUnread, StopsAt}
+use Rattle.diva_cli.proofs.Judging.{done_judged}
 use Rattle.diva_cli.specs.Sure.{IsSure, sure_contents, sure_files, unseen}
 
 -- what they tell
@@ -26,10 +28,14 @@ is_read rules files later text (w ∷ ws) (inl unread) = elim unread.cause [
 ]
 is_read rules files later text (w ∷ ws) (inr rest) = is_read rules files later text ws rest.1
 
-module _ {J : Type 0} (asked : Asked J) (work : Doing J) (before after : List (List ℕ × List ℕ)) {S : Type 0} (s t : S) (ends : Status)
+module _ {J : Type 0} (asked : Asked J) (work : Doing J) (plain : (job : J) (ends : Status) → work.can_end job ends → IsDone ends)
+    (before after : List (List ℕ × List ℕ)) {S : Type 0} (s t : S) (ends : Status)
     (p : IsProcess asked work (lent sure before after) (lent (λ (_ : S). record { contents = None; faults = 0 }) s t) ends) where
   never_unread : ends ≢ Unread
-  never_unread e = let line = p.unread e in is_read asked.program.rules before after line.text _ line.caused.first
+  never_unread e = elim (p.unread e) [
+    | inl line ↦ is_read asked.program.rules before after line.text _ line.caused.first
+    | inr judged ↦ done_judged ends (plain judged.job ends judged.can) (inr (inr e))
+  ]
 
   never_cut : ends ≢ Cut
   never_cut e = let rose = (p.cut e).rose in omega (arith, rose)
@@ -66,7 +72,10 @@ module _ {J : Type 0} (asked : Asked J) (work : Doing J) (before after : List (L
     worked = λ done. worked (p.worked done);
     unused = λ why. elim why [
       | inl misused ↦ (p.misused misused).unused
-      | inr (inl refused) ↦ (p.refused refused).unused
+      | inr (inl refused) ↦ elim (p.refused refused) [
+        | inl line ↦ line.unused
+        | inr judged ↦ absurd (done_judged ends (plain judged.job ends judged.can) (inr (inl refused)))
+      ]
       | inr (inr memory) ↦ (p.memory memory).unused
     ];
     misused = λ misused. (p.misused misused).caused.none;
@@ -79,8 +88,8 @@ module _ {J : Type 0} (asked : Asked J) (work : Doing J) (before after : List (L
     complete = complete;
   }
 
-pub sure_number : {J S : Type 0} (asked : Asked J) (work : Doing J) (before after : List (List ℕ × List ℕ)) (s t : S) (number : ℕ)
+pub sure_number : {J S : Type 0} (asked : Asked J) (work : Doing J) → ((job : J) (ends : Status) → work.can_end job ends → IsDone ends) → (before after : List (List ℕ × List ℕ)) (s t : S) (number : ℕ)
     → IsNumberOf (IsProcess asked work (lent sure before after) (lent (λ (_ : S). record { contents = None; faults = 0 }) s t)) number
     → IsNumberOf (IsSure asked work (sure_files before)) number
-sure_number asked work before after s t number n =
-    record { ends = n.ends; numbered = n.numbered; holds = sure_of asked work before after s t n.ends n.holds }
+sure_number asked work plain before after s t number n =
+    record { ends = n.ends; numbered = n.numbered; holds = sure_of asked work plain before after s t n.ends n.holds }

@@ -1,12 +1,17 @@
 -- The program `diva`: its words, the files of its jobs, and what each job came to.
--- Cited by `top`, `top_sure` and `work`.
-use Rattle.std.specs.Prelude.{Result}
+-- Cited by `top`, `top_sure`, `work` and `only_files_are_refused`.
+use Rattle.std.specs.Prelude.{◌≡◌, ◌≢◌, Result}
+use Rattle.diva_outside.specs.Files.{LentFiles}
+use Rattle.diva_outside.specs.Sink.{LentSink}
 use Rattle.diva_outside.specs.Text.{Text}
 use Rattle.diva_core.specs.History.{Meaning}
 use Rattle.diva_args.specs.Line.{command_of}
 use Rattle.diva_args.specs.declared.job.Job.{Job}
 use Rattle.diva_process.specs.declared.status.Status.{Status}
-use Rattle.diva_process.specs.Programs.{Doing, FileBytes, Program, doing}
+use Rattle.diva_process.specs.declared.status.Status.TheVariants.{Refused, Wrong, Unread}
+use Rattle.diva_process.specs.Answers.{HasRefused, HasUnread}
+use Rattle.diva_process.specs.Programs.{Asked, Doing, FileBytes, Program, doing}
+use Rattle.diva_process.specs.Statuses.{HasLine}
 use Rattle.diva_cli.specs.Changes.{Asking, Change, IsUnasked, LanesAsked, change, core_of}
 use Rattle.diva_cli.specs.Lanes.{own_asked}
 use Rattle.diva_cli.specs.Lines.{usage_line}
@@ -32,3 +37,9 @@ own_done gives before after job bytes ended text = HasAnswered gives own_asked (
 
 abbrev pub own_work : {C : Type 0} → Meaning C → (before after : C) → Doing Job
 own_work gives before after = doing (own_done gives) CanEnd before after
+
+-- ---- no job of `diva` judges a text that it reads as it goes: what is refused or can't be read is a file, and no job is done then
+pub record TellsOfFiles {F S : Type 0} (asked : Asked Job) (work : Doing Job) (files : LentFiles F) (sink : LentSink S) (ends : Status) : Type 0 where
+  pub refused : ends ≡ Refused → HasLine (HasRefused asked files) work sink
+  pub unread : ends ≡ Unread → HasLine (HasUnread asked files) work sink
+  pub right : ends ≢ Wrong

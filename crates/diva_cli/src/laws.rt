@@ -1,4 +1,4 @@
-//! What follows of the text of a run, and of the text of `soak`. The functions have no body: their clauses are about the definitions.
+//! What follows of the text of a run, of the text of `soak`, and of the statuses. The functions have no body: their clauses are about the definitions.
 ghost use Rattle.std.specs.Prelude.{◌≡◌, ℕ, true, Option, Result, IsOk};
 ghost use Rattle.diva_outside.specs.Text.{Text};
 ghost use Rattle.diva_args.specs.declared.job.RunOptions.{RunOptions};
@@ -10,7 +10,12 @@ ghost use Rattle.diva_cli.specs.Determined.{IsDetermined};
 ghost use Rattle.diva_cli.specs.Runs.{HasRun, LegsAreTurns, RunsAreReadOff};
 ghost use Rattle.diva_cli.specs.SoakTexts.{HasSoaked};
 ghost use Rattle.diva_process.specs.declared.status.Status.{Status};
-ghost use Rattle.diva_process.specs.Programs.{FileBytes};
+ghost use Rattle.diva_cli.specs.Program.{TellsOfFiles, own_work};
+ghost use Rattle.diva_outside.specs.Files.{LentFiles};
+ghost use Rattle.diva_outside.specs.Sink.{LentSink};
+ghost use Rattle.diva_args.specs.declared.job.Job.{Job};
+ghost use Rattle.diva_process.specs.Process.{IsProcess};
+ghost use Rattle.diva_process.specs.Programs.{Asked, FileBytes};
 
 use diva_core::Core;
 
@@ -44,4 +49,13 @@ pub fn one_liar_is_outvoted<C: Core>()
 pub fn run_is_one_part<C: Core>()
     ensures off { RunsAreReadOff C.gives }
     ensures turns { LegsAreTurns C.gives }
+{}
+
+/// What `top` refuses, or can't read, is a file, and then no job is done: no job of `diva` judges a text that it reads as it goes, so `Wrong`
+/// is the status of none.
+#[tactic(auto, using(crate::proofs::Judging::tells_of_files))]
+pub fn only_files_are_refused<C: Core>()
+    ensures { {F S : Type 0} (asked : Asked Job) (before after : C) (files : LentFiles F) (sink : LentSink S) (ends : Status)
+        → IsProcess asked (own_work C.gives before after) files sink ends
+        → TellsOfFiles asked (own_work C.gives before after) files sink ends }
 {}

@@ -8,6 +8,7 @@
 use diva_ooo::Ooo;
 use diva_outside::{DiskFiles, StdSink};
 use diva_process::{Status, borrowed};
+use diva_source::DiskSource;
 use diva_workbench::lab_top;
 use std::alloc::AllocError;
 use std::process::ExitCode;
@@ -25,7 +26,15 @@ fn run(rt: &HostRuntime) -> Result<u8, AllocError> {
     let mut files = DiskFiles::new(rt);
     let mut sink = StdSink::new(io::writer(rt));
     let mut core = Ooo::new(rt.alloc())?;
-    Ok(lab_top(rt.alloc(), &texts, &mut files, &mut sink, &mut core))
+    let mut source = DiskSource::new(rt);
+    Ok(lab_top(
+        rt.alloc(),
+        &texts,
+        &mut files,
+        &mut sink,
+        &mut core,
+        &mut source,
+    ))
 }
 
 /// The words of the process, without its name. If one of them is not UTF-8 they are not a valid command line: no words stand for them.

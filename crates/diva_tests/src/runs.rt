@@ -28,6 +28,7 @@ use diva_cli::top;
 use diva_core::Core;
 use diva_isa::Record;
 use diva_outside::{Fail as SinkFail, MemFile, MemFiles, MemSink, What};
+use diva_source::NoSource;
 use diva_test_programs::{ASKS, FIVE_FILE, HALTS, Lists, Program, image_file, registers_text};
 use diva_workbench::lab_top;
 use noting::{Load, NotingFiles, NotingSink};
@@ -246,7 +247,7 @@ fn run_words<C: Core>(
     core: &mut C,
 ) -> u8 {
     match words {
-        ["log" | "draw", ..] => lab_top(alloc, words, files, sink, core),
+        ["log" | "draw", ..] => lab_top(alloc, words, files, sink, core, &mut NoSource::new()),
         _ => top(alloc, words, files, sink, core),
     }
 }

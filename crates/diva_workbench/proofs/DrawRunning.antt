@@ -25,7 +25,7 @@ use Rattle.diva_workbench.specs.declared.drawing.Drawer.{Drawer}
 use Rattle.diva_cli.specs.declared.loading.Ready.{Ready}
 use Rattle.diva_cli.specs.Changes.{LanesAsked, asking, change}
 use Rattle.diva_cli.specs.Cuts.{BeforeLast}
-use Rattle.diva_workbench.specs.Lab.{lab_work_of}
+use Rattle.diva_workbench.specs.Lab.{lab_work_of, no_source}
 use Rattle.diva_workbench.specs.DrawTexts.{HasDrawing, IsDrawnPart, IsDrawnWhole, begin_text, cycle_text, cycles_drawn, drawn_text, end_text, front_text, pen_after, pen_at, pen_behind}
 use Rattle.diva_cli.specs.Ready.{IsReady}
 use Rattle.diva_process.specs.declared.status.Status.{Status}
@@ -210,7 +210,7 @@ module _ {C S : Type 0} (gives : Meaning C) (options : DrawOptions) (bytes : Fil
       record { last = last; of_files = of_files; first = first; saw = saw_new; seen = seen; are = subst (λ (m : Timed). AreSnapshots m lists seen) is.begun are; written = written }
 
   -- a turn was not drawn whole
-  pub cut_turns : (e : SinkFailed) → result ≡ Err e → WritesPart (lab_work_of gives (asking core after lanes)) (Draw options) bytes (lent account s0 s2)
+  pub cut_turns : (e : SinkFailed) → result ≡ Err e → WritesPart (lab_work_of gives (asking core after lanes) no_source) (Draw options) bytes (lent account s0 s2)
   unfolding means
   cut_turns e err =
       let q : PutsTo (lent account s0 s2) (begin_text options.format ++ concat d.texts) (Err e) =
@@ -225,11 +225,11 @@ module _ {C S : Type 0} (gives : Meaning C) (options : DrawOptions) (bytes : Fil
         rose = q.failed;
         put = front_text options.format first w.front seen;
         text = front_text options.format first lists seen;
-        means = record {
+        means = (record {
           means = means seen w.all.are (Err (front_text options.format first w.front seen)) (front_text options.format first lists seen)
               (inr (record { lines = refl; cut = inr (record { earlier = w.front; last = w.last; in_order = w.in_order; holds = refl }) }));
           lanes = asks;
-        };
+        }, refl);
         written = past_more account (begin_text options.format) _ _ s0 s1 s2 begun.ok
             (subst (λ (x : List ℕ). TakesPast (lent account s1 s2) x (cycles_drawn options.format (pen_at first) lists seen)) part
             (subst (λ (x : List ℕ). TakesPast (lent account s1 s2) (concat b.earlier) x) all b.holds));
@@ -259,18 +259,18 @@ module _ {C S : Type 0} (gives : Meaning C) (options : DrawOptions) (bytes : Fil
         ∙ ap (λ (q : Pen). end_text options.format q.seen) (w.behind ∙ ap (λ (q : Pen). pen_behind q w.seen) (new_pen drawer.pen none))) end
 
     pub wrote_drawing : r ≡ Ok tt → (status : Status) → status ≡ end_status (end_of last.arch.end)
-        → WritesWhole (lab_work_of gives (asking core after lanes)) (Draw options) bytes (lent account s0 s3) status
+        → WritesWhole (lab_work_of gives (asking core after lanes) no_source) (Draw options) bytes (lent account s0 s3) status
     unfolding means
     wrote_drawing fine status says =
         let whole = whole_if d.whole ok in
         let q = puts_then _ _ _ _ _ _ _ put_front (subst (λ (x : Result (Unit {0}) SinkFailed). PutsTo (lent account s2 s3) (end_text options.format (pen_behind (pen_at first) w.seen).seen) x) fine put_end) in
         record {
           text = whole_text;
-          means = record { means = means w.seen w.are (Ok status) whole_text (inl (record { whole = whole; says = ends_with options.run.setup options.run.cycles start last status whole says; lines = refl; cut = tt })); lanes = asks };
+          means = (record { means = means w.seen w.are (Ok status) whole_text (inl (record { whole = whole; says = ends_with options.run.setup options.run.cycles start last status whole says; lines = refl; cut = tt })); lanes = asks }, refl);
           written = record { appended = q.ok; uncounted = q.uncounted };
         }
 
-    pub cut_end : (e : SinkFailed) → r ≡ Err e → WritesPart (lab_work_of gives (asking core after lanes)) (Draw options) bytes (lent account s0 s3)
+    pub cut_end : (e : SinkFailed) → r ≡ Err e → WritesPart (lab_work_of gives (asking core after lanes) no_source) (Draw options) bytes (lent account s0 s3)
     unfolding means
     cut_end e err =
         let last_part = subst (λ (x : Result (Unit {0}) SinkFailed). PutsTo (lent account s2 s3) (end_text options.format (pen_behind (pen_at first) w.seen).seen) x) err put_end in
@@ -278,7 +278,7 @@ module _ {C S : Type 0} (gives : Meaning C) (options : DrawOptions) (bytes : Fil
           rose = (puts_then _ _ _ _ _ _ _ put_front last_part).failed;
           put = front;
           text = whole_text;
-          means = record { means = means w.seen w.are (Err front) whole_text (inl (record { whole = whole_if d.whole ok; says = tt; lines = refl; cut = refl })); lanes = asks };
+          means = (record { means = means w.seen w.are (Err front) whole_text (inl (record { whole = whole_if d.whole ok; says = tt; lines = refl; cut = refl })); lanes = asks }, refl);
           written = puts_past _ _ _ _ _ _ e put_front last_part;
         }
 
@@ -288,7 +288,7 @@ pub cut_begin :
     (first : Snapshot) (saw : IsSnapshot ready.machine.timed first) (fits : IsConfig options.run.setup.config) (is : IsReady options.run.setup bytes ready) (lanes : LanesAsked)
     (unasked : lanes options.run.liar []) (format : Format) (f : format ≡ options.format) (e : SinkFailed)
     → PutsTo (lent account s0 s1) (begin_text format) (Err e)
-    → WritesPart (lab_work_of gives (asking core core lanes)) (Draw options) bytes (lent account s0 s1)
+    → WritesPart (lab_work_of gives (asking core core lanes) no_source) (Draw options) bytes (lent account s0 s1)
 cut_begin gives options bytes ready core account s0 s1 first saw fits is lanes unasked format f e first_put =
     let put : PutsTo (lent account s0 s1) (begin_text options.format) (Err e) = subst (λ (x : Format). PutsTo (lent account s0 s1) (begin_text x) (Err e)) f first_put in
     let p : PlaysBy gives ready.core ready.script (change ready.machine.timed ready.machine.timed) (change core core) (IsOnePart (λ lists. lists ≡ [])) = unplayed gives ready.core ready.script ready.machine.timed core (λ lists. lists ≡ []) refl in
@@ -297,7 +297,7 @@ cut_begin gives options bytes ready core account s0 s1 first saw fits is lanes u
       rose = put.failed;
       put = [];
       text = begin_text options.format;
-      means = record {
+      means = (record {
         means = record {
           last = ready.machine.timed;
           of_files = run_of_files gives options.run.setup options.run.cycles bytes ready core ready.machine.timed core fits is _ p (rw no_lists (omega arith));
@@ -308,6 +308,6 @@ cut_begin gives options bytes ready core account s0 s1 first saw fits is lanes u
           written = inr (record { lines = rw no_lists (sym (append-nil (begin_text options.format))); cut = inl (no_lists, refl) });
         };
         lanes = rw no_lists unasked;
-      };
+      }, refl);
       written = past_nothing _ _ put.part;
     }

@@ -1,5 +1,6 @@
 -- What the contracts of this crate cite.
 pub mod DrawTexts
+pub mod Judges
 pub mod Lab
 -- what only private contracts cite
 pub mod Draws

@@ -12,7 +12,7 @@ ghost use Rattle.diva_workbench.specs.DrawTexts.{begin_text, end_text};
 ghost use Rattle.diva_process.specs.Promises.{KeepsPromises};
 ghost use Rattle.diva_cli.specs.Ready.{IsReady};
 ghost use Rattle.diva_process.specs.Writing.{WritesText};
-ghost use Rattle.diva_workbench.specs.Lab.{lab, lab_work_of};
+ghost use Rattle.diva_workbench.specs.Lab.{lab, lab_work_of, no_source};
 
 use diva_args::{DrawOptions, Format};
 use diva_cli::{Lanes, Ready, Watched, Watcher, end_status, make_ready};
@@ -36,7 +36,7 @@ pub(crate) fn draw<F: Files, S: Sink, C: Core, L: Lane>(
 ) -> Result<Status, Failure>
     requires { AreHonest L.honest lanes.old }
     ensures { KeepsPromises (asked_for lab (Draw options)) (lab_work_of C.gives
-        (asking core.old core.new (are_asked L.says lanes.old lanes.new))) (lent F.account files.old files.new) (lent S.account sink.old sink.new) result }
+        (asking core.old core.new (are_asked L.says lanes.old lanes.new)) no_source) (lent F.account files.old files.new) (lent S.account sink.old sink.new) result }
 {
     match make_ready(alloc, files, &options.run.setup) {
         Ok(mut ready) => draw_ready(&mut ready, options, sink, core, lanes),
@@ -57,7 +57,7 @@ fn draw_ready<S: Sink, C: Core, L: Lane>(
     requires fits { IsConfig options.run.setup.config }
     ensures { (bytes : FileBytes) → IsReady options.run.setup bytes ready.old
         → WritesText (lab_work_of C.gives
-        (asking core.old core.new (are_asked L.says lanes.old lanes.new))) (Draw options) bytes (lent S.account sink.old sink.new) result }
+        (asking core.old core.new (are_asked L.says lanes.old lanes.new)) no_source) (Draw options) bytes (lent S.account sink.old sink.new) result }
 {
     let DrawOptions { run, format } = options;
     let mut task = Watched {

@@ -6,57 +6,78 @@ ghost use Rattle.diva_process.specs.Process.{IsProcess};
 ghost use Rattle.diva_process.specs.Statuses.{IsNumberOf};
 ghost use Rattle.diva_process.specs.Promises.{KeepsPromises};
 ghost use Rattle.diva_cli.specs.Changes.{asking};
-ghost use Rattle.diva_workbench.specs.Lab.{lab, lab_usage_line, lab_wanted, lab_work_of, own_lab_work};
+ghost use Rattle.diva_workbench.specs.Lab.{hands, lab, lab_usage_line, lab_wanted, lab_work_of, own_lab_work};
 ghost use Rattle.diva_cli.specs.Lanes.{AreHonest, are_asked};
 
 use crate::drawing::draw;
+use crate::judging::judge_log;
 use diva_args::{ArgsFault, LabJob, read_lab_words};
 use diva_cli::{Lanes, work};
 use diva_core::Core;
 use diva_outside::{Files, Line, Sink};
 use diva_process::{Failure, Front, Status, run_process};
+use diva_source::Source;
 use diva_vote::Lane;
 use std::alloc::{AllocError, Global};
+use std::marker::Model;
 
 /// Runs the workbench on the words of its command line (without its name) over the files, the sink
-/// and the core that it is handed, and answers the number of its status. It does all that [`top`](diva_cli::top) does, and has the
-/// commands `log` and `draw` besides, whose statuses are those of `run`: what is drawn of a run is told from what is seen of the machine
-/// after each cycle, and all that is promised of a run holds of it.
+/// the core and the source that it is handed, and answers the number of its status. It does all that [`top`](diva_cli::top) does, and has three
+/// commands besides. The statuses of `log` and `draw` are those of `run`: what is drawn of a run is told from what is seen of the machine
+/// after each cycle, and all that is promised of a run holds of it. `judge` reads the log of a core line by line, and tells by its status
+/// whether all that the log says of the program's instructions is due.
 ///
 /// | status | comes |
 /// |---|---|
-/// | 0 | the run halted, of two harts both, of a campaign the first run; of the commands that run nothing to its end, the whole text was written |
+/// | 0 | the run halted, of two harts both, of a campaign the first run; of the commands that run nothing to its end, the whole text was written; each line of a log that is judged is right, and each instruction has its line |
 /// | 2 | the words are not a valid command line; the usage line is written |
-/// | 3 | the run trapped, of a campaign the first one; of two harts both have ended, and one by a trap at least |
-/// | 4 | exactly the cycles asked for were run, and the machine goes on; of two harts one does, or owes a store |
-/// | 5 | the first file that can't be used has a fault, or is too long; a line says so |
-/// | 8 | the first file that can't be used can't be read; a line says so |
+/// | 3 | the run trapped, of a campaign the first one; of two harts both have ended, and one by a trap at least; a log is right as for 0, and the program traps |
+/// | 4 | exactly the cycles asked for were run, and the machine goes on; of two harts one does, or owes a store; a log ends before its program does, and no line of it is wrong |
+/// | 5 | the first file that can't be used has a fault, or is too long, or a line of a log has a fault; a line says so |
+/// | 6 | a line of a log is wrong, or lines are left over after the program's end |
+/// | 8 | the first file that can't be used can't be read, or a log can't be read to its end; a line says so |
 /// | 9 | the sink failed; a prefix of the text was written |
 /// | 10 | memory ran out; nothing was written |
-pub fn lab_top<F: Files, S: Sink, C: Core>(
+pub fn lab_top<F: Files, S: Sink, C: Core, D: Source>(
     alloc: Global,
     words: &[&str],
     files: &mut F,
     sink: &mut S,
     core: &mut C,
+    source: &mut D,
 ) -> u8
-    ensures { IsNumberOf (IsProcess (asked_by lab words.now) (own_lab_work C.gives core.old core.new) (lent F.account files.old files.new)
-        (lent S.account sink.old sink.new)) result }
+    ensures { IsNumberOf (IsProcess (asked_by lab words.now) (own_lab_work C.gives D.account (hands core.old source.old) (hands core.new source.new))
+        (lent F.account files.old files.new) (lent S.account sink.old sink.new)) result }
 {
-    run_process(&Lab, alloc, words, files, sink, core).number()
+    let mut hands = Hands { core, source };
+    run_process(&Lab, alloc, words, files, sink, &mut hands).number()
 }
 
-/// The workbench, over a core.
+/// What the workbench has in its hands: the core that its machine asks, and the texts that it reads piece by piece.
+struct Hands<'a, C, D> {
+    core: &'a mut C,
+    source: &'a mut D,
+}
+
+impl<'a, C, D> Model for Hands<'a, C, D> {
+    ghost use Rattle.diva_workbench.specs.Lab.{Hands};
+
+    ghost Value = { Hands C D };
+
+    ghost view = { λ h. record { core = h.core.now; source = h.source.now } };
+}
+
+/// The workbench, over what it has in its hands.
 struct Lab;
 
-impl<C: Core> Front<C> for Lab {
+impl<'a, C: Core, D: Source> Front<Hands<'a, C, D>> for Lab {
     ghost use Rattle.diva_workbench.specs.Lab.{LabEnds, lab, own_lab_done};
 
     type Job = LabJob;
 
     ghost program = { lab };
 
-    ghost done = { own_lab_done C.gives };
+    ghost done = { own_lab_done C.gives D.account };
 
     ghost can_end = { LabEnds };
 
@@ -78,30 +99,33 @@ impl<C: Core> Front<C> for Lab {
         job: LabJob,
         files: &mut F,
         sink: &mut S,
-        core: &mut C,
+        hands: &mut Hands<'a, C, D>,
     ) -> Result<Status, Failure> {
-        lab_work(alloc, job, files, sink, core, &mut Lanes::own())
+        lab_work(alloc, job, files, sink, hands.core, hands.source, &mut Lanes::own())
     }
 }
 
-/// Does a job of the workbench over the files, the sink, the core and the lanes that it is handed, as [`work`](diva_cli::work) does one of
-/// `diva`. The lanes are asked in a run that is drawn as they are in `run`.
-pub fn lab_work<F: Files, S: Sink, C: Core, L: Lane>(
+/// Does a job of the workbench over the files, the sink, the core, the source and the lanes that it is handed, as [`work`](diva_cli::work)
+/// does one of `diva`. The lanes are asked in a run that is drawn as they are in `run`.
+pub fn lab_work<F: Files, S: Sink, C: Core, D: Source, L: Lane>(
     alloc: Global,
     job: LabJob,
     files: &mut F,
     sink: &mut S,
     core: &mut C,
+    source: &mut D,
     lanes: &mut Lanes<L>,
 ) -> Result<Status, Failure>
     requires { AreHonest L.honest lanes.old }
     ensures answers { KeepsPromises (asked_for lab job) (lab_work_of C.gives
-        (asking core.old core.new (are_asked L.says lanes.old lanes.new))) (lent F.account files.old files.new) (lent S.account sink.old sink.new) result }
+        (asking core.old core.new (are_asked L.says lanes.old lanes.new)) (lent D.account source.old source.new))
+        (lent F.account files.old files.new) (lent S.account sink.old sink.new) result }
     ensures unloaded { lab_wanted job ≡ [] → files.new ≡ files.old }
 {
     match job {
         LabJob::Diva(job) => work(alloc, job, files, sink, core, lanes),
         LabJob::Draw(options) => draw(alloc, options, files, sink, core, lanes),
+        LabJob::Judge(options) => judge_log(alloc, &options, files, sink, source),
     }
 }
 
@@ -112,7 +136,7 @@ fn lab_usage_line() -> Line
 {
     let mut line = Line::new();
     line.text(
-        b"usage: diva_lab log IMAGE, draw IMAGE [--from CYCLE] [--to CYCLE], with the options of run, or the words of diva\n",
+        b"usage: diva_lab log IMAGE, draw IMAGE [--from CYCLE] [--to CYCLE], judge IMAGE LOG, with options, or the words of diva\n",
     );
     line
 }

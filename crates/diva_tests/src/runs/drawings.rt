@@ -2,6 +2,7 @@
 use super::{Answer, answer_from, compare_answer, files_and_sink, five_files, words_of};
 use crate::cores::counting;
 use diva_outside::What;
+use diva_source::NoSource;
 use diva_workbench::lab_top;
 use std::alloc::Global;
 use std::test::Fail;
@@ -16,7 +17,7 @@ pub(super) struct Drawn {
 
 /// The usage line of that program.
 const LAB_USAGE: &str = "\
-usage: diva_lab log IMAGE, draw IMAGE [--from CYCLE] [--to CYCLE], with the options of run, or the words of diva
+usage: diva_lab log IMAGE, draw IMAGE [--from CYCLE] [--to CYCLE], judge IMAGE LOG, with options, or the words of diva
 ";
 
 /// The claim of cycle 1 has a wrong value, which the stage that executes finds in cycle 5. It flushes in cycle 7, and its
@@ -179,7 +180,14 @@ fn answer(alloc: Global, row: &Drawn) -> Result<Answer, Fail> {
     }
     let outside = five_files(alloc)?.with(What::Script, row.script)?;
     let (mut files, mut sink) = files_and_sink(outside)?;
-    let status = lab_top(alloc, &words, &mut files, &mut sink, &mut counting());
+    let status = lab_top(
+        alloc,
+        &words,
+        &mut files,
+        &mut sink,
+        &mut counting(),
+        &mut NoSource::new(),
+    );
     answer_from(alloc, status, files, &sink)
 }
 

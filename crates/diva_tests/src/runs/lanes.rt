@@ -10,6 +10,7 @@ use diva_cli::{LanePair, Lanes};
 use diva_core::{Diff, Pending, View};
 use diva_ooo::Ooo;
 use diva_outside::{MemFile, MemFiles, MemSink, What};
+use diva_source::NoSource;
 use diva_test_programs::{FIVE_FILE, Program, image_file};
 use diva_vote::{Lane, Stage, check};
 use diva_workbench::lab_work;
@@ -162,7 +163,8 @@ fn do_job(
 ) -> Result<(), Fail> {
     let mut sink = MemSink::new(alloc, ROOM, Vec::new(alloc))?;
     let mut core = Ooo::new(alloc)?;
-    lab_work(alloc, job, files, &mut sink, &mut core, lanes)?;
+    let mut source = NoSource::new();
+    lab_work(alloc, job, files, &mut sink, &mut core, &mut source, lanes)?;
     Ok(())
 }
 

@@ -1,0 +1,58 @@
+// The words of `judge`.
+ghost use Rattle.std.specs.Prelude.{◌≡◌, option_map};
+ghost use Rattle.clap.specs.Walk.{rows_of};
+ghost use Rattle.clap.specs.Words.{found_of};
+ghost use Rattle.diva_args.specs.Fault.{Reads};
+ghost use Rattle.diva_args.specs.Lab.{judge_from};
+ghost use Rattle.diva_args.specs.Line.{values_of};
+ghost use Rattle.diva_args.specs.Rows.{stop_row};
+ghost use Rattle.diva_args.specs.Values.{optional_by};
+
+use crate::fault::ArgsFault;
+use crate::file_name::FileName;
+use crate::job::Setup;
+use crate::read::{file_of, is_set, or_usage, setup, text_of, width};
+use crate::rows::STOP;
+use crate::values::number_within;
+use clap::ArgMatches;
+use std::alloc::Global;
+
+/// `judge IMAGE LOG` with its options.
+#[derive(Debug, Drop)]
+pub struct JudgeOptions {
+    /// The image, and the machine that judges. No other core takes part: `setup.core` is the program's own, which is not asked, and
+    /// there is no script.
+    pub setup: Setup,
+    /// `LOG`: the name of the log, with what is said of `IMAGE`; `-` is standard input.
+    pub log: FileName,
+    /// `--stop`: after so many wrong lines no further one is judged, 1 to 4,294,967,295; `None` if the option is not given.
+    pub stop: Option<u32>,
+    /// `--answer`: each line is answered.
+    pub answers: bool,
+}
+
+/// `judge IMAGE LOG` with its options.
+#[tactic(auto, unfolding(crate::specs::Lab::judge_from))]
+pub(crate) fn judge(alloc: Global, found: &ArgMatches<'_>) -> Result<JudgeOptions, ArgsFault>
+    ensures { Reads (judge_from (values_of (rows_of (found_of found.now)))) result }
+{
+    let setup = setup(alloc, found, width(found))?;
+    let log = file_of(alloc, found, "LOG")?;
+    let stop = or_usage(stop(text_of(found, STOP.word)))?;
+    Ok(JudgeOptions {
+        setup,
+        log,
+        stop,
+        answers: is_set(found, "answer"),
+    })
+}
+
+/// The number of `--stop`: `Some(None)` if the option is not given, and `None` if the word spells none in its range.
+fn stop(word: Option<&str>) -> Option<Option<u32>>
+    ensures { result ≡ optional_by stop_row (option_map (λ text. text.now) word.entry) }
+{
+    match word {
+        Some(word) => Some(Some(number_within::<1, { u32::MAX }>(word)?.get())),
+        None => Some(None),
+    }
+}

@@ -1,0 +1,77 @@
+// The command `judge`: it loads its image with neither source nor sink in its hands, and then judges the log line by line, as it reads it.
+ghost use Rattle.std.specs.Prelude.{◌≡◌, [], None};
+ghost use Rattle.diva_args.specs.declared.lab.LabJob.TheVariants.{Judge};
+ghost use Rattle.diva_core.specs.History.{Meaning};
+ghost use Rattle.diva_outside.specs.Lent.{lent};
+ghost use Rattle.diva_process.specs.Programs.{FileBytes, asked_for};
+ghost use Rattle.diva_process.specs.Promises.{KeepsPromises};
+ghost use Rattle.diva_process.specs.Writing.{WritesText};
+ghost use Rattle.diva_cli.specs.Changes.{LanesAsked, asking};
+ghost use Rattle.diva_cli.specs.Ready.{IsReady};
+ghost use Rattle.diva_workbench.specs.Judges.{status_by, terms_of};
+ghost use Rattle.diva_workbench.specs.Lab.{lab, lab_work_of};
+
+use diva_args::JudgeOptions;
+use diva_cli::{Ready, make_ready};
+use diva_judge::{Terms, Verdict, judge, unreadable_line};
+use diva_outside::{Files, Sink, put_line};
+use diva_process::{Failure, Status, write_stop};
+use diva_source::Source;
+use std::alloc::Global;
+
+/// Judges what a log says of each instruction of an image. All memory is taken before the log is opened and before anything is written.
+#[inline(never)]
+pub(crate) fn judge_log<F: Files, S: Sink, D: Source>(
+    alloc: Global,
+    options: &JudgeOptions,
+    files: &mut F,
+    sink: &mut S,
+    source: &mut D,
+) -> Result<Status, Failure>
+    ensures { {C : Type 0} (gives : Meaning C) (core : C) (lanes : LanesAsked) → lanes None []
+        → KeepsPromises (asked_for lab (Judge options.now)) (lab_work_of gives (asking core core lanes) (lent D.account source.old source.new))
+        (lent F.account files.old files.new) (lent S.account sink.old sink.new) result }
+{
+    match make_ready(alloc, files, &options.setup) {
+        Ok(mut ready) => judge_ready(&mut ready, options, source, sink),
+        Err(stop) => write_stop(stop, sink),
+    }
+}
+
+/// Opens the log, and has a new machine judge it.
+fn judge_ready<S: Sink, D: Source>(
+    ready: &mut Ready,
+    options: &JudgeOptions,
+    source: &mut D,
+    sink: &mut S,
+) -> Result<Status, Failure>
+    ensures { {C : Type 0} (gives : Meaning C) (core : C) (lanes : LanesAsked) → lanes None []
+        → (bytes : FileBytes) → IsReady options.now.setup bytes ready.old
+        → WritesText (lab_work_of gives (asking core core lanes) (lent D.account source.old source.new)) (Judge options.now) bytes
+        (lent S.account sink.old sink.new) result }
+{
+    if source.open(options.log.as_str()).is_err() {
+        put_line(&unreadable_line(), sink)?;
+        return Ok(Status::Unread);
+    }
+    let terms = Terms {
+        stop: options.stop,
+        answers: options.answers,
+    };
+    let verdict = judge(&mut ready.machine, source, terms, sink)?;
+    Ok(status_by(verdict))
+}
+
+/// The status that goes with a verdict.
+fn status_by(verdict: Verdict) -> Status
+    ensures { result ≡ status_by verdict }
+{
+    match verdict {
+        Verdict::Halted => Status::Halted,
+        Verdict::Trapped => Status::Trapped,
+        Verdict::Short => Status::GoesOn,
+        Verdict::Wrong => Status::Wrong,
+        Verdict::Refused => Status::Refused,
+        Verdict::Unread => Status::Unread,
+    }
+}
