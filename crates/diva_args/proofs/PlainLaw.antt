@@ -8,15 +8,15 @@ use Rattle.std.proofs.lemmas.Slice.Eq.{bytes_eq-Decides}
 use Rattle.clap.specs.Walk.{Row, Text, nothing_held, walked}
 use Rattle.clap.specs.Simple.{Shape, argument_words, built}
 use Rattle.clap.proofs.WalkLemmas.{both}
-use Rattle.diva_args.specs.Command.{Leaf, asm, campaign, debug, dis, diva, draw, duo, leaves, log, migrate, run, soak, tape}
-use Rattle.diva_args.specs.Lab.{lab_job_from, lab_job_on, lab_of}
-use Rattle.diva_args.specs.Line.{command_of, config_from, config_with, job_from, room_from, run_from, run_with, setup_from, setup_with, taken, values_of}
+use Rattle.diva_args.specs.Command.{Leaf, asm, campaign, debug, dis, diva, draw, duo, judge, leaves, log, migrate, run, soak, tape}
+use Rattle.diva_args.specs.Lab.{judge_from, judge_with, lab_job_from, lab_job_on, lab_of}
+use Rattle.diva_args.specs.Line.{command_of, config_from, config_with, job_from, room_from, run_from, run_with, setup_from, setup_with, taken, values_of, wide_from}
 use Rattle.diva_args.specs.Plain.{IsPlainLine, PlainLine, Use, are_distinct, flagged, given_by, given_in, has_text, is_plain_word, is_use_of, job_on, name_of, names_in, use_words, valued, values_in}
-use Rattle.diva_args.specs.Rows.{NumberRow, cycles_row, port_row, stores_row, watchdog_row, width_row, window_row}
-use Rattle.diva_args.specs.Values.{core_of, dump_of, is_set_by, liar_of, named, number_by, number_of, room_behind}
+use Rattle.diva_args.specs.Rows.{NumberRow, cycles_row, port_row, stop_row, stores_row, watchdog_row, width_row, window_row}
+use Rattle.diva_args.specs.Values.{core_of, dump_of, is_set_by, liar_of, named, number_by, number_of, optional_by, room_behind}
 use Rattle.diva_args.specs.declared.job.RunOptions.{RunOptions}
 use Rattle.diva_args.specs.declared.job.Job.TheVariants.{Run}
-use Rattle.diva_args.specs.declared.lab.LabJob.TheVariants.{Diva}
+use Rattle.diva_args.specs.declared.lab.LabJob.TheVariants.{Diva, Judge}
 use Rattle.diva_args.proofs.PlainSteps.{Stands, first_given, given_row}
 use Rattle.diva_args.proofs.PlainFlags.{flag_kept, value_kept, with_flags}
 use Rattle.diva_args.proofs.PlainOptions.{Given, Places, apart_at, are_apart, built_rules, has_first, has_later, is_name, line_end, serves}
@@ -41,6 +41,23 @@ one_source f g s = λ i id. s.value id refl i
 
 -- ---- what each row of the table meets
 
+-- the words of a setup
+abbrev setup_words : List Text
+setup_words =
+    codes "IMAGE" ∷ codes "room" ∷ codes "core" ∷ codes "tape" ∷ codes "script"
+    ∷ width_row.word ∷ window_row.word ∷ stores_row.word ∷ watchdog_row.word ∷ port_row.word ∷ []
+
+-- a name that is none of some words is not this one of them
+apart_from : (name : Text) (words : List Text) (word : Text) → list_all (λ w. not (bytes_eq name w)) words ≡ true → has_text word words ≡ true → bytes_eq name word ≡ false
+apart_from name [] word apart has = cc
+apart_from name (w ∷ ws) word apart has = go (bytes_eq name w) (bytes_eq w word) refl refl (apart_from name ws word)
+  where
+    go : (a b : Bool) → bytes_eq name w ≡ a → bytes_eq w word ≡ b → (list_all (λ w. not (bytes_eq name w)) ws ≡ true → has_text word ws ≡ true → bytes_eq name word ≡ false)
+        → bytes_eq name word ≡ false
+    go true b e f rest = absurd (let h = rw e at apart in cc)
+    go false true e f rest = subst (λ (x : Text). bytes_eq name x ≡ false) ((bytes_eq-Decides w word).0 f) e
+    go false false e f rest = rest (rw e at apart) (rw f at has)
+
 pub record IsSound (l : Leaf) : Type 0 where
   pub enters : Enters (built diva) l.name (built_shape l)
   pub places : Places (built_rules l) 1 l.positionals
@@ -49,20 +66,39 @@ pub record IsSound (l : Leaf) : Type 0 where
   pub same : (f g : Text → Option Text) → SameValues l.flags f g → job_from l.name f ≡ job_from l.name g
   pub lab_same : (f g : Text → Option Text) → SameValues l.flags f g → lab_job_from l.name f ≡ lab_job_from l.name g
 
--- the same number
-same_number : (f g : Text → Option Text) → SameValues run.flags f g → (row : NumberRow) → has_text row.word run.flags ≡ false
-    → number_of row f ≡ number_of row g
-same_number f g s row other = ap (number_by row) (s.value row.word other)
+-- a row with one flag
+module _ (name : Text) (f g : Text → Option Text) (s : SameValues (name ∷ []) f g) where
+  -- the same value, and the same number
+  same_at : (id : Text) → bytes_eq name id ≡ false → f id ≡ g id
+  same_at id other = s.value id (rw other refl)
+
+  same_number : (row : NumberRow) → bytes_eq name row.word ≡ false → number_of row f ≡ number_of row g
+  same_number row other = ap (number_by row) (same_at row.word other)
+
+  -- the same setup, if the flag is none of its words
+  wide_same : (list_all (λ word. not (bytes_eq name word)) setup_words) ≡ true → wide_from f ≡ wide_from g
+  unfolding setup_from room_from config_from
+  wide_same apart =
+      let other : (word : Text) → has_text word setup_words ≡ true → bytes_eq name word ≡ false = λ word has. apart_from name setup_words word apart has in
+      let at : (id : Text) → has_text id setup_words ≡ true → f id ≡ g id = λ id has. same_at id (other id has) in
+      let by : (row : NumberRow) → has_text row.word setup_words ≡ true → number_of row f ≡ number_of row g = λ row has. same_number row (other row.word has) in
+      λ i. setup_with
+      (at (codes "IMAGE") refl i) (room_behind (at (codes "room") refl i)) (core_of (at (codes "core") refl i) (at (codes "tape") refl i)) (at (codes "script") refl i)
+      (config_with (by width_row refl i) (by window_row refl i) (by stores_row refl i) (by watchdog_row refl i) (by port_row refl i))
 
 run_same : (f g : Text → Option Text) → SameValues run.flags f g → run_from f ≡ run_from g
-unfolding run_from setup_from room_from config_from
+unfolding run_from
 run_same f g s =
-    let at = s.value in
-    let by = same_number f g s in
-    λ i. run_with
-    (setup_with (at (codes "IMAGE") refl i) (room_behind (at (codes "room") refl i)) (core_of (at (codes "core") refl i) (at (codes "tape") refl i)) (at (codes "script") refl i)
-    (config_with (by width_row refl i) (by window_row refl i) (by stores_row refl i) (by watchdog_row refl i) (by port_row refl i)))
-    (by cycles_row refl i) (s.flag (codes "trace") i) (dump_of (at (codes "dump") refl i)) (liar_of (at (codes "liar") refl i))
+    let at = same_at (codes "trace") f g s in
+    let wide = wide_same (codes "trace") f g s refl in
+    λ i. run_with (wide i) (same_number (codes "trace") f g s cycles_row refl i) (s.flag (codes "trace") i) (dump_of (at (codes "dump") refl i)) (liar_of (at (codes "liar") refl i))
+
+judge_same : (f g : Text → Option Text) → SameValues judge.flags f g → judge_from f ≡ judge_from g
+unfolding judge_from
+judge_same f g s =
+    let at = same_at (codes "answer") f g s in
+    let wide = wide_same (codes "answer") f g s refl in
+    λ i. judge_with (wide i) (at (codes "LOG") refl i) (optional_by stop_row (at (codes "stop") refl i)) (s.flag (codes "answer") i)
 
 run_sound : IsSound run
 unfolding diva walked job_from
@@ -72,6 +108,16 @@ run_sound = record {
   names = refl;
   same = λ f g s. ap (option_map Run) (run_same f g s);
   lab_same = λ f g s. ap (λ (r : Option RunOptions). option_map Diva (option_map Run r)) (run_same f g s);
+}
+
+judge_sound : IsSound judge
+unfolding diva walked job_from
+judge_sound = record {
+  enters = record { walk_is = refl; turn = refl; sub = refl; label = refl; bare = refl; negates = refl };
+  places = (refl, refl, refl, (refl, refl, refl, tt));
+  names = refl;
+  same = λ f g s. refl;
+  lab_same = λ f g s. ap (option_map Judge) (judge_same f g s);
 }
 
 -- a row without flags
@@ -99,7 +145,7 @@ each_sound l listed =
     let campaign_is = sound_without_flags campaign refl (record { walk_is = refl; turn = refl; sub = refl; label = refl; bare = refl; negates = refl }) (refl, refl, refl, (refl, refl, refl, tt)) refl in
     let log_is = sound_without_flags log refl (record { walk_is = refl; turn = refl; sub = refl; label = refl; bare = refl; negates = refl }) (refl, refl, refl, tt) refl in
     let draw_is = sound_without_flags draw refl (record { walk_is = refl; turn = refl; sub = refl; label = refl; bare = refl; negates = refl }) (refl, refl, refl, tt) refl in
-    All-contains IsSound leaves l (All-from_recursion IsSound leaves (run_sound, (tape_is, (duo_is, (debug_is, (asm_is, (dis_is, (migrate_is, (soak_is, (campaign_is, (log_is, (draw_is, tt)))))))))))) listed
+    All-contains IsSound leaves l (All-from_recursion IsSound leaves (run_sound, (tape_is, (duo_is, (debug_is, (asm_is, (dis_is, (migrate_is, (soak_is, (campaign_is, (log_is, (draw_is, (judge_sound, tt))))))))))))) listed
 
 -- ---- names and words
 

@@ -39,11 +39,8 @@ fn answer(alloc: Global, line: &str, outside: &Outside<'_>) -> Result<Answer, Fa
         words.push(word)?;
     }
     let mut files = MemFiles::new(one_file(alloc, "a.diva", &FIVE_FILE)?, Vec::new(alloc));
-    let mut source = MemSource::new(
-        one_file(alloc, "a.log", outside.log)?,
-        Vec::from_slice(alloc, outside.failing_reads)?,
-        outside.piece,
-    );
+    let logs = one_file(alloc, "a.log", outside.log)?;
+    let mut source = MemSource::new(&logs, outside.piece.max(1), outside.failing_reads);
     let mut sink = MemSink::new(alloc, ROOM, failing(alloc, outside.failing_puts)?)?;
     let mut core = Ooo::new(alloc)?;
     let status = lab_top(alloc, &words, &mut files, &mut sink, &mut core, &mut source);

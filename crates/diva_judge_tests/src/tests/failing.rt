@@ -37,7 +37,7 @@ fn puts_that_fail(rt: HostRuntime) -> Result<(), Fail> {
     let alloc = rt.alloc();
     let mut due = String::from_str(alloc, WRONG)?;
     due.push_str(LAST)?;
-    for call in 1..5 {
+    for call in 1..4 {
         let outside = Outside {
             log: LOG,
             piece: 5,
