@@ -18,6 +18,7 @@ ghost use Rattle.diva_process.specs.Process.{IsProcess};
 ghost use Rattle.diva_process.specs.Programs.{Asked, FileBytes};
 
 use diva_core::Core;
+use diva_outside::{Files, Sink};
 
 /// Where the calls of the core that is handed in are determined, so is the text of a run under it: by the words, the bytes
 /// of the files and the core. Of a run with commit lines that is said where they were all written. The text of `soak` is
@@ -54,8 +55,8 @@ pub fn run_is_one_part<C: Core>()
 /// What `top` refuses, or can't read, is a file, and then no job is done: no job of `diva` judges a text that it reads as it goes, so `Wrong`
 /// is the status of none.
 #[tactic(auto, using(crate::proofs::Judging::tells_of_files))]
-pub fn only_files_are_refused<C: Core>()
-    ensures { {F S : Type 0} (asked : Asked Job) (before after : C) (files : LentFiles F) (sink : LentSink S) (ends : Status)
+pub fn only_files_are_refused<C: Core, F: Files, S: Sink>()
+    ensures { (asked : Asked Job) (before after : C) (files : LentFiles F) (sink : LentSink S) (ends : Status)
         → IsProcess asked (own_work C.gives before after) files sink ends
         → TellsOfFiles asked (own_work C.gives before after) files sink ends }
 {}

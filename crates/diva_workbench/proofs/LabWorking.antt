@@ -1,5 +1,5 @@
 -- What a command of the workbench answers, and what it does with lanes of its own.
-use Rattle.std.proofs.Common.{◌≡◌, ℕ, List, [], Option, None, Result, Ok, inl, inr, refl, subst}
+use Rattle.std.proofs.Common.{◌≡◌, ◌⊎◌, ℕ, List, [], Option, None, Result, Ok, inl, inr, refl, sym, subst}
 use Rattle.diva_outside.specs.Files.{IsUncounted, LentFiles}
 use Rattle.diva_outside.specs.Lent.{given, left, lent}
 use Rattle.diva_outside.specs.Sink.{LentSink}
@@ -7,7 +7,10 @@ use Rattle.diva_source.specs.Source.{LentSource, SourceAccount}
 use Rattle.diva_core.specs.History.{Meaning}
 use Rattle.diva_vote.specs.Questions.{Question}
 use Rattle.diva_args.specs.Options.{Setup}
+use Rattle.diva_args.specs.declared.judge.JudgeOptions.{JudgeOptions}
 use Rattle.diva_args.specs.declared.lab.DrawOptions.{DrawOptions}
+use Rattle.diva_judge.specs.declared.verdict.Verdict.{Verdict}
+use Rattle.diva_judge.specs.declared.verdict.Verdict.TheVariants as verdict
 use Rattle.diva_args.specs.declared.lab.LabJob.{LabJob}
 use Rattle.diva_args.specs.declared.lab.LabJob.TheVariants.{Diva, Draw, Judge}
 use Rattle.diva_args.specs.declared.job.Job.{Job}
@@ -15,13 +18,14 @@ use Rattle.diva_args.specs.declared.job.LanePlace.{LanePlace}
 use Rattle.diva_process.specs.declared.status.Status.{Status}
 use Rattle.diva_process.specs.declared.stop.Failure.{Failure}
 use Rattle.diva_process.specs.declared.stop.Stop.{Stop}
-use Rattle.diva_process.specs.Answers.{EndsSo, IsDone}
+use Rattle.diva_process.specs.Answers.{EndsSo, IsDone, IsJudged}
 use Rattle.diva_process.specs.Programs.{FileBytes, asked_for}
 use Rattle.diva_process.specs.Promises.{KeepsPromises}
 use Rattle.diva_process.specs.Writing.{Stops, WritesStop, WritesText}
 use Rattle.diva_cli.specs.declared.loading.Ready.{Ready}
 use Rattle.diva_cli.specs.Changes.{Asking, IsUnasked, LanesAsked, asking, core_of}
-use Rattle.diva_workbench.specs.Lab.{Hands, HasDrawn, IsUnread, LabAnswered, hands, lab, lab_work_of, no_source, own_lab_work}
+use Rattle.diva_workbench.specs.Judges.{HasJudgement, status_by}
+use Rattle.diva_workbench.specs.Lab.{Hands, HasDrawn, IsUnread, LabAnswered, hands, lab, lab_work_of, no_core, no_source, none_asked, own_lab_work}
 use Rattle.diva_cli.specs.Lanes.{are_asked, own_asked, own_lanes, own_says}
 use Rattle.diva_cli.specs.declared.lanes.Lanes.{Lanes}
 use Rattle.diva_vote.specs.declared.lanes.EitherLane.{EitherLane}
@@ -118,3 +122,50 @@ pub drawing_answers : {C D F S : Type 0} (gives : Meaning C) (asks : Asking C) (
 drawing_answers gives asks source unread files sink options result =
     process.promises_so lab lab (Draw options) (Draw options) (lab_work_of gives asks no_source) (lab_work_of gives asks source) files sink refl refl
     (λ u. (u.0, unread)) (λ bytes ended text h. (h.0, unread)) (λ status c. c) result
+
+-- what is promised of a judgement holds beside any core and any lanes of which none was asked
+pub judgement_answers : {C D F S : Type 0} (gives : Meaning C) (core : C) (lanes : LanesAsked) → lanes None [] → (source : LentSource D)
+    → (files : LentFiles F) (sink : LentSink S) (options : JudgeOptions) (result : Result Status Failure)
+    → KeepsPromises (asked_for lab (Judge options)) (lab_work_of no_core none_asked source) files sink result
+    → KeepsPromises (asked_for lab (Judge options)) (lab_work_of gives (asking core core lanes) source) files sink result
+judgement_answers gives core lanes unasked source files sink options result =
+    process.promises_so lab lab (Judge options) (Judge options) (lab_work_of no_core none_asked source) (lab_work_of gives (asking core core lanes) source) files sink refl refl
+    (λ u. (record { core = refl; lanes = unasked }, u.1)) (λ bytes ended text h. record { means = h.means; core = refl; lanes = unasked }) (λ status c. c) result
+
+-- with which statuses a judgement can end
+status_done : (verdict : Verdict) → IsDone (status_by verdict) ⊎ IsJudged (status_by verdict)
+status_done verdict.Halted = inl (inl refl)
+status_done verdict.Trapped = inl (inr (inl refl))
+status_done verdict.Short = inl (inr (inr refl))
+status_done verdict.Wrong = inr (inl refl)
+status_done verdict.Refused = inr (inr (inl refl))
+status_done verdict.Unread = inr (inr (inr refl))
+
+module _ {D F S : Type 0} (files : LentFiles F) (source : LentSource D) (sink : LentSink S) (options : JudgeOptions) where
+  judge_ends : (bytes : FileBytes) (status : Status) (text : List ℕ)
+      → HasJudgement options bytes source (Ok status) text → IsDone status ⊎ IsJudged status
+  judge_ends bytes status text (inl none) = subst (λ (s : Status). IsDone s ⊎ IsJudged s) (sym none.ends) (inr (inr (inr refl)))
+  judge_ends bytes status text (inr log) = subst (λ (s : Status). IsDone s ⊎ IsJudged s) (sym log.written.means) (status_done log.written.verdict)
+
+  -- the image was loaded, and its log was judged
+  pub judged_answers : (setup : Setup) (ready : Ready) (result : Result Status Failure)
+      → setup ≡ options.setup
+      → HoldsReady (given files).contents setup ready
+      → IsUncounted files
+      → ((bytes : FileBytes) → IsReady options.setup bytes ready → WritesText (lab_work_of no_core none_asked source) (Judge options) bytes sink result)
+      → KeepsPromises (asked_for lab (Judge options)) (lab_work_of no_core none_asked source) files sink result
+  judged_answers setup ready result same held none writes =
+      let h : HoldsReady (given files).contents options.setup ready = subst (λ (s : Setup). HoldsReady (given files).contents s ready) same held in
+      process.done_answers lab (lab_work_of no_core none_asked source) files sink (Judge options) h.bytes result h.sound none
+      (λ status text d. let ends = judge_ends h.bytes status text d.means in record { done = ends; can = ends }) (writes h.bytes h.is)
+
+  -- the loading stopped, and a line was written of it; the source was not read
+  pub unjudged_answers : (setup : Setup) (stop : Stop) (result : Result Status Failure)
+      → IsUnread source
+      → setup ≡ options.setup
+      → Stops file_rules (given files) (left files) (machine_files setup) stop
+      → WritesStop stop sink result
+      → KeepsPromises (asked_for lab (Judge options)) (lab_work_of no_core none_asked source) files sink result
+  unjudged_answers setup stop result unread same stopped wrote =
+      process.stop_answers lab (lab_work_of no_core none_asked source) files sink (Judge options) stop result (record { core = refl; lanes = tt }, unread)
+      (subst (λ (s : Setup). Stops file_rules (given files) (left files) (machine_files s) stop) same stopped) wrote

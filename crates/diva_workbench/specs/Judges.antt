@@ -1,13 +1,15 @@
 -- The text of `judge`: what a log says of each instruction of an image, judged line by line.
 -- Cited in `Lab.antt`, for `lab_top`.
-use Rattle.std.specs.Prelude.{◌≡◌, ◌⊎◌, ℕ, List, [], Option, Some, None, Result, Ok, Err, IfOk, IfErr, ⊤}
-use Rattle.diva_outside.specs.Files.{Contents, IsMissing}
-use Rattle.diva_outside.specs.Lent.{given}
+use Rattle.std.specs.Prelude.{◌≡◌, ◌⊎◌, ℕ, List, [], Result, Ok, Err, IfOk, IfErr}
+use Rattle.diva_outside.specs.Files.{IsMissing}
+use Rattle.diva_outside.specs.Lent.{given, lent}
 use Rattle.diva_outside.specs.Text.{Text}
-use Rattle.diva_source.specs.Source.{HasFailed, IsAllOf, LentSource}
+use Rattle.diva_outside.specs.declared.sink.SinkFailed.{SinkFailed}
+use Rattle.diva_source.specs.Source.{HasFailed, LentSource, Opens}
+use Rattle.diva_source.specs.declared.source.SourceFailed.{SourceFailed}
 use Rattle.diva_isa.specs.State.{State}
 use Rattle.diva_args.specs.declared.judge.JudgeOptions.{JudgeOptions}
-use Rattle.diva_judge.specs.Judging.{AreFirstLines, IsAnswer, IsCutAmid, IsCutLast, SaysWhat}
+use Rattle.diva_judge.specs.Judging.{IsAnswer, IsCutAmid, IsCutLast, SaysWhat}
 use Rattle.diva_judge.specs.Texts.{unreadable_text}
 use Rattle.diva_judge.specs.declared.terms.Terms.{Terms}
 use Rattle.diva_judge.specs.declared.verdict.Verdict.{Verdict}
@@ -37,30 +39,29 @@ pub record HasNoLog {D : Type 0} (name : List ℕ) (source : LentSource D) (ende
   pub ends : IfOk ended (λ ends. ends ≡ status.Unread)
   pub cut : IfErr ended (λ put. put ≡ [])
 
--- ---- it was opened, and judged: these lines were read of what there was to be read
+-- ---- it was opened, and judged: these lines were read of it
 
--- the text was written whole, with the status that goes with the verdict; or the sink failed in it
-pub record IsWhole (terms : Terms) (start : State) (rest : Option Text) (lines : List Text) (ends : Status) (text : Text) : Type 0 where
+-- the text was written whole, with the status that goes with the verdict
+pub record IsWhole {D : Type 0} (terms : Terms) (start : State) (log : LentSource D) (lines : List Text) (ends : Status) (text : Text) : Type 0 where
   pub verdict : Verdict
   pub means : ends ≡ status_by verdict
-  pub answer : IsAnswer terms start rest lines verdict text
+  pub answer : IsAnswer terms start log lines verdict text
   -- what the verdict says
-  pub says : SaysWhat start lines verdict
+  pub says : SaysWhat {E = SinkFailed} start lines (Ok verdict)
 
-pub record IsPart (terms : Terms) (start : State) (rest : Option Text) (lines : List Text) (put text : Text) : Type 0 where
-  pub read : AreFirstLines rest lines
-  pub cut : IsCutAmid terms start lines put text ⊎ IsCutLast terms start rest lines put text
+-- or the sink failed in it
+abbrev pub IsPart : {D : Type 0} → Terms → (start : State) → (log : LentSource D) → List Text → (put text : Text) → Type 0
+IsPart terms start log lines put text = IsCutAmid terms start log lines put text ⊎ IsCutLast terms start log lines put text
 
-abbrev pub IsWritten : Terms → (start : State) → (rest : Option Text) → List Text → Result Status Text → Text → Type 0
-IsWritten terms start rest lines (Ok ends) text = IsWhole terms start rest lines ends text
-IsWritten terms start rest lines (Err put) text = IsPart terms start rest lines put text
+abbrev pub IsWritten : {D : Type 0} → Terms → (start : State) → (log : LentSource D) → List Text → Result Status Text → Text → Type 0
+IsWritten terms start log lines (Ok ends) text = IsWhole terms start log lines ends text
+IsWritten terms start log lines (Err put) text = IsPart terms start log lines put text
 
 pub record HasLog {D : Type 0} (options : JudgeOptions) (bytes : FileBytes) (source : LentSource D) (ended : Result Status Text) (text : Text) : Type 0 where
-  -- all of the log, if the source's texts are known
-  pub rest : Option Text
-  pub opened : IsAllOf (given source).contents options.log rest
+  pub open : D
+  pub opened : Opens {E = SourceFailed} (lent source.account source.before open) options.log (Ok tt)
   pub lines : List Text
-  pub written : IsWritten (terms_of options) (start_in options.setup bytes) rest lines ended text
+  pub written : IsWritten (terms_of options) (start_in options.setup bytes) (lent source.account open source.after) lines ended text
 
 -- the text of `judge` over an image with these bytes, and how the writing of it ended
 abbrev pub HasJudgement : {D : Type 0} → JudgeOptions → FileBytes → LentSource D → Result Status Text → Text → Type 0

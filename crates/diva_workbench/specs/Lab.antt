@@ -13,7 +13,7 @@ use Rattle.diva_args.specs.declared.lab.LabJob.TheVariants.{Diva, Draw, Judge}
 use Rattle.diva_process.specs.declared.status.Status.{Status}
 use Rattle.diva_process.specs.Answers.{IsDone, IsJudged}
 use Rattle.diva_process.specs.Programs.{Doing, FileBytes, Program, Wanted, doing}
-use Rattle.diva_cli.specs.Changes.{Asking, Change, IsUnasked, LanesAsked, change, core_of}
+use Rattle.diva_cli.specs.Changes.{Asking, Change, IsUnasked, LanesAsked, asking, change, core_of}
 use Rattle.diva_workbench.specs.DrawTexts.{HasDrawing}
 use Rattle.diva_workbench.specs.Judges.{HasJudgement}
 use Rattle.diva_cli.specs.Lanes.{own_asked}
@@ -71,6 +71,13 @@ lab_work_of gives asks source =
 -- nothing was read of a source of which nothing is told
 abbrev pub no_source : LentSource (Unit {0})
 no_source = lent (λ _. record { contents = None; rest = None; limit = 0; faults = 0 }) tt tt
+
+-- neither a core nor a lane was asked, of which nothing is told
+abbrev pub no_core : Meaning (Unit {0})
+no_core before told s list after = Unit {0}
+
+abbrev pub none_asked : Asking (Unit {0})
+none_asked = asking tt tt (λ liar asked. Unit {0})
 
 -- the same by what the program has in its hands, a core and a source; lanes are its own
 pub record Hands (C D : Type 0) : Type 0 where

@@ -1,15 +1,14 @@
 // The command `judge`: it loads its image with neither source nor sink in its hands, and then judges the log line by line, as it reads it.
-ghost use Rattle.std.specs.Prelude.{◌≡◌, [], None};
+ghost use Rattle.std.specs.Prelude.{◌≡◌};
 ghost use Rattle.diva_args.specs.declared.lab.LabJob.TheVariants.{Judge};
-ghost use Rattle.diva_core.specs.History.{Meaning};
+ghost use Rattle.diva_core.specs.Timed.{new_timed};
 ghost use Rattle.diva_outside.specs.Lent.{lent};
 ghost use Rattle.diva_process.specs.Programs.{FileBytes, asked_for};
 ghost use Rattle.diva_process.specs.Promises.{KeepsPromises};
 ghost use Rattle.diva_process.specs.Writing.{WritesText};
-ghost use Rattle.diva_cli.specs.Changes.{LanesAsked, asking};
 ghost use Rattle.diva_cli.specs.Ready.{IsReady};
 ghost use Rattle.diva_workbench.specs.Judges.{status_by, terms_of};
-ghost use Rattle.diva_workbench.specs.Lab.{lab, lab_work_of};
+ghost use Rattle.diva_workbench.specs.Lab.{lab, lab_work_of, no_core, none_asked};
 
 use diva_args::JudgeOptions;
 use diva_cli::{Ready, make_ready};
@@ -28,8 +27,7 @@ pub(crate) fn judge_log<F: Files, S: Sink, D: Source>(
     sink: &mut S,
     source: &mut D,
 ) -> Result<Status, Failure>
-    ensures { {C : Type 0} (gives : Meaning C) (core : C) (lanes : LanesAsked) → lanes None []
-        → KeepsPromises (asked_for lab (Judge options.now)) (lab_work_of gives (asking core core lanes) (lent D.account source.old source.new))
+    ensures { KeepsPromises (asked_for lab (Judge options.now)) (lab_work_of no_core none_asked (lent D.account source.old source.new))
         (lent F.account files.old files.new) (lent S.account sink.old sink.new) result }
 {
     match make_ready(alloc, files, &options.setup) {
@@ -45,9 +43,9 @@ fn judge_ready<S: Sink, D: Source>(
     source: &mut D,
     sink: &mut S,
 ) -> Result<Status, Failure>
-    ensures { {C : Type 0} (gives : Meaning C) (core : C) (lanes : LanesAsked) → lanes None []
-        → (bytes : FileBytes) → IsReady options.now.setup bytes ready.old
-        → WritesText (lab_work_of gives (asking core core lanes) (lent D.account source.old source.new)) (Judge options.now) bytes
+    requires new { ready.old.machine.timed ≡ new_timed ready.old.machine.timed.config ready.old.machine.timed.arch }
+    ensures { (bytes : FileBytes) → IsReady options.now.setup bytes ready.old
+        → WritesText (lab_work_of no_core none_asked (lent D.account source.old source.new)) (Judge options.now) bytes
         (lent S.account sink.old sink.new) result }
 {
     if source.open(options.log.as_str()).is_err() {

@@ -1,7 +1,7 @@
 -- What `diva` answers of one of its jobs, the workbench answers too; and what a command of its own answers.
 use Rattle.std.proofs.Common.{None, refl}
 use Rattle.diva_cli.proofs.Polling.{none_asked}
-use Rattle.diva_workbench.proofs.LabWorking.{drawing_answers, lab_answers}
+use Rattle.diva_workbench.proofs.LabWorking.{drawing_answers, judgement_answers, lab_answers}
 use Rattle.diva_workbench.proofs.lab.lab_work.Goals as goal
 
 pub returns-in-Diva-clause-answers : goal.returns-in-Diva-clause-answers
@@ -11,4 +11,4 @@ pub returns-in-Draw-clause-answers : goal.returns-in-Draw-clause-answers
 returns-in-Draw-clause-answers g c = rw c.in-Draw.is (drawing_answers g.C.Core.gives _ _ refl _ _ _ _ c.draw.ensures)
 
 pub returns-in-Judge-clause-answers : goal.returns-in-Judge-clause-answers
-returns-in-Judge-clause-answers g c = rw c.in-Judge.is (c.judge_log.ensures g.C.Core.gives _ _ (none_asked g.L.Lane.says c.args.lanes.now None))
+returns-in-Judge-clause-answers g c = rw c.in-Judge.is (judgement_answers g.C.Core.gives _ _ (none_asked g.L.Lane.says c.args.lanes.now None) _ _ _ _ _ c.judge_log.ensures)
