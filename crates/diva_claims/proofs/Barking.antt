@@ -1,29 +1,22 @@
 -- The watchdog barks only if there is no line.
-use Rattle.std.proofs.Common.{◌≡◌, ◌≢◌, ℕ, zero, suc, ◌+◌, ◌%◌, ◌≤◌, true, List, [], ◌∷◌, ◌++◌, map, take, Option, Some, None, ap, sym, ◌∙◌, refl, arith, subst, inl, inr}
-use Rattle.std.specs.Int.{next_multiple_of}
+use Rattle.std.proofs.Common.{◌≡◌, true, List, [], ◌∷◌, Option, Some, None, ap, sym, ◌∙◌, refl, arith, subst}
 use Rattle.std.specs.Prelude.{slice_get, IfSome}
-use Rattle.std.proofs.lemmas.Bool.{cases_lt, lt-ltb}
 use Rattle.std.proofs.lemmas.Option.{none-some}
 use Rattle.diva_isa.specs.State.{State, goes_on}
 use Rattle.diva_isa.specs.declared.record.Record.{Record}
-use Rattle.diva_isa.specs.Step.{record_of}
-use Rattle.diva_core.specs.Timed.{Timed, Config, PendingClaim, depth, new_timed, room_of}
-use Rattle.diva_core.specs.Cycle.{accepted_in, cycle_of, stores_wait}
+use Rattle.diva_core.specs.Timed.{Timed, Config, new_timed}
+use Rattle.diva_core.specs.Cycle.{cycle_of, stores_wait}
 use Rattle.diva_core.specs.History.{IsHistory}
-use Rattle.diva_core.specs.Machine.{IsMachine, IsConfig}
+use Rattle.diva_core.specs.Machine.{IsConfig}
 use Rattle.diva_core.specs.Told.{told_of}
-use Rattle.diva_core.proofs.Calming.{room-some}
-use Rattle.diva_core.proofs.Cycling.{Barked, Cycled, Idled, cycled, idled, ran, barks, differed, ended, finished, waited, taken}
-use Rattle.diva_core.proofs.Holding.{not_yet}
+use Rattle.diva_core.proofs.Cycling.{Barked, Cycled, cycled, idled, ran, barks, differed, ended, finished, waited}
 use Rattle.diva_core.proofs.Keeping.{stays}
-use Rattle.diva_core.proofs.Opening.{opening_near}
 use Rattle.diva_claims.specs.Calls.{claims_call, IsClaimsCall}
 use Rattle.diva_claims.specs.Found.{TellsMissingLine}
-use Rattle.diva_claims.specs.Said.{filled}
 use Rattle.diva_claims.specs.declared.said.Said.{Said}
 use Rattle.diva_claims.proofs.Finding.{Goes, after, newest-of, new-goes}
 use Rattle.diva_claims.proofs.Handing.{ran-empty}
-use Rattle.diva_claims.proofs.Waiting.{Waits, WaitsBy, no_bark, waits-on}
+use Rattle.diva_claims.proofs.Waiting.{WaitsBy, no_bark, waits-on}
 use Rattle.diva_claims.proofs.Righting.{moved}
 
 module _ (lines : List Said) (s : State) where

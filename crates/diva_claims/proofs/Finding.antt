@@ -1,25 +1,24 @@
 -- What a run tells of its lines.
-use Rattle.std.proofs.Common.{◌≡◌, ℕ, zero, suc, ◌+◌, ◌<◌, List, [], ◌∷◌, ◌++◌, length, map, take, Option, Some, None, ap, sym, ◌∙◌, refl, arith, subst, inl, inr, if◌then◌else◌}
-use Rattle.std.specs.Prelude.{slice_get, nat_lt, ◌&&◌, ◌==◌, IfSome}
-use Rattle.std.proofs.lemmas.Bool.{cond_both, ne_eqb, cases_lt}
+use Rattle.std.proofs.Common.{◌≡◌, ℕ, ◌+◌, ◌<◌, List, [], ◌∷◌, length, Option, Some, None, ap, sym, ◌∙◌, refl, arith, subst, inl, inr}
+use Rattle.std.specs.Prelude.{slice_get, IfSome}
+use Rattle.std.proofs.lemmas.Bool.{cases_lt}
 use Rattle.std.proofs.lemmas.Option.{none-some}
 use Rattle.diva_isa.specs.State.{State}
 use Rattle.diva_isa.specs.declared.record.Record.{Record}
 use Rattle.diva_isa.specs.Step.{record_of, steps}
 use Rattle.diva_core.specs.Difference.{first_difference}
-use Rattle.diva_core.specs.Timed.{Timed, Log, Config, PendingClaim, new_timed, room_of}
-use Rattle.diva_core.specs.Cycle.{accepted_in, cycle_of, stores_wait}
+use Rattle.diva_core.specs.Timed.{Timed, Log, Config, new_timed, room_of}
+use Rattle.diva_core.specs.Cycle.{cycle_of, stores_wait}
 use Rattle.diva_core.specs.History.{IsHistory}
 use Rattle.diva_core.specs.Machine.{IsMachine, IsConfig}
 use Rattle.diva_core.specs.Told.{told_of}
 use Rattle.diva_core.specs.declared.differences.Diff.{Diff}
-use Rattle.diva_core.proofs.Commits.{Commits}
-use Rattle.diva_core.proofs.Cycling.{Cycled, Ran, cycled, idled, ran, barks, differed, ended, finished, waited}
+use Rattle.diva_core.proofs.Cycling.{Cycled, cycled, idled, ran, barks, differed, ended, finished, waited}
 use Rattle.diva_core.proofs.Keeping.{stays}
 use Rattle.diva_core.proofs.Starting.{new-machine}
-use Rattle.diva_claims.specs.Calls.{claim_by, claims_call, IsClaimsCall}
+use Rattle.diva_claims.specs.Calls.{claims_call, IsClaimsCall}
 use Rattle.diva_claims.specs.Found.{IsWrongIn, TellsWrongLine}
-use Rattle.diva_claims.specs.Said.{filled, IsLineOf}
+use Rattle.diva_claims.specs.Said.{IsLineOf}
 use Rattle.diva_claims.specs.declared.said.Said.{Said}
 use Rattle.diva_claims.proofs.Handing.{AreHanded, IsHanded, One, Refused, handed-more, one-commits, one-differs, ran-empty}
 use Rattle.diva_claims.proofs.Righting.{moved}

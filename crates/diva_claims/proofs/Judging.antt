@@ -3,16 +3,16 @@ use Rattle.std.proofs.Common.{◌≡◌, ℕ, suc, ◌+◌, ◌≤◌, ◌<◌, 
 use Rattle.std.proofs.lemmas.Option.{none-some}
 use Rattle.diva_isa.specs.State.{State, goes_on}
 use Rattle.diva_isa.specs.declared.record.Record.{Record}
-use Rattle.diva_isa.specs.Step.{record_of, step, steps}
+use Rattle.diva_isa.specs.Step.{record_of, step}
 use Rattle.diva_core.specs.Cycle.{cycle_of, logged, stores_wait}
 use Rattle.diva_core.specs.Difference.{first_difference}
 use Rattle.diva_core.specs.History.{IsHistory, lists_of}
 use Rattle.diva_core.specs.Machine.{IsConfig, IsMachine, stalled}
-use Rattle.diva_core.specs.Timed.{Config, Log, PendingClaim, Timed, depth, new_timed}
+use Rattle.diva_core.specs.Timed.{Config, Log, PendingClaim, Timed, new_timed}
 use Rattle.diva_core.specs.Told.{told_of}
 use Rattle.diva_core.specs.declared.differences.Diff.{Diff}
 use Rattle.diva_core.specs.declared.flushes.Cause.TheVariants.{Differs}
-use Rattle.diva_core.proofs.Cycling.{Base, Cycled, Differed, Ended, Finished, Idled, Ran, Waited, cycled, idled, ran, barks, differed, ended, finished, waited}
+use Rattle.diva_core.proofs.Cycling.{Base, Cycled, Differed, cycled, idled, ran, barks, differed, ended, finished, waited}
 use Rattle.diva_core.proofs.Keeping.{stays}
 use Rattle.diva_core.proofs.Stalling.{Stalls, most, stalls}
 use Rattle.diva_core.proofs.Starting.{new-machine}
