@@ -1,5 +1,5 @@
 -- A machine that is judging a log line by line: what one line comes to.
--- Cited by `a_line_is_judged`; by `judge_line` of diva_judge.
+-- Cited by what `LineCore` gives, and by the laws of this crate, as `a_line_is_judged`; by `judge_line` of diva_judge.
 use Rattle.std.specs.Prelude.{◌≡◌, ◌≤◌, ◌<◌, ◌+◌, ◌&&◌, ◌==◌, ℕ, nat_lt, List, [], ◌∷◌, Option, Some, None, if◌then◌else◌}
 use Rattle.diva_isa.specs.State.{State}
 use Rattle.diva_isa.specs.Step.{record_of, step}

@@ -1,4 +1,4 @@
-//! Laws of the core. Each function has no body: its clause is about the definitions.
+//! Laws of the cores, and of their lines. Each function has no body: its clause is about the definitions.
 ghost use Rattle.std.specs.Prelude.{ℕ, ◌≡◌, ◌<◌, List, [], None, Some, IfSome, slice_get, true};
 ghost use Rattle.std.specs.List.{All};
 ghost use Rattle.diva_isa.specs.Step.{record_of, steps};
@@ -113,8 +113,8 @@ pub fn a_new_machine_rests()
     ensures { (config : Config) (s : State) → IsConfig config → s.instret ≡ 0 → Rests (new_timed config s) }
 {}
 
-/// A machine that rests judges a line: in each history of the core with that line, up to the cycle in which the next instruction is
-/// counted, a flush came if and only if the line is wrong, for a difference that shows what is wrong; then the machine rests again.
+/// A machine that rests judges a line: in each history of `LineCore` with that line, up to the cycle in which the next instruction is
+/// counted, a flush comes if and only if the line is wrong, and for a difference that shows what is wrong; then the machine rests again.
 #[tactic(auto, using(crate::proofs::Judging::judged))]
 pub fn a_line_is_judged()
     ensures { (m : Timed) (said : Said) → Rests m → goes_on m.arch ≡ true
