@@ -1,5 +1,5 @@
 // How the bytes of a line are read to its words.
-ghost use Rattle.std.specs.Prelude.{◌≡◌, ◌<◌, ◌≤◌, take};
+ghost use Rattle.std.specs.Prelude.{◌≡◌, ◌<◌, ◌≤◌, position, take};
 ghost use Rattle.std.specs.List.{before_first, position_or_len};
 ghost use Rattle.diva_outside.specs.Lines.{is_feed};
 ghost use Rattle.diva_outside.specs.Words.{is_blank};
@@ -39,7 +39,7 @@ fn take_run(words: &mut FewWords, place: &mut Place, bytes: &[u8]) -> usize
 {
     let first = bytes[0];
     if let Place::Rest = *place {
-        return feed_place(bytes);
+        return line_end(bytes);
     }
     if first == b'#' {
         *place = Place::Rest;
@@ -67,23 +67,31 @@ fn take_letters(words: &mut FewWords, place: &mut Place, letters: &[u8])
 }
 
 /// The place of the first line feed, or the end.
-fn feed_place(bytes: &[u8]) -> usize
+#[tactic(auto, using(crate::proofs::Runs::place_or_end))]
+fn line_end(bytes: &[u8]) -> usize
     ensures { result ≡ position_or_len is_feed bytes.now }
 {
-    bytes
-        .iter()
-        .position(|byte| *byte == b'\n')
-        .unwrap_or(bytes.len())
+    feed_place(bytes).unwrap_or(bytes.len())
 }
 
 /// The place of the first byte that ends a word, or the end.
+#[tactic(auto, using(crate::proofs::Runs::place_or_end))]
 fn word_end(bytes: &[u8]) -> usize
     ensures { result ≡ position_or_len ends_word bytes.now }
 {
-    bytes
-        .iter()
-        .position(|byte| ends_word(*byte))
-        .unwrap_or(bytes.len())
+    end_place(bytes).unwrap_or(bytes.len())
+}
+
+fn feed_place(bytes: &[u8]) -> Option<usize>
+    ensures { result ≡ position is_feed bytes.now }
+{
+    bytes.iter().position(|byte| *byte == b'\n')
+}
+
+fn end_place(bytes: &[u8]) -> Option<usize>
+    ensures { result ≡ position ends_word bytes.now }
+{
+    bytes.iter().position(|byte| ends_word(*byte))
 }
 
 /// A blank, or what begins a comment or ends a line.
