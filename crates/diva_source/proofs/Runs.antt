@@ -5,7 +5,7 @@ use Rattle.std.proofs.Math.Seq.{take-add, take-length}
 use Rattle.std.proofs.lemmas.Bool.{false_from_ne_true}
 use Rattle.std.proofs.lemmas.Grind.{common_steps, fold-append}
 use Rattle.std.proofs.lemmas.List.{get_or-set_same, get_or-take, get_or_default, length-set, length-take-le, set-set, take_rest}
-use Rattle.std.proofs.lemmas.List.Sums.{prefix_len-le-length}
+use Rattle.std.proofs.lemmas.List.Sums.{fails_before_first, prefix_len-le-length}
 use Rattle.std.specs.List.{before_first, fold, list_any, position, position_or_len}
 use Rattle.diva_outside.specs.Lines.{is_feed}
 use Rattle.diva_outside.specs.Text.{Text}
@@ -213,7 +213,13 @@ further_after s bytes n k = rw (take_rest bytes n) (sym (bytes_then s bytes n k)
 
 -- the first line feed stands where one is
 pub feed_here : (bytes : Text) (n d : ℕ) → n < length bytes → slice_index_or bytes n d ≡ 10 → n ≤ position_or_len is_feed bytes → n ≡ position_or_len is_feed bytes
-feed_here bytes n d inside feed within = ?
+feed_here bytes n d inside feed within = by-test (nat_lt n (position_or_len is_feed bytes)) refl
+  where
+    here : is_feed (slice_index_or bytes n d) ≡ true
+    here = rw feed refl
+    by-test : (t : Bool) → nat_lt n (position_or_len is_feed bytes) ≡ t → n ≡ position_or_len is_feed bytes
+    by-test true is = absurd (let fails = fails_before_first is_feed bytes n d (grind (arith, common_steps, is)) in grind (arith, common_steps, fails, here))
+    by-test false is = grind (arith, common_steps, is)
 
 pub feed_none : (bytes : Text) (n : ℕ) → length bytes ≤ n → n ≤ position_or_len is_feed bytes → n ≡ position_or_len is_feed bytes
 feed_none bytes n past within = let most = prefix_len-le-length (λ b. not (is_feed b)) bytes in omega arith
