@@ -1,21 +1,25 @@
 -- Lines that are taken of a text, piece by piece.
-use Rattle.std.proofs.Common.{◌≡◌, ◌∙◌, ◌<◌, ◌≤◌, ◌⊎◌, inl, inr, ℕ, ◌+◌, ◌-◌, zero, suc, List, [], ◌∷◌, ◌++◌, Bool, true, false, Option, Some, None, not, length, take, drop, refl, ap, sym, append_assoc, append-nil, arith}
-use Rattle.std.proofs.Math.Seq.{take-length, drop-length}
+use Rattle.std.proofs.Common.{◌≡◌, ◌==◌, ◌∙◌, ◌<◌, ◌≤◌, inl, inr, ℕ, ◌+◌, ◌-◌, suc, List, [], ◌∷◌, ◌++◌, Bool, true, false, Option, Some, None, Ok, Err, not, length, take, drop, refl, ap, subst, sym, append_assoc, append-nil, length-append, arith}
+use Rattle.std.proofs.Math.Seq.{take-length}
 use Rattle.std.proofs.lemmas.Bool.{eqb-true}
-use Rattle.std.proofs.lemmas.Grind.{common_steps}
+use Rattle.std.proofs.lemmas.Grind.{common_steps, fold-append}
 use Rattle.std.proofs.lemmas.List.{drop-drop, drop-take, drop_all, length-drop, length-take-le}
 use Rattle.std.proofs.lemmas.List.Sums.{prefix_len-le-length}
 use Rattle.std.specs.Io.KnownBytes.{Consumes, IsAtEnd, Keeps, prepend_known}
 use Rattle.std.specs.List.{after_first, before_first, list_any, position_or_len}
-use Rattle.diva_outside.specs.Lent.{given, left}
+use Rattle.diva_outside.specs.Lent.{given, left, lent}
 use Rattle.diva_outside.specs.Lines.{is_feed, lines_of}
 use Rattle.diva_outside.specs.Text.{Text}
-use Rattle.diva_source.specs.Scanned.{after_bytes, start}
-use Rattle.diva_source.specs.Source.{LentSource, IsUncounted}
-use Rattle.diva_source.specs.SourceLines.{BeginsWithLine, IsInLine, IsLastLine, TakesLine, TakesLines}
+use Rattle.diva_outside.specs.Words.{words_of}
+use Rattle.diva_source.specs.KeptWords.{kept_of}
+use Rattle.diva_source.specs.Pieces.{HasMore}
+use Rattle.diva_source.specs.Scanned.{Scanned, after_byte, after_bytes, start}
+use Rattle.diva_source.specs.Source.{SourceAccount, LentSource, IsUncounted}
+use Rattle.diva_source.specs.SourceLines.{lines_account, BeginsWithLine, IsInLine, ReadsLine, TakesLines}
 use Rattle.diva_source.specs.declared.line_scan.Place.{Place}
-use Rattle.diva_source.proofs.Runs.{none_before}
-use Rattle.diva_source.proofs.Scanning.{scanned}
+use Rattle.diva_source.specs.declared.source_lines.SourceLines.{SourceLines}
+use Rattle.diva_source.proofs.Runs.{any_first, any_others, none_before}
+use Rattle.diva_source.proofs.Scanning.{scanned, words_kept}
 
 -- ---- a part of a buffer
 
@@ -135,3 +139,164 @@ pub record ReadsPart {L : Type 0} (lines : LentSource L) (words : List Text) (pl
   pub stays : (left lines).contents ≡ (given lines).contents
   pub fewer : length part + (left lines).limit ≤ (given lines).limit
   pub uncounted : IsUncounted lines
+
+none_left : (n : ℕ) → false ≡ not (n == 0) → n ≡ 0
+none_left n e = grind (arith, common_steps, e)
+
+pub some_left : (n : ℕ) → true ≡ not (n == 0) → 0 < n
+some_left n e = grind (arith, common_steps, e)
+
+module _ {D : Type 0} (account : D → SourceAccount) (first : SourceLines D) where
+  -- the lines from the first on
+  abbrev since : SourceLines D → LentSource (SourceLines D)
+  since now = lent (lines_account account) first now
+
+  -- a piece without a line feed was taken
+  pub part_more : (now : SourceLines D) (words words2 : List Text) (place place2 : Place) (piece : Text)
+      → 0 < length now.piece → ReadsPart (since now) words place
+      → list_any is_feed now.piece ≡ false → piece ≡ after_first is_feed now.piece
+      → scanned words2 place2 ≡ after_bytes (scanned words place) (before_first is_feed now.piece)
+      → (more : ReadsPart (since (record now { piece = piece })) words2 place2) × (0 < length more.part)
+  part_more now words words2 place place2 piece some reads none gone read =
+      let whole : before_first is_feed now.piece ≡ now.piece = no-feed now.piece none in
+      let empty : piece ≡ [] = gone ∙ none_after now.piece none in
+      let long = length-append reads.part now.piece in
+      let nothing : length piece ≡ 0 = ap length empty in
+      let fewer = reads.fewer in
+      (record {
+        part = reads.part ++ now.piece;
+        one = any-joined reads.part now.piece reads.one none;
+        read = read
+          ∙ (λ i. after_bytes (reads.read i) (whole i))
+          ∙ sym (fold-append after_byte start reads.part now.piece);
+        taken = rw empty (all-taken (lines_account account first).rest (account now.source.now).rest reads.part now.piece reads.taken);
+        stays = reads.stays;
+        fewer = omega (arith, fewer, long, nothing);
+        uncounted = reads.uncounted;
+      }, omega (arith, long, some))
+
+  -- more bytes are at hand
+  pub part_kept : {E : Type 0} (now later : SourceLines D) (words : List Text) (place : Place) (more : Bool)
+      → ReadsPart (since now) words place → HasMore {E = E} (lent (lines_account account) now later) later.piece (Ok more) → ReadsPart (since later) words place
+  part_kept now later words place more reads kept = record {
+    part = reads.part;
+    one = reads.one;
+    read = reads.read;
+    taken = keeps-consumes (lines_account account first).rest (lines_account account now).rest (lines_account account later).rest reads.part reads.taken kept.kept;
+    stays = kept.stays ∙ reads.stays;
+    fewer = omega (arith, reads.fewer, kept.fewer);
+    uncounted = kept.uncounted ∙ reads.uncounted;
+  }
+
+  -- a read failed
+  pub part_lost : {E F : Type 0} (now later : SourceLines D) (words words2 : List Text) (place : Place) (e : E) (f : F)
+      → ReadsPart (since now) words place → HasMore {E = E} (lent (lines_account account) now later) later.piece (Err e) → ReadsLine {E = F} (since later) words2 (Err f)
+  part_lost now later words words2 place e f reads kept = record {
+    stays = kept.stays ∙ reads.stays;
+    later = omega (arith, reads.uncounted, kept.later);
+    fewer = omega (arith, reads.fewer, kept.fewer);
+    uncounted = tt;
+    failed = omega (arith, reads.uncounted, kept.failed);
+    answer = record {
+      part = reads.part;
+      one = reads.one;
+      lost = keeps-consumes (lines_account account first).rest (lines_account account now).rest (lines_account account later).rest reads.part reads.taken kept.kept;
+    };
+  }
+
+  kept-words : (words : List Text) (place : Place) (line : Text) → scanned words place ≡ after_bytes start line → words ≡ kept_of (words_of line)
+  kept-words words place line read = ap (λ (s : Scanned). s.words) read ∙ words_kept line
+
+  -- the text ended, and with it the line
+  pub line_ended : {E F : Type 0} (now later : SourceLines D) (words : List Text) (place : Place) (more : Bool)
+      → (reads : ReadsPart (since now) words place) → 0 < length reads.part
+      → HasMore {E = E} (lent (lines_account account) now later) later.piece (Ok more) → more ≡ false → ReadsLine {E = F} (since later) words (Ok true)
+  unfolding part_kept
+  line_ended now later words place more reads some kept no_more =
+      let more = part_kept now later words place more reads kept in
+      let fewer = more.fewer in
+      record {
+        stays = more.stays;
+        later = omega (arith, more.uncounted);
+        fewer = omega (arith, fewer);
+        uncounted = more.uncounted;
+        failed = tt;
+        answer = record {
+          line = reads.part;
+          taken = record {
+            one = reads.one;
+            begins = end-taken (lines_account account first).rest (lines_account account later).rest reads.part some more.taken (kept.at_end (none_left (length later.piece) (sym no_more ∙ kept.some)));
+          };
+          kept = kept-words words place reads.part reads.read;
+          fewer = omega (arith, fewer, some);
+        };
+      }
+
+  -- the line's line feed came
+  pub line_fed : {F : Type 0} (now : SourceLines D) (words words2 : List Text) (place place2 : Place) (piece : Text)
+      → ReadsPart (since now) words place
+      → list_any is_feed now.piece ≡ true → piece ≡ after_first is_feed now.piece
+      → scanned words2 place2 ≡ after_bytes (scanned words place) (before_first is_feed now.piece)
+      → ReadsLine {E = F} (since (record now { piece = piece })) words2 (Ok true)
+  line_fed now words words2 place place2 piece reads feed rest read =
+      let front : Text = before_first is_feed now.piece in
+      let split : now.piece ≡ front ++ 10 ∷ piece = feed_split now.piece feed ∙ sym (ap (λ (t : Text). front ++ 10 ∷ t) rest) in
+      let long : length now.piece ≡ length front + suc (length piece) = ap length split ∙ length-append front (10 ∷ piece) in
+      let fewer = reads.fewer in
+      let taken = reads.taken in
+      let all : Consumes (lines_account account first).rest (prepend_known (front ++ 10 ∷ piece) (account now.source.now).rest) reads.part =
+        subst (λ (t : Text). Consumes (lines_account account first).rest (prepend_known t (account now.source.now).rest) reads.part) split taken in
+      let whole : scanned words2 place2 ≡ after_bytes start (reads.part ++ front) =
+        read ∙ ap (λ (s : Scanned). after_bytes s front) reads.read ∙ sym (fold-append after_byte start reads.part front) in
+      record {
+        stays = reads.stays;
+        later = omega (arith, reads.uncounted);
+        fewer = omega (arith, fewer, long);
+        uncounted = reads.uncounted;
+        failed = tt;
+        answer = record {
+          line = reads.part ++ front;
+          taken = record {
+            one = any-joined reads.part front reads.one (none_before is_feed now.piece);
+            begins = feed-taken (lines_account account first).rest (account now.source.now).rest reads.part front piece all;
+          };
+          kept = kept-words words2 place2 (reads.part ++ front) whole;
+          fewer = omega (arith, fewer, long);
+        };
+      }
+
+-- ---- all lines of a text
+
+line-first : (line rest : Text) → list_any is_feed line ≡ false → lines_of (line ++ 10 ∷ rest) ≡ line ∷ lines_of rest
+line-first [] rest one = refl
+line-first (b ∷ line) rest one =
+    let here : is_feed b ≡ false = any_first is_feed b line one in
+    rw (here, line-first line rest (any_others is_feed b line one)) refl
+
+line-last : (b : ℕ) (line : Text) → list_any is_feed (b ∷ line) ≡ false → lines_of (b ∷ line) ≡ (b ∷ line) ∷ []
+line-last b [] one = rw (any_first is_feed b [] one) refl
+line-last b (a ∷ line) one =
+    let here : is_feed b ≡ false = any_first is_feed b (a ∷ line) one in
+    rw (here, line-last a line (any_others is_feed b (a ∷ line) one)) refl
+
+last-line : (text line : Text) → list_any is_feed line ≡ false → text ≡ line → 0 < length line → lines_of text ≡ line ∷ []
+last-line text [] one same some = absurd (omega arith)
+last-line text (b ∷ line) one same some = ap lines_of same ∙ line-last b line one
+
+line-taken : (text line : Text) (after : Option Text) (lines : List Text) → list_any is_feed line ≡ false → BeginsWithLine (Some text) line after
+    → ((rest : Text) → after ≡ Some rest → lines ≡ lines_of rest) → line ∷ lines ≡ lines_of text
+line-taken text line None lines one begins others = absurd begins
+line-taken text line (Some rest) lines one (inl feed) others =
+    ap (λ (ls : List Text). line ∷ ls) (others rest refl) ∙ sym (ap lines_of feed ∙ line-first line rest one)
+line-taken text line (Some rest) lines one (inr last) others =
+    ap (λ (ls : List Text). line ∷ ls) (others rest refl ∙ ap lines_of last.none_left) ∙ sym (last-line text line one last.all last.some)
+
+-- lines that are taken one after the other, to the end, are those of the text
+pub lines_taken : (lines : List Text) (text : Text) (before : Option Text) → before ≡ Some text → TakesLines before lines → lines ≡ lines_of text
+lines_taken [] text before known taken = sym (ap lines_of (ended (subst IsAtEnd known taken)))
+  where
+    ended : text ≡ [] → text ≡ []
+    ended e = e
+lines_taken (line ∷ lines) text before known taken =
+    line-taken text line taken.after lines taken.first.one (subst (λ (b : Option Text). BeginsWithLine b line taken.after) known taken.first.begins)
+      (λ rest is. lines_taken lines rest taken.after is taken.others)

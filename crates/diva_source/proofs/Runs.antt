@@ -1,12 +1,11 @@
 -- Bytes that are read at once.
-use Rattle.std.proofs.Common.{◌≡◌, ◌≢◌, ◌∙◌, ◌<◌, ◌≤◌, ℕ, ◌+◌, ◌-◌, zero, suc, List, [], ◌∷◌, ◌++◌, Bool, true, false, cond, not, ◌||◌, length, take, drop, nat_lt, slice_index_or, slice_set, refl, ap, sym, append_assoc, append-nil, arith}
+use Rattle.std.proofs.Common.{◌≡◌, ◌≢◌, ◌∙◌, ◌<◌, ◌≤◌, ℕ, ◌+◌, ◌-◌, zero, suc, List, [], ◌∷◌, ◌++◌, Bool, true, false, cond, not, length, take, drop, nat_lt, slice_index_or, slice_set, refl, ap, sym, append_assoc, append-nil, arith}
 use Rattle.std.specs.Prelude.{Some, None, unwrap_or, ⊤}
-use Rattle.std.proofs.Math.Seq.{take-add, take-length}
-use Rattle.std.proofs.lemmas.Bool.{false_from_ne_true}
+use Rattle.std.proofs.Math.Seq.{take-add}
 use Rattle.std.proofs.lemmas.Grind.{common_steps, fold-append}
 use Rattle.std.proofs.lemmas.List.{get_or-set_same, get_or-take, get_or_default, length-set, length-take-le, set-set, take_rest}
 use Rattle.std.proofs.lemmas.List.Sums.{fails_before_first, prefix_len-le-length}
-use Rattle.std.specs.List.{before_first, fold, list_any, position, position_or_len}
+use Rattle.std.specs.List.{before_first, list_any, position, position_or_len}
 use Rattle.diva_outside.specs.Lines.{is_feed}
 use Rattle.diva_outside.specs.Text.{Text}
 use Rattle.diva_outside.specs.Words.{begins_comment, is_blank}
@@ -113,11 +112,11 @@ no_feed b letter = grind (arith, common_steps)
 is_letter : (b : ℕ) → is_feed b ≡ false → is_blank b ≡ false → begins_comment b ≡ false → ends_word b ≡ false
 is_letter b feed blank comment = rw (blank, comment) feed
 
-any-first : (p : ℕ → Bool) (b : ℕ) (text : Text) → list_any p (b ∷ text) ≡ false → p b ≡ false
-any-first p b text none = grind (arith, common_steps, none)
+pub any_first : (p : ℕ → Bool) (b : ℕ) (text : Text) → list_any p (b ∷ text) ≡ false → p b ≡ false
+any_first p b text none = grind (arith, common_steps, none)
 
-any-others : (p : ℕ → Bool) (b : ℕ) (text : Text) → list_any p (b ∷ text) ≡ false → list_any p text ≡ false
-any-others p b text none = grind (arith, common_steps, none)
+pub any_others : (p : ℕ → Bool) (b : ℕ) (text : Text) → list_any p (b ∷ text) ≡ false → list_any p text ≡ false
+any_others p b text none = grind (arith, common_steps, none)
 
 -- a word has begun, or nothing more is kept
 abbrev IsIn : Place → Type 0
@@ -129,11 +128,11 @@ word-goes_on : (words : List Text) (before letters : Text) → list_any ends_wor
     → after_bytes (scanned (lengthened words before) Word) letters ≡ scanned (lengthened words (before ++ letters)) Word
 word-goes_on words before [] none = ap (λ (t : Text). scanned (lengthened words t) Word) (sym (append-nil before))
 word-goes_on words before (b ∷ letters) none =
-    let letter : ends_word b ≡ false = any-first ends_word b letters none in
+    let letter : ends_word b ≡ false = any_first ends_word b letters none in
     ap (λ (s : Scanned). after_bytes s letters)
       (mark_letter (scanned (lengthened words before) Word) b (no_comment b letter) (no_blank b letter)
       ∙ ap (λ (ws : List Text). scanned ws Word) (lengthened-twice words before (b ∷ [])))
-    ∙ word-goes_on words (before ++ b ∷ []) letters (any-others ends_word b letters none)
+    ∙ word-goes_on words (before ++ b ∷ []) letters (any_others ends_word b letters none)
     ∙ ap (λ (t : Text). scanned (lengthened words t) Word) (append_assoc before (b ∷ []) letters)
 
 -- letters of a word that has begun, or a surplus one
@@ -156,10 +155,10 @@ begun-place words Rest = tt
 letters-follow : (words : List Text) (place : Place) (b : ℕ) (letters : Text) → place ≢ Rest → list_any ends_word (b ∷ letters) ≡ false
     → after_bytes (after_mark (scanned words place) b) letters ≡ after_letters (scanned words place) (b ∷ letters)
 letters-follow words place b letters some none =
-    let letter : ends_word b ≡ false = any-first ends_word b letters none in
+    let letter : ends_word b ≡ false = any_first ends_word b letters none in
     let s : Scanned = begun words place in
     ap (λ (s : Scanned). after_bytes s letters) (mark_letter (scanned words place) b (no_comment b letter) (no_blank b letter))
-    ∙ begun-goes_on s.words s.place b letters (begun-place words place) (any-others ends_word b letters none)
+    ∙ begun-goes_on s.words s.place b letters (begun-place words place) (any_others ends_word b letters none)
 
 -- letters are read one by one or at once
 pub letters_at_once : (words : List Text) (place : Place) (letters : Text) → 0 < length letters → place ≢ Rest → list_any ends_word letters ≡ false

@@ -2,11 +2,10 @@
 use Rattle.std.proofs.Common.{◌≡◌, ◌∙◌, ◌<◌, ◌≤◌, ℕ, ◌+◌, ◌-◌, zero, suc, List, [], ◌∷◌, ◌++◌, Bool, true, false, length, map, nat_lt, take, slice_index_or, slice_set, refl, ap, sym, append_assoc, append-nil, arith}
 use Rattle.std.proofs.lemmas.Grind.{common_steps}
 use Rattle.std.proofs.lemmas.List.{get_or_at, length_push, set_at, take_all}
-use Rattle.std.specs.List.{fold}
 use Rattle.diva_outside.specs.Text.{Text}
 use Rattle.diva_outside.specs.Words.{begins_comment, is_blank, words_of}
 use Rattle.diva_source.specs.KeptWords.{kept_of, lengthened}
-use Rattle.diva_source.specs.Scanned.{Scanned, after_byte, after_bytes, after_letters, after_mark, start}
+use Rattle.diva_source.specs.Scanned.{Scanned, after_bytes, after_letters, after_mark, start}
 use Rattle.diva_source.specs.declared.line_scan.Place.{Place}
 use Rattle.diva_source.specs.declared.line_scan.Place.TheVariants.{Gap, Word, Rest}
 use Rattle.diva_source.proofs.Words.{words_after, words_blank, words_comment, words_letter, words_nothing}

@@ -1,6 +1,6 @@
 -- What is read of a source into a piece, from which lines are taken.
 -- Cited by `Piece::refill` and `SourceLines::has_more`.
-use Rattle.std.specs.Prelude.{◌≡◌, ◌≤◌, ◌<◌, ◌+◌, ◌==◌, Bool, not, [], Result, OnOk, OnErr, IfOk, length}
+use Rattle.std.specs.Prelude.{◌≡◌, ◌≤◌, ◌+◌, ◌==◌, Bool, not, [], Result, OnOk, OnErr, IfOk, length}
 use Rattle.std.specs.Io.KnownBytes.{Consumes, IsAtEnd, Keeps}
 use Rattle.diva_outside.specs.Lent.{given, left}
 use Rattle.diva_outside.specs.Text.{Text}

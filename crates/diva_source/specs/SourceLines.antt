@@ -1,5 +1,5 @@
 -- The lines of a text that is read piece by piece.
--- Cited by `SourceLines::next`, and by `takes_all_lines`.
+-- Cited by `SourceLines::next`, and by `reads_all_lines`.
 use Rattle.std.specs.Prelude.{◌≡◌, ◌≤◌, ◌<◌, ◌+◌, ◌⊎◌, ℕ, List, [], ◌∷◌, ◌++◌, Bool, true, false, Option, Some, None, Result, Ok, Err, OnOk, OnErr, length, ⊤}
 use Rattle.std.specs.Io.KnownBytes.{Consumes, IsAtEnd, Keeps, prepend_known}
 use Rattle.std.specs.List.{list_any}

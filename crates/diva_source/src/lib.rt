@@ -7,6 +7,7 @@
 //! - `source_lines`: `SourceLines`, the lines of the text that a source has open, one after the other. `piece`: the bytes that were read of
 //!   it, and are yet to come. `line_scan`: how they are read to words.
 //! - `few_words`: `FewWords`, the words of a line, as far as they are kept.
+//! - `laws`: that the lines that are read are those of the text.
 //!
 //! `specs/` says what is known of a source (`Source`), and of each kind of source (`DiskSource`, `MemSource`, `NoSource`); which lines are
 //! read of it (`SourceLines`, `Pieces`), and what is kept of their words (`KeptWords`, `Scanned`).
@@ -14,6 +15,7 @@
 
 mod disk_source;
 mod few_words;
+pub mod laws;
 mod line_scan;
 mod mem_source;
 mod no_source;

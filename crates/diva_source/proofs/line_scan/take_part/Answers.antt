@@ -1,8 +1,6 @@
 -- Some bytes more were read, up to a line feed or to the end.
-use Rattle.std.proofs.Common.{◌≡◌, ◌≤◌, ◌+◌, ◌-◌, ◌∙◌, ap, arith, drop, length, not, take}
-use Rattle.std.proofs.lemmas.Grind.{common_steps}
+use Rattle.std.proofs.Common.{◌-◌, ◌∙◌, ap, arith, drop, length, not, take}
 use Rattle.std.proofs.lemmas.List.Sums.{prefix_len-le-length}
-use Rattle.std.specs.List.{position_or_len}
 use Rattle.diva_outside.specs.Lines.{is_feed}
 use Rattle.diva_outside.specs.Text.{Text}
 use Rattle.diva_source.specs.Scanned.{Scanned, after_bytes}

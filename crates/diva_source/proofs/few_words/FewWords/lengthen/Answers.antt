@@ -1,5 +1,5 @@
 -- The last word is one of those that are in use.
-use Rattle.std.proofs.Common.{◌≡◌, ◌∙◌, ◌-◌, ap, arith, List, slice_set, take}
+use Rattle.std.proofs.Common.{◌∙◌, ◌-◌, ap, arith, List, slice_set, take}
 use Rattle.diva_outside.specs.Text.{Text}
 use Rattle.diva_source.specs.KeptWords.{lengthened}
 use Rattle.diva_source.proofs.Runs.{used_lengthened}

@@ -1,9 +1,8 @@
 -- The bytes up to the first line feed were taken, and that too.
-use Rattle.std.proofs.Common.{◌≡◌, ◌≤◌, ◌<◌, ◌+◌, ◌-◌, ◌∙◌, ℕ, ap, arith, drop, length, not, sym, take}
+use Rattle.std.proofs.Common.{◌≡◌, ◌+◌, ◌-◌, ◌∙◌, ℕ, ap, arith, drop, length, not, sym, take}
 use Rattle.std.proofs.lemmas.List.Sums.{prefix_len-le-length}
 use Rattle.std.specs.List.{position_or_len}
 use Rattle.diva_outside.specs.Lines.{is_feed}
-use Rattle.diva_outside.specs.Text.{Text}
 use Rattle.diva_source.proofs.Lines.{none_at_all, part_length, part_skipped, some_at}
 use Rattle.diva_source.proofs.piece.Piece.take_line.Goals as goal
 
