@@ -22,6 +22,8 @@ mod no_source;
 mod piece;
 mod source;
 mod source_lines;
+#[cfg(test)]
+mod tests;
 
 pub use disk_source::DiskSource;
 pub use few_words::FewWords;
