@@ -46,10 +46,15 @@ impl KeptWord {
         &self.bytes[..self.length]
     }
 
-    /// The word goes on with these bytes.
+    /// The word goes on with these bytes. Eight at its beginning, which is what most words of a log are, are copied as one.
     fn extend(&mut self, letters: &[u8])
         ensures { self.new ≡ take 9 (self.old ++ letters.now) }
     {
+        if self.length == 0 && letters.len() == 8 {
+            self.bytes[..8].copy_from_slice(letters);
+            self.length = 8;
+            return;
+        }
         let count = letters.len().min(WORD_BYTES - self.length);
         let end = self.length + count;
         self.bytes[self.length..end].copy_from_slice(&letters[..count]);
