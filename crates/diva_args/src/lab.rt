@@ -8,8 +8,8 @@ ghost use Rattle.diva_args.specs.Line.{values_of};
 ghost use Rattle.diva_args.specs.Plain.{IsPlainLine, PlainLine};
 
 use crate::fault::ArgsFault;
-use crate::judge::{JudgeOptions, judge};
 use crate::job::{Job, RunOptions};
+use crate::judge::{JudgeOptions, judge};
 use crate::read::{job_named, matches, number_of, or_usage, setup, text_of, width};
 use crate::rows::{CYCLES, FROM, TO};
 use crate::values::liar;

@@ -141,7 +141,11 @@ pub(crate) fn or_usage<T>(asked: Option<T>) -> Result<T, ArgsFault>
 }
 
 /// The name of the file that a positional names.
-pub(crate) fn file_of(alloc: Global, found: &ArgMatches<'_>, id: &str) -> Result<FileName, ArgsFault>
+pub(crate) fn file_of(
+    alloc: Global,
+    found: &ArgMatches<'_>,
+    id: &str,
+) -> Result<FileName, ArgsFault>
     ensures { Reads (values_of (rows_of (found_of found.now)) id.now) result }
 {
     let name = or_usage(text_of(found, id))?;

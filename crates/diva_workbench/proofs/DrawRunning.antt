@@ -225,11 +225,14 @@ module _ {C S : Type 0} (gives : Meaning C) (options : DrawOptions) (bytes : Fil
         rose = q.failed;
         put = front_text options.format first w.front seen;
         text = front_text options.format first lists seen;
-        means = (record {
-          means = means seen w.all.are (Err (front_text options.format first w.front seen)) (front_text options.format first lists seen)
-              (inr (record { lines = refl; cut = inr (record { earlier = w.front; last = w.last; in_order = w.in_order; holds = refl }) }));
-          lanes = asks;
-        }, refl);
+        means = (
+          record {
+            means = means seen w.all.are (Err (front_text options.format first w.front seen)) (front_text options.format first lists seen)
+                (inr (record { lines = refl; cut = inr (record { earlier = w.front; last = w.last; in_order = w.in_order; holds = refl }) }));
+            lanes = asks;
+          },
+          refl,
+        );
         written = past_more account (begin_text options.format) _ _ s0 s1 s2 begun.ok
             (subst (λ (x : List ℕ). TakesPast (lent account s1 s2) x (cycles_drawn options.format (pen_at first) lists seen)) part
             (subst (λ (x : List ℕ). TakesPast (lent account s1 s2) (concat b.earlier) x) all b.holds));
@@ -297,17 +300,20 @@ cut_begin gives options bytes ready core account s0 s1 first saw fits is lanes u
       rose = put.failed;
       put = [];
       text = begin_text options.format;
-      means = (record {
-        means = record {
-          last = ready.machine.timed;
-          of_files = run_of_files gives options.run.setup options.run.cycles bytes ready core ready.machine.timed core fits is _ p (rw no_lists (omega arith));
-          first = first;
-          saw = subst (λ (m : Timed). IsSnapshot m first) is.begun saw;
-          seen = [];
-          are = rw no_lists tt;
-          written = inr (record { lines = rw no_lists (sym (append-nil (begin_text options.format))); cut = inl (no_lists, refl) });
-        };
-        lanes = rw no_lists unasked;
-      }, refl);
+      means = (
+        record {
+          means = record {
+            last = ready.machine.timed;
+            of_files = run_of_files gives options.run.setup options.run.cycles bytes ready core ready.machine.timed core fits is _ p (rw no_lists (omega arith));
+            first = first;
+            saw = subst (λ (m : Timed). IsSnapshot m first) is.begun saw;
+            seen = [];
+            are = rw no_lists tt;
+            written = inr (record { lines = rw no_lists (sym (append-nil (begin_text options.format))); cut = inl (no_lists, refl) });
+          };
+          lanes = rw no_lists unasked;
+        },
+        refl,
+      );
       written = past_nothing _ _ put.part;
     }

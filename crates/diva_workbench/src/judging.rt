@@ -12,8 +12,8 @@ ghost use Rattle.diva_workbench.specs.Lab.{lab, lab_work_of, no_core, none_asked
 
 use diva_args::JudgeOptions;
 use diva_cli::{Ready, make_ready};
-use diva_judge::{Terms, Verdict, judge, unreadable_line};
-use diva_outside::{Files, Sink, put_line};
+use diva_judge::{Terms, Verdict, judge, put_unreadable};
+use diva_outside::{Files, Sink};
 use diva_process::{Failure, Status, write_stop};
 use diva_source::Source;
 use std::alloc::Global;
@@ -49,7 +49,7 @@ fn judge_ready<S: Sink, D: Source>(
         (lent S.account sink.old sink.new) result }
 {
     if source.open(options.log.as_str()).is_err() {
-        put_line(&unreadable_line(), sink)?;
+        put_unreadable(sink)?;
         return Ok(Status::Unread);
     }
     let terms = Terms {

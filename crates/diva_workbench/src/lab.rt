@@ -54,6 +54,7 @@ pub fn lab_top<F: Files, S: Sink, C: Core, D: Source>(
 }
 
 /// What the workbench has in its hands: the core that its machine asks, and the texts that it reads piece by piece.
+#[derive(Drop)]
 struct Hands<'a, C, D> {
     core: &'a mut C,
     source: &'a mut D,
@@ -101,7 +102,15 @@ impl<'a, C: Core, D: Source> Front<Hands<'a, C, D>> for Lab {
         sink: &mut S,
         hands: &mut Hands<'a, C, D>,
     ) -> Result<Status, Failure> {
-        lab_work(alloc, job, files, sink, hands.core, hands.source, &mut Lanes::own())
+        lab_work(
+            alloc,
+            job,
+            files,
+            sink,
+            hands.core,
+            hands.source,
+            &mut Lanes::own(),
+        )
     }
 }
 
