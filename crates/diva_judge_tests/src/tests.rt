@@ -14,6 +14,7 @@ use std::test::Fail;
 const ROOM: usize = 4096;
 
 /// What the workbench is handed besides its words.
+#[derive(Clone, Copy)]
 struct Outside<'a> {
     /// The log of the name `a.log`.
     log: &'a [u8],
@@ -33,7 +34,7 @@ struct Answer {
 }
 
 /// What the workbench answers to words that blanks separate.
-fn answer(alloc: Global, line: &str, outside: &Outside<'_>) -> Result<Answer, Fail> {
+fn judged(alloc: Global, line: &str, outside: &Outside<'_>) -> Result<Answer, Fail> {
     let mut words = Vec::new(alloc);
     for word in line.split(' ') {
         words.push(word)?;
@@ -41,7 +42,7 @@ fn answer(alloc: Global, line: &str, outside: &Outside<'_>) -> Result<Answer, Fa
     let mut files = MemFiles::new(one_file(alloc, "a.diva", &FIVE_FILE)?, Vec::new(alloc));
     let logs = one_file(alloc, "a.log", outside.log)?;
     let mut source = MemSource::new(&logs, outside.piece.max(1), outside.failing_reads);
-    let mut sink = MemSink::new(alloc, ROOM, failing(alloc, outside.failing_puts)?)?;
+    let mut sink = MemSink::new(alloc, ROOM, failing_calls(alloc, outside.failing_puts)?)?;
     let mut core = Ooo::new(alloc)?;
     let status = lab_top(alloc, &words, &mut files, &mut sink, &mut core, &mut source);
     Ok(Answer {
@@ -61,7 +62,7 @@ fn one_file(alloc: Global, name: &str, bytes: &[u8]) -> Result<Vec<MemFile>, Fai
 }
 
 /// Puts that fail, and take nothing.
-fn failing(alloc: Global, calls: &[u64]) -> Result<Vec<SinkFail>, Fail> {
+fn failing_calls(alloc: Global, calls: &[u64]) -> Result<Vec<SinkFail>, Fail> {
     let mut fails = Vec::new(alloc);
     for call in calls {
         fails.push(SinkFail {

@@ -1,5 +1,5 @@
 // Logs that can't be read, texts that can't be written, and words that are not taken.
-use super::{Outside, answer};
+use super::{Outside, judged};
 use std::test::Fail;
 
 /// A log of `FIVE` whose first line is wrong.
@@ -23,7 +23,7 @@ fn reads_that_fail(rt: HostRuntime) -> Result<(), Fail> {
             failing_reads: &[call],
             failing_puts: &[],
         };
-        let answer = answer(alloc, "judge a.diva a.log", &outside)?;
+        let answer = judged(alloc, "judge a.diva a.log", &outside)?;
         let mut due = String::from_str(alloc, if judged { WRONG } else { "" })?;
         due.push_str("unreadable log\n")?;
         assert_eq!(rt; answer.status, 8, "{call}");
@@ -44,7 +44,7 @@ fn puts_that_fail(rt: HostRuntime) -> Result<(), Fail> {
             failing_reads: &[],
             failing_puts: &[call],
         };
-        let answer = answer(alloc, "judge a.diva a.log", &outside)?;
+        let answer = judged(alloc, "judge a.diva a.log", &outside)?;
         assert_eq!(rt; answer.status, 9, "{call}");
         assert!(rt; due.as_bytes().starts_with(&answer.text), "{call}");
         assert!(rt; answer.text.len() < due.len(), "{call}");
@@ -69,7 +69,7 @@ fn words_that_are_not_taken(rt: HostRuntime) -> Result<(), Fail> {
         ("judge a.diva a.log --stop 0", 2, USAGE),
         ("judge a.diva a.log --width 5", 2, USAGE),
     ] {
-        let answer = answer(alloc, line, &outside)?;
+        let answer = judged(alloc, line, &outside)?;
         assert_eq!(rt; answer.status, status, "{line}");
         assert_eq!(rt; str::from_utf8(&answer.text)?, text, "{line}");
     }

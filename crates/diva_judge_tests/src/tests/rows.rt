@@ -1,5 +1,5 @@
 // Logs and what is written of them.
-use super::{Outside, answer};
+use super::{Outside, judged};
 use std::test::Fail;
 
 /// A log of `FIVE`, the options with which it is judged, and the status and the text that are due.
@@ -160,7 +160,7 @@ fn logs_that_are_judged(rt: HostRuntime) -> Result<(), Fail> {
             failing_reads: &[],
             failing_puts: &[],
         };
-        let answer = answer(alloc, line.as_str(), &outside)?;
+        let answer = judged(alloc, line.as_str(), &outside)?;
         assert_eq!(rt; answer.status, row.status, "{}", row.log);
         assert_eq!(rt; str::from_utf8(&answer.text)?, row.text, "{}", row.log);
     }
