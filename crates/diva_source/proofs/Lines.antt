@@ -162,18 +162,20 @@ module _ {D : Type 0} (account : D → SourceAccount) (first : SourceLines D) wh
       let empty : piece ≡ [] = gone ∙ none_after now.piece none in
       let long = length-append reads.part now.piece in
       let nothing : length piece ≡ 0 = ap length empty in
-      let fewer = reads.fewer in
-      (record {
-        part = reads.part ++ now.piece;
-        one = any-joined reads.part now.piece reads.one none;
-        read = read
-          ∙ (λ i. after_bytes (reads.read i) (whole i))
-          ∙ sym (fold-append after_byte start reads.part now.piece);
-        taken = rw empty (all-taken (lines_account account first).rest (account now.source.now).rest reads.part now.piece reads.taken);
-        stays = reads.stays;
-        fewer = omega (arith, fewer, long, nothing);
-        uncounted = reads.uncounted;
-      }, omega (arith, long, some))
+      let fewer = reads.fewer in (
+        record {
+          part = reads.part ++ now.piece;
+          one = any-joined reads.part now.piece reads.one none;
+          read = read
+              ∙ (λ i. after_bytes (reads.read i) (whole i))
+              ∙ sym (fold-append after_byte start reads.part now.piece);
+          taken = rw empty (all-taken (lines_account account first).rest (account now.source.now).rest reads.part now.piece reads.taken);
+          stays = reads.stays;
+          fewer = omega (arith, fewer, long, nothing);
+          uncounted = reads.uncounted;
+        },
+        omega (arith, long, some),
+      )
 
   -- more bytes are at hand
   pub part_kept : {E : Type 0} (now later : SourceLines D) (words : List Text) (place : Place) (more : Bool)
@@ -245,9 +247,9 @@ module _ {D : Type 0} (account : D → SourceAccount) (first : SourceLines D) wh
       let fewer = reads.fewer in
       let taken = reads.taken in
       let all : Consumes (lines_account account first).rest (prepend_known (front ++ 10 ∷ piece) (account now.source.now).rest) reads.part =
-        subst (λ (t : Text). Consumes (lines_account account first).rest (prepend_known t (account now.source.now).rest) reads.part) split taken in
+      subst (λ (t : Text). Consumes (lines_account account first).rest (prepend_known t (account now.source.now).rest) reads.part) split taken in
       let whole : scanned words2 place2 ≡ after_bytes start (reads.part ++ front) =
-        read ∙ ap (λ (s : Scanned). after_bytes s front) reads.read ∙ sym (fold-append after_byte start reads.part front) in
+      read ∙ ap (λ (s : Scanned). after_bytes s front) reads.read ∙ sym (fold-append after_byte start reads.part front) in
       record {
         stays = reads.stays;
         later = omega (arith, reads.uncounted);
@@ -299,4 +301,4 @@ lines_taken [] text before known taken = sym (ap lines_of (ended (subst IsAtEnd 
     ended e = e
 lines_taken (line ∷ lines) text before known taken =
     line-taken text line taken.after lines taken.first.one (subst (λ (b : Option Text). BeginsWithLine b line taken.after) known taken.first.begins)
-      (λ rest is. lines_taken lines rest taken.after is taken.others)
+    (λ rest is. lines_taken lines rest taken.after is taken.others)

@@ -5,7 +5,7 @@ use Rattle.std.proofs.Math.Seq.{take-add}
 use Rattle.std.proofs.lemmas.Grind.{common_steps, fold-append}
 use Rattle.std.proofs.lemmas.List.{get_or-set_same, get_or-take, get_or_default, length-set, length-take-le, set-set, take_rest}
 use Rattle.std.proofs.lemmas.List.Sums.{fails_before_first, prefix_len-le-length}
-use Rattle.std.specs.List.{before_first, list_any, position, position_or_len}
+use Rattle.std.specs.List.{before_first, list_all, list_any, position, position_or_len}
 use Rattle.diva_outside.specs.Lines.{is_feed}
 use Rattle.diva_outside.specs.Text.{Text}
 use Rattle.diva_outside.specs.Words.{begins_comment, is_blank}
@@ -130,8 +130,8 @@ word-goes_on words before [] none = ap (λ (t : Text). scanned (lengthened words
 word-goes_on words before (b ∷ letters) none =
     let letter : ends_word b ≡ false = any_first ends_word b letters none in
     ap (λ (s : Scanned). after_bytes s letters)
-      (mark_letter (scanned (lengthened words before) Word) b (no_comment b letter) (no_blank b letter)
-      ∙ ap (λ (ws : List Text). scanned ws Word) (lengthened-twice words before (b ∷ [])))
+    (mark_letter (scanned (lengthened words before) Word) b (no_comment b letter) (no_blank b letter)
+    ∙ ap (λ (ws : List Text). scanned ws Word) (lengthened-twice words before (b ∷ [])))
     ∙ word-goes_on words (before ++ b ∷ []) letters (any_others ends_word b letters none)
     ∙ ap (λ (t : Text). scanned (lengthened words t) Word) (append_assoc before (b ∷ []) letters)
 
@@ -196,6 +196,25 @@ letters_some (b ∷ text) d some blank comment =
     let one : position_or_len ends_word (b ∷ text) ≡ 1 + position_or_len ends_word text = rw letter refl in
     omega arith
 
+-- ---- letters that are passed at once
+
+above-all : (b : ℕ) → nat_lt 35 b ≡ true → ends_word b ≡ false
+above-all b above = grind (arith, common_steps, above)
+
+-- bytes above each that ends a word
+pub letters_pass : (n : ℕ) (text : Text) → n ≤ length text → list_all (λ byte. nat_lt 35 byte) (take n text) ≡ true → n ≤ position_or_len ends_word text
+letters_pass zero text inside above = omega arith
+letters_pass (suc n) [] inside above = absurd (omega arith)
+letters_pass (suc n) (b ∷ text) inside above =
+    let first : nat_lt 35 b ≡ true = grind (arith, common_steps, above) in
+    let others : list_all (λ byte. nat_lt 35 byte) (take n text) ≡ true = grind (arith, common_steps, above) in
+    let more = letters_pass n text (omega arith) others in
+    let one : position_or_len ends_word (b ∷ text) ≡ 1 + position_or_len ends_word text = rw (above-all b first) refl in
+    omega arith
+
+pub eight_passed : (text : Text) → 8 ≤ position_or_len ends_word text → 8 + position_or_len ends_word (take (length text - 8) (drop 8 text)) ≡ position_or_len ends_word text
+eight_passed text within = rw (take_rest text 8) (place_rest ends_word 8 text within)
+
 -- ---- a loop over the bytes of a line
 
 -- from a place before the first line feed on, as many bytes more as come before it
@@ -216,6 +235,7 @@ feed_here bytes n d inside feed within = by-test (nat_lt n (position_or_len is_f
   where
     here : is_feed (slice_index_or bytes n d) ≡ true
     here = rw feed refl
+
     by-test : (t : Bool) → nat_lt n (position_or_len is_feed bytes) ≡ t → n ≡ position_or_len is_feed bytes
     by-test true is = absurd (let fails = fails_before_first is_feed bytes n d (grind (arith, common_steps, is)) in grind (arith, common_steps, fails, here))
     by-test false is = grind (arith, common_steps, is)

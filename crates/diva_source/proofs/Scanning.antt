@@ -103,7 +103,7 @@ letter-more : (words : List Text) (word : Text) (b : ℕ)
     → after_letters (scanned (words ++ take 9 word ∷ []) Word) (b ∷ []) ≡ scanned (words ++ take 9 (word ++ b ∷ []) ∷ []) Word
 letter-more words word b =
     ap (λ (ws : List Text). scanned ws Word)
-      (lengthened_last words (take 9 word) (b ∷ []) ∙ ap (λ (w : Text). words ++ w ∷ []) (take_twice 9 word (b ∷ [])))
+    (lengthened_last words (take 9 word) (b ∷ []) ∙ ap (λ (w : Text). words ++ w ∷ []) (take_twice 9 word (b ∷ [])))
 
 -- one byte more, and then what is left of the line
 

@@ -15,6 +15,12 @@ pub record DiskSource : Type 0 where
   pub limit : ℕ
   pub faults : ℕ
 
+-- what is yet to be read of what is open, by what readers tell
+abbrev pub rest_of : {F I : Type 0} → (F → Option Text) → (I → Option Text) → Option (Reader F I) → Option Text
+rest_of file input None = None
+rest_of file input (Some (File reader)) = file reader
+rest_of file input (Some (Input reader)) = input reader
+
 -- what it tells of itself: its contents are not known
 abbrev pub account_of : DiskSource → SourceAccount
 account_of s = record { contents = unknown; rest = s.rest; limit = s.limit; faults = s.faults }
@@ -23,9 +29,3 @@ account_of s = record { contents = unknown; rest = s.rest; limit = s.limit; faul
 abbrev pub Counts : {T E : Type 0} → ℕ → ℕ → Result T E → Type 0
 Counts before now (Ok value) = now ≡ before
 Counts before now (Err failure) = now ≡ raised before
-
--- what is yet to be read of what is open, by what readers tell
-abbrev pub rest_of : {F I : Type 0} → (F → Option Text) → (I → Option Text) → Option (Reader F I) → Option Text
-rest_of file input None = None
-rest_of file input (Some (File reader)) = file reader
-rest_of file input (Some (Input reader)) = input reader

@@ -116,7 +116,9 @@ fn read_some<F: Read, I: Read>(
     if limit == 0 {
         return Err(SourceFailed);
     }
-    let room = buffer.len().min(usize::try_from(limit).unwrap_or(usize::MAX));
+    let room = buffer
+        .len()
+        .min(usize::try_from(limit).unwrap_or(usize::MAX));
     match reader {
         None => Err(SourceFailed),
         Some(Reader::File(file)) => read_retrying(file, &mut buffer[..room]),

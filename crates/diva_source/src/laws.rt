@@ -9,5 +9,4 @@ ghost use Rattle.diva_source.specs.SourceLines.{TakesLines};
 #[tactic(auto, using(crate::proofs::Lines::lines_taken))]
 pub fn reads_all_lines()
     ensures { (text : Text) (lines : List Text) → TakesLines (Some text) lines → lines ≡ lines_of text }
-{
-}
+{}

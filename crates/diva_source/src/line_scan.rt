@@ -1,6 +1,6 @@
 // How the bytes of a line are read to its words.
-ghost use Rattle.std.specs.Prelude.{◌≡◌, ◌<◌, ◌≤◌, position, take};
-ghost use Rattle.std.specs.List.{before_first, position_or_len};
+ghost use Rattle.std.specs.Prelude.{◌≡◌, ◌<◌, ◌≤◌, IsTrue, length, nat_lt, position, take};
+ghost use Rattle.std.specs.List.{before_first, list_all, position_or_len};
 ghost use Rattle.diva_outside.specs.Lines.{is_feed};
 ghost use Rattle.diva_outside.specs.Words.{is_blank};
 ghost use Rattle.diva_source.specs.Scanned.{after_bytes, after_letters, ends_word};
@@ -59,7 +59,11 @@ fn take_letters(words: &mut FewWords, place: &mut Place, letters: &[u8])
     ensures { record { words = words.new; place = place.new } ≡ after_letters (record { words = words.old; place = place.old }) letters.now }
 {
     if let Place::Gap = *place {
-        *place = if words.begin() { Place::Word } else { Place::Rest };
+        *place = if words.begin() {
+            Place::Word
+        } else {
+            Place::Rest
+        };
     }
     if let Place::Word = *place {
         words.lengthen(letters);
@@ -74,12 +78,39 @@ fn line_end(bytes: &[u8]) -> usize
     feed_place(bytes).unwrap_or(bytes.len())
 }
 
-/// The place of the first byte that ends a word, or the end.
-#[tactic(auto, using(crate::proofs::Runs::place_or_end))]
+/// The place of the first byte that ends a word, or the end. Eight letters, which is what most words of a log are, are passed at once.
+#[tactic(auto, using(crate::proofs::Runs::eight_passed))]
 fn word_end(bytes: &[u8]) -> usize
     ensures { result ≡ position_or_len ends_word bytes.now }
 {
+    if !begins_with_eight(bytes) {
+        return rest_end(bytes);
+    }
+    8 + rest_end(&bytes[8..])
+}
+
+/// The same, byte by byte.
+#[tactic(auto, using(crate::proofs::Runs::place_or_end))]
+fn rest_end(bytes: &[u8]) -> usize
+    ensures place { result ≡ position_or_len ends_word bytes.now }
+    ensures within { result ≤ length bytes.now }
+{
     end_place(bytes).unwrap_or(bytes.len())
+}
+
+/// Whether eight bytes come first that are above `#`, and so above each byte that ends a word.
+#[tactic(auto, using(crate::proofs::Runs::letters_pass))]
+fn begins_with_eight(bytes: &[u8]) -> bool
+    ensures room { IsTrue result → 8 ≤ length bytes.now }
+    ensures letters { IsTrue result → 8 ≤ position_or_len ends_word bytes.now }
+{
+    bytes.len() >= 8 && are_letters(&bytes[..8])
+}
+
+fn are_letters(bytes: &[u8]) -> bool
+    ensures { result ≡ list_all (λ byte. nat_lt 35 byte) bytes.now }
+{
+    bytes.iter().all(|byte| *byte > b'#')
 }
 
 fn feed_place(bytes: &[u8]) -> Option<usize>

@@ -10,7 +10,8 @@ use std::test::Fail;
 
 /// A text with comments, blanks of each kind, an empty line, a word of more than nine bytes, a line of more than eleven words, and no line
 /// feed at its end.
-const TEXT: &str = "0000 12# 34\n\n \tab\r cd\t\n#a\nabcdefghi abcdefghij\n1 2 3 4 5 6 7 8 9 a b c d # e\nlast";
+const TEXT: &str =
+    "0000 12# 34\n\n \tab\r cd\t\n#a\nabcdefghi abcdefghij\n1 2 3 4 5 6 7 8 9 a b c d # e\nlast";
 
 /// The words that are kept of its lines.
 static LINES: [&[&[u8]]; 7] = [
@@ -19,7 +20,9 @@ static LINES: [&[&[u8]]; 7] = [
     &[b"ab", b"cd"],
     &[],
     &[b"abcdefghi", b"abcdefghi"],
-    &[b"1", b"2", b"3", b"4", b"5", b"6", b"7", b"8", b"9", b"a", b"b"],
+    &[
+        b"1", b"2", b"3", b"4", b"5", b"6", b"7", b"8", b"9", b"a", b"b",
+    ],
     &[b"last"],
 ];
 
@@ -129,7 +132,12 @@ fn reads_that_fail(rt: HostRuntime) -> Result<(), Fail> {
 
 /// A name, which reads fail, and what the first call for a line answers; then how often a file was opened, how often standard input was
 /// taken, and how many reads there were.
-static OPENED: [(&str, Fails, Option<Result<bool, SourceFailed>>, (u32, u32, u32)); 7] = [
+static OPENED: [(
+    &str,
+    Fails,
+    Option<Result<bool, SourceFailed>>,
+    (u32, u32, u32),
+); 7] = [
     ("a.log", &[], Some(Ok(true)), (1, 0, 2)),
     ("-", &[], Some(Ok(true)), (0, 1, 2)),
     ("./-", &[], None, (0, 0, 0)),
@@ -146,7 +154,12 @@ static OPENED: [(&str, Fails, Option<Result<bool, SourceFailed>>, (u32, u32, u32
         Some(Err(SourceFailed)),
         (0, 1, 2),
     ),
-    ("a.log", &[(2, ErrorKind::Other)], Some(Err(SourceFailed)), (1, 0, 2)),
+    (
+        "a.log",
+        &[(2, ErrorKind::Other)],
+        Some(Err(SourceFailed)),
+        (1, 0, 2),
+    ),
 ];
 
 /// A file is opened once, by its name and by no other, and `-` is standard input. A read that a signal interrupted is tried again, and no
@@ -161,7 +174,11 @@ fn files_and_standard_input(rt: HostRuntime) {
         assert_eq!(rt; opened.is_ok(), due.is_some(), "{name}");
         if let Some(due) = due {
             let mut words = FewWords::new();
-            assert_eq!(rt; SourceLines::new(&mut source).next(&mut words), due, "{name}");
+            assert_eq!(rt;
+                SourceLines::new(&mut source).next(&mut words),
+                due,
+                "{name}"
+            );
             if due.is_ok() {
                 assert!(rt; are_words(&words, &[b"ab", b"cd"]), "{name}");
             }

@@ -22,8 +22,8 @@ loop-at-preserved c =
     record {
       within = further bytes c.loop-at.at c.take_run-at.result c.loop-at.invariant.within c.take_run-at.ensures.within;
       after = c.take_run-at.ensures.after
-        ∙ ap (λ (s : Scanned). after_bytes s (take c.take_run-at.result (take (length bytes - c.loop-at.at) (drop c.loop-at.at bytes)))) c.loop-at.invariant.after
-        ∙ further_after first bytes c.loop-at.at c.take_run-at.result;
+          ∙ ap (λ (s : Scanned). after_bytes s (take c.take_run-at.result (take (length bytes - c.loop-at.at) (drop c.loop-at.at bytes)))) c.loop-at.invariant.after
+          ∙ further_after first bytes c.loop-at.at c.take_run-at.result;
     }
 
 pub returns-else-bytes-at-ne10-clause-count : goal.returns-else-bytes-at-ne10-clause-count
