@@ -1,0 +1,5 @@
+-- What the contracts of this crate cite.
+pub mod Judgement
+pub mod Judging
+pub mod Logs
+pub mod Texts
