@@ -5,3 +5,4 @@ mod Placing
 mod Righting
 mod Saying
 mod Telling
+mod Wronging

@@ -7,7 +7,7 @@ use Rattle.diva_core.specs.declared.differences.Field.{Field as FieldName}
 use Rattle.diva_core.specs.declared.differences.Field.TheVariants.{Pc, Word, Src1, Src2, Addr, Value, Next, End}
 use Rattle.diva_isa.specs.End.{end_of}
 use Rattle.diva_isa.specs.declared.record.Record.{Record}
-use Rattle.diva_claims.specs.Said.{done_by, is_trap, mask_stored, register_written}
+use Rattle.diva_claims.specs.Said.{done_by, is_trap, mask_stored, never, register_written}
 use Rattle.diva_claims.specs.declared.said.Said.{Said}
 use Rattle.diva_claims.specs.declared.said.SaidEnd.{SaidEnd}
 use Rattle.diva_claims.specs.declared.said.SaidEnd.TheVariants.{Number, SomeTrap}
@@ -22,6 +22,14 @@ other wrong (Some number) due = if number == due then None else Some (wrong numb
 -- so it is with a field of the record
 abbrev pub other_field : FieldName → Option ℕ → ℕ → Option Wrong
 other_field field said due = other (λ number. Field (record { field = field; claimed = number; due = due })) said due
+
+-- another register that is said to have been written
+abbrev pub other_register : Option ℕ → ℕ → Option Wrong
+other_register said due = other (λ number. Register number due) said due
+
+-- other bytes
+abbrev pub other_mask : Option ℕ → ℕ → Option Wrong
+other_mask said due = other (λ number. Mask number due) said due
 
 -- an end that is said and is another one; or some trap, if none is due
 abbrev pub other_end : Option SaidEnd → ℕ → Option Wrong
@@ -40,13 +48,18 @@ first_wrong said due =
     (option_or (other_field Value said.value due.value)
     (option_or (other_field Next said.next due.next)
     (option_or (other_end said.end due.end)
-    (option_or (other (λ number. Register number (register_written (done_by due))) said.rd (register_written (done_by due)))
-    (other (λ number. Mask number (mask_stored (done_by due))) said.mask (mask_stored (done_by due)))))))))))
+    (option_or (other_register said.rd (register_written (done_by due)))
+    (other_mask said.mask (mask_stored (done_by due)))))))))))
 
 -- the first difference of the line's claim is in the same field; what is no field of a record (the trap, the register, the bytes) makes
--- the claim differ in its end
+-- the claim differ in its end, which is then one that is never due, also if the line says another end as well
 abbrev pub ShowsAs : Wrong → Diff → Type 0
-ShowsAs (Field wrong) d = d ≡ wrong
+ShowsAs (Field wrong) d = (d ≡ wrong) ⊎ ((wrong.field ≡ End) × (d ≡ record wrong { claimed = never }))
 ShowsAs (NoTrap due) d = d.field ≡ End
 ShowsAs (Register said due) d = d.field ≡ End
 ShowsAs (Mask said due) d = d.field ≡ End
+
+-- a difference shows what is wrong, if anything is
+abbrev pub IsShown : Option Wrong → Diff → Type 0
+IsShown None d = ⊥
+IsShown (Some wrong) d = ShowsAs wrong d

@@ -89,7 +89,7 @@ fn end_said(said: Option<SaidEnd>, due: u32) -> u32
 }
 
 /// What a record does; one that ends does nothing.
-fn done_by(due: &Record) -> Effect
+pub(crate) fn done_by(due: &Record) -> Effect
     ensures { result ≡ done_by due.now }
 {
     if due.end == 0 {
@@ -110,7 +110,7 @@ fn differs(said: Option<u32>, due: u32) -> bool
 }
 
 /// The register that is written, 0 if none is.
-fn register_written(effect: Effect) -> u32
+pub(crate) fn register_written(effect: Effect) -> u32
     ensures { result ≡ register_written effect }
 {
     match effect {
@@ -120,7 +120,7 @@ fn register_written(effect: Effect) -> u32
 }
 
 /// The bytes that are stored of the word in which they lie, the lowest in bit 0.
-fn mask_stored(effect: Effect) -> u32
+pub(crate) fn mask_stored(effect: Effect) -> u32
     ensures { result ≡ mask_stored effect }
 {
     match effect {

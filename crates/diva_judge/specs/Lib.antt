@@ -1,5 +1,4 @@
 -- What the contracts of this crate cite.
 pub mod Judgement
-pub mod Judging
 pub mod Logs
 pub mod Texts

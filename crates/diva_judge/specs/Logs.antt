@@ -3,6 +3,7 @@
 use Rattle.std.specs.Prelude.{ℕ, ◌+◌, List, [], ◌∷◌, Option, Some, None, Result, Ok, Err, codes, if◌then◌else◌}
 use Rattle.std.specs.Option.{ok_or}
 use Rattle.std.specs.Str.{bytes_eq}
+use Rattle.diva_outside.specs.Items.{if_words}
 use Rattle.diva_outside.specs.Lines.{LineFault}
 use Rattle.diva_outside.specs.NextWords.{others_of, with_first}
 use Rattle.diva_outside.specs.Numbers.{hex_of}
@@ -64,6 +65,10 @@ said_in words =
     with_first (first_by end_said_by) words (λ end words.
     with_effects (record { pc = pc; word = word; src1 = src1; src2 = src2; addr = addr; value = value; next = next; end = end; rd = None; mask = None })
     words))))))))
+
+-- the same, if there are words
+abbrev pub said_of : List Text → Result (Option Said) Kind
+said_of words = if_words (λ word words. said_in (word ∷ words)) words
 
 -- ---- some lines
 

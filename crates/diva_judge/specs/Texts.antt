@@ -24,11 +24,11 @@ use Rattle.diva_judge.specs.declared.terms.Terms.{Terms}
 -- ---- an instruction, and what is wrong with its line
 
 -- the instruction's pc, its word, and what that is
-abbrev pub listed : Record → Text
+unfoldable pub listed : Record → Text
 listed due = hex_word due.pc ++ codes " " ++ hex_word due.word ++ codes " " ++ text_of due.pc due.word (row_of due.word)
 
 -- the first thing that is wrong: what it is, what was claimed, and what is due
-abbrev pub wrong_text : Wrong → Text
+unfoldable pub wrong_text : Wrong → Text
 wrong_text (Field difference) = cause_text (Differs difference)
 wrong_text (NoTrap due) = codes "end claimed t due " ++ hex_word due
 wrong_text (Register said due) = codes "rd claimed " ++ hex_word said ++ codes " due " ++ hex_word due
@@ -58,9 +58,12 @@ answer_of_line due None = codes "ok\n"
 answer_of_line due (Some wrong) = due_line due
 
 -- one or the other, by what is asked for
+abbrev pub text_of_line : (answers : Bool) → (place : ℕ) → (due : Record) → Option Wrong → Text
+text_of_line false place due wrong = row_of_line place due wrong
+text_of_line true place due wrong = answer_of_line due wrong
+
 abbrev pub line_text : (answers : Bool) → Said → Judged → Text
-line_text false said j = row_of_line j.lines (record_of j.state) (first_wrong said (record_of j.state))
-line_text true said j = answer_of_line (record_of j.state) (first_wrong said (record_of j.state))
+line_text answers said j = text_of_line answers j.lines (record_of j.state) (first_wrong said (record_of j.state))
 
 -- of a line that is not judged: nothing, or the answer that it comes too late
 abbrev pub late_text : (answers : Bool) → Text

@@ -19,8 +19,8 @@ mod writers;
 pub use harts::write_hart;
 pub use lines::{
     commit_line, count_line, cycles_line, end_line, end_line_of, flush_line, flushes_line,
-    hart_line, mem_line, out_line, output_line, pc_line, push_cause, push_end, registers_line,
-    soak_line,
+    hart_line, mem_line, out_line, output_line, pc_line, push_cause, push_end, push_fields,
+    registers_line, soak_line,
 };
 pub use report::{Dump, HartReport, Report, SoakCore, Tally};
 pub use writers::{

@@ -30,7 +30,7 @@ pub(crate) fn fill_commit(line: &mut Line, index: u64, r: &Record)
 }
 
 /// Some fields of a record, a blank before each.
-fn push_fields(line: &mut Line, fields: &[Field], r: &Record)
+pub fn push_fields(line: &mut Line, fields: &[Field], r: &Record)
     requires { length line.old + 9 * length fields.now ≤ 128 }
     ensures bytes { line.new ≡ line.old ++ fields_text fields.now r.now }
     ensures len { length line.new ≡ length line.old + 9 * length fields.now }

@@ -1,0 +1,4 @@
+-- Stub.
+pub mod KeptWords
+pub mod Source
+pub mod SourceLines
