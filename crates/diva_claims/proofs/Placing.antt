@@ -20,7 +20,8 @@ use Rattle.diva_claims.specs.Calls.{claims_call, IsClaimsCall}
 use Rattle.diva_claims.specs.Found.{HasRowAt, IsRightOrFlushed}
 use Rattle.diva_claims.specs.Said.{IsLineOf}
 use Rattle.diva_claims.specs.declared.said.Said.{Said}
-use Rattle.diva_claims.proofs.Finding.{flushes-of, One, one-commits, Refused, one-differs, Goes, after, new-goes}
+use Rattle.diva_claims.proofs.Finding.{flushes-of, Goes, after, new-goes}
+use Rattle.diva_claims.proofs.Handing.{One, one-commits, Refused, one-differs}
 use Rattle.diva_claims.proofs.Righting.{moved}
 
 -- ---- rows so far, and one more

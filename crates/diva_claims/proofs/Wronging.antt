@@ -1,8 +1,8 @@
 -- What is wrong with a line, and what a flush shows of it.
-use Rattle.std.proofs.Common.{◌≡◌, ◌≢◌, ◌<◌, ◌^◌, ℕ, Bool, true, false, Option, Some, None, refl, sym, ◌∙◌, ap, arith, inl, inr, if◌then◌else◌}
+use Rattle.std.proofs.Common.{◌≡◌, ◌≢◌, ℕ, Bool, true, false, Option, Some, None, refl, sym, ap, inl, inr, if◌then◌else◌}
 use Rattle.std.specs.Prelude.{◌==◌, ◌||◌, not}
 use Rattle.std.specs.Option.{option_or, unwrap_or}
-use Rattle.std.proofs.lemmas.Bool.{eq-eqb, eqb-true, eqb-false, or_cases}
+use Rattle.std.proofs.lemmas.Bool.{eq-eqb, eqb-true, eqb-false}
 use Rattle.std.proofs.lemmas.Option.{none-some, same_Some}
 use Rattle.diva_core.specs.Difference.{first_difference}
 use Rattle.diva_core.specs.declared.differences.Diff.{Diff}
@@ -12,7 +12,6 @@ use Rattle.diva_isa.specs.End.{end_of}
 use Rattle.diva_isa.specs.State.{State}
 use Rattle.diva_isa.specs.Step.{record_of}
 use Rattle.diva_isa.specs.declared.record.Record.{Record}
-use Rattle.diva_isa.proofs.Ends.{end_record_of}
 use Rattle.diva_claims.proofs.Saying.{is_right, says}
 use Rattle.diva_claims.specs.Said.{IsEndSaid, IsLineOf, IsSaid, SaysOf, contradicts, differs, done_by, end_said, filled, is_trap, mask_stored, never, register_written}
 use Rattle.diva_claims.specs.Wrong.{IsShown, ShowsAs, first_wrong, other, other_end, other_field, other_mask, other_register}

@@ -1,10 +1,10 @@
 -- A machine that is judging a log line by line: what one line comes to.
--- Cited by `a_line_is_judged`; by `judge_line` of diva_judge.
-use Rattle.std.specs.Prelude.{◌≡◌, ◌≤◌, ◌+◌, ◌&&◌, ◌==◌, ℕ, nat_lt, List, [], ◌∷◌, Option, Some, None, if◌then◌else◌}
+-- Cited by what `LineCore` gives, and by the laws of this crate, as `a_line_is_judged`; by `judge_line` of diva_judge.
+use Rattle.std.specs.Prelude.{◌≡◌, ◌≤◌, ◌<◌, ◌+◌, ◌&&◌, ◌==◌, ℕ, nat_lt, List, [], ◌∷◌, Option, Some, None, if◌then◌else◌}
 use Rattle.diva_isa.specs.State.{State}
 use Rattle.diva_isa.specs.Step.{record_of, step}
 use Rattle.diva_isa.specs.declared.record.Record.{Record}
-use Rattle.diva_core.specs.Difference.{first_difference}
+use Rattle.diva_core.specs.Cycle.{cycle_of}
 use Rattle.diva_core.specs.Machine.{IsMachine}
 use Rattle.diva_core.specs.Timed.{Timed, depth}
 use Rattle.diva_core.specs.Told.{Told}
@@ -37,6 +37,12 @@ pub record Rests (m : Timed) : Type 0 where
   pub fresh : m.under.idle ≡ 0
 
 -- ---- one line
+
+-- in the last of these cycles the count rises, and in no earlier one
+abbrev pub CountsInTheLast : Timed → List (List Record) → Type 0
+CountsInTheLast m [] = ⊥
+CountsInTheLast m (list ∷ []) = m.count < (cycle_of m list).count
+CountsInTheLast m (list ∷ next ∷ rest) = ((cycle_of m list).count ≡ m.count) × CountsInTheLast (cycle_of m list) (next ∷ rest)
 
 -- the newest row of the log is that of this flush: at this place, for a difference that shows what is wrong
 pub record IsFlushedFor (at : ℕ) (wrong : Wrong) (newest : Option FlushRow) : Type 0 where

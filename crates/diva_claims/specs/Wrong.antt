@@ -1,6 +1,6 @@
 -- What is wrong with a line: the first of what it says that is not due, in the order of its words.
--- Cited by `Said::first_wrong`.
-use Rattle.std.specs.Prelude.{◌≡◌, ◌⊎◌, ◌==◌, ℕ, Option, Some, None, if◌then◌else◌, ⊤}
+-- Cited by `Said::first_wrong`, and by the laws of this crate, as `a_flush_shows_what_is_wrong`.
+use Rattle.std.specs.Prelude.{◌≡◌, ◌⊎◌, ◌==◌, ℕ, Option, Some, None, if◌then◌else◌}
 use Rattle.std.specs.Option.{option_or}
 use Rattle.diva_core.specs.declared.differences.Diff.{Diff}
 use Rattle.diva_core.specs.declared.differences.Field.{Field as FieldName}

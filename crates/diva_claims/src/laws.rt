@@ -1,10 +1,12 @@
-//! Laws of the core. Each function has no body: its clause is about the definitions.
-ghost use Rattle.std.specs.Prelude.{ℕ, ◌≡◌, ◌<◌, List, [], Some, IfSome, slice_get};
+//! Laws of the cores, and of their lines. Each function has no body: its clause is about the definitions.
+ghost use Rattle.std.specs.Prelude.{ℕ, ◌≡◌, ◌<◌, List, [], None, Some, IfSome, slice_get, true};
 ghost use Rattle.std.specs.List.{All};
 ghost use Rattle.diva_isa.specs.Step.{record_of, steps};
 ghost use Rattle.diva_claims.specs.Found.{IsRightOrFlushed, TellsMissingLine, TellsWrongLine};
 ghost use Rattle.diva_isa.specs.declared.record.Record.{Record};
-ghost use Rattle.diva_isa.specs.State.{State};
+ghost use Rattle.diva_isa.specs.State.{State, goes_on};
+ghost use Rattle.diva_core.specs.Difference.{first_difference};
+ghost use Rattle.diva_core.specs.declared.differences.Diff.{Diff};
 ghost use Rattle.diva_core.specs.Timed.{Timed, Config, new_timed};
 ghost use Rattle.diva_core.specs.declared.flushes.FlushRow.{FlushRow};
 ghost use Rattle.diva_core.specs.Headline.{AreRowsOf};
@@ -12,7 +14,9 @@ ghost use Rattle.diva_core.specs.History.{IsHistory, lists_of};
 ghost use Rattle.diva_core.specs.Machine.{IsConfig};
 ghost use Rattle.diva_core.specs.Right.{AreRight};
 ghost use Rattle.diva_claims.specs.Calls.{IsClaimsCall};
-ghost use Rattle.diva_claims.specs.Said.{AreLinesOf, IsLineOf, SaysOf};
+ghost use Rattle.diva_claims.specs.Judged.{CountsInTheLast, HasJudged, IsLineCall, Rests};
+ghost use Rattle.diva_claims.specs.Said.{AreLinesOf, IsLineOf, SaysOf, filled};
+ghost use Rattle.diva_claims.specs.Wrong.{IsShown, first_wrong};
 ghost use Rattle.diva_claims.specs.declared.said.Said.{Said};
 
 /// Right lines are right claims: in each history of the core from a new machine on, if each instruction up to the end has a line of
@@ -86,4 +90,35 @@ pub fn wrong_lines_are_flushed()
 pub fn a_right_line_says_what_is_due()
     ensures said { (said : Said) (s : State) → IsLineOf (Some said) (record_of s) → SaysOf said (record_of s) }
     ensures right { (said : Said) (s : State) → SaysOf said (record_of s) → IsLineOf (Some said) (record_of s) }
+{}
+
+/// Nothing is wrong with a line that is right, and only with such a one.
+#[tactic(auto, using(crate::proofs::Wronging::right_none, crate::proofs::Wronging::none_right))]
+pub fn nothing_is_wrong_with_a_right_line()
+    ensures none { (said : Said) (s : State) → IsLineOf (Some said) (record_of s) → first_wrong said (record_of s) ≡ None }
+    ensures right { (said : Said) (s : State) → first_wrong said (record_of s) ≡ None → IsLineOf (Some said) (record_of s) }
+{}
+
+/// The first difference of a line's claim shows what is wrong with the line: it is in the same field, or in the end if what is wrong is
+/// no field of a record.
+#[tactic(auto, using(crate::proofs::Wronging::shown))]
+pub fn a_flush_shows_what_is_wrong()
+    ensures { (said : Said) (due : Record) (d : Diff) → first_difference (filled said due) due ≡ Some d
+        → IsShown (first_wrong said due) d }
+{}
+
+/// A new machine rests.
+#[tactic(auto, using(crate::proofs::Judging::new_rests))]
+pub fn a_new_machine_rests()
+    ensures { (config : Config) (s : State) → IsConfig config → s.instret ≡ 0 → Rests (new_timed config s) }
+{}
+
+/// A machine that rests judges a line: in each history of `LineCore` with that line, up to the cycle in which the next instruction is
+/// counted, a flush comes if and only if the line is wrong, and for a difference that shows what is wrong; then the machine rests again.
+#[tactic(auto, using(crate::proofs::Judging::judged))]
+pub fn a_line_is_judged()
+    ensures { (m : Timed) (said : Said) → Rests m → goes_on m.arch ≡ true
+        → (last : Timed) (after : Said) (history : List (List Record × Said))
+        → IsHistory IsLineCall m said history last after → CountsInTheLast m (lists_of history)
+        → HasJudged m last said }
 {}

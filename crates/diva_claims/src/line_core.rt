@@ -9,7 +9,7 @@ use std::marker::Model;
 /// A core that has the line of the next instruction alone: it waits until nothing is pending and there is room, and then hands over
 /// what the line says. What the line leaves out is as it is due.
 ///
-/// It says the same of each instruction, so it drives a machine until one is counted, and no further.
+/// It would say the same of the instruction after, so it drives a machine until one is counted.
 #[derive(Debug, Drop)]
 pub struct LineCore {
     said: Said,

@@ -1,3 +1,8 @@
 -- The lemmas of this crate.
+pub mod Adding
 pub mod Keeping
 pub mod Listing
+pub mod Logging
+pub mod Sentences
+pub mod Taking
+pub mod Turning

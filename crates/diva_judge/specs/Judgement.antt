@@ -41,10 +41,14 @@ is_wrong said s = is_some (first_wrong said (record_of s))
 abbrev pub with_line : Said → Judged → Judged
 with_line said j = record { lines = j.lines + 1; wrong = j.wrong + (if is_wrong said j.state then 1 else 0); state = step j.state }
 
--- and some lines; those that are not judged change nothing
+-- one more line, which changes nothing if it is not judged
+abbrev pub with_said : (stop : Option ℕ) → Said → Judged → Judged
+with_said stop said j = if judges stop j then with_line said j else j
+
+-- and some lines
 abbrev pub with_lines : (stop : Option ℕ) → List Said → Judged → Judged
 with_lines stop [] j = j
-with_lines stop (said ∷ later) j = with_lines stop later (if judges stop j then with_line said j else j)
+with_lines stop (said ∷ later) j = with_lines stop later (with_said stop said j)
 
 -- ---- the verdict, once the log has ended
 

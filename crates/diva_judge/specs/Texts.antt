@@ -17,7 +17,7 @@ use Rattle.diva_claims.specs.Wrong.{first_wrong}
 use Rattle.diva_claims.specs.declared.said.Said.{Said}
 use Rattle.diva_claims.specs.declared.wrong.Wrong.{Wrong}
 use Rattle.diva_claims.specs.declared.wrong.Wrong.TheVariants.{Field, NoTrap, Register, Mask}
-use Rattle.diva_judge.specs.Judgement.{Judged, judges, left_over, with_line, with_lines}
+use Rattle.diva_judge.specs.Judgement.{Judged, judges, left_over, with_said}
 use Rattle.diva_judge.specs.Logs.{Log}
 use Rattle.diva_judge.specs.declared.terms.Terms.{Terms}
 
@@ -70,12 +70,14 @@ abbrev pub late_text : (answers : Bool) → Text
 late_text false = []
 late_text true = codes "over\n"
 
+-- of a line
+abbrev pub said_text : Terms → Said → Judged → Text
+said_text terms said j = if judges terms.stop j then line_text terms.answers said j else late_text terms.answers
+
 -- of some lines
 abbrev pub lines_text : Terms → List Said → Judged → Text
 lines_text terms [] j = []
-lines_text terms (said ∷ later) j =
-    if judges terms.stop j then line_text terms.answers said j ++ lines_text terms later (with_line said j)
-    else late_text terms.answers ++ lines_text terms later j
+lines_text terms (said ∷ later) j = said_text terms said j ++ lines_text terms later (with_said terms.stop said j)
 
 -- ---- what is written last
 
@@ -89,13 +91,13 @@ judged_line judged lines wrong = codes "judged " ++ decimal judged ++ codes " of
 abbrev pub missing_text : Terms → Judged → Text
 missing_text terms j = if judges terms.stop j then missing_row j.lines (record_of j.state) else []
 
--- the lines that are left over after the program's end, if there are any
-abbrev pub left_text : (lines : ℕ) → Judged → Text
-left_text lines j = if nat_lt 0 (left_over lines j) then left_line (left_over lines j) else []
+-- how many lines are left over, if there are any
+abbrev pub text_of_left : ℕ → Text
+text_of_left n = if nat_lt 0 n then left_line n else []
 
 -- after the last of so many lines
 abbrev pub last_text : Terms → (lines : ℕ) → Judged → Text
-last_text terms lines j = missing_text terms j ++ left_text lines j ++ end_line_of (end_of j.state.end) ++ judged_line j.lines lines j.wrong
+last_text terms lines j = missing_text terms j ++ text_of_left (left_over lines j) ++ end_line_of (end_of j.state.end) ++ judged_line j.lines lines j.wrong
 
 -- after the lines before the first one that has a fault
 unfoldable pub refused_text : LineFault → Text

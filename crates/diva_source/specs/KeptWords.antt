@@ -1,6 +1,6 @@
 -- The words of a line, as far as they are kept.
 -- Cited by `FewWords::lengthen` and `SourceLines::next`.
-use Rattle.std.specs.Prelude.{ℕ, ◌-◌, ◌++◌, List, [], length, map, take}
+use Rattle.std.specs.Prelude.{◌-◌, ◌++◌, List, [], length, map, take}
 use Rattle.std.specs.List.{slice_index_or, slice_set}
 use Rattle.diva_outside.specs.Text.{Text}
 

@@ -1,5 +1,5 @@
 -- The lines of a text that is read piece by piece.
--- Cited by `SourceLines::next`, and by `takes_all_lines`.
+-- Cited by `SourceLines::next`, and by `reads_all_lines`.
 use Rattle.std.specs.Prelude.{◌≡◌, ◌≤◌, ◌<◌, ◌+◌, ◌⊎◌, ℕ, List, [], ◌∷◌, ◌++◌, Bool, true, false, Option, Some, None, Result, Ok, Err, OnOk, OnErr, length, ⊤}
 use Rattle.std.specs.Io.KnownBytes.{Consumes, IsAtEnd, Keeps, prepend_known}
 use Rattle.std.specs.List.{list_any}
@@ -13,8 +13,13 @@ use Rattle.diva_source.specs.declared.source_lines.SourceLines.{SourceLines}
 
 -- ---- what lines tell of their source
 
+-- what a source tells if these bytes were read of it already, and are yet to come
+abbrev pub with_piece : Text → SourceAccount → SourceAccount
+with_piece piece s = record s { rest = prepend_known piece s.rest; limit = length piece + s.limit }
+
+-- what lines tell of themselves, as their source does
 abbrev pub lines_account : {D : Type 0} → (D → SourceAccount) → SourceLines D → SourceAccount
-lines_account account lines = account lines.source.now
+lines_account account lines = with_piece lines.piece (account lines.source.now)
 
 -- the source that was lent, and which reference it was
 abbrev pub source_of : {D : Type 0} → SourceLines D → D

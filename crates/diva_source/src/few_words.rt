@@ -1,6 +1,7 @@
 // The words of a line, as far as they are kept.
 ghost use Rattle.std.specs.Prelude.{◌≡◌, ◌==◌, ◌++◌, [], ◌∷◌, if◌then◌else◌, length, nat_lt, slice_get, take};
 ghost use Rattle.std.specs.Option.{option_copied};
+ghost use Rattle.diva_source.specs.KeptWords.{lengthened};
 
 use std::array;
 use std::marker::Model;
@@ -43,6 +44,21 @@ impl KeptWord {
         ensures { result.now ≡ self.now }
     {
         &self.bytes[..self.length]
+    }
+
+    /// The word goes on with these bytes. Eight at its beginning, which is what most words of a log are, are copied as one.
+    fn extend(&mut self, letters: &[u8])
+        ensures { self.new ≡ take 9 (self.old ++ letters.now) }
+    {
+        if self.length == 0 && letters.len() == 8 {
+            self.bytes[..8].copy_from_slice(letters);
+            self.length = 8;
+            return;
+        }
+        let count = letters.len().min(WORD_BYTES - self.length);
+        let end = self.length + count;
+        self.bytes[self.length..end].copy_from_slice(&letters[..count]);
+        self.length = end;
     }
 }
 
@@ -101,15 +117,14 @@ impl FewWords {
     }
 
     /// Leaves no words.
-    pub fn clear(&mut self)
+    pub(crate) fn clear(&mut self)
         ensures { self.new ≡ [] }
     {
         self.count = 0;
     }
 
     /// Begins one more word, unless there are eleven, and answers whether it did.
-    #[allow(dead_code)]
-    pub fn begin(&mut self) -> bool
+    pub(crate) fn begin(&mut self) -> bool
         ensures answer { result ≡ nat_lt (length self.old) 11 }
         ensures begun { self.new ≡ (if result then self.old ++ [] ∷ [] else self.old) }
     {
@@ -119,5 +134,15 @@ impl FewWords {
         self.words[self.count] = KeptWord::new();
         self.count += 1;
         true
+    }
+
+    /// The last word goes on with these bytes.
+    pub(crate) fn lengthen(&mut self, letters: &[u8])
+        ensures { self.new ≡ lengthened self.old letters.now }
+    {
+        if self.count > 0 {
+            let last = &mut self.words[self.count - 1];
+            last.extend(letters);
+        }
     }
 }

@@ -1,9 +1,6 @@
 // Texts by name, one of which at a time is open and is read piece by piece.
 ghost use Rattle.diva_outside.specs.Lent.{lent};
 ghost use Rattle.diva_source.specs.Source.{SourceAccount, Opens, Reads};
-ghost use Rattle.diva_source.specs.SourceLines.{ReadsLine};
-
-use crate::FewWords;
 
 /// A read failed, or nothing could be opened.
 #[derive(Clone, Copy, Debug, PartialEq, Eq)]
@@ -23,8 +20,4 @@ pub trait Source {
     /// only at the end, or if there is no room. If the call fails, nothing was read and a fault was counted.
     fn read(&mut self, buffer: &mut [u8]) -> Result<usize, SourceFailed>
         ensures { Reads (lent account self.old self.new) buffer.new result };
-
-    /// Stub.
-    fn next_line(&mut self, words: &mut FewWords) -> Result<bool, SourceFailed>
-        ensures { ReadsLine (lent account self.old self.new) words.new result };
 }
