@@ -4,5 +4,6 @@ pub mod Keeping
 pub mod Listing
 pub mod Logging
 pub mod Sentences
+pub mod SoFar
 pub mod Taking
 pub mod Turning

@@ -80,7 +80,7 @@ steps_more said j last on least later = record { state = state; before = before 
 
 steps_of : (stop : Option ℕ) (lines : List Said) (j : Judged) → Steps j (with_lines stop lines j)
 steps_of stop [] j = record {
-  state = λ n is. ap (λ (n : ℕ). steps n j.state) (omega (arith, is));
+  state = λ n is. let none : 0 ≡ n = omega (arith, is) in ap (λ (n : ℕ). steps n j.state) none;
   before = λ k less. absurd (omega (arith, less));
 }
 steps_of stop (said ∷ lines) j = by_test (steps_of stop lines (with_line said j)) (steps_of stop lines j) (judges stop j) refl
@@ -211,7 +211,7 @@ module _ (n : ℕ) (j : Judged) (not_wrong : verdict_of n j ≢ verdict.Wrong) (
   ended = ended_by n j not_wrong_is not_short_is
 
 -- no verdict is another one
-kind : Verdict → ℕ
+abbrev pub kind : Verdict → ℕ
 kind verdict.Halted = 0
 kind verdict.Trapped = 1
 kind verdict.Short = 2
@@ -219,7 +219,7 @@ kind verdict.Wrong = 3
 kind verdict.Refused = 4
 kind verdict.Unread = 5
 
-differ : (a b : Verdict) → (kind a ≡ kind b → ⊥) → a ≡ b → ⊥
+pub differ : (a b : Verdict) → (kind a ≡ kind b → ⊥) → a ≡ b → ⊥
 differ a b apart same = apart (ap kind same)
 
 module _ (terms : Terms) (s : State) (lines : List Text) where
@@ -244,13 +244,11 @@ module _ (terms : Terms) (s : State) (lines : List Text) where
       }
 
   pub halted_right : verdict_of (length said) last ≡ verdict.Halted → IsWholeRight s lines
-  unfolding kind
   halted_right is =
       whole (ended (length said) last (λ e. differ verdict.Halted verdict.Wrong (λ same. omega (arith, same)) (sym is ∙ e))
       (λ e. differ verdict.Halted verdict.Short (λ same. omega (arith, same)) (sym is ∙ e)))
 
   pub trapped_right : verdict_of (length said) last ≡ verdict.Trapped → IsWholeRight s lines
-  unfolding kind
   trapped_right is =
       whole (ended (length said) last (λ e. differ verdict.Trapped verdict.Wrong (λ same. omega (arith, same)) (sym is ∙ e))
       (λ e. differ verdict.Trapped verdict.Short (λ same. omega (arith, same)) (sym is ∙ e)))
@@ -276,11 +274,9 @@ module _ (terms : Terms) (s : State) (lines : List Text) where
           }
 
   pub wrong_found : verdict_of (length said) last ≡ verdict.Wrong → HasWrongLine s lines
-  unfolding kind
   wrong_found is = by_test (has_wrong (length said) last) refl
     where
       by_end : (end : End) → verdict_by end ≡ verdict.Wrong → HasWrongLine s lines
-      unfolding kind
       by_end GoesOn is = absurd (differ verdict.Short verdict.Wrong (λ same. omega (arith, same)) is)
       by_end (Halt status) is = absurd (differ verdict.Halted verdict.Wrong (λ same. omega (arith, same)) is)
       by_end (Trap number) is = absurd (differ verdict.Trapped verdict.Wrong (λ same. omega (arith, same)) is)

@@ -40,8 +40,18 @@ pub fn judge<D: Source, S: Sink>(
     requires bounded { (D.account source.old).limit < 2 ^ 64 }
     ensures { IsJudging terms m.old.timed.arch (lent D.account source.old source.new) (lent S.account sink.old sink.new) m.new.timed result }
 {
+    recall_rest(m);
     let mut log = SourceLines::new(source);
     judge_lines(m, &mut log, terms, sink)
+}
+
+/// That a new machine is at rest.
+#[tactic(auto, using(crate::proofs::SoFar::new_kept))]
+fn recall_rest(m: &Machine)
+    requires { m.now.timed ≡ new_timed m.now.timed.config m.now.timed.arch }
+    ensures { IsKept m.now.timed }
+{
+    let _goes_on = m.goes_on();
 }
 
 /// The same, of the lines of a log.
@@ -52,6 +62,7 @@ fn judge_lines<D: Source, S: Sink>(
     sink: &mut S,
 ) -> Result<Verdict, SinkFailed>
     requires new { m.old.timed ≡ new_timed m.old.timed.config m.old.timed.arch }
+    requires kept { IsKept m.old.timed }
     requires bounded { (lines_account D.account log.old).limit < 2 ^ 64 }
     ensures judging { IsJudging terms m.old.timed.arch (lent (lines_account D.account) log.old log.new) (lent S.account sink.old sink.new) m.new.timed result }
     ensures same_source { lent_name log.new ≡ lent_name log.old }
