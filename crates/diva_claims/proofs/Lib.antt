@@ -8,4 +8,4 @@ mod Righting
 mod Saying
 mod Telling
 mod Waiting
-mod Wronging
+pub mod Wronging

@@ -1,1 +1,9 @@
-mod Turning
+-- The lemmas of this crate.
+pub mod Adding
+pub mod Keeping
+pub mod Listing
+pub mod Logging
+pub mod Sentences
+pub mod SoFar
+pub mod Taking
+pub mod Turning
