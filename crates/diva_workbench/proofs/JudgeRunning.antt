@@ -62,7 +62,7 @@ module _ {D S : Type 0} (options : JudgeOptions) (bytes : FileBytes)
         record {
           text = h.answered.text;
           means = record {
-            means = inr (record { open = d1; opened = opens; lines = h.lines; written = record { verdict = verdict; means = refl; answer = h.answered.answer; says = h.says } });
+            means = inr (record { began = d1; opened = opens; lines = h.lines; written = record { verdict = verdict; means = refl; answer = h.answered.answer; says = h.says } });
             core = refl;
             lanes = tt;
           };
@@ -77,6 +77,6 @@ module _ {D S : Type 0} (options : JudgeOptions) (bytes : FileBytes)
           rose = h.answered.rose;
           put = h.answered.put;
           text = h.answered.text;
-          means = record { means = inr (record { open = d1; opened = opens; lines = h.lines; written = h.answered.cut }); core = refl; lanes = tt };
+          means = record { means = inr (record { began = d1; opened = opens; lines = h.lines; written = h.answered.cut }); core = refl; lanes = tt };
           written = h.answered.written;
         }

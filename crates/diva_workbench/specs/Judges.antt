@@ -58,10 +58,10 @@ IsWritten terms start log lines (Ok ends) text = IsWhole terms start log lines e
 IsWritten terms start log lines (Err put) text = IsPart terms start log lines put text
 
 pub record HasLog {D : Type 0} (options : JudgeOptions) (bytes : FileBytes) (source : LentSource D) (ended : Result Status Text) (text : Text) : Type 0 where
-  pub open : D
-  pub opened : Opens {E = SourceFailed} (lent source.account source.before open) options.log (Ok tt)
+  pub began : D
+  pub opened : Opens {E = SourceFailed} (lent source.account source.before began) options.log (Ok tt)
   pub lines : List Text
-  pub written : IsWritten (terms_of options) (start_in options.setup bytes) (lent source.account open source.after) lines ended text
+  pub written : IsWritten (terms_of options) (start_in options.setup bytes) (lent source.account began source.after) lines ended text
 
 -- the text of `judge` over an image with these bytes, and how the writing of it ended
 abbrev pub HasJudgement : {D : Type 0} → JudgeOptions → FileBytes → LentSource D → Result Status Text → Text → Type 0
