@@ -4,7 +4,7 @@
 
 _diva_commands() {
     echo run tape duo debug asm dis migrate soak campaign help
-    [ "${COMP_WORDS[0]##*/}" != diva_lab ] || echo log draw
+    [ "${COMP_WORDS[0]##*/}" != diva_lab ] || echo log draw judge
 }
 
 _diva_options() {
@@ -17,6 +17,7 @@ _diva_options() {
     campaign) echo --cycles ;;
     log) echo --core --tape --script --width --window --stores --watchdog --port --room --cycles --liar ;;
     draw) echo --core --tape --script --width --window --stores --watchdog --port --room --cycles --liar --from --to ;;
+    judge) echo --width --window --stores --watchdog --port --room --stop --answer ;;
     esac
 }
 
@@ -33,7 +34,10 @@ _diva_values() {
 
 # Whether the word before is an option that takes a value. Bash takes `=` for a word of its own.
 _diva_waits() {
-    [[ $before != --trace && " $(_diva_options "$command") " == *" $before "* ]]
+    case $before in
+    --trace | --answer) return 1 ;;
+    esac
+    [[ " $(_diva_options "$command") " == *" $before "* ]]
 }
 
 _diva() {

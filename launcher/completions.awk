@@ -4,6 +4,7 @@ BEGIN {
     read_tables()
     wanted = ENVIRON["wanted"]
     for (row = 1; row <= commands; row++) command_for(row, cell["commands", row, 1], cell["commands", row, 3])
+    for (row = 1; row <= options; row++) if (wanted == "flags" && is_flag(row)) list = list (list == "" ? "" : " | ") cell["options", row, 1]
     for (row = 1; row <= options; row++) option_for(row, cell["options", row, 1], cell["options", row, 2])
     if (list != "") print list
 }
@@ -13,6 +14,10 @@ function command_for(row, command, programs) {
     if (wanted == "zsh-" programs) print "  '" command ":" cell["commands", row, 4] "'"
     if (wanted == "options" && options_of(command) != "") print "    " command ") echo " options_of(command) " ;;"
     if (wanted == "zsh-options") print_arguments(row, command)
+}
+
+function is_flag(row) {
+    return cell["options", row, 1] ~ /^-/ && cell["options", row, 2] == ""
 }
 
 function options_of(command,    row, list) {

@@ -4,15 +4,23 @@
 
 # Says what the status means.
 explain() {
+    set_command "$@"
     case $status in
     2) of_words fault "$@" >&2 ;;
     3) say_trapped "$@" ;;
-    4) say_goes_on "$@" ;;
+    4) if [ "$command" = judge ]; then say_judged short "$@"; else say_goes_on "$@"; fi ;;
     5) say_refused "$@" ;;
+    6) say_judged wrong "$@" ;;
     8) say_unreadable "$@" ;;
     9) say_unwritten ;;
     10) say 'memory ran out, and nothing was written' ;;
     esac
+}
+
+# Sets `command` to the first of the person's words.
+set_command() {
+    shift $(($# - given))
+    command=${1-}
 }
 
 # Asks the parts in awk for something of the person's words.
@@ -44,24 +52,37 @@ END
     what=$wanted
 }
 
-# Whether the command may be run once more: then each file that is there gives the same bytes again. A pipe would not.
+# Whether the file is a log that is read from standard input.
+is_input() {
+    [ "$what" = log ] && [ "$file" = - ]
+}
+
+# Whether the command may be run once more: then each file that is there gives the same bytes again. A pipe would not, nor would standard input.
 can_be_repeated() {
     while read -r what place how; do
         [ -n "$what" ] || continue
         set_file "$place" "$how" "$@"
+        ! is_input || return 1
         [ -f "$file" ] || [ -d "$file" ] || [ ! -e "$file" ] || return 1
     done <<END
 $files
 END
 }
 
+# The same of what has run, or was judged: for that again it must have taken a second at most.
+can_be_made_again() {
+    [ "$took" -le 1 ] && can_be_repeated "$@"
+}
+
 # ---- a sentence for each status
 
-# Standard output was the person's, so the line that names the fault is had by a second run, which reads files alone.
+# Standard output was the person's, so the line that names the fault is had by a second run, which reads files alone. In a judgement it comes after
+# what was said of the lines before it.
 say_refused() {
     files=$(of_words files "$@")
     said=
-    ! can_be_repeated "$@" || said=$("$@" <&3 2>/dev/null | awk 'NR == 1 { print; exit }')
+    if [ "$command" = judge ]; then again=can_be_made_again; else again=can_be_repeated; fi
+    ! $again "$@" || said=$("$@" <&3 2>/dev/null | awk '!/^(wrong |ok$|due |over$)/ { print; exit }')
     case $said in
     'refused '*' at '*) ;;
     *)
@@ -81,7 +102,8 @@ say_unreadable() {
     while read -r what place how; do
         [ -n "$what" ] || continue
         set_file "$place" "$how" "$@"
-        if [ -z "$file" ]; then why='its name is empty'
+        if is_input; then continue
+        elif [ -z "$file" ]; then why='its name is empty'
         elif [ -d "$file" ]; then why='it is a folder'
         elif [ ! -e "$file" ]; then why='there is no such file'
         elif [ ! -r "$file" ]; then why='you may not read it'
@@ -91,7 +113,7 @@ say_unreadable() {
     done <<END
 $files
 END
-    say "a file can't be read"
+    say "a file can't be read, or not to its end"
 }
 
 say_unwritten() {
@@ -112,11 +134,25 @@ say_goes_on() {
     say "$who after $cycles cycles; --cycles gives more"
 }
 
+# A log that is wrong, or short: how many of its lines are, by the sum at the end of its judgement.
+say_judged() {
+    said=$1
+    shift
+    files=$(of_words files "$@")
+    told=
+    ! can_be_made_again "$@" || told=$("$@" <&3 2>/dev/null | ask judged)
+    case $told,$said in
+    ,short) say 'the log ends before the program does' ;;
+    ,wrong) say 'a line of the log is wrong, or lines are left over after the end of the program' ;;
+    *) printf '%s\n' "$told" >&2 ;;
+    esac
+}
+
 # A run that took a second or less is made once more for its text.
 say_trapped() {
     files=$(of_words files "$@")
     told=
-    [ "$took" -gt 1 ] || ! can_be_repeated "$@" || told=$(repeat_as_run "$@" | ask 'sentences trapped')
+    ! can_be_made_again "$@" || told=$(repeat_as_run "$@" | ask 'sentences trapped')
     if [ -n "$told" ]; then
         printf '%s\n' "$told" >&2
         say_room "$@"

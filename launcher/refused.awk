@@ -94,6 +94,7 @@ function find_place(line) {
     if (what == "script") script_place(find_words(line, " \t\r"))
     if (what == "commands") command_place(find_words(line, " \t\r"))
     if (what == "tape") tape_place(line)
+    if (what == "log") log_place(find_words(line, " \t\r"))
     if (what == "source") source_place(line)
 }
 
@@ -110,7 +111,7 @@ function is_within(text, least, most) {
     return text ~ /^[0-9]+$/ && length(text) <= 10 && decimal(text) >= least && decimal(text) <= most
 }
 
-# ---- of a script, of the commands of a session, of a tape
+# ---- of a script, of the commands of a session, of a log, of a tape
 
 function script_place(count,    due) {
     due = word[3] == "hush" ? 4 : (word[5] == "lose" || word[5] == "double" ? 5 : 7)
@@ -129,6 +130,18 @@ function command_place(count) {
     if (kind == 1) mark_word(1)
     if (kind == 2) mark_word(word[1] == "mem" && is_hex(word[2]) ? 3 : 2)
     if (kind == 3) count_place(count, word[1] == "mem" ? 3 : (word[1] == "why" ? 1 : 2))
+}
+
+function log_place(count,    place) {
+    if (kind == 1) {
+        for (place = 1; place < count && is_said(place); place++);
+        mark_word(place)
+    }
+    if (kind == 2) count_place(count, count > 8 ? 10 : 8)
+}
+
+function is_said(place) {
+    return word[place] == "-" || (place == 8 && word[place] == "t") || is_hex(word[place])
 }
 
 function tape_place(line,    count, claims, place, at) {

@@ -1,10 +1,11 @@
 # The sentences that docs/FORMATS.md has for kinds of faults, and docs/MACHINE.md for traps.
 
 # A cell of the table below this heading of the document whose first column is `first`: of the row of a number, in the column of this name.
-function sentence(document, heading, first, number, column,    file, line, cells, place, at, found) {
+function sentence(document, heading, first, number, column,    file, line, fenced, cells, place, at, found) {
     file = ENVIRON["here"] "/docs/" document
     while (found == "" && (getline line < file) > 0) {
-        if (line ~ /^#/) at = line ~ "^#+ " heading "$" ? 1 : 0
+        if (line ~ /^```/) fenced = !fenced
+        if (line ~ /^#/ && !fenced) at = line ~ "^#+ " heading "$" ? 1 : 0
         if (!at || line !~ /^\|/) continue
         place = split(line, cells, / *[|] */)
         if (at > 1 && cells[2] == number) found = cells[at]
@@ -18,6 +19,7 @@ function sentence(document, heading, first, number, column,    file, line, cells
 function fault_sentence(what, kind,    heading) {
     heading = "The " what
     if (what == "commands") heading = "The commands of a session"
+    if (what == "log") heading = "The log of a core"
     if (what == "image" && kind >= 20) heading = "The executable"
     return sentence("FORMATS.md", kind == 0 ? "The image" : heading, "kind", kind, "where")
 }

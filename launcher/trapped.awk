@@ -2,6 +2,9 @@
 
 /^hart / { hart = $0 " " }
 
+# A judgement says no pc, and ends with its sum.
+/^judged / && number != "" { print ENVIRON["name"] ": the program traps: " trap_sentence(number) " (trap " number ")" }
+
 /^end / { number = $2 == "trap" ? $3 : "" }
 
 /^pc / && number != "" {

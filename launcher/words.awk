@@ -18,8 +18,8 @@ function print_fault() {
 
 # A line for each file that is loaded: what it is, which word names it, and whether the name is its `own` word, or the `rest` of one.
 function print_files(    kinds, words, place, count) {
-    split("image script tape commands source", kinds, " ")
-    count = split("IMAGE --script --tape COMMANDS SRC", words, " ")
+    split("image script tape commands source log", kinds, " ")
+    count = split("IMAGE --script --tape COMMANDS SRC LOG", words, " ")
     for (place = 1; place <= count; place++)
         if (words[place] in at) print kinds[place], at[words[place]], (words[place] in attached ? "rest" : "own")
 }
