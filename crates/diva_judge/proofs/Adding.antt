@@ -1,8 +1,8 @@
 -- What one line more makes of a judgement and its text.
-use Rattle.std.proofs.Common.{◌≡◌, ◌∙◌, ◌++◌, ◌+◌, ◌-◌, ◌*◌, ◌≤◌, ◌<◌, ℕ, zero, suc, Bool, true, false, List, [], ◌∷◌, length, Option, Some, None, ap, sym, refl, arith, append-nil, append_assoc}
+use Rattle.std.proofs.Common.{◌≡◌, ◌∙◌, ◌++◌, ℕ, List, [], ◌∷◌, Option, ap, sym, refl, append-nil, append_assoc}
 use Rattle.diva_claims.specs.declared.said.Said.{Said}
 use Rattle.diva_outside.specs.Text.{Text}
-use Rattle.diva_judge.specs.Judgement.{Judged, judges, with_line, with_lines, with_said}
+use Rattle.diva_judge.specs.Judgement.{Judged, with_lines, with_said}
 use Rattle.diva_judge.specs.Texts.{lines_text, said_text}
 use Rattle.diva_judge.specs.declared.terms.Terms.{Terms}
 

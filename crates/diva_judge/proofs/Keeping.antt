@@ -1,8 +1,8 @@
 -- What is kept of a line's words says what the line says: no line of more than ten words and no word of more than eight bytes is taken.
-use Rattle.std.proofs.Common.{◌≡◌, ◌∙◌, add-one, ◌⊎◌, inl, inr, ◌<◌, ◌≤◌, ◌+◌, ◌&&◌, ℕ, zero, suc, Bool, true, false, List, [], ◌∷◌, length, take, drop, map, Option, Some, None, Result, Ok, Err, ap, sym, refl, arith, rules, nat_le, nat_eq, if◌then◌else◌}
-use Rattle.std.proofs.lemmas.Bool.{and_left, and_right, cases_lt, cond-false, lt-leb}
+use Rattle.std.proofs.Common.{◌≡◌, ◌∙◌, add-one, inl, inr, ◌≤◌, ◌+◌, ℕ, zero, suc, false, List, [], ◌∷◌, length, take, drop, Option, Some, None, Result, Ok, Err, ap, sym, refl, arith, rules, nat_eq}
+use Rattle.std.proofs.lemmas.Bool.{and_right, cases_lt}
 use Rattle.std.proofs.lemmas.List.{take_all}
-use Rattle.std.specs.Prelude.{slice_get, codes}
+use Rattle.std.specs.Prelude.{slice_get}
 use Rattle.std.specs.Str.{bytes_eq}
 use Rattle.diva_claims.specs.declared.said.Said.{Said}
 use Rattle.diva_claims.specs.declared.said.SaidEnd.{SaidEnd}
@@ -11,7 +11,7 @@ use Rattle.diva_outside.specs.Numbers.{hex_of}
 use Rattle.diva_outside.specs.Steps.{and_then}
 use Rattle.diva_outside.specs.Text.{Text}
 use Rattle.diva_source.specs.KeptWords.{kept_of}
-use Rattle.diva_judge.specs.Logs.{end_said_by, first_by, number_said, said_in, said_of, unless_more, with_effects}
+use Rattle.diva_judge.specs.Logs.{end_said_by, first_by, number_said, said_in, said_of, unless_more}
 use Rattle.diva_judge.specs.declared.log_line.Kind.{Kind}
 use Rattle.diva_judge.specs.declared.log_line.Kind.TheVariants.{Word}
 

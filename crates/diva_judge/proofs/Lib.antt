@@ -1,6 +1,7 @@
 -- The lemmas of this crate.
 pub mod Adding
 pub mod Keeping
+pub mod Lending
 pub mod Listing
 pub mod Logging
 pub mod Sentences

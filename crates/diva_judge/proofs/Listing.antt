@@ -1,5 +1,5 @@
 -- A line of the listing without its line feed.
-use Rattle.std.proofs.Common.{◌≡◌, ◌∙◌, ◌++◌, ◌+◌, ◌-◌, ℕ, zero, suc, List, [], ◌∷◌, length, take, ap, sym, refl, arith, length-append, append_assoc}
+use Rattle.std.proofs.Common.{◌≡◌, ◌∙◌, ◌++◌, ◌-◌, ℕ, List, [], ◌∷◌, length, take, ap, sym, refl, arith, length-append, append_assoc}
 use Rattle.std.proofs.lemmas.List.{take-append-le, take_all}
 use Rattle.std.specs.Prelude.{codes}
 use Rattle.diva_asm.specs.Listing.{list_line}

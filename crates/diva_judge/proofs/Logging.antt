@@ -1,5 +1,5 @@
 -- What one line more makes of a log.
-use Rattle.std.proofs.Common.{◌≡◌, ◌∙◌, ◌++◌, ◌+◌, ◌≤◌, ℕ, List, [], ◌∷◌, length, Option, Some, None, Result, Ok, Err, ap, sym, refl, arith, append-nil, length-append, rules}
+use Rattle.std.proofs.Common.{◌≡◌, ◌∙◌, ◌++◌, ◌+◌, ℕ, List, [], ◌∷◌, length, Option, Some, None, Result, Ok, Err, ap, refl, arith, append-nil, rules}
 use Rattle.diva_claims.specs.declared.said.Said.{Said}
 use Rattle.diva_outside.specs.Lines.{LineFault}
 use Rattle.diva_outside.specs.Steps.{and_then}

@@ -1,5 +1,5 @@
 -- What a verdict says of the lines of a log.
-use Rattle.std.proofs.Common.{◌≡◌, ◌≢◌, ◌⊎◌, inl, inr, ◌∙◌, ◌+◌, ◌-◌, ◌≤◌, ◌<◌, ◌&&◌, ◌||◌, ℕ, zero, suc, add-one, Bool, true, false, List, [], ◌∷◌, length, Option, Some, None, is_some, Result, Ok, ap, sym, refl, subst, arith, rules, not, nat_lt, slice_get, if◌then◌else◌, ◌==◌}
+use Rattle.std.proofs.Common.{◌≡◌, ◌≢◌, inl, inr, ◌∙◌, ◌+◌, ◌-◌, ◌≤◌, ◌<◌, ℕ, zero, suc, Bool, true, false, List, [], ◌∷◌, length, Option, Some, None, ap, sym, refl, subst, arith, nat_lt, slice_get, if◌then◌else◌, ◌==◌}
 use Rattle.std.proofs.lemmas.Bool.{and_parts, ltb-true, ltb-false, or_cases, or_parts}
 use Rattle.std.proofs.lemmas.Option.{none-some}
 use Rattle.diva_isa.specs.End.{end_of}
@@ -7,7 +7,6 @@ use Rattle.diva_isa.specs.State.{State, goes_on}
 use Rattle.diva_isa.specs.Step.{record_of, step, steps}
 use Rattle.diva_isa.specs.declared.end.End.{End}
 use Rattle.diva_isa.specs.declared.end.End.TheVariants.{GoesOn, Halt, Trap}
-use Rattle.diva_core.specs.Headline.{EndsAfter}
 use Rattle.diva_core.proofs.Steps.{steps-shift}
 use Rattle.diva_outside.specs.Text.{Text}
 use Rattle.diva_claims.specs.Said.{IsLineOf}

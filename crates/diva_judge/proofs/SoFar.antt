@@ -1,18 +1,17 @@
 -- How a log is judged line by line: what holds of the lines so far, and what is then promised of all that were read.
-use Rattle.std.proofs.Common.{◌≡◌, ◌∙◌, ◌⊎◌, inl, inr, ◌++◌, ◌+◌, ◌*◌, ◌≤◌, ℕ, Bool, true, false, List, [], ◌∷◌, length, Option, Some, None, Result, Ok, Err, ap, sym, refl, subst, arith, length-append}
+use Rattle.std.proofs.Common.{◌≡◌, ◌∙◌, inl, inr, ◌++◌, ◌+◌, ◌≤◌, ℕ, true, false, List, [], ◌∷◌, length, Option, Some, None, Result, Ok, Err, ap, sym, refl, subst, arith, length-append}
 use Rattle.diva_isa.specs.State.{State}
 use Rattle.diva_core.specs.Machine.{IsMachine}
 use Rattle.diva_core.specs.Timed.{Timed, new_timed}
-use Rattle.diva_outside.specs.Causes.{Rose, raised}
+use Rattle.diva_outside.specs.Causes.{Rose}
 use Rattle.diva_outside.specs.Lent.{lent}
-use Rattle.diva_outside.specs.Lines.{LineFault}
 use Rattle.diva_outside.specs.Sink.{HasFailed as HasSinkFailed, LentSink, PutsTo, SinkAccount, Takes, TakesPast}
 use Rattle.diva_outside.specs.Text.{Text}
 use Rattle.diva_outside.specs.Words.{words_of}
 use Rattle.diva_outside.specs.declared.sink.SinkFailed.{SinkFailed}
 use Rattle.diva_outside.proofs.Sinks.{puts_nothing, puts_past, puts_then}
 use Rattle.diva_source.specs.KeptWords.{kept_of}
-use Rattle.diva_source.specs.Source.{LentSource, SourceAccount}
+use Rattle.diva_source.specs.Source.{SourceAccount}
 use Rattle.diva_source.specs.SourceLines.{ReadsLine}
 use Rattle.diva_source.specs.declared.source.SourceFailed.{SourceFailed}
 use Rattle.diva_claims.specs.declared.said.Said.{Said}

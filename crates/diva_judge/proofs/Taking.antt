@@ -1,8 +1,8 @@
 -- Lines that are taken of a text one after the other are its first lines.
-use Rattle.std.proofs.Common.{◌≡◌, ◌∙◌, ◌++◌, ◌<◌, ◌⊎◌, inl, inr, ℕ, Bool, true, false, List, [], ◌∷◌, length, Option, Some, None, ap, sym, refl, arith, append-nil, append_assoc, rules}
+use Rattle.std.proofs.Common.{◌≡◌, ◌∙◌, ◌++◌, ◌<◌, inl, inr, ℕ, false, List, [], ◌∷◌, length, Option, Some, None, ap, sym, refl, arith, append-nil, append_assoc}
 use Rattle.std.proofs.lemmas.Bool.{or_parts}
 use Rattle.std.specs.Io.KnownBytes.{IsAtEnd}
-use Rattle.std.specs.List.{list_any, onto_first}
+use Rattle.std.specs.List.{list_any}
 use Rattle.diva_outside.specs.Lines.{is_feed, lines_of}
 use Rattle.diva_outside.specs.Text.{Text}
 use Rattle.diva_source.specs.SourceLines.{IsInLine, TakesLine}

@@ -1,10 +1,8 @@
 -- What is promised of a log that is judged: the lines that were read of it, the text that was put, and the verdict.
 -- Cited by `judge`.
 use Rattle.std.specs.Prelude.{◌≡◌, ◌⊎◌, ◌<◌, ◌++◌, ℕ, List, [], ◌∷◌, length, slice_get, Option, Some, None, Result, Ok, Err, IfSome, true, false}
-use Rattle.diva_isa.specs.End.{end_of}
 use Rattle.diva_isa.specs.State.{State, goes_on}
 use Rattle.diva_isa.specs.Step.{record_of, steps}
-use Rattle.diva_isa.specs.declared.end.End.{End}
 use Rattle.diva_core.specs.Headline.{EndsAfter}
 use Rattle.diva_core.specs.Timed.{Timed}
 use Rattle.diva_outside.specs.Lent.{given}
@@ -14,7 +12,7 @@ use Rattle.diva_outside.specs.Text.{Text}
 use Rattle.diva_source.specs.Source.{HasFailed as HasSourceFailed, IsUncounted, LentSource}
 use Rattle.diva_claims.specs.Judged.{Rests}
 use Rattle.diva_claims.specs.Said.{IsLineOf}
-use Rattle.diva_judge.specs.Judgement.{Judged, none_judged, verdict_of, with_lines, left_over}
+use Rattle.diva_judge.specs.Judgement.{Judged, none_judged, verdict_of, with_lines}
 use Rattle.diva_judge.specs.Logs.{Log, log_of}
 use Rattle.diva_judge.specs.Texts.{last_text, lines_text, refused_text, unreadable_text}
 use Rattle.diva_judge.specs.declared.terms.Terms.{Terms}

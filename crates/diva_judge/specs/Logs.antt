@@ -5,7 +5,7 @@ use Rattle.std.specs.Option.{ok_or}
 use Rattle.std.specs.Str.{bytes_eq}
 use Rattle.diva_outside.specs.Items.{if_words}
 use Rattle.diva_outside.specs.Lines.{LineFault}
-use Rattle.diva_outside.specs.NextWords.{others_of, with_first}
+use Rattle.diva_outside.specs.NextWords.{with_first}
 use Rattle.diva_outside.specs.Numbers.{hex_of}
 use Rattle.diva_outside.specs.Steps.{and_then}
 use Rattle.diva_outside.specs.Text.{Text}

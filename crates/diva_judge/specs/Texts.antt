@@ -1,10 +1,9 @@
 -- The text of a judgement.
 -- Cited by `judge`, and by the calls that make its lines.
-use Rattle.std.specs.Prelude.{ℕ, ◌+◌, List, [], ◌∷◌, ◌++◌, length, Option, Some, None, codes, nat_lt, Bool, true, false, if◌then◌else◌}
+use Rattle.std.specs.Prelude.{ℕ, List, [], ◌∷◌, ◌++◌, Option, Some, None, codes, nat_lt, Bool, true, false, if◌then◌else◌}
 use Rattle.std.specs.Fmt.{decimal}
 use Rattle.diva_decode.specs.Table.{row_of}
 use Rattle.diva_isa.specs.End.{end_of}
-use Rattle.diva_isa.specs.State.{State, goes_on}
 use Rattle.diva_isa.specs.Step.{record_of}
 use Rattle.diva_isa.specs.declared.record.Record.{Record}
 use Rattle.diva_core.specs.Difference.{all_fields}
@@ -18,7 +17,6 @@ use Rattle.diva_claims.specs.declared.said.Said.{Said}
 use Rattle.diva_claims.specs.declared.wrong.Wrong.{Wrong}
 use Rattle.diva_claims.specs.declared.wrong.Wrong.TheVariants.{Field, NoTrap, Register, Mask}
 use Rattle.diva_judge.specs.Judgement.{Judged, judges, left_over, with_said}
-use Rattle.diva_judge.specs.Logs.{Log}
 use Rattle.diva_judge.specs.declared.terms.Terms.{Terms}
 
 -- ---- an instruction, and what is wrong with its line
