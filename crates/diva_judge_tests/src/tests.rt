@@ -6,7 +6,7 @@ use diva_ooo::Ooo;
 use diva_outside::{Fail as SinkFail, MemFile, MemFiles, MemSink};
 use diva_source::MemSource;
 use diva_test_programs::FIVE_FILE;
-use diva_workbench::lab_top;
+use diva_workbench::{Hands, lab_top};
 use std::alloc::Global;
 use std::test::Fail;
 
@@ -41,10 +41,12 @@ fn judged(alloc: Global, line: &str, outside: &Outside<'_>) -> Result<Answer, Fa
     }
     let mut files = MemFiles::new(one_file(alloc, "a.diva", &FIVE_FILE)?, Vec::new(alloc));
     let logs = one_file(alloc, "a.log", outside.log)?;
-    let mut source = MemSource::new(&logs, outside.piece.max(1), outside.failing_reads);
+    let mut hands = Hands {
+        core: Ooo::new(alloc)?,
+        source: MemSource::new(&logs, outside.piece.max(1), outside.failing_reads),
+    };
     let mut sink = MemSink::new(alloc, ROOM, failing_calls(alloc, outside.failing_puts)?)?;
-    let mut core = Ooo::new(alloc)?;
-    let status = lab_top(alloc, &words, &mut files, &mut sink, &mut core, &mut source);
+    let status = lab_top(alloc, &words, &mut files, &mut sink, &mut hands);
     Ok(Answer {
         status,
         text: Vec::from_slice(alloc, sink.bytes())?,

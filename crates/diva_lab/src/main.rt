@@ -9,7 +9,7 @@ use diva_ooo::Ooo;
 use diva_outside::{DiskFiles, StdSink};
 use diva_process::{Status, borrowed};
 use diva_source::DiskSource;
-use diva_workbench::lab_top;
+use diva_workbench::{Hands, lab_top};
 use std::alloc::AllocError;
 use std::process::ExitCode;
 use std::{env, io};
@@ -25,16 +25,11 @@ fn run(rt: &HostRuntime) -> Result<u8, AllocError> {
     let texts = borrowed(rt.alloc(), &words)?;
     let mut files = DiskFiles::new(rt);
     let mut sink = StdSink::new(io::writer(rt));
-    let mut core = Ooo::new(rt.alloc())?;
-    let mut source = DiskSource::new(rt);
-    Ok(lab_top(
-        rt.alloc(),
-        &texts,
-        &mut files,
-        &mut sink,
-        &mut core,
-        &mut source,
-    ))
+    let mut hands = Hands {
+        core: Ooo::new(rt.alloc())?,
+        source: DiskSource::new(rt),
+    };
+    Ok(lab_top(rt.alloc(), &texts, &mut files, &mut sink, &mut hands))
 }
 
 /// The words of the process, without its name. If one of them is not UTF-8 they are not a valid command line: no words stand for them.

@@ -24,13 +24,15 @@ mod traces;
 mod watched;
 
 use crate::cores::{counting, flipped};
-use diva_cli::top;
+use diva_args::read_lab_words;
+use diva_cli::{Failure, Lanes, top};
 use diva_core::Core;
 use diva_isa::Record;
 use diva_outside::{Fail as SinkFail, MemFile, MemFiles, MemSink, What};
+use diva_process::Status;
 use diva_source::NoSource;
 use diva_test_programs::{ASKS, FIVE_FILE, HALTS, Lists, Program, image_file, registers_text};
-use diva_workbench::lab_top;
+use diva_workbench::lab_work;
 use noting::{Load, NotingFiles, NotingSink};
 use std::alloc::{AllocError, Global};
 use std::process::Abort;
@@ -247,8 +249,35 @@ fn run_words<C: Core>(
     core: &mut C,
 ) -> u8 {
     match words {
-        ["log" | "draw", ..] => lab_top(alloc, words, files, sink, core, &mut NoSource::new()),
+        ["log" | "draw", ..] => do_lab_job(alloc, words, files, sink, core),
         _ => top(alloc, words, files, sink, core),
+    }
+}
+
+/// Does the job of the workbench that the words ask for, with no source to read.
+fn do_lab_job<C: Core>(
+    alloc: Global,
+    words: &[&str],
+    files: &mut NotingFiles,
+    sink: &mut NotingSink,
+    core: &mut C,
+) -> u8 {
+    let Ok(job) = read_lab_words(alloc, words) else {
+        return Status::Misused.number();
+    };
+    let mut source = NoSource::new();
+    match lab_work(
+        alloc,
+        job,
+        files,
+        sink,
+        core,
+        &mut source,
+        &mut Lanes::own(),
+    ) {
+        Ok(status) => status.number(),
+        Err(Failure::Cut) => Status::Cut.number(),
+        Err(Failure::Memory) => Status::NoMemory.number(),
     }
 }
 

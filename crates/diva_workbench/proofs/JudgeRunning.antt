@@ -1,7 +1,7 @@
 -- What is written of a log that is judged.
 use Rattle.std.proofs.Common.{◌≡◌, [], Ok, Err, Result, inl, inr, refl, subst}
 use Rattle.diva_outside.specs.Lent.{lent}
-use Rattle.diva_outside.specs.Sink.{PutsTo, SinkAccount}
+use Rattle.diva_outside.specs.Sink.{LentSink}
 use Rattle.diva_outside.proofs.Sinks.{past_nothing}
 use Rattle.diva_outside.specs.declared.sink.SinkFailed.{SinkFailed}
 use Rattle.diva_source.specs.Source.{LentSource, Opens, SourceAccount}
@@ -12,71 +12,74 @@ use Rattle.diva_args.specs.declared.judge.JudgeOptions.{JudgeOptions}
 use Rattle.diva_args.specs.declared.lab.LabJob.TheVariants.{Judge}
 use Rattle.diva_judge.specs.Judging.{IsJudging}
 use Rattle.diva_judge.specs.Texts.{unreadable_text}
+use Rattle.diva_judge.specs.declared.terms.Terms.{Terms}
 use Rattle.diva_judge.specs.declared.verdict.Verdict.{Verdict}
+use Rattle.diva_process.specs.declared.status.Status.{Status}
 use Rattle.diva_process.specs.declared.status.Status.TheVariants.{Unread}
+use Rattle.diva_process.specs.declared.stop.Failure.{Failure}
+use Rattle.diva_process.specs.declared.stop.Failure.TheVariants.{Cut, Memory}
 use Rattle.diva_process.specs.Programs.{FileBytes}
-use Rattle.diva_process.specs.Writing.{WritesPart, WritesWhole}
+use Rattle.diva_process.specs.Writing.{WritesLine, WritesText}
 use Rattle.diva_cli.specs.Sessions.{start_in}
+use Rattle.diva_workbench.specs.Draws.{WritesFront, WritesJudgement, WritesVerdict}
 use Rattle.diva_workbench.specs.Judges.{status_by, terms_of}
 use Rattle.diva_workbench.specs.Lab.{lab_work_of, no_core, none_asked}
 
-module _ {D S : Type 0} (options : JudgeOptions) (bytes : FileBytes)
-    (texts : D → SourceAccount) (d0 d1 : D) (account : S → SinkAccount) (s0 s1 : S) where
-  -- ---- the log can't be opened, and a line says so, or a part of it was put
+module _ {D S : Type 0} (options : JudgeOptions) (bytes : FileBytes) (texts : D → SourceAccount) (d0 d1 : D) (sink : LentSink S) where
+  -- the log can't be opened, and a line says so, or a part of it was put
+  pub wrote_unread : (result : Result Status Failure) (opened : Result (Unit {0}) SourceFailed) (e : SourceFailed) → opened ≡ Err e
+      → Opens (lent texts d0 d1) options.log opened → WritesLine unreadable_text Unread sink result
+      → WritesText (lab_work_of no_core none_asked (lent texts d0 d1)) (Judge options) bytes sink result
+  wrote_unread (Ok ends) (Ok done) e none opens w = cc
+  wrote_unread (Ok ends) (Err f) e is opens w =
+      record { text = unreadable_text; means = record { means = inl (record { cause = opens.failed; line = refl; ends = w.0; cut = tt }); unasked = refl; unvoted = tt }; written = w.1 }
+  wrote_unread (Err Cut) (Ok done) e none opens w = cc
+  wrote_unread (Err Cut) (Err f) e is opens w =
+      record {
+        rose = w.0;
+        put = [];
+        text = unreadable_text;
+        means = record { means = inl (record { cause = opens.failed; line = refl; ends = tt; cut = refl }); unasked = refl; unvoted = tt };
+        written = past_nothing sink unreadable_text w.1;
+      }
+  wrote_unread (Err Memory) opened e is opens w = absurd w
 
-  module _ (e : SourceFailed) (opens : Opens (lent texts d0 d1) options.log (Err e)) where
-    pub wrote_unread : PutsTo {E = SinkFailed} (lent account s0 s1) unreadable_text (Ok tt)
-        → WritesWhole (lab_work_of no_core none_asked (lent texts d0 d1)) (Judge options) bytes (lent account s0 s1) Unread
-    wrote_unread put =
-        record {
-          text = unreadable_text;
-          means = record { means = inl (record { cause = opens.failed; line = refl; ends = refl; cut = tt }); core = refl; lanes = tt };
-          written = record { appended = put.ok; uncounted = put.uncounted };
-        }
+  -- it was opened, and judged
+  pub wrote_judgement : (result : Result Status Failure) (opened : Result (Unit {0}) SourceFailed) → opened ≡ Ok tt → (d2 : D) (start : State)
+      → start ≡ start_in options.setup bytes
+      → Opens (lent texts d0 d1) options.log opened → WritesJudgement (terms_of options) start (lent texts d1 d2) sink result
+      → WritesText (lab_work_of no_core none_asked (lent texts d0 d2)) (Judge options) bytes sink result
+  wrote_judgement (Ok ends) (Err f) none d2 start begins opens told = cc
+  wrote_judgement (Ok ends) (Ok done) is d2 start begins opens told =
+      let h = subst (λ (s : State). WritesVerdict (terms_of options) s (lent texts d1 d2) sink ends) begins told in
+      record {
+        text = h.text;
+        means = record { means = inr (record { began = d1; opened = opens; lines = h.lines; written = h.means }); unasked = refl; unvoted = tt };
+        written = h.written;
+      }
+  wrote_judgement (Err Cut) (Err f) none d2 start begins opens told = cc
+  wrote_judgement (Err Cut) (Ok done) is d2 start begins opens told =
+      let h = subst (λ (s : State). WritesFront (terms_of options) s (lent texts d1 d2) sink) begins told in
+      record {
+        rose = h.rose;
+        put = h.put;
+        text = h.text;
+        means = record { means = inr (record { began = d1; opened = opens; lines = h.lines; written = h.means }); unasked = refl; unvoted = tt };
+        written = h.written;
+      }
+  wrote_judgement (Err Memory) opened is d2 start begins opens told = absurd told
 
-    pub cut_unread : (f : SinkFailed) → PutsTo (lent account s0 s1) unreadable_text (Err f)
-        → WritesPart (lab_work_of no_core none_asked (lent texts d0 d1)) (Judge options) bytes (lent account s0 s1)
-    cut_unread f put =
-        record {
-          rose = put.failed;
-          put = [];
-          text = unreadable_text;
-          means = record { means = inl (record { cause = opens.failed; line = refl; ends = tt; cut = refl }); core = refl; lanes = tt };
-          written = past_nothing (lent account s0 s1) unreadable_text put.part;
-        }
+-- what `judge` promises is what is written of the log
+pub judged_so : {D S : Type 0} (terms : Terms) (start : State) (log : LentSource D) (sink : LentSink S) (last : Timed) (verdict : Verdict)
+    → IsJudging {E = SinkFailed} terms start log sink last (Ok verdict) → WritesVerdict terms start log sink (status_by verdict)
+judged_so terms start log sink last verdict h = record {
+  lines = h.lines;
+  text = h.answered.text;
+  means = record { verdict = verdict; means = refl; answer = h.answered.answer; says = h.says };
+  written = h.answered.written;
+}
 
-  -- ---- it was opened, and judged
-
-  module _ (d2 : D) (opens : Opens (lent texts d0 d1) options.log (Ok tt)) (start : State) (begins : start ≡ start_in options.setup bytes) (last : Timed) where
-    abbrev log : LentSource D
-    log = lent texts d1 d2
-
-    from_start : (result : Result Verdict SinkFailed) → IsJudging (terms_of options) start log (lent account s0 s1) last result
-        → IsJudging (terms_of options) (start_in options.setup bytes) log (lent account s0 s1) last result
-    from_start result told = subst (λ (s : State). IsJudging (terms_of options) s log (lent account s0 s1) last result) begins told
-
-    pub wrote_judgement : (verdict : Verdict) → IsJudging (terms_of options) start log (lent account s0 s1) last (Ok verdict)
-        → WritesWhole (lab_work_of no_core none_asked (lent texts d0 d2)) (Judge options) bytes (lent account s0 s1) (status_by verdict)
-    wrote_judgement verdict told =
-        let h = from_start (Ok verdict) told in
-        record {
-          text = h.answered.text;
-          means = record {
-            means = inr (record { began = d1; opened = opens; lines = h.lines; written = record { verdict = verdict; means = refl; answer = h.answered.answer; says = h.says } });
-            core = refl;
-            lanes = tt;
-          };
-          written = h.answered.written;
-        }
-
-    pub cut_judgement : (failed : SinkFailed) → IsJudging (terms_of options) start log (lent account s0 s1) last (Err failed)
-        → WritesPart (lab_work_of no_core none_asked (lent texts d0 d2)) (Judge options) bytes (lent account s0 s1)
-    cut_judgement failed told =
-        let h = from_start (Err failed) told in
-        record {
-          rose = h.answered.rose;
-          put = h.answered.put;
-          text = h.answered.text;
-          means = record { means = inr (record { began = d1; opened = opens; lines = h.lines; written = h.answered.cut }); core = refl; lanes = tt };
-          written = h.answered.written;
-        }
+pub cut_so : {D S : Type 0} (terms : Terms) (start : State) (log : LentSource D) (sink : LentSink S) (last : Timed) (failed : SinkFailed)
+    → IsJudging terms start log sink last (Err failed) → WritesFront terms start log sink
+cut_so terms start log sink last failed h =
+    record { rose = h.answered.rose; lines = h.lines; put = h.answered.put; text = h.answered.text; means = h.answered.cut; written = h.answered.written }

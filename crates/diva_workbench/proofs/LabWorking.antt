@@ -25,7 +25,8 @@ use Rattle.diva_process.specs.Writing.{Stops, WritesStop, WritesText}
 use Rattle.diva_cli.specs.declared.loading.Ready.{Ready}
 use Rattle.diva_cli.specs.Changes.{Asking, IsUnasked, LanesAsked, asking, core_of}
 use Rattle.diva_workbench.specs.Judges.{HasJudgement, status_by}
-use Rattle.diva_workbench.specs.Lab.{Hands, HasDrawn, IsUnread, LabAnswered, hands, lab, lab_work_of, no_core, no_source, none_asked, own_lab_work}
+use Rattle.diva_workbench.specs.declared.lab.Hands.{Hands}
+use Rattle.diva_workbench.specs.Lab.{HasDrawn, IsUnread, LabAnswered, lab, lab_work_of, no_core, no_source, none_asked, own_lab_work}
 use Rattle.diva_cli.specs.Lanes.{are_asked, own_asked, own_lanes, own_says}
 use Rattle.diva_cli.specs.declared.lanes.Lanes.{Lanes}
 use Rattle.diva_vote.specs.declared.lanes.EitherLane.{EitherLane}
@@ -93,17 +94,23 @@ module _ {C D F S : Type 0} (gives : Meaning C) (account : D → SourceAccount) 
   answered (Diva job) bytes ended text h =
       (answered_less gives before after (are_asked own_says lanes last) own_asked less job bytes ended text h.0, h.1)
   answered (Draw options) bytes ended text h = (record { means = h.0.means; lanes = less options.run.liar _ h.0.lanes }, h.1)
-  answered (Judge options) bytes ended text h = record { means = h.means; core = h.core; lanes = less None [] h.lanes }
+  answered (Judge options) bytes ended text h = record { means = h.means; unasked = h.unasked; unvoted = less None [] h.unvoted }
+
+  abbrev had : Hands C D
+  had = record { core = before; source = first }
+
+  abbrev has : Hands C D
+  has = record { core = after; source = final }
 
   -- nothing that it has in its hands was used
-  unused : IsUnasked asks × IsUnread source → hands after final ≡ hands before first
+  unused : IsUnasked asks × IsUnread source → has ≡ had
   unused u i = record { core = u.0.core i; source = u.1 i }
 
   pub own_lab_answers : (job : LabJob) (result : Result Status Failure)
       → KeepsPromises (asked_for lab job) (lab_work_of gives asks source) files sink result
-      → KeepsPromises (asked_for lab job) (own_lab_work gives account (hands before first) (hands after final)) files sink result
+      → KeepsPromises (asked_for lab job) (own_lab_work gives account had has) files sink result
   own_lab_answers job result =
-      process.promises_so lab lab job job (lab_work_of gives asks source) (own_lab_work gives account (hands before first) (hands after final)) files sink refl refl
+      process.promises_so lab lab job job (lab_work_of gives asks source) (own_lab_work gives account had has) files sink refl refl
       unused (answered job) (λ status c. c) result
 
 -- what `diva` answers of a job the workbench answers
@@ -130,7 +137,7 @@ pub judgement_answers : {C D F S : Type 0} (gives : Meaning C) (core : C) (lanes
     → KeepsPromises (asked_for lab (Judge options)) (lab_work_of gives (asking core core lanes) source) files sink result
 judgement_answers gives core lanes unasked source files sink options result =
     process.promises_so lab lab (Judge options) (Judge options) (lab_work_of no_core none_asked source) (lab_work_of gives (asking core core lanes) source) files sink refl refl
-    (λ u. (record { core = refl; lanes = unasked }, u.1)) (λ bytes ended text h. record { means = h.means; core = refl; lanes = unasked }) (λ status c. c) result
+    (λ u. (record { core = refl; lanes = unasked }, u.1)) (λ bytes ended text h. record { means = h.means; unasked = refl; unvoted = unasked }) (λ status c. c) result
 
 -- with which statuses a judgement can end
 status_done : (verdict : Verdict) → IsDone (status_by verdict) ⊎ IsJudged (status_by verdict)

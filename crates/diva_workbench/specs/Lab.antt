@@ -16,6 +16,7 @@ use Rattle.diva_process.specs.Programs.{Doing, FileBytes, Program, Wanted, doing
 use Rattle.diva_cli.specs.Changes.{Asking, Change, IsUnasked, LanesAsked, asking, change, core_of}
 use Rattle.diva_workbench.specs.DrawTexts.{HasDrawing}
 use Rattle.diva_workbench.specs.Judges.{HasJudgement}
+use Rattle.diva_workbench.specs.declared.lab.Hands.{Hands}
 use Rattle.diva_cli.specs.Lanes.{own_asked}
 use Rattle.diva_cli.specs.Program.{HasAnswered}
 use Rattle.diva_cli.specs.Texts.{AsksInRun, CanEnd}
@@ -41,8 +42,8 @@ pub record HasDrawn {C : Type 0} (gives : Meaning C) (heard : LanesAsked) (core 
 pub record HasJudgedLog {C D : Type 0} (heard : LanesAsked) (core : Change C) (options : JudgeOptions) (bytes : FileBytes) (source : LentSource D)
     (ended : Result Status Text) (text : Text) : Type 0 where
   pub means : HasJudgement options bytes source ended text
-  pub core : core.after ≡ core.before
-  pub lanes : heard None []
+  pub unasked : core.after ≡ core.before
+  pub unvoted : heard None []
 
 -- nothing was opened and nothing was read of the source
 abbrev pub IsUnread : {D : Type 0} → LentSource D → Type 0
@@ -80,13 +81,6 @@ abbrev pub none_asked : Asking (Unit {0})
 none_asked = asking tt tt (λ liar asked. Unit {0})
 
 -- the same by what the program has in its hands, a core and a source; lanes are its own
-pub record Hands (C D : Type 0) : Type 0 where
-  pub core : C
-  pub source : D
-
-abbrev pub hands : {C D : Type 0} → C → D → Hands C D
-hands core source = record { core = core; source = source }
-
 abbrev pub own_lab_done : {C D : Type 0} → Meaning C → (account : D → SourceAccount) → (before after : Hands C D) → LabJob → FileBytes
     → Result Status Text → Text → Type 0
 own_lab_done gives account before after job bytes ended text =

@@ -1,13 +1,16 @@
 // The command `judge`: it loads its image with neither source nor sink in its hands, and then judges the log line by line, as it reads it.
-ghost use Rattle.std.specs.Prelude.{◌≡◌};
+ghost use Rattle.std.specs.Prelude.{◌≡◌, ◌<◌, ◌^◌};
 ghost use Rattle.diva_args.specs.declared.lab.LabJob.TheVariants.{Judge};
 ghost use Rattle.diva_core.specs.Timed.{new_timed};
 ghost use Rattle.diva_outside.specs.Lent.{lent};
 ghost use Rattle.diva_process.specs.Programs.{FileBytes, asked_for};
 ghost use Rattle.diva_process.specs.Promises.{KeepsPromises};
-ghost use Rattle.diva_process.specs.Writing.{WritesText};
+ghost use Rattle.diva_process.specs.Writing.{WritesLine, WritesText};
+ghost use Rattle.diva_process.specs.declared.status.Status.TheVariants as status;
+ghost use Rattle.diva_judge.specs.Texts.{unreadable_text};
 ghost use Rattle.diva_cli.specs.Ready.{IsReady};
 ghost use Rattle.diva_workbench.specs.Judges.{status_by, terms_of};
+ghost use Rattle.diva_workbench.specs.Draws.{WritesJudgement};
 ghost use Rattle.diva_workbench.specs.Lab.{lab, lab_work_of, no_core, none_asked};
 
 use diva_args::JudgeOptions;
@@ -48,10 +51,32 @@ fn judge_ready<S: Sink, D: Source>(
         → WritesText (lab_work_of no_core none_asked (lent D.account source.old source.new)) (Judge options.now) bytes
         (lent S.account sink.old sink.new) result }
 {
-    if source.open(options.log.as_str()).is_err() {
-        put_unreadable(sink)?;
-        return Ok(Status::Unread);
+    match source.open(options.log.as_str()) {
+        Ok(()) => judge_open(ready, options, source, sink),
+        Err(_) => put_unopened(sink),
     }
+}
+
+/// That the log can't be opened.
+fn put_unopened<S: Sink>(sink: &mut S) -> Result<Status, Failure>
+    ensures { WritesLine unreadable_text status.Unread (lent S.account sink.old sink.new) result }
+{
+    put_unreadable(sink)?;
+    Ok(Status::Unread)
+}
+
+/// Has a new machine judge the log that the source has open.
+fn judge_open<S: Sink, D: Source>(
+    ready: &mut Ready,
+    options: &JudgeOptions,
+    source: &mut D,
+    sink: &mut S,
+) -> Result<Status, Failure>
+    requires new { ready.old.machine.timed ≡ new_timed ready.old.machine.timed.config ready.old.machine.timed.arch }
+    requires bounded { (D.account source.old).limit < 2 ^ 64 }
+    ensures { WritesJudgement (terms_of options.now) ready.old.machine.timed.arch (lent D.account source.old source.new)
+        (lent S.account sink.old sink.new) result }
+{
     let terms = Terms {
         stop: options.stop,
         answers: options.answers,

@@ -6,7 +6,7 @@ ghost use Rattle.diva_process.specs.Process.{IsProcess};
 ghost use Rattle.diva_process.specs.Statuses.{IsNumberOf};
 ghost use Rattle.diva_process.specs.Promises.{KeepsPromises};
 ghost use Rattle.diva_cli.specs.Changes.{asking};
-ghost use Rattle.diva_workbench.specs.Lab.{hands, lab, lab_usage_line, lab_wanted, lab_work_of, own_lab_work};
+ghost use Rattle.diva_workbench.specs.Lab.{lab, lab_usage_line, lab_wanted, lab_work_of, own_lab_work};
 ghost use Rattle.diva_cli.specs.Lanes.{AreHonest, are_asked};
 
 use crate::drawing::draw;
@@ -19,10 +19,18 @@ use diva_process::{Failure, Front, Status, run_process};
 use diva_source::Source;
 use diva_vote::Lane;
 use std::alloc::{AllocError, Global};
-use std::marker::Model;
+
+/// What the workbench has in its hands.
+#[derive(Drop)]
+pub struct Hands<C, D> {
+    /// The core that its machine asks.
+    pub core: C,
+    /// The texts that it reads piece by piece.
+    pub source: D,
+}
 
 /// Runs the workbench on the words of its command line (without its name) over the files, the sink
-/// the core and the source that it is handed, and answers the number of its status. It does all that [`top`](diva_cli::top) does, and has three
+/// what it has in its hands, and answers the number of its status. It does all that [`top`](diva_cli::top) does, and has three
 /// commands besides. The statuses of `log` and `draw` are those of `run`: what is drawn of a run is told from what is seen of the machine
 /// after each cycle, and all that is promised of a run holds of it. `judge` reads the log of a core line by line, and tells by its status
 /// whether all that the log says of the program's instructions is due.
@@ -43,35 +51,18 @@ pub fn lab_top<F: Files, S: Sink, C: Core, D: Source>(
     words: &[&str],
     files: &mut F,
     sink: &mut S,
-    core: &mut C,
-    source: &mut D,
+    hands: &mut Hands<C, D>,
 ) -> u8
-    ensures { IsNumberOf (IsProcess (asked_by lab words.now) (own_lab_work C.gives D.account (hands core.old source.old) (hands core.new source.new))
+    ensures { IsNumberOf (IsProcess (asked_by lab words.now) (own_lab_work C.gives D.account hands.old hands.new)
         (lent F.account files.old files.new) (lent S.account sink.old sink.new)) result }
 {
-    let mut hands = Hands { core, source };
-    run_process(&Lab, alloc, words, files, sink, &mut hands).number()
-}
-
-/// What the workbench has in its hands: the core that its machine asks, and the texts that it reads piece by piece.
-#[derive(Drop)]
-struct Hands<'a, C, D> {
-    core: &'a mut C,
-    source: &'a mut D,
-}
-
-impl<'a, C, D> Model for Hands<'a, C, D> {
-    ghost use Rattle.diva_workbench.specs.Lab.{Hands};
-
-    ghost Value = { Hands C D };
-
-    ghost view = { λ h. record { core = h.core.now; source = h.source.now } };
+    run_process(&Lab, alloc, words, files, sink, hands).number()
 }
 
 /// The workbench, over what it has in its hands.
 struct Lab;
 
-impl<'a, C: Core, D: Source> Front<Hands<'a, C, D>> for Lab {
+impl<C: Core, D: Source> Front<Hands<C, D>> for Lab {
     ghost use Rattle.diva_workbench.specs.Lab.{LabEnds, lab, own_lab_done};
 
     type Job = LabJob;
@@ -100,15 +91,15 @@ impl<'a, C: Core, D: Source> Front<Hands<'a, C, D>> for Lab {
         job: LabJob,
         files: &mut F,
         sink: &mut S,
-        hands: &mut Hands<'a, C, D>,
+        hands: &mut Hands<C, D>,
     ) -> Result<Status, Failure> {
         lab_work(
             alloc,
             job,
             files,
             sink,
-            hands.core,
-            hands.source,
+            &mut hands.core,
+            &mut hands.source,
             &mut Lanes::own(),
         )
     }

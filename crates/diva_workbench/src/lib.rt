@@ -17,4 +17,4 @@ mod drawing;
 mod judging;
 mod lab;
 
-pub use lab::{lab_top, lab_work};
+pub use lab::{Hands, lab_top, lab_work};

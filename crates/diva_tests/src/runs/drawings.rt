@@ -3,7 +3,7 @@ use super::{Answer, answer_from, compare_answer, files_and_sink, five_files, wor
 use crate::cores::counting;
 use diva_outside::What;
 use diva_source::NoSource;
-use diva_workbench::lab_top;
+use diva_workbench::{Hands, lab_top};
 use std::alloc::Global;
 use std::test::Fail;
 
@@ -180,14 +180,11 @@ fn answer(alloc: Global, row: &Drawn) -> Result<Answer, Fail> {
     }
     let outside = five_files(alloc)?.with(What::Script, row.script)?;
     let (mut files, mut sink) = files_and_sink(outside)?;
-    let status = lab_top(
-        alloc,
-        &words,
-        &mut files,
-        &mut sink,
-        &mut counting(),
-        &mut NoSource::new(),
-    );
+    let mut hands = Hands {
+        core: counting(),
+        source: NoSource::new(),
+    };
+    let status = lab_top(alloc, &words, &mut files, &mut sink, &mut hands);
     answer_from(alloc, status, files, &sink)
 }
 
