@@ -16,7 +16,7 @@ const LAST: &str = "end halt 0\njudged 3 of 3 wrong 1\n";
 fn reads_that_fail(rt: HostRuntime) -> Result<(), Fail> {
     let alloc = rt.alloc();
     // The first call opens the log, the second reads 16 bytes of it, which are its first line, and the third reads the second line.
-    for (call, judged) in [(1, false), (2, false), (3, true), (4, true), (5, true)] {
+    for (call, has_row) in [(1, false), (2, false), (3, true), (4, true), (5, true)] {
         let outside = Outside {
             log: LOG,
             piece: 16,
@@ -24,7 +24,7 @@ fn reads_that_fail(rt: HostRuntime) -> Result<(), Fail> {
             failing_puts: &[],
         };
         let answer = judged(alloc, "judge a.diva a.log", &outside)?;
-        let mut due = String::from_str(alloc, if judged { WRONG } else { "" })?;
+        let mut due = String::from_str(alloc, if has_row { WRONG } else { "" })?;
         due.push_str("unreadable log\n")?;
         assert_eq!(rt; answer.status, 8, "{call}");
         assert_eq!(rt; str::from_utf8(&answer.text)?, due.as_str(), "{call}");
