@@ -1,5 +1,5 @@
 -- How the bytes of a line are read, one after the other, to the words that are kept of it.
--- Cited by `take_part`; a lemma shows that the words of a whole line are those of `words_of`.
+-- Cited by `take_part`. A lemma shows that the words of a whole line are those that words_of gives.
 use Rattle.std.specs.Prelude.{ℕ, List, [], ◌∷◌, ◌++◌, Bool, ◌||◌, if◌then◌else◌, length, nat_lt}
 use Rattle.std.specs.List.{fold}
 use Rattle.diva_outside.specs.Lines.{is_feed}
