@@ -1,7 +1,7 @@
 // Lines that are taken, and lines that are refused. A line is one string, whose words blanks part.
 use diva_args::{
-    ArgsFault, CampaignOptions, DebugOptions, DrawOptions, DuoOptions, Job, LabJob, MigrateOptions,
-    RunOptions, Setup, SoakOptions, TapeOptions, read_lab_words, read_words,
+    ArgsFault, CampaignOptions, DebugOptions, DrawOptions, DuoOptions, Job, JudgeOptions, LabJob,
+    MigrateOptions, RunOptions, Setup, SoakOptions, TapeOptions, read_lab_words, read_words,
 };
 use diva_core::Config;
 use diva_test_programs::laid;
@@ -152,7 +152,9 @@ fn lines_that_are_refused(rt: HostRuntime) -> Result<(), Fail> {
 }
 
 /// Lines of the workbench, with what they ask for.
-static DRAWN: [(&str, &str); 6] = laid! {
+static DRAWN: [(&str, &str); 8] = laid! {
+    ("judge p1.diva -", r#"judge "p1.diva" 0 Own None 2 16 4 64 1 "-" None false"#),
+    ("judge --stop 4294967295 p --answer a.log --width 1 --room 8 --port 6", r#"judge "p" 8 Own None 1 16 4 64 6 "a.log" Some(4294967295) true"#),
     ("log p1.diva", r#"Log of run "p1.diva" 0 Own None 2 16 4 64 1 1000000 false None None"#),
     ("draw --cycles 9 p1.diva --core silent --script faults.txt",
         r#"Drawing { from: 1, to: 1000000000 } of run "p1.diva" 0 Silent Some(FileName { text: "faults.txt" }) 2 16 4 64 1 9 false None None"#),
@@ -165,10 +167,10 @@ static DRAWN: [(&str, &str); 6] = laid! {
 };
 
 /// Lines that the workbench refuses.
-static NOT_DRAWN: [&str; 15] = laid! {
+static NOT_DRAWN: [&str; 20] = laid! {
     "", "log", "log p --trace", "draw p --dump 0:4", "log draw p", "Log p", "draw p --cycles 0", "draw p --core silent --cycles 9 q",
     "draw p --from 0", "draw p --to 0", "draw p --from 90000 --to 89999", "draw p --to 1000000001", "draw p --from 3 --from 3",
-    "log p --from 1", "run p --to 9",
+    "log p --from 1", "run p --to 9", "judge p", "judge p l --stop 0", "judge p l --stop 4294967296", "judge p l --core own", "judge p l --answer 1",
 };
 
 #[test]
@@ -182,7 +184,13 @@ fn lines_of_the_workbench(rt: HostRuntime) -> Result<(), Fail> {
         let fault = read_lab_words(rt.alloc(), &words_of(rt.alloc(), line)?).err();
         assert_eq!(rt; fault, Some(ArgsFault::Usage), "{line}");
     }
-    for line in ["log p", "draw p", "draw p --to 9", "run p --from 1"] {
+    for line in [
+        "log p",
+        "draw p",
+        "draw p --to 9",
+        "run p --from 1",
+        "judge p l",
+    ] {
         let fault = read_words(rt.alloc(), &words_of(rt.alloc(), line)?).err();
         assert_eq!(rt; fault, Some(ArgsFault::Usage), "{line}");
     }
@@ -239,6 +247,17 @@ fn lab_text_of(alloc: Global, job: &LabJob) -> Result<String, AllocError> {
         LabJob::Draw(DrawOptions { run, format }) => {
             let run = run_text(alloc, run)?;
             format!(in alloc; "{format:?} of {run}")
+        }
+        LabJob::Judge(
+            JudgeOptions {
+                setup,
+                log,
+                stop,
+                answers,
+            },
+        ) => {
+            let setup = setup_text(alloc, setup)?;
+            format!(in alloc; "judge {setup} {:?} {stop:?} {answers}", log.as_str())
         }
     }
 }
