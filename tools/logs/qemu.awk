@@ -26,7 +26,7 @@ function put(is_last,    bits, opcode, is_call, rs1, rs2, rd, i, changed, value)
     bits = number(word[pc]); opcode = sprintf("%02x", bits % 128); is_call = bits == 115
     rs1 = is_call ? 17 : register_at(bits, 15); rs2 = is_call ? 10 : register_at(bits, 20)
     rd = opcode in writes_rd && !is_call ? register_at(bits, 7) : 0
-    for (i = 1; i < 32 && !is_last; i++) if (was[i] != is[i] && (changed == "" || changed == rd)) changed = i
+    for (i = 1; i < 32 && !is_last; i++) if (was[i] "" != is[i] "" && (changed == "" || changed == rd)) changed = i    # as texts: 00e00000 is no 0
     value = rd && !is_last ? is[rd] : "-"
     print pc, word[pc], opcode in reads_rs1 || is_call ? was[rs1] : "-", opcode in reads_rs2 || is_call ? was[rs2] : "-", "-", value, is_last ? "- -" : leads " 0", \
         changed == "" ? "-" : sprintf("%x", changed), "-"
