@@ -302,7 +302,8 @@ int run(const Options& options) {
     }
     std::fclose(stdout);
     if (answers) std::cerr << answers->rest();
-    std::cerr << "bench: " << text_of(end) << " after " << instructions << " instructions in " << cycle << " cycles, put right " << corrections << " times\n";
+    std::cerr << "bench: " << text_of(end) << " after " << instructions << " instructions in " << cycle << " cycles, put right " << corrections
+              << " times\n";
     if (!options.output.empty()) std::ofstream(options.output, std::ios::binary) << state.output;
     return end >= 0x100 ? 0 : 1;
 }

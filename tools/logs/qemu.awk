@@ -1,4 +1,6 @@
-# From the log of QEMU, one instruction at a time. Run: qemu-riscv32 -singlestep -d in_asm,cpu,nochain -D STATES PROGRAM ; awk -f qemu.awk STATES > LOG
+# From the log of QEMU, one instruction at a time. Run:
+#
+#     qemu-riscv32 -singlestep -d in_asm,cpu,nochain -D STATES PROGRAM ; awk -f qemu.awk STATES > LOG
 #
 # Written by what QEMU 7.2 writes, and tried on that; from 8.1 on -singlestep is called -one-insn-per-tb. QEMU writes each instruction where it
 # translates it, and all registers before each instruction. So of an instruction is known what its registers held, by the
@@ -22,14 +24,15 @@ function number(hex,    i, sum) {
 function register_at(bits, from) { return int(bits / 2 ^ from) % 32 }
 
 # The instruction at `pc`, between the registers `was` and those of `is`; or after `was` alone, as the last one.
-function put(is_last,    bits, opcode, is_call, rs1, rs2, rd, i, changed, value) {
+function put(is_last,    bits, opcode, is_call, rs1, rs2, rd, i, changed, value, src1, src2) {
     bits = number(word[pc]); opcode = sprintf("%02x", bits % 128); is_call = bits == 115
     rs1 = is_call ? 17 : register_at(bits, 15); rs2 = is_call ? 10 : register_at(bits, 20)
     rd = opcode in writes_rd && !is_call ? register_at(bits, 7) : 0
-    for (i = 1; i < 32 && !is_last; i++) if (was[i] != is[i] && (changed == "" || changed == rd)) changed = i
+    for (i = 1; i < 32 && !is_last; i++) if (was[i] "" != is[i] "" && (changed == "" || changed == rd)) changed = i    # as texts: 00e00000 is no 0
     value = rd && !is_last ? is[rd] : "-"
-    print pc, word[pc], opcode in reads_rs1 || is_call ? was[rs1] : "-", opcode in reads_rs2 || is_call ? was[rs2] : "-", "-", value, is_last ? "- -" : leads " 0", \
-        changed == "" ? "-" : sprintf("%x", changed), "-"
+    src1 = opcode in reads_rs1 || is_call ? was[rs1] : "-"
+    src2 = opcode in reads_rs2 || is_call ? was[rs2] : "-"
+    print pc, word[pc], src1, src2, "-", value, is_last ? "- -" : leads " 0", changed == "" ? "-" : sprintf("%x", changed), "-"
 }
 
 /^0x[0-9a-f]+: / { word[substr($1, 3, length($1) - 3)] = $2 }
