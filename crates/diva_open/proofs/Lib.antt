@@ -1,0 +1,5 @@
+-- What follows from the definitions.
+pub mod Fronts
+pub mod Leaving
+pub mod Phases
+pub mod Turning

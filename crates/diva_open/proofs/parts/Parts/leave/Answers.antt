@@ -1,0 +1,14 @@
+use Rattle.std.proofs.Common.{◌≡◌, true, sym, ◌∙◌, arith}
+use Rattle.diva_open.specs.Open.{Open, leaves}
+use Rattle.diva_open.proofs.Leaving.{leave_next}
+use Rattle.diva_open.proofs.parts.Parts.leave.Goals as goal
+
+pub loop-left-preserved : goal.loop-left-preserved
+loop-left-preserved c =
+    let inv = c.loop-left.invariant in
+    let m : Open = c.loop-left.self in
+    let width = inv.bounds.config in
+    let more = c.loop-left-test.true in
+    let leaving : leaves m.timed m.timed.under.pending ≡ true = sym c.front_leaves.ensures ∙ c.if-front_leaves.true in
+    let next = leave_next c.args.self.now.timed.config.width c.loop-left.left c.args.self.now m c.leave_front.new.self inv.bounds inv.so_far ? leaving c.leave_front.ensures in
+    record { so_far = next.0; bounds = next.1; within = ? }
