@@ -2,4 +2,5 @@
 pub mod Fronts
 pub mod Leaving
 pub mod Phases
+pub mod Righting
 pub mod Turning

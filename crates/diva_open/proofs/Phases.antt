@@ -8,7 +8,8 @@ use Rattle.diva_core.specs.Timed.{Timed, PendingClaim, room_of}
 use Rattle.diva_core.specs.Cycle.{accepted, accepted_in, accepts, begun, drained, port_opens, with_pending}
 use Rattle.diva_open.specs.Inner.{KeepsOpenBounds}
 use Rattle.diva_open.specs.Machine.{IsOpenBetweenCycles}
-use Rattle.diva_open.specs.Open.{Open, idled}
+use Rattle.diva_open.specs.Open.{Open, idled, open_cycle_of}
+use Rattle.diva_open.proofs.Leaving.{leave_cycles}
 
 none_behind : (xs : List PendingClaim) → xs ++ [] ≡ xs
 none_behind [] = refl
@@ -58,3 +59,8 @@ cycle_between o last list is early b =
       owed = rw config b.owed;
       idle = counted_idle (last.timed.count == o.timed.count) last.timed.config.limit last.timed.under.idle;
     }
+
+-- one cycle more has run
+pub cycle_cycles : (o : Open) (list : List Record) → goes_on o.timed.arch ≡ true → (open_cycle_of o list).timed.cycles ≡ o.timed.cycles + 1
+unfolding open_cycle_of drained accepts
+cycle_cycles o list on = rw on (leave_cycles o.timed.config.width (record o { timed = drained (begun o.timed) }))

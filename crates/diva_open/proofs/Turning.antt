@@ -5,6 +5,7 @@ use Rattle.diva_isa.specs.declared.record.Record.{Record}
 use Rattle.diva_core.specs.Told.{told_of}
 use Rattle.diva_core.specs.History.{Meaning}
 use Rattle.diva_open.specs.Open.{Open, open_cycle_of}
+use Rattle.diva_open.proofs.Phases.{cycle_cycles}
 use Rattle.diva_open.specs.Turns.{IsOpenHistory, OpenTurns}
 
 -- an ended machine stays
@@ -31,11 +32,10 @@ unfoldable pub turns_more :
     → (next : Open) (list : List Record) (after : C)
     → goes_on last.timed.arch ≡ true → gives final (told_of last.timed) last.timed.arch list after
     → next ≡ open_cycle_of last list
-    → next.timed.cycles ≡ last.timed.cycles + 1
     → OpenTurns gives o core next after
-turns_more gives o core last final t next list after on asked is one =
+turns_more gives o core last final t next list after on asked is =
     record {
       history = t.history ++ (list, after) ∷ [];
       good = rw is (IsOpenHistory-more gives o core t.history last final list after t.good on asked);
-      each = rw length-append (let e = t.each in omega arith);
+      each = rw (is, length-append) (let e = t.each in let one = cycle_cycles last list on in omega arith);
     }

@@ -14,8 +14,11 @@
 
 mod arch;
 mod ends;
+pub mod laws;
 mod machine;
 mod parts;
+mod turns;
 
 pub use ends::OpenEnd;
 pub use machine::OpenMachine;
+pub use turns::drive_open;

@@ -1,10 +1,9 @@
-use Rattle.std.proofs.Common.{ℕ, ◌≡◌, ◌==◌, true, not, sym, ap, ◌∙◌, refl}
+use Rattle.std.proofs.Common.{◌≡◌, ◌==◌, true, not, sym, ap, ◌∙◌, refl}
 use Rattle.std.proofs.Math.Bool.{not-not}
 use Rattle.diva_isa.specs.State.{goes_on}
 use Rattle.diva_core.specs.Timed.{Timed}
 use Rattle.diva_core.specs.Cycle.{accepts, begun, drained}
 use Rattle.diva_open.specs.Inner.{KeepsOpenBounds}
-use Rattle.diva_open.specs.Machine.{IsOpenBetweenCycles}
 use Rattle.diva_open.specs.Open.{Open, idled, leave, open_cycle_of}
 use Rattle.diva_open.proofs.Phases.{accepts_as, cycle_between}
 use Rattle.diva_open.proofs.parts.Parts.cycle.Goals as goal
