@@ -1,5 +1,5 @@
 -- The front claim, as it is looked up.
-use Rattle.std.proofs.Common.{◌≡◌, ◌<◌, ℕ, zero, ◌+◌, ◌&&◌, List, [], ◌∷◌, length, map, slice_get, Some, true, false, refl, arith}
+use Rattle.std.proofs.Common.{◌≡◌, ◌+◌, ◌&&◌, List, [], ◌∷◌, length, map, slice_get, Some, false, refl, arith}
 use Rattle.std.specs.Prelude.{not, nat_le}
 use Rattle.std.proofs.lemmas.Option.{none-some, same_Some}
 use Rattle.diva_core.specs.declared.pending.Entry.{Entry}

@@ -1,15 +1,13 @@
 -- What claims that leave keep of a machine's numbers.
-use Rattle.std.proofs.Common.{◌≡◌, ◌<◌, ◌≤◌, ℕ, zero, suc, ◌+◌, ◌-◌, ◌==◌, ◌&&◌, Bool, List, [], ◌∷◌, length, Option, Some, None, true, false, refl, sym, ap, ◌∙◌, arith, inl, inr, subst, not, if◌then◌else◌}
+use Rattle.std.proofs.Common.{◌≡◌, ◌<◌, ◌≤◌, ℕ, zero, suc, ◌+◌, ◌-◌, ◌==◌, Bool, List, [], ◌∷◌, length, true, false, refl, sym, ap, ◌∙◌, arith, inl, inr, not, if◌then◌else◌}
 use Rattle.std.specs.Prelude.{nat_le}
 use Rattle.std.proofs.lemmas.Bool.{cond_both, and_parts, cases_Bool, true≢false}
 use Rattle.std.proofs.lemmas.Bool.Decides.{nat_tests}
-use Rattle.std.proofs.Math.Bool.{not-not}
-use Rattle.diva_isa.specs.State.{State, goes_on}
+use Rattle.diva_isa.specs.State.{goes_on}
 use Rattle.diva_isa.specs.declared.record.Record.{Record}
 use Rattle.diva_core.specs.Timed.{Timed, PendingClaim, depth}
-use Rattle.diva_core.specs.Cycle.{committed, number, puts_store, stores_wait, with_pending}
+use Rattle.diva_core.specs.Cycle.{committed, puts_store, stores_wait, with_pending}
 use Rattle.diva_core.proofs.Judging.{owed-fits}
-use Rattle.diva_core.proofs.Phases.{number-least}
 use Rattle.diva_open.specs.Inner.{KeepsOpenBounds}
 use Rattle.diva_open.specs.Open.{Open, can_apply, leave, leaves, left, obeyed, strayed}
 

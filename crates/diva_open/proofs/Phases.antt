@@ -1,11 +1,11 @@
 -- The phases of a cycle of an open machine.
-use Rattle.std.proofs.Common.{◌≡◌, ◌<◌, ◌≤◌, ℕ, ◌+◌, ◌*◌, ◌^◌, ◌==◌, ◌&&◌, Bool, List, [], ◌∷◌, ◌++◌, length, map, min, take, true, false, refl, sym, ap, ◌∙◌, arith, if◌then◌else◌}
+use Rattle.std.proofs.Common.{◌≡◌, ◌<◌, ◌≤◌, ℕ, ◌+◌, ◌^◌, ◌==◌, ◌&&◌, Bool, List, [], ◌∷◌, ◌++◌, length, map, min, take, true, false, refl, sym, ap, ◌∙◌, arith, if◌then◌else◌}
 use Rattle.std.proofs.lemmas.Bool.{eq-eqb}
 use Rattle.std.proofs.lemmas.List.{take_min}
 use Rattle.diva_isa.specs.State.{goes_on}
 use Rattle.diva_isa.specs.declared.record.Record.{Record}
 use Rattle.diva_core.specs.Timed.{Timed, PendingClaim, room_of}
-use Rattle.diva_core.specs.Cycle.{accepted, accepted_in, accepts, begun, drained, port_opens, with_pending}
+use Rattle.diva_core.specs.Cycle.{accepted_in, accepts, begun, drained, with_pending}
 use Rattle.diva_open.specs.Inner.{KeepsOpenBounds}
 use Rattle.diva_open.specs.Machine.{IsOpenBetweenCycles}
 use Rattle.diva_open.specs.Open.{Open, idled, open_cycle_of}

@@ -1,17 +1,16 @@
 -- Right lists lead the open machine to the same state as the machine with its checker.
-use Rattle.std.proofs.Common.{◌≡◌, ◌<◌, ◌≤◌, ℕ, zero, suc, ◌+◌, ◌==◌, ◌&&◌, Bool, List, [], ◌∷◌, drop, min, length, Option, Some, None, true, false, refl, sym, ap, ◌∙◌, arith, inl, inr, subst, not, map, if◌then◌else◌}
-use Rattle.std.specs.Prelude.{nat_le, nat_lt}
+use Rattle.std.proofs.Common.{◌≡◌, ◌≤◌, ℕ, zero, suc, ◌+◌, ◌==◌, ◌&&◌, Bool, List, [], ◌∷◌, drop, min, length, Option, Some, None, true, false, refl, sym, ap, ◌∙◌, arith, inl, inr, subst, not, map, if◌then◌else◌}
+use Rattle.std.specs.Prelude.{nat_le}
 use Rattle.std.specs.Option.{is_some}
 use Rattle.std.proofs.lemmas.Bool.{cond_both, cases_Bool, eq-eqb, le-leb, lt-ltb, true≢false}
 use Rattle.std.proofs.lemmas.Bool.Decides.{nat_tests}
 use Rattle.std.proofs.lemmas.Option.{none-some}
 use Rattle.diva_decode.specs.declared.instr.Instr.{Instr}
 use Rattle.diva_decode.specs.Table.{row_of}
-use Rattle.diva_isa.specs.State.{State, goes_on, memory_of, output_limit, word_of}
+use Rattle.diva_isa.specs.State.{State, goes_on, memory_of, word_of}
 use Rattle.diva_isa.specs.End.{IsEnd}
-use Rattle.diva_isa.specs.Kind.{size}
 use Rattle.diva_isa.specs.Inner.{HasRoom}
-use Rattle.diva_isa.specs.Step.{apply, effect_of, record_by, record_fetched, record_of, step}
+use Rattle.diva_isa.specs.Step.{effect_of, record_by, record_fetched, record_of, step}
 use Rattle.diva_isa.specs.declared.effect.Effect.{Effect}
 use Rattle.diva_isa.specs.declared.effect.Effect.TheVariants.{Nothing, Writes, Stores, Puts}
 use Rattle.diva_isa.specs.declared.record.Record.{Record}
@@ -23,7 +22,7 @@ use Rattle.diva_core.specs.Difference.{all_fields, difference_in, field_of, firs
 use Rattle.diva_core.specs.Timed.{Timed, PendingClaim, depth}
 use Rattle.diva_core.specs.Cycle.{Commit, Wait, accepts, barked, begun, by_difference, by_front, by_judgement, commits_under, committed, counted, cycle_of, cycle_under, drained, flushed, judged_under, past_front, run_of, stores_wait, watched, with_pending}
 use Rattle.diva_core.specs.Machine.{IsMachine, Lives}
-use Rattle.diva_core.specs.Right.{AreRight, IsCalm, IsCalmRunning, IsRight, StaysCalm, claim_of}
+use Rattle.diva_core.specs.Right.{AreRight, IsCalm, IsCalmRunning, IsRight, claim_of}
 use Rattle.diva_core.proofs.Calming.{AreDueFrom, due_from, stays_calm}
 use Rattle.diva_core.proofs.Judging.{past-off}
 use Rattle.diva_core.proofs.Keeping.{stays}
