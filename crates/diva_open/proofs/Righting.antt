@@ -2,7 +2,7 @@
 use Rattle.std.proofs.Common.{◌≡◌, ◌≤◌, ℕ, zero, suc, ◌+◌, ◌==◌, ◌&&◌, Bool, List, [], ◌∷◌, drop, min, length, Option, Some, None, true, false, refl, sym, ap, ◌∙◌, arith, inl, inr, subst, not, map, if◌then◌else◌}
 use Rattle.std.specs.Prelude.{nat_le}
 use Rattle.std.specs.Option.{is_some}
-use Rattle.std.proofs.lemmas.Bool.{cond_both, cases_Bool, eq-eqb, le-leb, lt-ltb, true≢false}
+use Rattle.std.proofs.lemmas.Bool.{cond_both, cases_Bool, le-leb, lt-ltb, true≢false}
 use Rattle.std.proofs.lemmas.Bool.Decides.{nat_tests}
 use Rattle.std.proofs.lemmas.Option.{none-some}
 use Rattle.diva_decode.specs.declared.instr.Instr.{Instr}
@@ -17,8 +17,7 @@ use Rattle.diva_isa.specs.declared.record.Record.{Record}
 use Rattle.diva_isa.proofs.Ends.{end_record_of}
 use Rattle.diva_isa.proofs.Room.{room}
 use Rattle.diva_core.specs.declared.differences.Diff.{Diff}
-use Rattle.diva_core.specs.declared.differences.Field.{Field}
-use Rattle.diva_core.specs.Difference.{all_fields, difference_in, field_of, first_difference}
+use Rattle.diva_core.specs.Difference.{first_difference}
 use Rattle.diva_core.specs.Timed.{Timed, PendingClaim, depth}
 use Rattle.diva_core.specs.Cycle.{Commit, Wait, accepts, barked, begun, by_difference, by_front, by_judgement, commits_under, committed, counted, cycle_of, cycle_under, drained, flushed, judged_under, past_front, run_of, stores_wait, watched, with_pending}
 use Rattle.diva_core.specs.Machine.{IsMachine, Lives}
@@ -29,6 +28,7 @@ use Rattle.diva_core.proofs.Keeping.{stays}
 use Rattle.diva_core.proofs.Phases.{bark}
 use Rattle.diva_core.proofs.Steps.{step-on}
 use Rattle.diva_open.proofs.Leaving.{leave_config, leave_idle}
+use Rattle.diva_open.proofs.Placing.{no_difference}
 use Rattle.diva_open.specs.Laws.{opened}
 use Rattle.diva_open.specs.Open.{Open, can_apply, can_go_on, finds_place, idled, is_end, leave, leaves, left, obeyed, open_cycle_of, open_run_of, place_behind}
 
@@ -66,16 +66,6 @@ due_can_apply s =
     cond_both ((record_of s).end == 0) (can_go_on s (record_of s)) (is_end (record_of s).end) (λ b. b ≡ true)
     (λ on. let e : (record_of s).end ≡ 0 = grind (arith, nat_tests) in rw (has_word s e, finds_room s (effect_of (record_of s)) (room s e)) refl)
     (λ off. is_end_true (record_of s).end (end_record_of s))
-
--- ---- an equal claim has no difference
-
-no_difference_in : (fs : List Field) (r : Record) → difference_in fs r r ≡ None
-no_difference_in [] r = refl
-no_difference_in (f ∷ fs) r = rw (eq-eqb (field_of f r) (field_of f r) refl) (no_difference_in fs r)
-
-pub no_difference : (r : Record) → first_difference r r ≡ None
-unfolding first_difference
-no_difference r = no_difference_in all_fields r
 
 -- ---- phase 2
 

@@ -18,7 +18,7 @@ ghost use Rattle.diva_open.specs.Machine.{IsOpenBetweenCycles};
 ghost use Rattle.diva_open.specs.Open.{idled, leave, leaves, left, new_open, open_cycle_of, place_behind};
 
 use crate::arch::OpenArch;
-use diva_core::{Claims, Config, Entry, Pending, Told, View, first_difference};
+use diva_core::{Claims, Config, Entry, Pending, Told, View};
 use diva_decode::Instr;
 use diva_hart::{DEPTH, Port};
 use diva_image::Image;
@@ -273,6 +273,7 @@ fn puts_store(front: &Entry) -> bool
 /// The place where a claim leaves, `decoded` being what its word says. It is compared with what is due only where there is no
 /// place yet.
 #[inline(always)]
+#[tactic(auto, using(crate::proofs::Placing::place_of_due, crate::proofs::Placing::place_of_other))]
 fn place_behind(
     place: Option<u64>,
     arch: &OpenArch,
@@ -288,9 +289,10 @@ fn place_behind(
         return place;
     }
     let due = due_as(&arch.view(), claim.word, decoded);
-    match first_difference(claim, &due) {
-        None => None,
-        Some(_) => Some(arch.count()),
+    if *claim == due {
+        None
+    } else {
+        Some(arch.count())
     }
 }
 
