@@ -46,8 +46,17 @@ not_waits false h = refl
 
 pub bounds_begin : (o : Open) → o.timed.arch.end ≡ 0 → o.timed.owed ≤ o.timed.config.stores → KeepsOpenBounds 0 o o
 bounds_begin o on owed =
-    record { config = refl; cycles = refl; idle = refl; log = refl; counted = omega arith; count = omega arith; owed = owed; pending = omega arith;
-      ended = λ off. absurd (true≢false (ap (λ n. n == 0) (sym on) ∙ off)) }
+    record {
+      config = refl;
+      cycles = refl;
+      idle = refl;
+      log = refl;
+      counted = omega arith;
+      count = omega arith;
+      owed = owed;
+      pending = omega arith;
+      ended = λ off. absurd (true≢false (ap (λ n. n == 0) (sym on) ∙ off));
+    }
 
 -- one claim more
 pub bounds_more : (k : ℕ) (o m : Open) → KeepsOpenBounds k o m → leaves m.timed m.timed.under.pending ≡ true → KeepsOpenBounds (k + 1) o (left m m.timed.under.pending)

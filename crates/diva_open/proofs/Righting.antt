@@ -183,7 +183,7 @@ module _ (m : Timed) (list : List Record) (inv : IsMachine m) (on : goes_on m.ar
       elim (bark (counted m (accepted_due m list))) [
         | inl q ↦ q.same
         | inr w ↦ absurd (let is = cycled_due ∙ w.flushes in
-          none-some _ (sym (calm (ap (λ (z : Timed). goes_on z.arch) is ∙ w.on)).running ∙ ap (λ (z : Timed). z.under.solo) is))
+            none-some _ (sym (calm (ap (λ (z : Timed). goes_on z.arch) is ∙ w.on)).running ∙ ap (λ (z : Timed). z.under.solo) is))
       ]
 
   pub cycle_due : IsCalm (cycle_of m list) → open_cycle_of (opened m) list ≡ opened (cycle_of m list)

@@ -210,8 +210,10 @@ impl Parts {
     #[inline(always)]
     fn accept(&mut self, list: &Claims, most: usize)
         requires { length self.old.timed.under.pending + min most (length list.now) ≤ self.old.timed.config.window }
-        ensures { self.new ≡ record self.old { timed = with_pending self.old.timed (self.old.timed.under.pending
-            ++ map (accepted_in self.old.timed.cycles) (if goes_on self.old.timed.arch then take (min most (length list.now)) list.now else [])) } }
+        ensures { self.new ≡ record self.old {
+          timed = with_pending self.old.timed (self.old.timed.under.pending
+              ++ map (accepted_in self.old.timed.cycles) (if goes_on self.old.timed.arch then take (min most (length list.now)) list.now else []));
+        } }
     {
         if !list.is_empty() && self.goes_on() {
             let count = list.len().min(most);
