@@ -2,7 +2,7 @@
 // phases, so the bounds are asked for where they are needed.
 //
 // What each cycle does stands in the loop that drives the machine (`inline(always)`).
-ghost use Rattle.std.specs.Prelude.{◌≡◌, ◌≤◌, ◌<◌, ◌+◌, ◌-◌, ◌^◌, ◌++◌, ◌==◌, ◌&&◌, [], length, map, min, take, not, None, Some, IfOk, IfSome, nat_le, true, false, if◌then◌else◌};
+ghost use Rattle.std.specs.Prelude.{◌≡◌, ◌≤◌, ◌<◌, ◌+◌, ◌-◌, ◌^◌, ◌++◌, ◌==◌, ◌&&◌, ℕ, [], length, map, min, take, not, None, Some, IfOk, IfSome, nat_le, true, false, if◌then◌else◌};
 ghost use Rattle.diva_decode.specs.Table.{row_of, HasRegisters};
 ghost use Rattle.diva_isa.specs.State.{goes_on, GoesOn, State};
 ghost use Rattle.diva_isa.specs.Step.{record_of};
@@ -275,7 +275,6 @@ fn puts_store(front: &Entry) -> bool
 /// The place where a claim leaves, `decoded` being what its word says. It is compared with what is due only where there is no
 /// place yet.
 #[inline(always)]
-#[tactic(auto, using(crate::proofs::Placing::place_of_due, crate::proofs::Placing::place_of_other))]
 fn place_behind(
     place: Option<u64>,
     arch: &OpenArch,
@@ -291,11 +290,20 @@ fn place_behind(
         return place;
     }
     let due = due_as(&arch.view(), claim.word, decoded);
-    if *claim == due {
+    if is_due(claim, &due) {
         None
     } else {
         Some(arch.count())
     }
+}
+
+/// Whether a claim is the record that is due: then it leaves without a place, if there is none yet.
+#[inline(always)]
+#[tactic(auto, using(crate::proofs::Placing::place_of_due, crate::proofs::Placing::place_of_other))]
+fn is_due(claim: &Record, due: &Record) -> bool
+    ensures { (count : ℕ) → place_behind None count (first_difference claim.now due.now) ≡ (if result then None else Some count) }
+{
+    claim == due
 }
 
 /// The record that is due, where `decoded` is what a claimed word says. Mostly that word is the one that is due, and then none is decoded.
