@@ -10,7 +10,7 @@
 //!
 //! What a cycle does is `open_cycle_of` of `specs/Open.antt`, over the phases of `diva_core`'s definitions; how an open machine ends stands in
 //! `specs/Ends.antt`, what a drive does in `specs/Turns.antt`, what holds between cycles in `specs/Machine.antt`, and the open machine of
-//! a timed one in `specs/Laws.antt`. `proofs/` has what follows.
+//! a timed one in `specs/Laws.antt`. `Inner` is for private contracts alone. `proofs/` has what follows.
 #![tactic(auto)]
 
 mod arch;
