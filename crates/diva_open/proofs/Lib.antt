@@ -2,6 +2,7 @@
 pub mod Fronts
 pub mod Leaving
 pub mod Phases
+pub mod Placed
 pub mod Placing
 pub mod Righting
 pub mod Turning

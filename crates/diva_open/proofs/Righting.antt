@@ -75,7 +75,7 @@ record IsDueIn (m : Timed) : Type 0 where
   none : goes_on m.arch ≡ false → m.under.pending ≡ []
 
 -- a due record is done as one that commits
-obeyed_due : (m : Timed) → obeyed m (record_of m.arch) ≡ committed m (record_of m.arch)
+pub obeyed_due : (m : Timed) → obeyed m (record_of m.arch) ≡ committed m (record_of m.arch)
 unfolding obeyed
 obeyed_due m = rw (due_can_apply m.arch) refl
 

@@ -1,7 +1,8 @@
 -- The open machine: the timed machine without its checker. A claim that is ready commits as it stands, whatever is due; nothing
 -- flushes, no instruction runs solo, and the watchdog sleeps. A record that cannot be applied ends it.
--- Cited by `OpenMachine::new` and `cycle`; in `Turns.antt`, for `drive_open`; by `right_lists_lead_to_the_same`.
-use Rattle.std.specs.Prelude.{ℕ, zero, suc, ◌+◌, ◌==◌, min, List, [], ◌∷◌, length, Bool, true, false, ◌&&◌, not, Option, Some, None, nat_le, nat_lt, if◌then◌else◌}
+-- Cited by `OpenMachine::new` and `cycle`; in `Turns.antt`, for `drive_open`; by `right_lists_lead_to_the_same` and
+-- `without_a_place_the_state_is_due`.
+use Rattle.std.specs.Prelude.{ℕ, zero, suc, ◌+◌, ◌==◌, min, List, [], ◌∷◌, length, Bool, true, false, ◌&&◌, ◌||◌, not, Option, Some, None, nat_le, nat_lt, if◌then◌else◌}
 use Rattle.std.specs.Option.{is_some}
 use Rattle.diva_decode.specs.Table.{row_of}
 use Rattle.diva_memory.specs.Bytes.{is_inside}

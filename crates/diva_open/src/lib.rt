@@ -5,7 +5,8 @@
 //! - `machine`: the machine between cycles, `OpenMachine`;
 //! - `ends`: how it has ended, `OpenEnd`;
 //! - `turns`: an open machine and a core, turn by turn, `drive_open`;
-//! - `laws`: right lists lead it to the same state as the machine with its checker;
+//! - `laws`: right lists lead it to the same state as the machine with its checker, and while none but due records leave its state is the
+//!   table's;
 //! - `tests`: short runs, worked out by hand.
 //!
 //! What a cycle does is `open_cycle_of` of `specs/Open.antt`, over the phases of `diva_core`'s definitions; how an open machine ends stands in
