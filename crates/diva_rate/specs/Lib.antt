@@ -1,0 +1,8 @@
+pub mod Cells
+pub mod Groups
+pub mod Injections
+pub mod Kinds
+pub mod Names
+pub mod Shares
+-- what only private contracts cite
+pub mod Inner
