@@ -1,7 +1,9 @@
 pub mod Cells
+pub mod Extra
 pub mod Groups
 pub mod Injections
 pub mod Kinds
+pub mod Latencies
 pub mod Names
 pub mod Shares
 -- what only private contracts cite
