@@ -1,10 +1,12 @@
 -- The nearest rank in numbers that rise.
-use Rattle.std.proofs.Common.{◌≡◌, ◌<◌, ◌≤◌, ◌+◌, ◌-◌, ◌*◌, ℕ, zero, suc, min, Bool, true, false, cond, List, [], ◌∷◌, length, get_or, take, drop, refl, ap, sym, subst, arith, ◌∙◌, nat_le, length-take, length-drop, get_or-take, get_or-drop}
+use Rattle.std.proofs.Common.{◌≡◌, ◌<◌, ◌≤◌, ◌+◌, ◌-◌, ◌*◌, ◌/◌, ℕ, zero, suc, min, Bool, true, false, cond, List, [], ◌∷◌, length, get_or, take, drop, refl, ap, sym, subst, arith, ◌∙◌, nat_le, length-take, length-drop, get_or-take, get_or-drop}
 use Rattle.std.specs.Prelude.{Some, None, Option}
 use Rattle.std.specs.List.{Contains, count_by, filter, fold, sum_by}
 use Rattle.std.specs.List.Sorted.{IsNonDecreasing, IsPermutation}
 use Rattle.std.proofs.lemmas.Bool.{leb-true, le-leb, lt-leb}
 use Rattle.std.proofs.lemmas.Grind.{common_steps}
+use Rattle.std.proofs.lemmas.Nat.{mul-le}
+use Rattle.std.proofs.lemmas.List.{get_or_default}
 use Rattle.std.proofs.lemmas.List.Elements.{Contains-get_or}
 use Rattle.std.proofs.lemmas.List.Sorted.{Contains-permutation, IsPermutation-sym, length_permutation, sum_by-IsPermutation}
 use Rattle.std.proofs.lemmas.List.Sums.{count_by-le-length, sum_by-cons, sum_by-take-drop}
@@ -14,7 +16,7 @@ use Rattle.diva_rate.specs.Latencies.{count_to, least, percentile, reaches}
 
 module _ (p : ℕ → Bool) (v : ℕ) (passes : p v ≡ true) (lowest : (x : ℕ) → p x ≡ true → v ≤ x) where
   keeps-step : (x : ℕ) (xs : List ℕ) (t : Bool) → p x ≡ t → fold min v (filter p xs) ≡ v → fold min v (cond t (x ∷ filter p xs) (filter p xs)) ≡ v
-  keeps-step x xs true is more = let low = lowest x is in let e : min v x ≡ v = omega (arith, low) in rw e more
+  keeps-step x xs true is more = let low = lowest x is in let e : min v x ≡ v = omega (arith, low) in ap (λ (b : ℕ). fold min b (filter p xs)) e ∙ more
   keeps-step x xs false is more = more
 
   keeps : (xs : List ℕ) → fold min v (filter p xs) ≡ v
@@ -29,7 +31,8 @@ module _ (p : ℕ → Bool) (v : ℕ) (passes : p v ≡ true) (lowest : (x : ℕ
   takes : (xs : List ℕ) (a i : ℕ) → v ≤ a → i < length xs → get_or xs i 0 ≡ v → fold min a (filter p xs) ≡ v
   takes [] a i above inside at = absurd (omega arith)
   takes (x ∷ xs) a zero above inside at =
-      let is : p x ≡ true = ap p at ∙ passes in let e : min a x ≡ v = omega (arith, at, above) in rw (is, e) (keeps xs)
+      let is : p x ≡ true = ap p at ∙ passes in let e : min a x ≡ v = omega (arith, at, above) in
+      rw is (ap (λ (b : ℕ). fold min b (filter p xs)) e ∙ keeps xs)
   takes (x ∷ xs) a (suc i) above inside at = takes-step x xs a (p x) refl above (λ b low. takes xs b i low (omega arith) at)
 
   least-step : (x : ℕ) (xs : List ℕ) (i : ℕ) (t : Bool) → p x ≡ t → i < length xs → get_or xs i 0 ≡ v → least (filter p xs) ≡ Some v
@@ -52,7 +55,7 @@ count_all p (x ∷ xs) each =
     let more = count_all p xs (λ k h. each (suc k) (omega arith)) in
     let one = sum_by-cons (λ (x : ℕ). cond (p x) 1 0) x xs in
     let is : p x ≡ true = each 0 (omega arith) in
-    let e : cond (p x) 1 0 ≡ 1 = rw is refl in
+    let e : ◌≡◌ {A = ℕ} (cond (p x) 1 0) 1 = rw is refl in
     omega (arith, more, one, e)
 
 count_none : (p : ℕ → Bool) (xs : List ℕ) → ((k : ℕ) → k < length xs → p (get_or xs k 0) ≡ false) → count_by p xs ≡ 0
@@ -61,7 +64,7 @@ count_none p (x ∷ xs) each =
     let more = count_none p xs (λ k h. each (suc k) (omega arith)) in
     let one = sum_by-cons (λ (x : ℕ). cond (p x) 1 0) x xs in
     let is : p x ≡ false = each 0 (omega arith) in
-    let e : cond (p x) 1 0 ≡ 0 = rw is refl in
+    let e : ◌≡◌ {A = ℕ} (cond (p x) 1 0) 0 = rw is refl in
     omega (arith, more, one, e)
 
 module _ (sorted : List ℕ) (rises : IsNonDecreasing sorted) (i : ℕ) (inside : i < length sorted) where
@@ -91,6 +94,11 @@ module _ (sorted : List ℕ) (rises : IsNonDecreasing sorted) (i : ℕ) (inside 
 
 -- ---- the nearest rank
 
+pub rank_inside : (percent size : ℕ) → percent ≤ 100 → 0 < size → (percent * size + 99) / 100 - 1 < size
+rank_inside percent size most some =
+    let few : percent * size ≤ 100 * size = mul-le percent size 100 size most (omega arith) in
+    omega (arith, few, some)
+
 module _ (numbers sorted : List ℕ) (moved : IsPermutation numbers sorted) (rises : IsNonDecreasing sorted)
     (percent i : ℕ) (inside : i < length sorted) where
   same_count : (n : ℕ) → count_to n sorted ≡ count_to n numbers
@@ -112,10 +120,26 @@ module _ (numbers sorted : List ℕ) (moved : IsPermutation numbers sorted) (ris
       above (λ less. let few = counts_less sorted rises i inside x less in omega (arith, few, same, enough', many))
     where
       above : (x < get_or sorted i 0 → ⊥) → get_or sorted i 0 ≤ x
-      above no = omega (arith, no)
+      above never = omega (arith, never)
 
   pub percentile_is : percent * length sorted ≤ 100 * (i + 1) → 100 * i < percent * length sorted → percentile percent numbers ≡ Some (get_or sorted i 0)
   unfolding percentile
   percentile_is enough many =
       let found = Contains-permutation sorted numbers (get_or sorted i 0) (IsPermutation-sym numbers sorted moved) (Contains-get_or sorted i 0 inside) in
-      least_is (reaches percent numbers) (get_or sorted i 0) (reaches_own enough) (reaches_above many) numbers found.0 found.1 ?
+      least_is (reaches percent numbers) (get_or sorted i 0) (reaches_own enough) (reaches_above many) numbers found.0 found.1
+          (get_or_default numbers found.0 0 (get_or sorted i 0) found.1 ∙ found.2)
+
+-- of numbers of which there are none
+pub percentile_none : (percent : ℕ) (numbers : List ℕ) → length numbers ≡ 0 → percentile percent numbers ≡ None
+unfolding percentile
+percentile_none percent [] none = refl
+percentile_none percent (n ∷ numbers) none = absurd (omega (arith, none))
+
+-- the number at the rank
+pub percentile_at : (percent : ℕ) (sorted : List ℕ) → IsNonDecreasing sorted → 0 < percent → percent ≤ 100 → 0 < length sorted
+    → (numbers : List ℕ) → IsPermutation numbers sorted
+    → percentile percent numbers ≡ Some (get_or sorted ((percent * length sorted + 99) / 100 - 1) 0)
+percentile_at percent sorted rises some most many numbers moved =
+    let product : 1 * 1 ≤ percent * length sorted = mul-le 1 1 percent (length sorted) some many in
+    percentile_is numbers sorted moved rises percent ((percent * length sorted + 99) / 100 - 1) (rank_inside percent (length sorted) most many)
+        (omega (arith, product)) (omega (arith, product))

@@ -1,10 +1,12 @@
 pub mod Cells
+pub mod Counts
 pub mod Extra
 pub mod Groups
 pub mod Injections
 pub mod Kinds
 pub mod Latencies
 pub mod Names
+pub mod Rates
 pub mod Shares
 -- what only private contracts cite
 pub mod Inner

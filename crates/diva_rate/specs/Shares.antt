@@ -1,11 +1,12 @@
 -- Shares in ten-thousandths, and the interval of each.
--- Cited by `share`, `low` and `high`.
+-- Cited in `Counts.antt`, for `Injections::rates`.
 use Rattle.std.specs.Prelude.{ℕ, ◌+◌, ◌-◌, ◌*◌, ◌/◌, ◌&&◌, nat_le, Bool}
 use Rattle.std.specs.List.{position_or_len, range_with_len}
+use Rattle.diva_rate.specs.declared.shares.Share.{Share}
 
 -- k of n, in ten-thousandths, rounded to the nearest, a half up
-abbrev pub share_of : (k n : ℕ) → ℕ
-share_of k n = (20000 * k + n) / (2 * n)
+abbrev pub nearest : (k n : ℕ) → ℕ
+nearest k n = (20000 * k + n) / (2 * n)
 
 -- The Wilson score interval of k of n at 95 %, with z = 1.96, has as its bounds the two solutions p of
 --     (k - n p)^2 = z^2 n p (1 - p),
@@ -27,3 +28,7 @@ high_of k n = high_below 10000 k n
 -- k is n - k and p is 1 - p
 abbrev pub low_of : (k n : ℕ) → ℕ
 low_of k n = 10000 - high_of (n - k) n
+
+-- k of n, with the share and the bounds of its interval
+abbrev pub rate : (k n : ℕ) → Share
+rate k n = record { count = k; share = nearest k n; low = low_of k n; high = high_of k n }

@@ -58,6 +58,21 @@ impl Injections {
         fold_lines(&InjectionReader, self, text)
     }
 
+    /// The lines that are counted, in their order: fewer than 2^32.
+    pub fn lines(&self) -> &[Injection]
+        ensures lines { result.now ≡ self.now.lines }
+        ensures few { length result.now < 2 ^ 32 }
+    {
+        &self.lines
+    }
+
+    /// How many further lines there were of their faults.
+    pub fn twice(&self) -> u32
+        ensures { result ≡ self.now.twice }
+    {
+        self.twice
+    }
+
     /// Whether there is room for one more line.
     fn has_room(&self) -> bool
         ensures { result ≡ has_room self.now }

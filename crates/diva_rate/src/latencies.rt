@@ -1,5 +1,6 @@
 // Latencies of the faults that were found, by the nearest rank.
-ghost use Rattle.std.specs.Prelude.{◌≡◌, ◌≤◌, ◌<◌, ◌^◌, ℕ, List, IfOk, length};
+ghost use Rattle.std.specs.Prelude.{◌≡◌, ◌≤◌, ◌<◌, ◌^◌, ℕ, List, IfOk, OnOk, ◌+◌, ◌++◌, length};
+ghost use Rattle.std.specs.Option.{option_to_list};
 ghost use Rattle.std.specs.List.Sorted.{IsNonDecreasing, IsPermutation};
 ghost use Rattle.diva_rate.specs.declared.injection.Injection.{Injection};
 ghost use Rattle.diva_rate.specs.Latencies.{latencies_in, latencies_of, percentile};
@@ -32,17 +33,27 @@ pub(crate) fn latencies_in(alloc: Global, lines: &[Injection]) -> Result<Latenci
 }
 
 /// The latencies of the lines that have one.
+#[tactic(auto, using(crate::proofs::Scanning::latencies_more))]
 fn latencies_of(alloc: Global, lines: &[Injection]) -> Result<Vec<u64>, AllocError>
     ensures latencies { IfOk result (λ found. found.items ≡ latencies_of lines.now) }
     ensures few { IfOk result (λ found. length found.items ≤ length lines.now) }
 {
     let mut found = Vec::new(alloc);
     for line in lines {
-        if let Some(latency) = line.effect.latency {
-            found.push(latency)?;
-        }
+        push_all(&mut found, line.effect.latency)?;
     }
     Ok(found)
+}
+
+/// Appends a number, if there is one.
+fn push_all(numbers: &mut Vec<u64>, number: Option<u64>) -> Result<(), AllocError>
+    ensures numbers { OnOk result (numbers.new.items ≡ numbers.old.items ++ option_to_list number) }
+    ensures few { OnOk result (length numbers.new.items ≤ length numbers.old.items + 1) }
+{
+    if let Some(number) = number {
+        numbers.push(number)?;
+    }
+    Ok(())
 }
 
 /// What is said of some latencies that rise.

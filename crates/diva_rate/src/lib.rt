@@ -2,19 +2,23 @@
 #![tactic(auto)]
 
 mod cells;
+mod counts;
 mod extra;
 mod fault;
 mod group;
 mod injection;
 mod injections;
 mod latencies;
+mod rates;
 mod reading;
 mod shares;
 
+pub use counts::What;
 pub use extra::Extra;
 pub use fault::RateFault;
 pub use injection::{Effect, FaultModel, Injection, OpenEnding};
 pub use injections::Injections;
-pub use group::Group;
+pub use group::{GROUPS, Group};
 pub use latencies::Latencies;
-pub use shares::{high, low, share};
+pub use rates::{GroupRates, Rates};
+pub use shares::Share;

@@ -1,20 +1,47 @@
 // Shares in ten-thousandths, and the interval of each.
 ghost use Rattle.std.specs.Prelude.{◌≡◌, ◌≤◌, ◌<◌, ◌^◌};
-ghost use Rattle.diva_rate.specs.Shares.{high_below, high_of, is_high, low_of, share_of};
+ghost use Rattle.diva_rate.specs.Shares.{high_below, high_of, is_high, low_of, nearest, rate};
 
 /// All of them, in ten-thousandths.
 const WHOLE: u32 = 10_000;
 
-/// The share of `count` of `faults`, in ten-thousandths, rounded to the nearest, a half up.
-pub fn share(count: u32, faults: u32) -> u64
+/// How many of some faults there are, with their share and its interval, in ten-thousandths.
+#[derive(Clone, Copy, Debug, PartialEq, Eq)]
+pub struct Share {
+    /// How many they are.
+    pub count: u32,
+    /// Their share, rounded to the nearest, a half up.
+    pub share: u64,
+    /// The lower bound of the Wilson score interval of the share at 95 %, rounded down.
+    pub low: u32,
+    /// The upper bound, rounded up: at most 10,000.
+    pub high: u32,
+}
+
+/// So many of some faults.
+pub(crate) fn share_of(count: u32, faults: u32) -> Share
+    requires some { 0 < faults }
+    requires most { count ≤ faults }
+    ensures { result ≡ rate count faults }
+{
+    Share {
+        count,
+        share: nearest(count, faults),
+        low: low(count, faults),
+        high: high(count, faults),
+    }
+}
+
+/// The share in ten-thousandths, rounded to the nearest, a half up.
+fn nearest(count: u32, faults: u32) -> u64
     requires { 0 < faults }
-    ensures { result ≡ share_of count faults }
+    ensures { result ≡ nearest count faults }
 {
     (20_000 * u64::from(count) + u64::from(faults)) / (2 * u64::from(faults))
 }
 
-/// The lower bound of the Wilson score interval of that share at 95 %, in ten-thousandths, rounded down.
-pub fn low(count: u32, faults: u32) -> u32
+/// The lower bound of the interval, rounded down.
+fn low(count: u32, faults: u32) -> u32
     requires { count ≤ faults }
     ensures { result ≡ low_of count faults }
 {
@@ -22,7 +49,7 @@ pub fn low(count: u32, faults: u32) -> u32
 }
 
 /// The upper bound, rounded up: at most 10,000.
-pub fn high(count: u32, faults: u32) -> u32
+fn high(count: u32, faults: u32) -> u32
     requires { count ≤ faults }
     ensures bound { result ≡ high_of count faults }
     ensures most { result ≤ 10000 }
