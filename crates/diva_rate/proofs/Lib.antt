@@ -1,5 +1,6 @@
 -- The lemmas of this crate.
 mod Bounding
 mod Cutting
+mod Grouping
 mod Ranking
 mod Scanning

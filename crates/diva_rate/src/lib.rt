@@ -9,9 +9,11 @@ mod group;
 mod injection;
 mod injections;
 mod latencies;
+mod lines;
 mod rates;
 mod reading;
 mod shares;
+mod writing;
 
 pub use counts::What;
 pub use extra::Extra;
@@ -22,3 +24,4 @@ pub use group::{GROUPS, Group};
 pub use latencies::Latencies;
 pub use rates::{GroupRates, Rates};
 pub use shares::Share;
+pub use writing::write_rates;

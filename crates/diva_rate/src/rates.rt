@@ -1,5 +1,6 @@
 // The rates of injections.
-ghost use Rattle.std.specs.Prelude.{◌≡◌, ◌≤◌, ◌<◌, ◌^◌, IfOk, length};
+ghost use Rattle.std.specs.Prelude.{◌≡◌, ◌≤◌, ◌<◌, ◌^◌, ◌+◌, ◌++◌, IfOk, OnOk, length};
+ghost use Rattle.diva_rate.specs.Grouping.{rates_if};
 ghost use Rattle.diva_rate.specs.Rates.{extra_if, greatest, groups_of, missing_of, rates_in, rates_of};
 
 use crate::counts::What;
@@ -123,6 +124,7 @@ fn greatest(lines: &[Injection]) -> u64
 }
 
 /// The rates of each group that has lines.
+#[tactic(auto, using(crate::proofs::Grouping::groups_more, crate::proofs::Grouping::groups_all))]
 fn groups_of(alloc: Global, lines: &[Injection]) -> Result<Vec<GroupRates>, AllocError>
     requires { length lines.now < 2 ^ 32 }
     ensures { IfOk result (λ groups. groups.items ≡ groups_of lines.now) }
@@ -130,12 +132,28 @@ fn groups_of(alloc: Global, lines: &[Injection]) -> Result<Vec<GroupRates>, Allo
     let base = base(lines);
     let mut groups = Vec::new(alloc);
     for group in &GROUPS {
-        let members = group.lines_in(alloc, lines)?;
-        if !members.is_empty() {
-            groups.push(group_rates(alloc, base, *group, &members)?)?;
-        }
+        push_group(alloc, &mut groups, base, *group, lines)?;
     }
     Ok(groups)
+}
+
+/// Appends the rates of a group, if it has lines.
+fn push_group(
+    alloc: Global,
+    groups: &mut Vec<GroupRates>,
+    base: Option<u64>,
+    group: Group,
+    lines: &[Injection],
+) -> Result<(), AllocError>
+    requires { length lines.now < 2 ^ 32 }
+    ensures groups { OnOk result (groups.new.items ≡ groups.old.items ++ rates_if base lines.now group) }
+    ensures few { OnOk result (length groups.new.items ≤ length groups.old.items + 1) }
+{
+    let members = group.lines_in(alloc, lines)?;
+    if !members.is_empty() {
+        groups.push(group_rates(alloc, base, group, &members)?)?;
+    }
+    Ok(())
 }
 
 /// The rates of a group that has these lines.
