@@ -1,8 +1,8 @@
 -- The rates of groups, group by group.
-use Rattle.std.proofs.Common.{◌≡◌, ◌<◌, ◌≤◌, ◌+◌, ℕ, zero, suc, Bool, true, false, cond, List, [], ◌∷◌, ◌++◌, map, take, length, get_or, refl, ap, sym, arith, ◌∙◌, add-one, append_assoc, append-nil, take_all, map-append, length-map}
+use Rattle.std.proofs.Common.{◌≡◌, ◌<◌, ◌≤◌, ◌+◌, ℕ, zero, suc, Bool, true, false, cond, List, [], ◌∷◌, ◌++◌, map, take, length, get_or, refl, ap, sym, arith, ◌∙◌, add-one, append_assoc, append-nil, take_all}
 use Rattle.std.specs.Prelude.{Option}
 use Rattle.std.specs.List.{filter}
-use Rattle.std.proofs.lemmas.List.{get_or-map}
+use Rattle.std.proofs.lemmas.List.{map-append}
 use Rattle.std.proofs.lemmas.List.Elements.{filter_more}
 use Rattle.diva_rate.specs.Extra.{base_of}
 use Rattle.diva_rate.specs.Groups.{all_groups, lines_in}
@@ -39,12 +39,3 @@ module _ (base : Option ℕ) (lines : List Injection) where
       → map (λ group. rates_in base group (lines_in group lines)) (filter (has_lines lines) (take i all_groups))
       ≡ map (λ group. rates_in base group (lines_in group lines)) (filter (has_lines lines) all_groups)
   groups_all i all = ap (λ (l : List Group). map (λ group. rates_in base group (lines_in group lines)) (filter (has_lines lines) l)) (take_all i all_groups all)
-
--- ---- the texts of groups
-
-pub inside_map : (text : GroupRates → List ℕ) (groups : List GroupRates) (at : ℕ) → at < length groups → at < length (map text groups)
-inside_map text groups at inside = let e = length-map groups text in omega (arith, e, inside)
-
-pub text_at : (text : GroupRates → List ℕ) (groups : List GroupRates) (at : ℕ) (d : GroupRates) → at < length groups
-    → text (get_or groups at d) ≡ get_or (map text groups) at (text (get_or groups at d))
-text_at text groups at d inside = sym (get_or-map text groups at d (text (get_or groups at d)) inside)

@@ -2,5 +2,6 @@
 mod Bounding
 mod Cutting
 mod Grouping
+mod Putting
 mod Ranking
 mod Scanning

@@ -124,7 +124,6 @@ fn greatest(lines: &[Injection]) -> u64
 }
 
 /// The rates of each group that has lines.
-#[tactic(auto, using(crate::proofs::Grouping::groups_more, crate::proofs::Grouping::groups_all))]
 fn groups_of(alloc: Global, lines: &[Injection]) -> Result<Vec<GroupRates>, AllocError>
     requires { length lines.now < 2 ^ 32 }
     ensures { IfOk result (λ groups. groups.items ≡ groups_of lines.now) }

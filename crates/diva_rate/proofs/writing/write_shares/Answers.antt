@@ -1,31 +1,20 @@
 -- One group more was put, or a prefix of it.
-use Rattle.std.proofs.Common.{◌≡◌, ◌≤◌, ◌<◌, ◌+◌, ◌∙◌, ℕ, List, [], length, get_or, map, take_all, sym, subst, arith, Ok, length-map}
+use Rattle.std.proofs.Common.{◌≤◌, length, arith}
 use Rattle.std.proofs.lemmas.Result.{err_from_is_err_and}
-use Rattle.std.specs.List.{concat}
-use Rattle.diva_outside.specs.Lent.{lent}
-use Rattle.diva_outside.specs.Sink.{PutsTo}
-use Rattle.diva_outside.specs.declared.sink.SinkFailed.{SinkFailed}
-use Rattle.diva_outside.proofs.Sinks.{puts_then, puts_cut, concat_more, concat_parts}
 use Rattle.diva_rate.specs.Text.{shares_text}
-use Rattle.diva_rate.specs.declared.rates.GroupRates.{GroupRates}
-use Rattle.diva_rate.proofs.Grouping.{inside_map, text_at}
+use Rattle.diva_rate.proofs.Putting.{put_all, put_less, put_more}
 use Rattle.diva_rate.proofs.writing.write_shares.Goals as goal
 
 pub loop-rates-preserved : goal.loop-rates-preserved
 loop-rates-preserved g c =
-    let groups : List GroupRates = c.args.groups.now in
-    let at : ℕ = c.loop-rates.rates-index in
-    let inside : at < length groups = omega arith in
-    rw (concat_more (map shares_text groups) at (shares_text (get_or groups at ?)) (inside_map shares_text groups at inside) (text_at shares_text groups at ? inside))
-    (puts_then _ _ _ _ _ _ _ c.loop-rates.invariant c.in_ok-write_group.ensures)
+    put_more g.S.Sink.account shares_text c.args.groups.now c.loop-rates.rates-index _ _ _ _ (omega arith) c.loop-rates.invariant c.in_ok-write_group.ensures
 
 pub returns-in_err-write_group : goal.returns-in_err-write_group
-returns-in_err-write_group g c = ?
+returns-in_err-write_group g c =
+    let failed = err_from_is_err_and c.from_residual.result c.from_residual.ensures.1 in
+    rw failed.1 (put_less g.S.Sink.account shares_text c.args.groups.now c.loop-rates.rates-index _ _ _ _ _ (omega arith) c.loop-rates.invariant c.in_err-write_group.ensures)
 
 pub returns : goal.returns
 returns g c =
-    let texts : List (List ℕ) = map shares_text c.args.groups.now in
-    let all : length texts ≤ c.loop-rates.rates-index = (
-    let e = length-map c.args.groups.now shares_text in let h = c.loop-rates-test.false in omega arith
-    ) in
-    subst (λ (put : List (List ℕ)). PutsTo {E = SinkFailed} (lent g.S.Sink.account c.args.sink.now c.loop-rates.sink) (concat put) (Ok tt)) (take_all c.loop-rates.rates-index texts all) c.loop-rates.invariant
+    let all : length c.args.groups.now ≤ c.loop-rates.rates-index = (let h = c.loop-rates-test.false in omega arith) in
+    put_all g.S.Sink.account shares_text c.args.groups.now c.loop-rates.rates-index _ _ all c.loop-rates.invariant
