@@ -22,8 +22,8 @@ module _ {S E : Type 0} (account : S → SinkAccount) (text : GroupRates → Lis
       → PutsTo {E = E} (lent account s0 s2) (concat (take (at + 1) (map text groups))) (Ok tt)
   put_more s0 s1 s2 d inside before now =
       subst (λ (put : List ℕ). PutsTo {E = E} (lent account s0 s2) put (Ok tt))
-          (sym (concat_more (map text groups) at (text (get_or groups at d)) (inside_map text groups at inside) (text_at text groups at d inside)))
-          (puts_then account (concat (take at (map text groups))) (text (get_or groups at d)) s0 s1 s2 (Ok tt) before now)
+      (sym (concat_more (map text groups) at (text (get_or groups at d)) (inside_map text groups at inside) (text_at text groups at d inside)))
+      (puts_then account (concat (take at (map text groups))) (text (get_or groups at d)) s0 s1 s2 (Ok tt) before now)
 
   -- one group failed
   pub put_less : (s0 s1 s2 : S) (d : GroupRates) (e : E) → at < length groups
@@ -32,8 +32,8 @@ module _ {S E : Type 0} (account : S → SinkAccount) (text : GroupRates → Lis
       → PutsTo {E = E} (lent account s0 s2) (concat (map text groups)) (Err e)
   put_less s0 s1 s2 d e inside before now =
       subst (λ (put : List ℕ). PutsTo {E = E} (lent account s0 s2) put (Err e))
-          (sym (concat_parts (map text groups) at (text (get_or groups at d)) (inside_map text groups at inside) (text_at text groups at d inside)))
-          (puts_cut account _ _ s0 s2 e (puts_then account (concat (take at (map text groups))) (text (get_or groups at d)) s0 s1 s2 (Err e) before now))
+      (sym (concat_parts (map text groups) at (text (get_or groups at d)) (inside_map text groups at inside) (text_at text groups at d inside)))
+      (puts_cut account _ _ s0 s2 e (puts_then account (concat (take at (map text groups))) (text (get_or groups at d)) s0 s1 s2 (Err e) before now))
 
   -- all were put
   pub put_all : (s0 s1 : S) → length groups ≤ at
@@ -42,4 +42,4 @@ module _ {S E : Type 0} (account : S → SinkAccount) (text : GroupRates → Lis
   put_all s0 s1 all put =
       let e = length-map groups text in
       subst (λ (texts : List (List ℕ)). PutsTo {E = E} (lent account s0 s1) (concat texts) (Ok tt))
-          (take_all at (map text groups) (omega (arith, e, all))) put
+      (take_all at (map text groups) (omega (arith, e, all))) put

@@ -74,8 +74,8 @@ module _ (sorted : List ℕ) (rises : IsNonDecreasing sorted) (i : ℕ) (inside 
       let p = λ (m : ℕ). nat_le m (get_or sorted i 0) in
       let front : length (take (i + 1) sorted) ≡ i + 1 = grind (arith, common_steps) in
       let all : count_by p (take (i + 1) sorted) ≡ length (take (i + 1) sorted) =
-          count_all p (take (i + 1) sorted) (λ k h. let before : k ≤ i = omega (arith, front, h) in
-          rw (get_or-take (i + 1) sorted k 0 (omega (arith, before))) (le-leb _ _ (rises k i 0 before inside))) in
+      count_all p (take (i + 1) sorted) (λ k h. let before : k ≤ i = omega (arith, front, h) in
+      rw (get_or-take (i + 1) sorted k 0 (omega (arith, before))) (le-leb _ _ (rises k i 0 before inside))) in
       let both = sum_by-take-drop (λ (x : ℕ). cond (p x) 1 0) sorted (i + 1) in
       omega (arith, front, all, both)
 
@@ -86,9 +86,9 @@ module _ (sorted : List ℕ) (rises : IsNonDecreasing sorted) (i : ℕ) (inside 
       let few = count_by-le-length p (take i sorted) in
       let front : length (take i sorted) ≤ i = grind (arith, common_steps) in
       let none : count_by p (drop i sorted) ≡ 0 =
-          count_none p (drop i sorted) (λ k h. let within : i + k < length sorted = grind (arith, common_steps) in
-          let above = rises i (i + k) 0 (omega arith) within in
-          rw (get_or-drop i sorted k 0) (lt-leb _ _ (omega (arith, above, less)))) in
+      count_none p (drop i sorted) (λ k h. let within : i + k < length sorted = grind (arith, common_steps) in
+      let above = rises i (i + k) 0 (omega arith) within in
+      rw (get_or-drop i sorted k 0) (lt-leb _ _ (omega (arith, above, less)))) in
       let both = sum_by-take-drop (λ (x : ℕ). cond (p x) 1 0) sorted i in
       omega (arith, few, front, none, both)
 
@@ -127,7 +127,7 @@ module _ (numbers sorted : List ℕ) (moved : IsPermutation numbers sorted) (ris
   percentile_is enough many =
       let found = Contains-permutation sorted numbers (get_or sorted i 0) (IsPermutation-sym numbers sorted moved) (Contains-get_or sorted i 0 inside) in
       least_is (reaches percent numbers) (get_or sorted i 0) (reaches_own enough) (reaches_above many) numbers found.0 found.1
-          (get_or_default numbers found.0 0 (get_or sorted i 0) found.1 ∙ found.2)
+      (get_or_default numbers found.0 0 (get_or sorted i 0) found.1 ∙ found.2)
 
 -- of numbers of which there are none
 pub percentile_none : (percent : ℕ) (numbers : List ℕ) → length numbers ≡ 0 → percentile percent numbers ≡ None
@@ -142,4 +142,4 @@ pub percentile_at : (percent : ℕ) (sorted : List ℕ) → IsNonDecreasing sort
 percentile_at percent sorted rises some most many numbers moved =
     let product : 1 * 1 ≤ percent * length sorted = mul-le 1 1 percent (length sorted) some many in
     percentile_is numbers sorted moved rises percent ((percent * length sorted + 99) / 100 - 1) (rank_inside percent (length sorted) most many)
-        (omega (arith, product)) (omega (arith, product))
+    (omega (arith, product)) (omega (arith, product))

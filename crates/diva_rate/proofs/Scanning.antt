@@ -19,8 +19,8 @@ pub first_is : (p : ℕ → Bool) (most i : ℕ) → i ≤ most → ((k : ℕ) �
 first_is p most i within fails passes =
     let size : length (range_with_len 0 most) ≡ most = length-range_with_len 0 most in
     position_or_len_is p (range_with_len 0 most) i 0 (omega (arith, size, within))
-        (λ k before. ap p (at_number most k (omega arith)) ∙ fails k before)
-        (λ before. let inside : i < most = omega (arith, size, before) in ap p (at_number most i inside) ∙ passes inside)
+    (λ k before. ap p (at_number most k (omega arith)) ∙ fails k before)
+    (λ before. let inside : i < most = omega (arith, size, before) in ap p (at_number most i inside) ∙ passes inside)
 
 latencies_cons : (line : Injection) (lines : List Injection) → latencies_of (line ∷ lines) ≡ option_to_list line.effect.latency ++ latencies_of lines
 latencies_cons line lines = each line.effect.latency

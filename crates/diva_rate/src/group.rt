@@ -99,11 +99,7 @@ impl Group {
     }
 
     /// The lines of the group, in their order.
-    pub fn lines_in(
-        self,
-        alloc: Global,
-        lines: &[Injection],
-    ) -> Result<Vec<Injection>, AllocError>
+    pub fn lines_in(self, alloc: Global, lines: &[Injection]) -> Result<Vec<Injection>, AllocError>
         ensures lines { IfOk result (λ kept. kept.items ≡ lines_in self lines.now) }
         ensures few { IfOk result (λ kept. length kept.items ≤ length lines.now) }
     {

@@ -10,7 +10,8 @@ const HEAD: &[u8] =
 
 /// Forty lines of all models in two parts, each below the names of the columns, with an empty line between them. Two lines have a
 /// fault that has a line before.
-const LINES: &[u8] = b"fault,model,cycle,lane,field,bit,hit,flushes,latency,cycles,same,open,open_place,open_end\n\
+const LINES: &[u8] =
+    b"fault,model,cycle,lane,field,bit,hit,flushes,latency,cycles,same,open,open_place,open_end\n\
 6,flip,836,3,src1,17,yes,1,6,997,yes,silent,4,halt 0\n\
 40,set,509,3,word,,yes,1,12,1007,yes,hang,77,\n\
 31,lose,185,3,,,yes,1,1000000000000000000,1000,yes,trap,77,\n\
@@ -300,8 +301,14 @@ static FAULTS: [(&[u8], u8); 14] = [
     (b"0,flip,1,0,pc,3,yes,1,6,100,yes,masked,,,", 1),
     (b" ", 1),
     (b",flip,1,0,pc,3,yes,1,6,100,yes,masked,,", 2),
-    (b"9223372036854775808,flip,1,0,pc,3,yes,1,6,100,yes,masked,,", 2),
-    (b"00000000000000000000,flip,1,0,pc,3,yes,1,6,100,yes,masked,,", 2),
+    (
+        b"9223372036854775808,flip,1,0,pc,3,yes,1,6,100,yes,masked,,",
+        2,
+    ),
+    (
+        b"00000000000000000000,flip,1,0,pc,3,yes,1,6,100,yes,masked,,",
+        2,
+    ),
     (b"+1,flip,1,0,pc,3,yes,1,6,100,yes,masked,,", 2),
     (b"0,flip,1,0,pc,32,yes,1,6,100,yes,masked,,", 2),
     (b"0,flip,1,0,pc,3,yes,1,6,100,yes,masked,x,", 2),
