@@ -1,6 +1,6 @@
 -- Shares in ten-thousandths, and the interval of each.
 -- Cited in `Counts.antt`, for `Injections::rates`.
-use Rattle.std.specs.Prelude.{ℕ, ◌+◌, ◌-◌, ◌*◌, ◌/◌, ◌&&◌, nat_le, Bool}
+use Rattle.std.specs.Prelude.{ℕ, ◌+◌, ◌-◌, ◌*◌, ◌/◌, ◌&&◌, nat_le, nat_lt, Bool}
 use Rattle.std.specs.List.{position_or_len, range_with_len}
 use Rattle.diva_rate.specs.declared.shares.Share.{Share}
 
@@ -12,15 +12,16 @@ nearest k n = (20000 * k + n) / (2 * n)
 --     (k - n p)^2 = z^2 n p (1 - p),
 -- of which one is at most k / n and the other at least k / n. The left side is the greater one outside of the interval, and there
 -- alone. With p = m / 10000 and z^2 = 2401 / 625 both sides, multiplied by 625 * 10000^2, are the numbers below. So this says that
--- m / 10000 is k / n or more, and not below the interval's upper bound.
+-- m / 10000 is above k / n, and not below the interval's upper bound. (Where k is 0, so is the lower bound, and k / n; where k is n,
+-- the upper bound is 1, and no share is above it.)
 abbrev pub is_high : (k n m : ℕ) → Bool
-is_high k n m = nat_le (10000 * k) (n * m) && nat_le (2401 * (n * m) * (10000 - m)) (625 * ((n * m - 10000 * k) * (n * m - 10000 * k)))
+is_high k n m = nat_lt (10000 * k) (n * m) && nat_le (2401 * (n * m) * (10000 - m)) (625 * ((n * m - 10000 * k) * (n * m - 10000 * k)))
 
 -- the least number of ten-thousandths below `most` that is not below the upper bound, `most` if none is
 unfoldable pub high_below : (most k n : ℕ) → ℕ
 high_below most k n = position_or_len (is_high k n) (range_with_len 0 most)
 
--- the upper bound, rounded up: 10000 always is one
+-- the upper bound, rounded up: it is at most 10000
 abbrev pub high_of : (k n : ℕ) → ℕ
 high_of k n = high_below 10000 k n
 

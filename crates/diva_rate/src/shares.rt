@@ -72,7 +72,7 @@ fn high_below(most: u32, count: u32, faults: u32) -> u32
     most
 }
 
-/// Whether so many ten-thousandths are no less than the share, and not below the upper bound of its interval.
+/// Whether so many ten-thousandths are more than the share, and not below the upper bound of its interval.
 #[tactic(auto, using(crate::proofs::Bounding::product_small, crate::proofs::Bounding::square_small, crate::proofs::Bounding::spread_small))]
 fn is_high(count: u32, faults: u32, share: u32) -> bool
     requires { share ≤ 10000 }
@@ -82,7 +82,7 @@ fn is_high(count: u32, faults: u32, share: u32) -> bool
         u64::from(faults) * u64::from(share),
         10_000 * u64::from(count),
     );
-    if reached < due {
+    if reached <= due {
         return false;
     }
     let above = u128::from(reached - due);
