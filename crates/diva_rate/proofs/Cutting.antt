@@ -1,10 +1,9 @@
 -- How a line is cut into cells.
-use Rattle.std.proofs.Common.{◌≡◌, ◌<◌, ◌≤◌, ◌-◌, ℕ, ◌+◌, suc, List, [], ◌∷◌, take, drop, length, Bool, true, false, cond, not, refl, ap, sym, ◌∙◌, arith}
+use Rattle.std.proofs.Common.{◌≡◌, ◌<◌, ◌-◌, ℕ, ◌+◌, [], ◌∷◌, take, drop, length, Bool, true, false, refl, ◌∙◌, arith}
 use Rattle.std.specs.Prelude.{Some, None}
-use Rattle.std.specs.List.{after_first, before_first, count_by, onto_first, position, position_or_len, slice_split}
+use Rattle.std.specs.List.{count_by, position, position_or_len}
 use Rattle.std.proofs.lemmas.Grind.{common_steps}
 use Rattle.std.proofs.lemmas.List.Splits.{length-slice_split, slice_split_first}
-use Rattle.std.proofs.lemmas.List.Sums.{prefix_len-le-length}
 use Rattle.diva_outside.specs.Text.{Text}
 use Rattle.diva_rate.specs.Cells.{cells_of, is_comma}
 use Rattle.diva_outside.proofs.Splitting.{after_place}

@@ -1,13 +1,12 @@
 -- The rates of groups, group by group.
-use Rattle.std.proofs.Common.{◌≡◌, ◌<◌, ◌≤◌, ◌+◌, ℕ, zero, suc, Bool, true, false, cond, List, [], ◌∷◌, ◌++◌, map, take, length, get_or, refl, ap, sym, arith, ◌∙◌, add-one, append_assoc, append-nil, take_all}
+use Rattle.std.proofs.Common.{◌≡◌, ◌<◌, ◌≤◌, ◌+◌, ℕ, Bool, true, false, cond, List, [], ◌∷◌, ◌++◌, map, take, get_or, refl, ap, ◌∙◌, take_all}
 use Rattle.std.specs.Prelude.{Option}
 use Rattle.std.specs.List.{filter}
 use Rattle.std.proofs.lemmas.List.{map-append}
 use Rattle.std.proofs.lemmas.List.Elements.{filter_more}
-use Rattle.diva_rate.specs.Extra.{base_of}
 use Rattle.diva_rate.specs.Groups.{all_groups, lines_in}
 use Rattle.diva_rate.specs.Grouping.{rates_if}
-use Rattle.diva_rate.specs.Rates.{groups_of, has_lines, rates_in}
+use Rattle.diva_rate.specs.Rates.{has_lines, rates_in}
 use Rattle.diva_rate.specs.declared.group.Group.{Group}
 use Rattle.diva_rate.specs.declared.group.TheConstants.{GROUPS}
 use Rattle.diva_rate.specs.declared.injection.Injection.{Injection}

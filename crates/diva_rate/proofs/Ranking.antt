@@ -1,7 +1,7 @@
 -- The nearest rank in numbers that rise.
-use Rattle.std.proofs.Common.{◌≡◌, ◌<◌, ◌≤◌, ◌+◌, ◌-◌, ◌*◌, ◌/◌, ℕ, zero, suc, min, Bool, true, false, cond, List, [], ◌∷◌, length, get_or, take, drop, refl, ap, sym, subst, arith, ◌∙◌, nat_le, length-take, length-drop, get_or-take, get_or-drop}
-use Rattle.std.specs.Prelude.{Some, None, Option}
-use Rattle.std.specs.List.{Contains, count_by, filter, fold, sum_by}
+use Rattle.std.proofs.Common.{◌≡◌, ◌<◌, ◌≤◌, ◌+◌, ◌-◌, ◌*◌, ◌/◌, ℕ, zero, suc, min, Bool, true, false, cond, List, [], ◌∷◌, length, get_or, take, drop, refl, ap, sym, arith, ◌∙◌, nat_le, get_or-take, get_or-drop}
+use Rattle.std.specs.Prelude.{Some, None}
+use Rattle.std.specs.List.{count_by, filter, fold}
 use Rattle.std.specs.List.Sorted.{IsNonDecreasing, IsPermutation}
 use Rattle.std.proofs.lemmas.Bool.{leb-true, le-leb, lt-leb}
 use Rattle.std.proofs.lemmas.Grind.{common_steps}

@@ -1,10 +1,10 @@
 -- What is counted of the lines of a group.
 -- Cited by `What::name`; in `Rates.antt`, for `Injections::rates`.
-use Rattle.std.specs.Prelude.{ℕ, is_some, Bool, List, [], ◌∷◌, length, map, codes}
+use Rattle.std.specs.Prelude.{ℕ, is_some, Bool, List, length, codes}
 use Rattle.std.specs.List.{count_by}
 use Rattle.std.specs.Str.{bytes_eq}
 use Rattle.diva_outside.specs.Text.{Text}
-use Rattle.diva_rate.specs.Names.{all_endings, ending_name}
+use Rattle.diva_rate.specs.Names.{ending_name}
 use Rattle.diva_rate.specs.Shares.{rate}
 use Rattle.diva_rate.specs.declared.counts.What.{What}
 use Rattle.diva_rate.specs.declared.counts.What.TheVariants.{Hit, Found, Same, Ended}

@@ -1,5 +1,5 @@
 -- What only private contracts of this crate cite. A reader of its promises can pass over it.
-use Rattle.std.specs.Prelude.{◌≡◌, ℕ, ◌+◌, ◌-◌, ◌^◌, ◌≤◌, nat_eq, Bool, true, false, List, [], length}
+use Rattle.std.specs.Prelude.{◌≡◌, ℕ, ◌+◌, ◌-◌, ◌*◌, ◌/◌, ◌^◌, ◌≤◌, nat_eq, Bool, true, false, List, [], length}
 use Rattle.std.specs.HashSet.{contains, HashSet}
 use Rattle.std.specs.declared.hash.FoldHasher.{FoldHasher}
 use Rattle.std.specs.declared.hash.BuildHasherDefault.{BuildHasherDefault}
@@ -21,3 +21,7 @@ cells_left false rest = cells_of rest
 pub record IsKept (lines : List Injection) (faults : Faults) (twice : ℕ) : Type 0 where
   pub same : (fault : ℕ) → contains nat_eq faults fault ≡ has_fault lines fault
   pub few : length lines + twice ≤ 2 ^ 32 - 2
+
+-- the place of the nearest rank of so many of a hundred among so many numbers that rise
+abbrev pub place_of : (percent size : ℕ) → ℕ
+place_of percent size = (percent * size + 99) / 100 - 1

@@ -1,6 +1,6 @@
 -- The lines of rates, each with its line feed.
 -- Cited in `Text.antt`, for `write_rates`.
-use Rattle.std.specs.Prelude.{ℕ, ◌+◌, ◌/◌, ◌%◌, Bool, true, false, List, [], ◌∷◌, ◌++◌, codes, Option, Some, None, if◌then◌else◌}
+use Rattle.std.specs.Prelude.{ℕ, ◌+◌, ◌/◌, ◌%◌, Bool, true, false, [], ◌∷◌, ◌++◌, codes, Option, Some, None}
 use Rattle.std.specs.Fmt.{decimal}
 use Rattle.diva_outside.specs.Text.{Text}
 use Rattle.diva_rate.specs.Counts.{what_name}

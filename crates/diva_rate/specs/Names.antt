@@ -1,6 +1,6 @@
 -- How texts call what a line of injections names.
 -- Cited by `FaultModel::name` and `OpenEnding::name`.
-use Rattle.std.specs.Prelude.{ℕ, List, [], ◌∷◌, codes}
+use Rattle.std.specs.Prelude.{List, [], ◌∷◌, codes}
 use Rattle.diva_outside.specs.Text.{Text}
 use Rattle.diva_rate.specs.declared.injection.FaultModel.{FaultModel}
 use Rattle.diva_rate.specs.declared.injection.FaultModel.TheVariants.{Flip, Set, Lose, Double, Hush, Stuck0, Stuck1}

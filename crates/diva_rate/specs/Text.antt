@@ -1,6 +1,6 @@
 -- The text of rates.
 -- Cited by `write_rates`.
-use Rattle.std.specs.Prelude.{ℕ, List, [], ◌∷◌, ◌++◌, map, codes}
+use Rattle.std.specs.Prelude.{[], ◌∷◌, ◌++◌, map, codes}
 use Rattle.std.specs.List.{concat}
 use Rattle.diva_outside.specs.Text.{Text}
 use Rattle.diva_rate.specs.Injections.{Injections}

@@ -3,6 +3,7 @@ ghost use Rattle.std.specs.Prelude.{◌≡◌, ◌≤◌, ◌<◌, ◌^◌, ℕ,
 ghost use Rattle.std.specs.Option.{option_to_list};
 ghost use Rattle.std.specs.List.Sorted.{IsNonDecreasing, IsPermutation};
 ghost use Rattle.diva_rate.specs.declared.injection.Injection.{Injection};
+ghost use Rattle.diva_rate.specs.Inner.{place_of};
 ghost use Rattle.diva_rate.specs.Latencies.{latencies_in, latencies_of, percentile};
 
 use crate::injection::Injection;
@@ -81,6 +82,19 @@ fn percentile(sorted: &[u64], percent: u64) -> Option<u64>
     if sorted.is_empty() {
         return None;
     }
-    let rank = (percent * sorted.len() as u64 + 99) / 100;
-    Some(sorted[rank as usize - 1])
+    Some(sorted[place_of(percent, sorted.len())])
+}
+
+/// The place of the least of so many numbers that rise such that so many of a hundred, or more, are no greater.
+#[tactic(auto, using(crate::proofs::Ranking::rank_inside))]
+fn place_of(percent: u64, size: usize) -> usize
+    requires some { 0 < percent }
+    requires most { percent ≤ 100 }
+    requires filled { 0 < size }
+    requires few { size < 2 ^ 32 }
+    ensures place { result ≡ place_of percent size }
+    ensures inside { result < size }
+{
+    let rank = (percent * size as u64 + 99) / 100;
+    rank as usize - 1
 }

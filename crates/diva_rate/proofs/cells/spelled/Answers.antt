@@ -1,5 +1,5 @@
 -- One digit more: the number has room for it, and is what the digits spell.
-use Rattle.std.proofs.Common.{◌≡◌, ◌≤◌, ◌<◌, ◌^◌, ◌+◌, ◌*◌, arith, sym, ◌∙◌, rules, lit≤}
+use Rattle.std.proofs.Common.{◌≤◌, ◌+◌, ◌*◌, arith, sym, ◌∙◌}
 use Rattle.diva_outside.proofs.Radix.{digit_room, digits_room, digits_after, value_after}
 use Rattle.diva_rate.proofs.cells.spelled.Goals as goal
 

@@ -1,5 +1,5 @@
 -- What was sorted rises.
-use Rattle.std.proofs.Common.{◌≡◌, ℕ, rules}
+use Rattle.std.proofs.Common.{ℕ}
 use Rattle.std.proofs.lemmas.List.Sorted.{IsNonDecreasingBy-from_sort}
 use Rattle.diva_rate.proofs.latencies.latencies_in.Goals as goal
 

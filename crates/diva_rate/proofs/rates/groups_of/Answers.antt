@@ -1,5 +1,5 @@
 -- The rates of one group more, and of all.
-use Rattle.std.proofs.Common.{◌≡◌, ◌<◌, ◌≤◌, ◌∙◌, ℕ, length, sym, arith, rules}
+use Rattle.std.proofs.Common.{◌<◌, ◌≤◌, ◌∙◌, sym, arith}
 use Rattle.diva_rate.specs.Extra.{base_of}
 use Rattle.diva_rate.proofs.Grouping.{groups_all, groups_more}
 use Rattle.diva_rate.proofs.rates.groups_of.Goals as goal

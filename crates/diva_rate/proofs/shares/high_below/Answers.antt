@@ -1,5 +1,5 @@
 -- The first that is high, or none.
-use Rattle.std.proofs.Common.{◌≡◌, ◌<◌, ◌≤◌, ℕ, true, false, sym, arith, ◌∙◌}
+use Rattle.std.proofs.Common.{sym, arith, ◌∙◌}
 use Rattle.diva_rate.specs.Shares.{high_below, is_high}
 use Rattle.diva_rate.proofs.Scanning.{first_is}
 use Rattle.diva_rate.proofs.shares.high_below.Goals as goal

@@ -1,5 +1,5 @@
 -- Each part is what it is to be.
-use Rattle.std.proofs.Common.{◌≡◌, refl, rules}
+use Rattle.std.proofs.Common.{refl}
 use Rattle.diva_rate.specs.Rates.{rates_of}
 use Rattle.diva_rate.proofs.injections.Injections.rates.Goals as goal
 
