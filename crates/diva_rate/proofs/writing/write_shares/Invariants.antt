@@ -1,0 +1,13 @@
+-- What was put, group by group.
+use Rattle.std.proofs.Common.{Ok, map, take}
+use Rattle.std.specs.List.{concat}
+use Rattle.diva_outside.specs.Lent.{lent}
+use Rattle.diva_outside.specs.Sink.{PutsTo}
+use Rattle.diva_outside.specs.declared.sink.SinkFailed.{SinkFailed}
+use Rattle.diva_rate.specs.Text.{shares_text}
+use Rattle.diva_rate.proofs.writing.write_shares.Given as goal
+
+-- the groups so far were put
+abbrev pub invariant-loop-rates : goal.invariant-loop-rates
+invariant-loop-rates g l =
+    PutsTo {E = SinkFailed} (lent g.S.Sink.account l.initial.sink l.sink) (concat (take l.rates-index (map shares_text l.groups))) (Ok tt)
