@@ -5,6 +5,7 @@
 //! - `plan`: `Plan`, what the faults of a campaign are drawn of, and `fault_at`, the fault of a number: a row of a script.
 //! - `part`: `Part`, the faults that one of many machines runs. `laws`: that the parts make the whole.
 //! - `outcome`: what became of the runs under a fault, `Outcome`, and the line that says so.
+//! - `tests`: numbers, faults, parts and lines, worked out elsewhere.
 //!
 //! `specs/` has the numbers of a seed (`Numbers`), the fault of each number (`Plans`), the parts (`Parts`) and the line (`Lines`).
 #![tactic(auto)]
@@ -16,6 +17,8 @@ mod numbers;
 mod outcome;
 mod part;
 mod plan;
+#[cfg(test)]
+mod tests;
 
 pub use choice::Choice;
 pub use models::FaultModel;

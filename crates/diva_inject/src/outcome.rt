@@ -74,7 +74,9 @@ pub fn header_line() -> Line
     ensures { result ≡ header_text }
 {
     let mut line = Line::new();
-    line.text(b"fault,model,cycle,lane,field,bit,hit,flushes,latency,cycles,same,open,open_place,open_end\n");
+    line.text(
+        b"fault,model,cycle,lane,field,bit,hit,flushes,latency,cycles,same,open,open_place,open_end\n",
+    );
     line
 }
 
