@@ -2,7 +2,6 @@
 -- Cited by `fault_at`, `Fault::first_cycle` and `last_cycle`, and `faults_end`.
 use Rattle.std.specs.Prelude.{ℕ, ◌+◌, ◌-◌, Option, Some, None}
 use Rattle.diva_outside.specs.NextWords.{IsInRange}
-use Rattle.diva_faults.specs.declared.rows.Row.{Row}
 use Rattle.diva_faults.specs.declared.rows.Row.TheVariants.{Lane, Hush}
 use Rattle.diva_faults.specs.Rows.{row_cycle, IsCycle, IsRow}
 use Rattle.diva_inject.specs.declared.fault.Fault.{Fault}

@@ -1,0 +1,92 @@
+// What a change makes of the list of a cycle.
+ghost use Rattle.std.specs.Prelude.{◌≡◌, ◌+◌, ◌≤◌, ◌<◌, ◌++◌, length, take, drop, slice_get};
+ghost use Rattle.diva_faults.specs.Lists.{change_at, changed, with_field};
+ghost use Rattle.diva_faults.specs.Rows.{IsChange};
+
+use diva_core::{Claim, Claims, Field};
+use diva_faults::Change;
+
+/// Changes the claim in a lane. A lane at or past the list's end has none.
+pub(crate) fn change_at(change: Change, lane: usize, list: &mut Claims)
+    requires { IsChange change }
+    ensures { list.new ≡ change_at change lane list.old (slice_get list.old lane) }
+{
+    if lane >= list.len() {
+        return;
+    }
+    let claims = list.as_slice();
+    let mut after = Claims::new();
+    push_all(&mut after, &claims[..lane]);
+    push_changed(&mut after, change, claims.len(), &claims[lane]);
+    push_all(&mut after, &claims[lane + 1..]);
+    *list = after;
+}
+
+/// Puts what a change makes of a claim, in a list of `count` claims.
+fn push_changed(after: &mut Claims, change: Change, count: usize, claim: &Claim)
+    requires change { IsChange change }
+    requires room { length after.old < count }
+    requires most { count ≤ 8 }
+    ensures { after.new ≡ after.old ++ changed change count claim.now }
+{
+    match change {
+        Change::Flip { field, bit } => {
+            after.push(with_field(claim, field, field.of(claim) ^ (1 << bit)));
+        }
+        Change::Set { field, value } => after.push(with_field(claim, field, value)),
+        Change::Lose => {}
+        Change::Double => {
+            after.push(*claim);
+            if count < Claims::MOST {
+                after.push(*claim);
+            }
+        }
+    }
+}
+
+/// Puts claims behind the others.
+fn push_all(list: &mut Claims, claims: &[Claim])
+    requires { length list.old + length claims.now ≤ 8 }
+    ensures { list.new ≡ list.old ++ claims.now }
+{
+    for claim in claims {
+        list.push(*claim);
+    }
+}
+
+/// The claim with another value in a field.
+fn with_field(claim: &Claim, field: Field, value: u32) -> Claim
+    ensures { result ≡ with_field field value claim.now }
+{
+    match field {
+        Field::Pc => Claim {
+            pc: value,
+            ..*claim
+        },
+        Field::Word => Claim {
+            word: value,
+            ..*claim
+        },
+        Field::Src1 => Claim {
+            src1: value,
+            ..*claim
+        },
+        Field::Src2 => Claim {
+            src2: value,
+            ..*claim
+        },
+        Field::Addr => Claim {
+            addr: value,
+            ..*claim
+        },
+        Field::Value => Claim { value, ..*claim },
+        Field::Next => Claim {
+            next: value,
+            ..*claim
+        },
+        Field::End => Claim {
+            end: value,
+            ..*claim
+        },
+    }
+}
