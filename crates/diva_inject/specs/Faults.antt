@@ -1,5 +1,5 @@
 -- Faults of a core: the ranges of their numbers, and in which cycles they do something.
--- Cited by `fault_at`, `Fault::first_cycle` and `last_cycle`, and `faults_end`.
+-- Cited by `fault_at`, `Strike::new`, `Fault::first_cycle` and `last_cycle`, and `faults_end`; in `Outcomes.antt`, for `outcome_line`.
 use Rattle.std.specs.Prelude.{ℕ, ◌+◌, ◌-◌, Option, Some, None}
 use Rattle.diva_outside.specs.NextWords.{IsInRange}
 use Rattle.diva_faults.specs.declared.rows.Row.TheVariants.{Lane, Hush}

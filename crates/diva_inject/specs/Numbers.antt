@@ -1,5 +1,5 @@
 -- The numbers of a seed: SplitMix64 (Steele, Lea and Flood, OOPSLA 2014). All of them are below 2^64.
--- Cited by `number`; in `Plans.antt`, for `fault_at`.
+-- Cited by `number_of_seed`; in `Plans.antt`, for `fault_at`.
 use Rattle.std.specs.Prelude.{ℕ, ◌+◌, ◌*◌, ◌/◌, ◌%◌, ◌^◌, bit_xor}
 
 -- z, xor itself without its lowest bits

@@ -83,7 +83,7 @@ open_columns o = open_name o.open ∷ number_if_any o.open_place ∷ open_end_te
 abbrev pub comma : ℕ
 comma = 44
 
--- what every line of some columns is: a comma between each two of them, and a line feed
+-- the line of some columns: a comma between each two of them, and a line feed
 abbrev pub line_of : List Text → Text
 line_of columns = join_with_byte comma columns ++ codes "\n"
 

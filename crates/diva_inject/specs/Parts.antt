@@ -1,5 +1,5 @@
--- The parts of a campaign of faults: what each of some runs of the program has to do.
--- Cited by `Part::new`, `next_from` and `parts_make_the_whole`.
+-- The parts of a campaign of faults, which several runs of the program share: which numbers each of them has.
+-- Cited by `Part::next_from` and `parts_make_the_whole`.
 use Rattle.std.specs.Prelude.{ℕ, ◌-◌, ◌%◌, ◌==◌, Bool, List}
 use Rattle.std.specs.List.{filter, flat_map, range_with_len}
 
