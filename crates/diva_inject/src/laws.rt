@@ -12,7 +12,7 @@ pub fn parts_make_the_whole()
     ensures whole { (parts first count : ℕ) → 0 < parts → IsPermutation (numbers_from first count) (numbers_of_all parts first count) }
 {}
 
-/// A fault changes no list before its first cycle, and none behind its last one, if it has one.
+/// A fault changes no list before its first cycle, and none after its last one, if it has one.
 pub fn faults_end()
     ensures before { (fault : Fault) (now : ℕ) (list : List Record) → now < first_cycle fault → struck fault now list ≡ list }
     ensures after { (fault : Fault) (last now : ℕ) (list : List Record) → last_cycle fault ≡ Some last → last < now → struck fault now list ≡ list }

@@ -44,7 +44,7 @@ fn push_changed(after: &mut Claims, change: Change, count: usize, claim: &Claim)
     }
 }
 
-/// Puts claims behind the others.
+/// Puts claims after the others.
 fn push_all(list: &mut Claims, claims: &[Claim])
     requires { length list.old + length claims.now ≤ 8 }
     ensures { list.new ≡ list.old ++ claims.now }

@@ -37,7 +37,7 @@ impl Part {
         }
     }
 
-    /// The next number of the part, from `first` on and below `count`, if there is one. Asked from behind each number that it
+    /// The next number of the part, from `first` on and below `count`, if there is one. Asked again from one more than each number that it
     /// answers, it gives all of them, in rising order.
     pub fn next_from(&self, first: u64, count: u64) -> Option<u64>
         ensures next { IfSome result (λ next. numbers_of self.now first count ≡ next ∷ numbers_of self.now (next + 1) count) }

@@ -13,16 +13,14 @@ use diva_isa::End;
 /// The first five numbers of a seed, as they are published with the generator.
 #[test]
 fn numbers_that_are_published(rt: HostRuntime) {
-    let mut place = 0;
-    for due in [
-        6_457_827_717_110_365_317,
-        3_203_168_211_198_807_973,
-        9_817_491_932_198_370_423,
-        4_593_380_528_125_082_431,
-        16_408_922_859_458_223_821,
+    for (place, due) in [
+        (0, 6_457_827_717_110_365_317),
+        (1, 3_203_168_211_198_807_973),
+        (2, 9_817_491_932_198_370_423),
+        (3, 4_593_380_528_125_082_431),
+        (4, 16_408_922_859_458_223_821),
     ] {
         assert_eq!(rt; number_of_seed(1_234_567, place), due);
-        place += 1;
     }
 }
 
