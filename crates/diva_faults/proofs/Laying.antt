@@ -1,5 +1,5 @@
 -- What rows make of a list in one cycle, where they stand in the order of their cycles.
-use Rattle.std.proofs.Common.{◌≡◌, ◌≢◌, ◌<◌, ◌≤◌, ℕ, ◌+◌, max, min, List, [], ◌∷◌, take, drop, length, get_or, fold, Bool, true, false, cond, ◌||◌, refl, ap, sym, subst, ◌∙◌, ◌-◌, ◌^◌, arith}
+use Rattle.std.proofs.Common.{◌≡◌, ◌≢◌, ◌<◌, ◌≤◌, ℕ, ◌+◌, max, min, List, [], ◌∷◌, take, drop, length, get_or, fold, Bool, true, false, cond, ◌||◌, ◌&&◌, refl, ap, sym, subst, ◌∙◌, ◌-◌, ◌^◌, arith}
 use Rattle.std.specs.Prelude.{◌==◌, nat_le, nat_lt, filter}
 use Rattle.std.specs.List.{All, list_any}
 use Rattle.std.specs.List.Sorted.{IsNonDecreasingBy, IsPartitionedBy, IsPartitionPoint, IsPermutation, IsStableByKey, ties}
@@ -16,33 +16,52 @@ use denote.Param.Members.{Mut}
 use denote.Ref.{Bor}
 use Rattle.diva_isa.specs.declared.record.Record.{Record}
 use Rattle.diva_faults.specs.declared.rows.Row.{Row}
-use Rattle.diva_faults.specs.declared.rows.Row.TheVariants.{Lane, Hush}
-use Rattle.diva_faults.specs.Lists.{is_hush_in, with_row, with_row_in, scripted}
+use Rattle.diva_faults.specs.declared.rows.Row.TheVariants.{Lane, Hush, Lasting}
+use Rattle.diva_faults.specs.Lists.{is_hush_in, passing, scripted, with_lasting_in, with_row, with_row_in}
 use Rattle.diva_faults.specs.Rows.{row_cycle}
 use Rattle.diva_faults.specs.Schedules.{AreLike}
 use Rattle.diva_faults.specs.Touched.{end_of, end_of_rows, first_touched}
-use Rattle.diva_faults.specs.Inner.{hush_end, latest_end}
+use Rattle.diva_faults.specs.Inner.{hush_end, lasts as lasts_on, latest_end}
 
 -- ---- rows that do nothing in a cycle
 
 pub record IsIdle (now : ℕ) (row : Row) : Type 0 where
   pub lays : (list : List Record) → with_row_in now list row ≡ list
   pub hushes : is_hush_in now row ≡ false
+  pub lasts : (list : List Record) → with_lasting_in now list row ≡ list
 
 laid_in-other : (now : ℕ) (list : List Record) (row : Row) → row_cycle row ≢ now → with_row_in now list row ≡ list
 laid_in-other now list row other = rw (ne_eqb (row_cycle row) now other) refl
 
 is_idle-before : (now : ℕ) (row : Row) → now < row_cycle row → IsIdle now row
-is_idle-before now (Lane cycle lane change) before = record { lays = λ list. laid_in-other now list (Lane cycle lane change) (λ e. absurd (omega arith)); hushes = refl }
-is_idle-before now (Hush cycle cycles) before = record { lays = λ list. laid_in-other now list (Hush cycle cycles) (λ e. absurd (omega arith)); hushes = grind (arith, common_steps) }
+is_idle-before now (Lane cycle lane change) before =
+    record { lays = λ list. laid_in-other now list (Lane cycle lane change) (λ e. absurd (omega arith)); hushes = refl; lasts = λ list. refl }
+is_idle-before now (Hush cycle cycles) before =
+    record {
+      lays = λ list. laid_in-other now list (Hush cycle cycles) (λ e. absurd (omega arith));
+      hushes = grind (arith, common_steps);
+      lasts = λ list. refl;
+    }
+is_idle-before now (Lasting cycle cycles lane change) before =
+    let out : (nat_le cycle now && nat_lt now (cycle + cycles)) ≡ false = grind (arith, common_steps) in
+    record {
+      lays = λ list. laid_in-other now list (Lasting cycle cycles lane change) (λ e. absurd (omega arith));
+      hushes = refl;
+      lasts = λ list. rw out refl;
+    }
 
 same_twice : (b : Bool) (list : List Record) → cond b list list ≡ list
 same_twice true list = refl
 same_twice false list = refl
 
 is_idle-behind : (now : ℕ) (row : Row) → end_of row ≤ now → IsIdle now row
-is_idle-behind now (Lane cycle lane change) behind = record { lays = λ list. laid_in-other now list (Lane cycle lane change) (λ e. absurd (omega arith)); hushes = refl }
-is_idle-behind now (Hush cycle cycles) behind = record { lays = λ list. same_twice (cycle == now) list; hushes = grind (arith, common_steps) }
+is_idle-behind now (Lane cycle lane change) behind =
+    record { lays = λ list. laid_in-other now list (Lane cycle lane change) (λ e. absurd (omega arith)); hushes = refl; lasts = λ list. refl }
+is_idle-behind now (Hush cycle cycles) behind =
+    record { lays = λ list. same_twice (cycle == now) list; hushes = grind (arith, common_steps); lasts = λ list. refl }
+is_idle-behind now (Lasting cycle cycles lane change) behind =
+    let out : (nat_le cycle now && nat_lt now (cycle + cycles)) ≡ false = grind (arith, common_steps) in
+    record { lays = λ list. same_twice (cycle == now) list; hushes = refl; lasts = λ list. rw out refl }
 
 fold-idle : (now : ℕ) (rows : List Row) (list : List Record) → All (IsIdle now) rows → fold (with_row_in now) list rows ≡ list
 fold-idle now [] list idle = refl
@@ -53,9 +72,19 @@ fold-idle now (row ∷ rows) list idle =
 list_any-idle : (now : ℕ) (rows : List Row) → All (IsIdle now) rows → list_any (is_hush_in now) rows ≡ false
 list_any-idle now rows idle = list_any_none (is_hush_in now) rows (λ k d h. (idle k d h).hushes)
 
+passing-idle : (now : ℕ) (rows : List Row) (list : List Record) → All (IsIdle now) rows → passing rows now list ≡ list
+passing-idle now rows list idle = rw (list_any-idle now rows idle) (fold-idle now rows list idle)
+
+fold-lasting : (now : ℕ) (rows : List Row) (list : List Record) → All (IsIdle now) rows → fold (with_lasting_in now) list rows ≡ list
+fold-lasting now [] list idle = refl
+fold-lasting now (row ∷ rows) list idle =
+    let first : IsIdle now row = All-head (IsIdle now) row rows idle in
+    ap (λ l. fold (with_lasting_in now) l rows) (first.lasts list) ∙ fold-lasting now rows list (All-tail (IsIdle now) row rows idle)
+
 scripted-idle : (now : ℕ) (rows : List Row) (list : List Record) → All (IsIdle now) rows → scripted rows now list ≡ list
 unfolding scripted
-scripted-idle now rows list idle = rw (list_any-idle now rows idle) (fold-idle now rows list idle)
+scripted-idle now rows list idle =
+    ap (λ (l : List Record). fold (with_lasting_in now) l rows) (passing-idle now rows list idle) ∙ fold-lasting now rows list idle
 
 -- a cycle before all that are touched
 all-before : (now from : ℕ) (rows : List Row) → now < fold (λ first row. min first (row_cycle row)) from rows → (now < from) × All (IsIdle now) rows
@@ -121,6 +150,7 @@ lasts-from now from (row ∷ rows) =
 is_hush_in-begun : (now : ℕ) (row : Row) → row_cycle row ≤ now → is_hush_in now row ≡ nat_lt now (hush_end row)
 is_hush_in-begun now (Lane cycle lane change) begun = grind (arith, common_steps)
 is_hush_in-begun now (Hush cycle cycles) begun = grind (arith, common_steps)
+is_hush_in-begun now (Lasting cycle cycles lane change) begun = grind (arith, common_steps)
 
 list_any-begun : (now : ℕ) (rows : List Row) → All (λ row. row_cycle row ≤ now) rows → list_any (is_hush_in now) rows ≡ list_any (λ row. nat_lt now (hush_end row)) rows
 list_any-begun now [] begun = refl
@@ -194,13 +224,11 @@ module _ (now : ℕ) (rows : List Row) (begun earlier : ℕ)
       ∙ sym (or-false (list_any (is_hush_in now) (take begun rows)))
       ∙ lasts now (take begun rows) begun_by_now
 
-  scripted-hushed : (list : List Record) → nat_lt now (latest_end (take begun rows)) ≡ true → scripted rows now list ≡ []
-  unfolding scripted
-  scripted-hushed list hushed = rw (found_hush, hushed) refl
+  passing-hushed : (list : List Record) → nat_lt now (latest_end (take begun rows)) ≡ true → passing rows now list ≡ []
+  passing-hushed list hushed = rw (found_hush, hushed) refl
 
-  scripted-laid : (list : List Record) → nat_lt now (latest_end (take begun rows)) ≡ false → scripted rows now list ≡ fold (λ list row. with_row row list) list (drop earlier (take begun rows))
-  unfolding scripted
-  scripted-laid list quiet = rw (found_hush, quiet) (found_lanes list)
+  passing-laid : (list : List Record) → nat_lt now (latest_end (take begun rows)) ≡ false → passing rows now list ≡ fold (λ list row. with_row row list) list (drop earlier (take begun rows))
+  passing-laid list quiet = rw (found_hush, quiet) (found_lanes list)
 
 -- the same, where the rows were read twice
 module _ (now : ℕ) (rows first second : List Row) (begun earlier : ℕ) (same_first : first ≡ rows) (same_second : second ≡ rows)
@@ -213,15 +241,15 @@ module _ (now : ℕ) (rows first second : List Row) (begun earlier : ℕ) (same_
   earlier_at : IsPartitionPoint (λ row. row_cycle row < now) (λ row. now ≤ row_cycle row) (take begun rows) earlier
   earlier_at = subst (λ xs. IsPartitionPoint (λ row. row_cycle row < now) (λ row. now ≤ row_cycle row) (take begun xs) earlier) same_second is_earlier
 
-  pub found_hushed : nat_lt now (latest_end (take begun rows)) ≡ true → [] ≡ scripted rows now list
-  found_hushed hushed = sym (scripted-hushed now rows begun earlier begun_at earlier_at list hushed)
+  pub found_hushed : nat_lt now (latest_end (take begun rows)) ≡ true → [] ≡ passing rows now list
+  found_hushed hushed = sym (passing-hushed now rows begun earlier begun_at earlier_at list hushed)
 
   pub found_laid : (after : List Record) → after ≡ fold (λ list row. with_row row list) list (take (length (take begun second) - earlier) (drop earlier (take begun second)))
-      → nat_lt now (latest_end (take begun rows)) ≡ false → after ≡ scripted rows now list
+      → nat_lt now (latest_end (take begun rows)) ≡ false → after ≡ passing rows now list
   found_laid after laid_all quiet =
       laid_all
       ∙ ap (fold (λ list row. with_row row list) list) (take_rest (take begun second) earlier ∙ ap (λ xs. drop earlier (take begun xs)) same_second)
-      ∙ sym (scripted-laid now rows begun earlier begun_at earlier_at list quiet)
+      ∙ sym (passing-laid now rows begun earlier begun_at earlier_at list quiet)
 
 -- ---- rows in another order, those of one cycle in the same one
 
@@ -245,9 +273,28 @@ fold-filter now (row ∷ rows) list = by_tie (ties_now now row) refl (λ l. fold
         ∙ more list
 
 pub like-sorted : (rows sorted : List Row) → IsPermutation rows sorted → IsStableByKey row_cycle nat_cmp rows sorted → AreLike sorted rows
-unfolding scripted ties_now
+unfolding ties_now
 like-sorted rows sorted permutation stable now list =
     let hushes : list_any (is_hush_in now) sorted ≡ list_any (is_hush_in now) rows = sym (list_any-IsPermutation (is_hush_in now) rows sorted permutation) in
     let lanes : fold (with_row_in now) list sorted ≡ fold (with_row_in now) list rows =
     fold-filter now sorted list ∙ ap (fold (with_row_in now) list) (stable (Hush now 0)) ∙ sym (fold-filter now rows list) in
     rw (hushes, lanes) refl
+
+-- ---- rows that last
+
+-- those that do not change nothing among them
+lasting_kept : (now : ℕ) (rows : List Row) (list : List Record) → fold (with_lasting_in now) list (filter lasts_on rows) ≡ fold (with_lasting_in now) list rows
+lasting_kept now [] list = refl
+lasting_kept now (Lane cycle lane change ∷ rows) list = lasting_kept now rows list
+lasting_kept now (Hush cycle cycles ∷ rows) list = lasting_kept now rows list
+lasting_kept now (Lasting cycle cycles lane change ∷ rows) list =
+    lasting_kept now rows (with_lasting_in now list (Lasting cycle cycles lane change))
+
+pub laid_in_two : (now : ℕ) (rows schedule lasting : List Row) (list middle after : List Record) → AreLike schedule rows → lasting ≡ filter lasts_on rows
+    → middle ≡ passing schedule now list → after ≡ fold (with_lasting_in now) middle lasting → after ≡ scripted rows now list
+unfolding scripted
+laid_in_two now rows schedule lasting list middle after like kept first second =
+    second
+    ∙ ap (fold (with_lasting_in now) middle) kept
+    ∙ lasting_kept now rows middle
+    ∙ ap (λ (l : List Record). fold (with_lasting_in now) l rows) (first ∙ like now list)

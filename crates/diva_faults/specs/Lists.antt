@@ -1,15 +1,16 @@
 -- What a script makes of the list that a core hands over.
 -- Cited by `no_rows_change_nothing`; in `Spoiled.antt`, for what `Faulty` gives.
-use Rattle.std.specs.Prelude.{ℕ, ◌+◌, ◌^◌, ◌==◌, ◌&&◌, nat_le, nat_lt, bit_xor, Bool, false, List, [], ◌∷◌, ◌++◌, length, take, drop, fold, slice_get, Option, Some, None, if◌then◌else◌}
+use Rattle.std.specs.Prelude.{ℕ, ◌+◌, ◌^◌, ◌==◌, ◌&&◌, nat_le, nat_lt, bit_and, bit_or, bit_xor, Bool, true, false, List, [], ◌∷◌, ◌++◌, length, take, drop, fold, slice_get, Option, Some, None, if◌then◌else◌}
+use Rattle.std.specs.Int.{bit_not, w32}
 use Rattle.std.specs.List.{list_any}
 use Rattle.diva_isa.specs.declared.record.Record.{Record}
 use Rattle.diva_core.specs.declared.differences.Field.{Field}
 use Rattle.diva_core.specs.declared.differences.Field.TheVariants.{Pc, Word, Src1, Src2, Addr, Value, Next, End}
 use Rattle.diva_core.specs.Difference.{field_of}
 use Rattle.diva_faults.specs.declared.rows.Change.{Change}
-use Rattle.diva_faults.specs.declared.rows.Change.TheVariants.{Flip, Set, Lose, Double}
+use Rattle.diva_faults.specs.declared.rows.Change.TheVariants.{Flip, Set, Lose, Double, Force}
 use Rattle.diva_faults.specs.declared.rows.Row.{Row}
-use Rattle.diva_faults.specs.declared.rows.Row.TheVariants.{Lane, Hush}
+use Rattle.diva_faults.specs.declared.rows.Row.TheVariants.{Lane, Hush, Lasting}
 use Rattle.diva_faults.specs.Rows.{row_cycle}
 
 -- a record with another value in a field
@@ -23,22 +24,29 @@ with_field Value value r = record r { value = value }
 with_field Next value r = record r { next = value }
 with_field End value r = record r { end = value }
 
+-- a word with a bit forced to 1, or to 0
+abbrev pub forced : (high : Bool) → (bit : ℕ) → (word : ℕ) → ℕ
+forced true bit word = bit_or word (2 ^ bit)
+forced false bit word = bit_and word (bit_not w32 (2 ^ bit))
+
 -- what stands in the place of a claim after a change, in a list of `count` claims
 abbrev pub changed : Change → (count : ℕ) → Record → List Record
 changed (Flip field bit) count claim = with_field field (bit_xor (field_of field claim) (2 ^ bit)) claim ∷ []
 changed (Set field value) count claim = with_field field value claim ∷ []
 changed Lose count claim = []
 changed Double count claim = if count == 8 then claim ∷ [] else claim ∷ claim ∷ []
+changed (Force field bit high) count claim = with_field field (forced high bit (field_of field claim)) claim ∷ []
 
 -- the list with the claim in a lane changed, if there is one
 abbrev pub change_at : Change → ℕ → List Record → Option Record → List Record
 change_at change lane list None = list
 change_at change lane list (Some claim) = take lane list ++ changed change (length list) claim ++ drop (lane + 1) list
 
--- the list after a row; a hush does nothing yet
+-- the list after a row of its cycle; a hush and a row that lasts do nothing yet
 abbrev pub with_row : Row → List Record → List Record
 with_row (Lane cycle lane change) list = change_at change lane list (slice_get list lane)
 with_row (Hush cycle cycles) list = list
+with_row (Lasting cycle cycles lane change) list = list
 
 -- the list after a row in the cycle `now`
 abbrev pub with_row_in : (now : ℕ) → List Record → Row → List Record
@@ -48,7 +56,20 @@ with_row_in now list row = if row_cycle row == now then with_row row list else l
 abbrev pub is_hush_in : (now : ℕ) → Row → Bool
 is_hush_in now (Lane cycle lane change) = false
 is_hush_in now (Hush cycle cycles) = nat_le cycle now && nat_lt now (cycle + cycles)
+is_hush_in now (Lasting cycle cycles lane change) = false
 
--- the list after the rows of a script in the cycle `now`: first those that change lanes, in their order, and then the hushes
+-- the list after what is done in the cycle `now` by rows that do not last: first those that change lanes, in their order, and then the
+-- hushes
+abbrev pub passing : List Row → (now : ℕ) → List Record → List Record
+passing rows now list = if list_any (is_hush_in now) rows then [] else fold (with_row_in now) list rows
+
+-- the list after a row that lasts, if it does in the cycle `now`
+abbrev pub with_lasting_in : (now : ℕ) → List Record → Row → List Record
+with_lasting_in now list (Lane cycle lane change) = list
+with_lasting_in now list (Hush cycle cycles) = list
+with_lasting_in now list (Lasting cycle cycles lane change) =
+    if nat_le cycle now && nat_lt now (cycle + cycles) then change_at change lane list (slice_get list lane) else list
+
+-- the list after the rows of a script in the cycle `now`: first those that pass, and then those that last, in their order
 unfoldable pub scripted : List Row → (now : ℕ) → List Record → List Record
-scripted rows now list = if list_any (is_hush_in now) rows then [] else fold (with_row_in now) list rows
+scripted rows now list = fold (with_lasting_in now) (passing rows now list) rows

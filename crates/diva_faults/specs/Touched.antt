@@ -1,14 +1,16 @@
--- The cycles that the rows of a script touch: a hush those whose lists it empties, another row the one that it names.
+-- The cycles that the rows of a script touch: a hush those whose lists it empties, a row that lasts those in which it does, and another
+-- row the one that it names.
 -- Cited by `Script::first_cycle` and `end_cycle`.
 use Rattle.std.specs.Prelude.{ℕ, ◌+◌, ◌-◌, ◌^◌, max, min, List, fold}
 use Rattle.diva_faults.specs.declared.rows.Row.{Row}
-use Rattle.diva_faults.specs.declared.rows.Row.TheVariants.{Lane, Hush}
+use Rattle.diva_faults.specs.declared.rows.Row.TheVariants.{Lane, Hush, Lasting}
 use Rattle.diva_faults.specs.Rows.{row_cycle}
 
 -- the cycle behind the last one that a row touches
 abbrev pub end_of : Row → ℕ
 end_of (Lane cycle lane change) = cycle + 1
 end_of (Hush cycle cycles) = cycle + cycles
+end_of (Lasting cycle cycles lane change) = cycle + cycles
 
 -- the first cycle that a row touches, and 2^64-1 where there is no row
 abbrev pub first_touched : List Row → ℕ

@@ -1,6 +1,6 @@
 // What a row makes of the list of a cycle.
 ghost use Rattle.std.specs.Prelude.{◌≡◌, ◌+◌, ◌≤◌, ◌<◌, ◌++◌, length, take, drop, slice_get};
-ghost use Rattle.diva_faults.specs.Lists.{change_at, changed, with_row, with_field};
+ghost use Rattle.diva_faults.specs.Lists.{change_at, changed, forced, with_field, with_lasting_in, with_row};
 ghost use Rattle.diva_faults.specs.Rows.{IsChange, IsRow};
 
 use crate::rows::{Change, Row};
@@ -14,7 +14,27 @@ impl Row {
     {
         match *self {
             Row::Lane { lane, change, .. } => change_at(change, usize::from(lane), list),
-            Row::Hush { .. } => {}
+            Row::Hush { .. } | Row::Lasting { .. } => {}
+        }
+    }
+
+    /// Changes the claim in the lane of a row that lasts, if it does in a cycle.
+    pub(crate) fn lay_lasting(&self, now: u64, list: &mut Claims)
+        requires { IsRow self.now }
+        ensures { list.new ≡ with_lasting_in now list.old self.now }
+    {
+        match *self {
+            Row::Lane { .. } | Row::Hush { .. } => {}
+            Row::Lasting {
+                cycle,
+                cycles,
+                lane,
+                change,
+            } => {
+                if u64::from(cycle) <= now && now < u64::from(cycle + cycles) {
+                    change_at(change, usize::from(lane), list);
+                }
+            }
         }
     }
 }
@@ -54,6 +74,21 @@ fn push_changed(after: &mut Claims, change: Change, count: usize, claim: &Claim)
                 after.push(*claim);
             }
         }
+        Change::Force { field, bit, high } => {
+            after.push(with_field(claim, field, forced(field.of(claim), bit, high)));
+        }
+    }
+}
+
+/// A word with a bit forced to 1, or to 0.
+fn forced(word: u32, bit: u8, high: bool) -> u32
+    requires { bit < 32 }
+    ensures { result ≡ forced high bit word }
+{
+    if high {
+        word | 1 << bit
+    } else {
+        word & !(1 << bit)
     }
 }
 

@@ -2,7 +2,7 @@
 ghost use Rattle.std.specs.Prelude.{◌≡◌};
 ghost use Rattle.diva_faults.specs.Rows.{row_cycle, IsRow};
 ghost use Rattle.diva_faults.specs.Touched.{end_of};
-ghost use Rattle.diva_faults.specs.Inner.{hush_end};
+ghost use Rattle.diva_faults.specs.Inner.{hush_end, lasts};
 
 use diva_core::Field;
 
@@ -27,9 +27,18 @@ pub enum Change {
     Lose,
     /// A copy stands directly behind the claim, but in a list of eight.
     Double,
+    /// One bit of a field is forced to 1, or to 0.
+    Force {
+        /// The field.
+        field: Field,
+        /// The bit: 0 to 31, 0 being the lowest.
+        bit: u8,
+        /// Whether it is forced to 1.
+        high: bool,
+    },
 }
 
-/// One row of a script.
+/// One row of a script. The text of a script has no words for a row that lasts, nor for a bit that is forced.
 #[derive(Clone, Copy, Debug, PartialEq, Eq)]
 pub enum Row {
     /// The claim in a lane of one cycle's list is changed. A lane at or past the list's end has none.
@@ -48,6 +57,17 @@ pub enum Row {
         /// How many there are: 1 to 1,000,000,000.
         cycles: u32,
     },
+    /// The claim in a lane is changed in each of some cycles, after all that other rows do.
+    Lasting {
+        /// The first of these cycles: 1 to 1,000,000,000.
+        cycle: u32,
+        /// How many there are: 1 to 1,000,000,000.
+        cycles: u32,
+        /// The lane: 0 to 7, 0 being the first claim of the list.
+        lane: u8,
+        /// What is done to the claim.
+        change: Change,
+    },
 }
 
 impl Row {
@@ -58,6 +78,7 @@ impl Row {
         match self {
             Row::Lane { cycle, .. } => *cycle,
             Row::Hush { cycle, .. } => *cycle,
+            Row::Lasting { cycle, .. } => *cycle,
         }
     }
 
@@ -69,7 +90,15 @@ impl Row {
         match self {
             Row::Lane { cycle, .. } => cycle + 1,
             Row::Hush { cycle, cycles } => cycle + cycles,
+            Row::Lasting { cycle, cycles, .. } => cycle + cycles,
         }
+    }
+
+    /// Whether the row lasts.
+    pub(crate) fn lasts(&self) -> bool
+        ensures { result ≡ lasts self.now }
+    {
+        matches!(self, Row::Lasting { .. })
     }
 
     /// The cycle behind the last one of a hush, 0 for another row.
@@ -78,8 +107,8 @@ impl Row {
         ensures { result ≡ hush_end self.now }
     {
         match self {
-            Row::Lane { .. } => 0,
             Row::Hush { .. } => self.end(),
+            Row::Lane { .. } | Row::Lasting { .. } => 0,
         }
     }
 }

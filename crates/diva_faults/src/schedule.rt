@@ -2,7 +2,7 @@
 ghost use Rattle.std.specs.Prelude.{◌≡◌, ◌+◌, ◌≤◌, ◌<◌, ℕ, [], length, take, fold, slice_index, nat_lt, IfOk};
 ghost use Rattle.std.specs.List.{All};
 ghost use Rattle.std.specs.List.Sorted.{IsNonDecreasingBy, IsPartitionPoint};
-ghost use Rattle.diva_faults.specs.Lists.{with_row, scripted};
+ghost use Rattle.diva_faults.specs.Lists.{passing, with_row};
 ghost use Rattle.diva_faults.specs.Rows.{row_cycle, IsRow};
 ghost use Rattle.diva_faults.specs.Schedules.{AreLike};
 ghost use Rattle.diva_faults.specs.Inner.{latest_end};
@@ -55,10 +55,10 @@ impl Schedule {
         Ok(Schedule { rows, hush_ends })
     }
 
-    /// Lays the rows of a cycle over a list. It is called, so that what is made part of a core's loop stays small.
+    /// Lays the rows of a cycle over a list, but for those that last. It is called, so that what is made part of a core's loop stays small.
     #[inline(never)]
     pub(crate) fn lay(&self, cycle: u64, list: &mut Claims)
-        ensures { list.new ≡ scripted self.now cycle list.old }
+        ensures { list.new ≡ passing self.now cycle list.old }
     {
         let begun = begun_by(&self.rows, cycle);
         let rows = &self.rows[..begun];

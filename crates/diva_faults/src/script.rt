@@ -1,8 +1,9 @@
 // A script, as it is read.
-ghost use Rattle.std.specs.Prelude.{◌≡◌, [], ◌∷◌, Ok, IfOk, IfErr};
+ghost use Rattle.std.specs.Prelude.{◌≡◌, [], ◌∷◌, ◌++◌, Ok, IfOk, IfErr, filter, fold};
 ghost use Rattle.std.specs.List.{All};
 ghost use Rattle.diva_outside.specs.TextFaults.{IsFirstFault};
-ghost use Rattle.diva_faults.specs.Lists.{scripted};
+ghost use Rattle.diva_faults.specs.Inner.{lasts};
+ghost use Rattle.diva_faults.specs.Lists.{scripted, with_lasting_in};
 ghost use Rattle.diva_faults.specs.Reading.{script_of};
 ghost use Rattle.diva_faults.specs.Rows.{IsRow};
 ghost use Rattle.diva_faults.specs.Touched.{end_of_rows, first_touched};
@@ -20,11 +21,13 @@ use std::marker::Model;
 /// A cycle before the first that a row touches, or behind the last, costs two comparisons where a core is asked under the script,
 /// and nothing where it is asked by itself: no row changes its list there. `first_cycle` and `end_cycle` say which cycles these are.
 ///
-/// No call but `read` and `of_row` takes memory.
+/// No call but `read`, `of_row` and `with_row` takes memory.
 #[derive(Debug, Drop)]
 pub struct Script {
     rows: Vec<Row>,
     schedule: Schedule,
+    /// Those that last, in the same order.
+    lasting: Vec<Row>,
     /// The first cycle that a row touches.
     first: u64,
     /// The cycle behind the last one that a row touches.
@@ -40,7 +43,7 @@ impl Model for Script {
 
     ghost view = { λ s. s.rows.items };
 
-    ghost invariant = { λ s. IsScript s.rows.items s.schedule s.first s.end };
+    ghost invariant = { λ s. IsScript s.rows.items s.schedule s.lasting.items s.first s.end };
 }
 
 impl Script {
@@ -64,6 +67,7 @@ impl Script {
         Script {
             rows: Vec::new(alloc),
             schedule: Schedule::none(alloc),
+            lasting: Vec::new(alloc),
             first: u64::MAX,
             end: 0,
         }
@@ -75,6 +79,16 @@ impl Script {
         ensures { IfOk result (λ script. script ≡ row ∷ []) }
     {
         let mut rows = Vec::new(alloc);
+        rows.push(row)?;
+        Script::of(alloc, rows)
+    }
+
+    /// The script with one row more, after the others. The error: out of memory.
+    pub fn with_row(&self, alloc: Global, row: Row) -> Result<Self, AllocError>
+        requires { IsRow row }
+        ensures { IfOk result (λ script. script ≡ self.now ++ row ∷ []) }
+    {
+        let mut rows = self.rows.to_vec(alloc)?;
         rows.push(row)?;
         Script::of(alloc, rows)
     }
@@ -108,6 +122,7 @@ impl Script {
     {
         if self.first <= cycle && cycle < self.end {
             self.schedule.lay(cycle, list);
+            lay_lasting(&self.lasting, cycle, list);
         }
     }
 
@@ -116,15 +131,42 @@ impl Script {
         ensures { IfOk result (λ script. script ≡ rows.items) }
     {
         let schedule = Schedule::new(alloc, &rows)?;
+        let lasting = lasting_of(alloc, &rows)?;
         let first = first_of(&rows);
         let end = end_of(&rows);
         Ok(Script {
             rows,
             schedule,
+            lasting,
             first,
             end,
         })
     }
+}
+
+/// Lays rows that last over the list of a cycle, one after another.
+fn lay_lasting(rows: &[Row], cycle: u64, list: &mut Claims)
+    requires { All IsRow rows.now }
+    ensures { list.new ≡ fold (with_lasting_in cycle) list.old rows.now }
+{
+    for row in rows {
+        row.lay_lasting(cycle, list);
+    }
+}
+
+/// The rows that last, in their order.
+fn lasting_of(alloc: Global, rows: &[Row]) -> Result<Vec<Row>, AllocError>
+    requires { All IsRow rows.now }
+    ensures rows { IfOk result (λ lasting. lasting.items ≡ filter lasts rows.now) }
+    ensures ranges { IfOk result (λ lasting. All IsRow lasting.items) }
+{
+    let mut lasting = Vec::new(alloc);
+    for row in rows {
+        if row.lasts() {
+            lasting.push(*row)?;
+        }
+    }
+    Ok(lasting)
 }
 
 /// The first cycle that a row touches.
