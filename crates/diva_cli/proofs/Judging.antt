@@ -1,15 +1,14 @@
 -- No job of `diva` judges a text.
-use Rattle.std.proofs.Common.{◌≡◌, ◌⊎◌, inl, inr, subst}
+use Rattle.std.proofs.Common.{◌⊎◌, inl, inr}
 use Rattle.diva_outside.specs.Files.{LentFiles}
 use Rattle.diva_outside.specs.Sink.{LentSink}
 use Rattle.diva_core.specs.History.{Meaning}
 use Rattle.diva_args.specs.declared.job.Job.{Job}
 use Rattle.diva_process.specs.declared.status.Status.{Status}
-use Rattle.diva_process.specs.declared.status.Status.TheVariants.{Refused, Wrong, Unread}
 use Rattle.diva_process.specs.Answers.{IsDone, IsJudged}
 use Rattle.diva_process.specs.Process.{IsProcess}
 use Rattle.diva_process.specs.Programs.{Asked}
-use Rattle.diva_process.specs.Statuses.{HasEnded, HasLine}
+use Rattle.diva_process.specs.Statuses.{HasEnded}
 use Rattle.diva_cli.specs.Program.{TellsOfFiles, own_work}
 use Rattle.diva_cli.proofs.Ending.{job_done}
 

@@ -49,38 +49,33 @@ module _ {L : Type 0} (says : Saying L) (before after : Lanes L) (asked : List Q
   same_questions : (polls : List Poll) (a b : L) → map (λ poll. poll.question) polls ≡ asked → WasAsked says a (map (λ poll. poll.question) polls) b → WasAsked says a asked b
   same_questions polls a b e h = subst (λ (qs : List Question). WasAsked says a qs b) e h
 
+  all_heard : (a b c x y z : L) → ArePolled says says says asked a b c x y z
+      → WasAsked says a asked x × (WasAsked says b asked y × WasAsked says c asked z)
+  all_heard a b c x y z p = (
+    same_questions p.polls a x p.asked (was_polled says _ a p.polls x p.first),
+    (same_questions p.polls b y p.asked (was_polled says _ b p.polls y p.second), same_questions p.polls c z p.asked (was_polled says _ c p.polls z p.third)),
+  )
+
   pub first_lies : ArePolled says says says asked before.first.liar before.second.honest before.third.honest after.first.liar after.second.honest after.third.honest
       → after.first.honest ≡ before.first.honest → after.second.liar ≡ before.second.liar → after.third.liar ≡ before.third.liar
       → are_asked says before after (Some First) asked
-  first_lies p a b c = (
-    record { heard = same_questions p.polls _ _ p.asked (was_polled says _ _ p.polls _ p.first); other = a },
-    (
-      record { heard = same_questions p.polls _ _ p.asked (was_polled says _ _ p.polls _ p.second); other = b },
-      record { heard = same_questions p.polls _ _ p.asked (was_polled says _ _ p.polls _ p.third); other = c },
-    ),
-  )
+  first_lies p a b c =
+      let h = all_heard _ _ _ _ _ _ p in
+      (record { heard = h.0; other = a }, (record { heard = h.1.0; other = b }, record { heard = h.1.1; other = c }))
 
   pub second_lies : ArePolled says says says asked before.first.honest before.second.liar before.third.honest after.first.honest after.second.liar after.third.honest
       → after.first.liar ≡ before.first.liar → after.second.honest ≡ before.second.honest → after.third.liar ≡ before.third.liar
       → are_asked says before after (Some Second) asked
-  second_lies p a b c = (
-    record { heard = same_questions p.polls _ _ p.asked (was_polled says _ _ p.polls _ p.first); other = a },
-    (
-      record { heard = same_questions p.polls _ _ p.asked (was_polled says _ _ p.polls _ p.second); other = b },
-      record { heard = same_questions p.polls _ _ p.asked (was_polled says _ _ p.polls _ p.third); other = c },
-    ),
-  )
+  second_lies p a b c =
+      let h = all_heard _ _ _ _ _ _ p in
+      (record { heard = h.0; other = a }, (record { heard = h.1.0; other = b }, record { heard = h.1.1; other = c }))
 
   pub third_lies : ArePolled says says says asked before.first.honest before.second.honest before.third.liar after.first.honest after.second.honest after.third.liar
       → after.first.liar ≡ before.first.liar → after.second.liar ≡ before.second.liar → after.third.honest ≡ before.third.honest
       → are_asked says before after (Some Third) asked
-  third_lies p a b c = (
-    record { heard = same_questions p.polls _ _ p.asked (was_polled says _ _ p.polls _ p.first); other = a },
-    (
-      record { heard = same_questions p.polls _ _ p.asked (was_polled says _ _ p.polls _ p.second); other = b },
-      record { heard = same_questions p.polls _ _ p.asked (was_polled says _ _ p.polls _ p.third); other = c },
-    ),
-  )
+  third_lies p a b c =
+      let h = all_heard _ _ _ _ _ _ p in
+      (record { heard = h.0; other = a }, (record { heard = h.1.0; other = b }, record { heard = h.1.1; other = c }))
 
 module _ {L : Type 0} (says : Saying L) where
   honest_then : (a b c : LanePair L) (xs ys : List Question) → IsHonestlyAsked says a b xs → IsHonestlyAsked says b c ys → IsHonestlyAsked says a c (xs ++ ys)

@@ -37,10 +37,9 @@ use Rattle.diva_cli.specs.Driven.{AreHanded, ByCalls, scripted_lists}
 use Rattle.diva_cli.specs.Runs.{IsReadOff, IsRunOfFiles, IsWhole, HasRun, end_status, asked_trace, shown_dump}
 use Rattle.diva_cli.specs.Sessions.{AreRows, AreLists, start_in}
 use Rattle.diva_cli.specs.TapeTexts.{IsHandedFor, IsReplay}
-use Rattle.diva_cli.specs.Ready.{IsOnePart, PlaysBy}
+use Rattle.diva_cli.specs.Ready.{IsOnePart, IsReady, PlaysBy}
 use Rattle.diva_cli.specs.Watched.{IsWatched, Seen, Watching, seen_over, tape_lines}
 use Rattle.diva_cli.proofs.Seeing.{concat_of, cut_of}
-use Rattle.diva_cli.specs.Ready.{IsReady}
 use Rattle.diva_process.specs.Writing.{WritesWhole, WritesPart}
 use Rattle.diva_cli.proofs.Running.{ends_with, run_each, run_from_new, run_of_files, run_whole, shown_whole}
 use Rattle.diva_cli.proofs.Sessions.{read_off}

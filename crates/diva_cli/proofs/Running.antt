@@ -40,9 +40,8 @@ use Rattle.diva_cli.specs.Driven.{AreHanded}
 use Rattle.diva_cli.specs.Runs.{IsRunOfFiles, IsWhole, EndsWith, HasRun, end_status, asked_trace, shown_dump}
 use Rattle.diva_cli.specs.Sessions.{start_in}
 use Rattle.diva_cli.specs.Tasks.{IsQuiet, IsRun, commits_if}
-use Rattle.diva_cli.specs.Ready.{IsOnePart, PlaysBy}
+use Rattle.diva_cli.specs.Ready.{IsOnePart, IsReady, PlaysBy}
 use Rattle.diva_cli.specs.Watched.{IsWatched, Seen, commit_lines}
-use Rattle.diva_cli.specs.Ready.{IsReady}
 use Rattle.diva_process.specs.Writing.{WritesWhole, WritesPart}
 use Rattle.diva_cli.proofs.Seeing.{concat_of, cut_of}
 use Rattle.diva_cli.proofs.Sessions.{each_new, handed_new, ran_new, run_from_start}

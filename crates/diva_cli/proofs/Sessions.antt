@@ -51,7 +51,7 @@ use Rattle.diva_cli.specs.Cuts.{BeforeLast}
 use Rattle.diva_cli.specs.DebugTexts.{HasReplies}
 use Rattle.diva_cli.specs.Driven.{AreHanded, ByCalls, ByOther, IsDriven, scripted_lists, scripted_rule}
 use Rattle.diva_cli.specs.Parts.{IsSession}
-use Rattle.diva_cli.specs.Ready.{IsReady, core_for}
+use Rattle.diva_cli.specs.Ready.{AreHandedBy, IsReady, PlaysBy, core_for}
 use Rattle.diva_process.specs.declared.status.Status.TheVariants.{Halted}
 use Rattle.diva_process.specs.declared.status.Status.{Status}
 use Rattle.diva_process.specs.Writing.{WritesPart, WritesWhole}
@@ -59,7 +59,6 @@ use Rattle.diva_cli.specs.Replies.{AreLed, IsMoved, IsTakenBack, LeadsBy, at_sta
 use Rattle.diva_cli.specs.Runs.{IsRunFrom, RunsAreReadOff}
 use Rattle.diva_cli.specs.Sessions.{IsSessionFrom, IsSessionOfFiles, IsUnflushed, start_in}
 use Rattle.diva_cli.specs.Tasks.{IsReplied}
-use Rattle.diva_cli.specs.Ready.{AreHandedBy, PlaysBy}
 use Rattle.diva_process.specs.Programs.{FileBytes}
 use Rattle.diva_cli.proofs.Commanding.{CutAt}
 use Rattle.diva_cli.specs.Program.{work_of}

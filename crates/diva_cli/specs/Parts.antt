@@ -1,8 +1,9 @@
 -- What the parts of the program promise one another.
 -- Only private contracts of this crate cite this: a reader of its promises can pass over it.
-use Rattle.std.specs.Prelude.{◌≡◌, ◌≤◌, ℕ, true, List, length, Option, Some, None, Ok}
+use Rattle.std.specs.Prelude.{◌≡◌, ◌≤◌, ℕ, true, List, length, Option, Some, None, Ok, Result}
 use Rattle.std.specs.List.{All}
-use Rattle.diva_outside.specs.Files.{Contents}
+use Rattle.diva_outside.specs.Files.{Contents, LentFiles}
+use Rattle.diva_outside.specs.Sink.{LentSink}
 use Rattle.diva_outside.specs.declared.files.What.{What}
 use Rattle.diva_outside.specs.declared.text_fault.TextFault.{TextFault}
 use Rattle.diva_outside.specs.declared.files.What.TheVariants.{Script, Tape as TapeFile, Commands}
@@ -20,6 +21,7 @@ use Rattle.diva_debug.specs.declared.command.Command.{Command}
 use Rattle.diva_args.specs.declared.job.CoreChoice.{CoreChoice}
 use Rattle.diva_args.specs.declared.job.HartCore.{HartCore}
 use Rattle.diva_args.specs.declared.campaign.CampaignOptions.{CampaignOptions}
+use Rattle.diva_args.specs.declared.job.Job.{Job}
 use Rattle.diva_args.specs.declared.job.Job.TheVariants.{Campaign, Duo}
 use Rattle.diva_cli.specs.declared.campaign.CampaignRuns.{CampaignRuns}
 use Rattle.diva_cli.specs.declared.driving.CoreInUse.{CoreInUse}
@@ -27,11 +29,16 @@ use Rattle.diva_cli.specs.declared.duo.DuoReady.{DuoReady}
 use Rattle.diva_cli.specs.declared.duo.HartCores.{HartCores}
 use Rattle.diva_cli.specs.declared.loading.SessionReady.{SessionReady}
 use Rattle.diva_cli.specs.declared.soak.SoakReady.{SoakReady}
+use Rattle.diva_process.specs.declared.status.Status.{Status}
+use Rattle.diva_process.specs.declared.stop.Failure.{Failure}
 use Rattle.diva_process.specs.declared.stop.Stop.{Stop}
 use Rattle.diva_process.specs.declared.stop.Stop.TheVariants.{Memory, Unread, Refused}
-use Rattle.diva_process.specs.Programs.{FileBytes, Wanted}
+use Rattle.diva_process.specs.Programs.{FileBytes, Wanted, asked_for}
+use Rattle.diva_process.specs.Promises.{KeepsPromises}
 use Rattle.diva_process.specs.Stops.{AreSound, IsSound}
-use Rattle.diva_cli.specs.Changes.{Change, LanesAsked}
+use Rattle.diva_process.specs.Writing.{WritesText}
+use Rattle.diva_cli.specs.Changes.{Asking, Change, LanesAsked}
+use Rattle.diva_cli.specs.Program.{diva, work_of}
 use Rattle.diva_cli.specs.Wanted.{file_if, file_rules, first_fault, session_files, tape_name, wanted}
 use Rattle.diva_cli.specs.Ready.{IsCore, IsReady}
 use Rattle.diva_cli.specs.Sessions.{AreRows}
@@ -41,6 +48,16 @@ use Rattle.diva_cli.specs.SoakTexts.{soak_cycles, soak_start}
 use Rattle.diva_outside.specs.declared.text_fault.TextFault.TheVariants as text
 use Rattle.diva_args.specs.declared.job.HartCore.TheVariants as hart
 use Rattle.diva_cli.specs.declared.duo.HartCores.TheVariants as cores
+
+-- ---- jobs
+
+-- this came of a job, by the core and the lanes that it asked: what the program promises of it
+abbrev pub DoesJob : {C F S : Type 0} → Meaning C → Job → Asking C → LentFiles F → LentSink S → Result Status Failure → Type 0
+DoesJob gives job asks files sink result = KeepsPromises (asked_for diva job) (work_of gives asks) files sink result
+
+-- the text of a job over files with these bytes was written
+abbrev pub WritesJob : {C S : Type 0} → Meaning C → Job → Asking C → FileBytes → LentSink S → Result Status Failure → Type 0
+WritesJob gives job asks bytes sink result = WritesText (work_of gives asks) job bytes sink result
 
 -- ---- loading
 

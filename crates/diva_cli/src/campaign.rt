@@ -7,7 +7,7 @@ ghost use Rattle.diva_image.specs.ImageLayout.{layout};
 ghost use Rattle.diva_trace.specs.Text.{campaign_text};
 ghost use Rattle.diva_args.specs.declared.campaign.CampaignOptions.{CampaignOptions as Options};
 ghost use Rattle.diva_args.specs.declared.job.Job.TheVariants.{Campaign as Command};
-ghost use Rattle.diva_process.specs.Programs.{asked_for, FileBytes};
+ghost use Rattle.diva_process.specs.Programs.{FileBytes};
 ghost use Rattle.diva_cli.specs.CampaignTexts.{campaign_tally, first_run, flipped_runs, is_same, run_under, tally_of};
 ghost use Rattle.diva_outside.specs.Files.{IsUncounted};
 ghost use Rattle.diva_outside.specs.Sink.{PutsTo};
@@ -15,10 +15,8 @@ ghost use Rattle.diva_cli.specs.Changes.{asking};
 ghost use Rattle.diva_outside.specs.Lent.{lent};
 ghost use Rattle.diva_cli.specs.Lanes.{AreHonest, are_asked};
 ghost use Rattle.diva_cli.specs.Wanted.{wanted, file_rules};
-ghost use Rattle.diva_process.specs.Promises.{KeepsPromises};
-ghost use Rattle.diva_cli.specs.Parts.{AreCampaignRuns, HoldsCampaign, no_lanes};
-ghost use Rattle.diva_process.specs.Writing.{Stops, WritesText};
-ghost use Rattle.diva_cli.specs.Program.{diva, work_of};
+ghost use Rattle.diva_cli.specs.Parts.{AreCampaignRuns, DoesJob, HoldsCampaign, WritesJob, no_lanes};
+ghost use Rattle.diva_process.specs.Writing.{Stops};
 
 use crate::files::{ImageFile, load};
 use crate::lanes::Lanes;
@@ -48,8 +46,8 @@ pub(crate) fn campaign<F: Files, S: Sink, C: Core, L: Lane>(
     lanes: &mut Lanes<L>,
 ) -> Result<Status, Failure>
     requires { AreHonest L.honest lanes.old }
-    ensures { KeepsPromises (asked_for diva (Command options)) (work_of C.gives
-        (asking _core.now _core.now (are_asked L.says lanes.old lanes.new))) (lent F.account files.old files.new) (lent S.account sink.old sink.new) result }
+    ensures { DoesJob C.gives (Command options) (asking _core.now _core.now (are_asked L.says lanes.old lanes.new))
+        (lent F.account files.old files.new) (lent S.account sink.old sink.new) result }
 {
     match load_and_run(alloc, files, &options, lanes) {
         Ok(runs) => show(&runs, sink, _core),
@@ -187,8 +185,7 @@ fn is_same(first: &Machine, last: &Machine) -> bool
 /// Writes what the runs came to, and answers the status of the first one.
 fn show<S: Sink, C: Core>(runs: &CampaignRuns, sink: &mut S, _core: &C) -> Result<Status, Failure>
     ensures { (options : Options) (bytes : FileBytes) → AreCampaignRuns options bytes runs.now
-        → WritesText (work_of C.gives
-        (asking _core.now _core.now no_lanes)) (Command options) bytes (lent S.account sink.old sink.new) result }
+        → WritesJob C.gives (Command options) (asking _core.now _core.now no_lanes) bytes (lent S.account sink.old sink.new) result }
 {
     write_runs(runs, sink)?;
     Ok(end_status(&runs.first))

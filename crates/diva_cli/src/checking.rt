@@ -12,6 +12,31 @@ use diva_core::{Claims, Core};
 use diva_machine::{Drive, Machine, drive, drive_voted, turn, turn_voted};
 use diva_vote::{Lane, recall_two_honest};
 
+/// Calls this with these values, then the three lanes that vote where the liar has this place, and then those values.
+macro_rules! vote_with_liar {
+    ($lanes:expr, $place:expr, $vote:ident, ($($before:expr),+), ($($behind:expr),*)) => {{
+        let Lanes {
+            first,
+            second,
+            third,
+        } = $lanes;
+        match $place {
+            LanePlace::First => {
+                recall_two_honest(&first.liar, &second.honest, &third.honest);
+                $vote($($before,)+ &mut first.liar, &mut second.honest, &mut third.honest $(, $behind)*)
+            }
+            LanePlace::Second => {
+                recall_two_honest(&first.honest, &second.liar, &third.honest);
+                $vote($($before,)+ &mut first.honest, &mut second.liar, &mut third.honest $(, $behind)*)
+            }
+            LanePlace::Third => {
+                recall_two_honest(&first.honest, &second.honest, &third.liar);
+                $vote($($before,)+ &mut first.honest, &mut second.honest, &mut third.liar $(, $behind)*)
+            }
+        }
+    }};
+}
+
 /// Drives a machine for so many cycles at most. Where a place is given, three lanes vote, and the one in that place is the liar.
 #[inline(always)]
 pub(crate) fn drive_checked<C: Core, L: Lane>(
@@ -50,46 +75,7 @@ fn drive_with_liar<C: Core, L: Lane>(
     ensures drives { DrivesAsking C.gives m.old core.old m.new core.new (are_asked L.says lanes.old lanes.new (Some place)) }
     ensures is { IsDrive C.gives budget m.old core.old m.new core.new result }
 {
-    let Lanes {
-        first,
-        second,
-        third,
-    } = lanes;
-    match place {
-        LanePlace::First => {
-            recall_two_honest(&first.liar, &second.honest, &third.honest);
-            drive_voted(
-                m,
-                core,
-                &mut first.liar,
-                &mut second.honest,
-                &mut third.honest,
-                budget,
-            )
-        }
-        LanePlace::Second => {
-            recall_two_honest(&first.honest, &second.liar, &third.honest);
-            drive_voted(
-                m,
-                core,
-                &mut first.honest,
-                &mut second.liar,
-                &mut third.honest,
-                budget,
-            )
-        }
-        LanePlace::Third => {
-            recall_two_honest(&first.honest, &second.honest, &third.liar);
-            drive_voted(
-                m,
-                core,
-                &mut first.honest,
-                &mut second.honest,
-                &mut third.liar,
-                budget,
-            )
-        }
-    }
+    vote_with_liar!(lanes, place, drive_voted, (m, core), (budget))
 }
 
 /// Takes a turn. Where a place is given, three lanes vote, and the one in that place is the liar.
@@ -129,44 +115,5 @@ fn turn_with_liar<C: Core, L: Lane>(
     ensures lanes { are_asked L.says lanes.old lanes.new (Some place) (asked_of m.old.timed) }
     ensures is { IsTurn C.gives m.old core.old list.new m.new core.new }
 {
-    let Lanes {
-        first,
-        second,
-        third,
-    } = lanes;
-    match place {
-        LanePlace::First => {
-            recall_two_honest(&first.liar, &second.honest, &third.honest);
-            turn_voted(
-                m,
-                core,
-                list,
-                &mut first.liar,
-                &mut second.honest,
-                &mut third.honest,
-            );
-        }
-        LanePlace::Second => {
-            recall_two_honest(&first.honest, &second.liar, &third.honest);
-            turn_voted(
-                m,
-                core,
-                list,
-                &mut first.honest,
-                &mut second.liar,
-                &mut third.honest,
-            );
-        }
-        LanePlace::Third => {
-            recall_two_honest(&first.honest, &second.honest, &third.liar);
-            turn_voted(
-                m,
-                core,
-                list,
-                &mut first.honest,
-                &mut second.honest,
-                &mut third.liar,
-            );
-        }
-    }
+    vote_with_liar!(lanes, place, turn_voted, (m, core, list), ())
 }

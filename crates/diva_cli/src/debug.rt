@@ -4,16 +4,13 @@ ghost use Rattle.std.specs.List.{All};
 ghost use Rattle.diva_args.specs.declared.job.Job.TheVariants.{Debug};
 ghost use Rattle.diva_core.specs.Machine.{IsConfig};
 ghost use Rattle.diva_debug.specs.Moves.{IsShort};
-ghost use Rattle.diva_process.specs.Programs.{asked_for, FileBytes};
+ghost use Rattle.diva_process.specs.Programs.{FileBytes};
 ghost use Rattle.diva_cli.specs.Lanes.{AreHonest, are_asked};
 ghost use Rattle.diva_cli.specs.Replies.{keep};
 ghost use Rattle.diva_cli.specs.Changes.{asking};
 ghost use Rattle.diva_outside.specs.Lent.{lent};
 ghost use Rattle.diva_cli.specs.Wanted.{file_limit};
-ghost use Rattle.diva_process.specs.Promises.{KeepsPromises};
-ghost use Rattle.diva_cli.specs.Parts.{IsSession};
-ghost use Rattle.diva_process.specs.Writing.{WritesText};
-ghost use Rattle.diva_cli.specs.Program.{diva, work_of};
+ghost use Rattle.diva_cli.specs.Parts.{DoesJob, IsSession, WritesJob};
 
 use crate::driving::perform_by;
 use crate::lanes::Lanes;
@@ -39,8 +36,8 @@ pub(crate) fn debug<F: Files, S: Sink, C: Core, L: Lane>(
     lanes: &mut Lanes<L>,
 ) -> Result<Status, Failure>
     requires { AreHonest L.honest lanes.old }
-    ensures { KeepsPromises (asked_for diva (Debug options)) (work_of C.gives
-        (asking core.old core.new (are_asked L.says lanes.old lanes.new))) (lent F.account files.old files.new) (lent S.account sink.old sink.new) result }
+    ensures { DoesJob C.gives (Debug options) (asking core.old core.new (are_asked L.says lanes.old lanes.new))
+        (lent F.account files.old files.new) (lent S.account sink.old sink.new) result }
 {
     match make_session(alloc, files, &options) {
         Ok(session) => debug_ready(session, options, sink, core, lanes),
@@ -65,8 +62,7 @@ fn debug_ready<S: Sink, C: Core, L: Lane>(
     requires few { length session.commands.items ≤ file_limit }
     requires short { All IsShort session.commands.items }
     ensures { (bytes : FileBytes) → IsSession options bytes session
-        → WritesText (work_of C.gives
-        (asking core.old core.new (are_asked L.says lanes.old lanes.new))) (Debug options) bytes (lent S.account sink.old sink.new) result }
+        → WritesJob C.gives (Debug options) (asking core.old core.new (are_asked L.says lanes.old lanes.new)) bytes (lent S.account sink.old sink.new) result }
 {
     let SessionReady {
         ready,

@@ -4,7 +4,7 @@ ghost use Rattle.diva_image.specs.ImageLayout.{layout};
 ghost use Rattle.diva_duo.specs.Which.{machine_at, which};
 ghost use Rattle.diva_trace.specs.Text.{hart_text};
 ghost use Rattle.diva_args.specs.declared.job.Job.TheVariants.{Duo as Command};
-ghost use Rattle.diva_process.specs.Programs.{asked_for, FileBytes};
+ghost use Rattle.diva_process.specs.Programs.{FileBytes};
 ghost use Rattle.diva_outside.specs.Files.{IsUncounted};
 ghost use Rattle.diva_outside.specs.Sink.{PutsTo};
 ghost use Rattle.diva_cli.specs.Changes.{asking};
@@ -12,10 +12,8 @@ ghost use Rattle.diva_outside.specs.Lent.{lent};
 ghost use Rattle.diva_cli.specs.DuoTexts.{IsDuoRun, duo_start, duo_status, duo_text};
 ghost use Rattle.diva_cli.specs.Runs.{shown_dump};
 ghost use Rattle.diva_cli.specs.Wanted.{wanted, file_rules};
-ghost use Rattle.diva_process.specs.Promises.{KeepsPromises};
-ghost use Rattle.diva_cli.specs.Parts.{HoldsDuo, IsDuoReady, new_cores, no_lanes};
-ghost use Rattle.diva_process.specs.Writing.{Stops, WritesText};
-ghost use Rattle.diva_cli.specs.Program.{diva, work_of};
+ghost use Rattle.diva_cli.specs.Parts.{DoesJob, HoldsDuo, IsDuoReady, WritesJob, new_cores, no_lanes};
+ghost use Rattle.diva_process.specs.Writing.{Stops};
 
 use crate::files::{ImageFile, load};
 use crate::writing::shown_dump;
@@ -39,8 +37,8 @@ pub(crate) fn duo<F: Files, S: Sink, C: Core>(
     sink: &mut S,
     _core: &C,
 ) -> Result<Status, Failure>
-    ensures { KeepsPromises (asked_for diva (Command options)) (work_of C.gives
-        (asking _core.now _core.now no_lanes)) (lent F.account files.old files.new) (lent S.account sink.old sink.new) result }
+    ensures { DoesJob C.gives (Command options) (asking _core.now _core.now no_lanes)
+        (lent F.account files.old files.new) (lent S.account sink.old sink.new) result }
 {
     match make_duo(alloc, files, &options) {
         Ok(mut ready) => duo_ready(&mut ready, &options, sink, _core),
@@ -99,8 +97,7 @@ fn duo_ready<S: Sink, C: Core>(
 ) -> Result<Status, Failure>
     requires { ready.old.duo.duo.cycles ≡ 0 }
     ensures { (bytes : FileBytes) → IsDuoReady options.now bytes ready.old
-        → WritesText (work_of C.gives
-        (asking _core.now _core.now no_lanes)) (Command options.now) bytes (lent S.account sink.old sink.new) result }
+        → WritesJob C.gives (Command options.now) (asking _core.now _core.now no_lanes) bytes (lent S.account sink.old sink.new) result }
 {
     let cycles = u64::from(options.cycles.get());
     drive_both(&mut ready.duo, &mut ready.cores, cycles);

@@ -1,7 +1,7 @@
 //! The program over the files, the sink and the core that it is handed.
 //!
 //! - `program`: `top`, from the words to the status; `work`, which does a job, has an arm for each command;
-//! - `run` (with `tape`), `duo`, `debug`, `asm`, `dis`, `migrate`, `soak`, `campaign`: these commands;
+//! - `run` (with `tape`), `duo`, `debug`, `images` (`asm`, `dis` and `migrate`), `soak`, `campaign`: these commands;
 //! - `files`: the kinds of files, and how a file of any kind is loaded and read; `loading`: the files of a job, one after another;
 //! - `driving`: the core that the command line chose, and how a task is done with it; `tasks`: the things that are done with a machine
 //!   or a session and any core, under a script or without one; `scripted`: how a script is kept out of the cycles that none of its rows
@@ -36,19 +36,17 @@
 //! `Tasks` and `Parts` are what the parts of the program promise one another.
 #![tactic(auto)]
 
-mod asm;
 mod campaign;
 mod checking;
 mod debug;
-mod dis;
 mod driving;
 mod duo;
 mod files;
+mod images;
 mod lanes;
 pub mod laws;
 mod lines;
 mod loading;
-mod migrate;
 mod program;
 mod replying;
 mod run;

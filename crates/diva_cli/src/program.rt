@@ -10,14 +10,12 @@ ghost use Rattle.diva_cli.specs.Lanes.{AreHonest, are_asked};
 ghost use Rattle.diva_cli.specs.Program.{diva, own_work, work_of};
 ghost use Rattle.diva_cli.specs.Wanted.{wanted};
 
-use crate::asm::asm;
 use crate::campaign::campaign;
 use crate::debug::debug;
-use crate::dis::dis;
 use crate::duo::duo;
+use crate::images::{asm, dis, migrate};
 use crate::lanes::Lanes;
 use crate::lines::usage_line;
-use crate::migrate::migrate;
 use crate::run::{run, tape};
 use crate::soak::soak;
 use diva_args::{ArgsFault, Job, read_words};

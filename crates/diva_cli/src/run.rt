@@ -3,16 +3,13 @@ ghost use Rattle.std.specs.Prelude.{◌≡◌, ◌+◌, ◌≤◌, ◌^◌};
 ghost use Rattle.diva_args.specs.declared.job.Job.TheVariants.{Run, Tape};
 ghost use Rattle.diva_core.specs.Machine.{IsConfig};
 ghost use Rattle.diva_machine.specs.Asked.{asked_over};
-ghost use Rattle.diva_process.specs.Programs.{asked_for, FileBytes};
+ghost use Rattle.diva_process.specs.Programs.{FileBytes};
 ghost use Rattle.diva_cli.specs.Changes.{asking, change};
 ghost use Rattle.diva_outside.specs.Lent.{lent};
 ghost use Rattle.diva_cli.specs.Lanes.{AreHonest, are_asked};
+ghost use Rattle.diva_cli.specs.Parts.{DoesJob, WritesJob};
 ghost use Rattle.diva_cli.specs.Tasks.{IsRun};
-ghost use Rattle.diva_cli.specs.Ready.{IsOnePart, PlaysBy};
-ghost use Rattle.diva_process.specs.Promises.{KeepsPromises};
-ghost use Rattle.diva_cli.specs.Ready.{IsReady};
-ghost use Rattle.diva_process.specs.Writing.{WritesText};
-ghost use Rattle.diva_cli.specs.Program.{diva, work_of};
+ghost use Rattle.diva_cli.specs.Ready.{IsOnePart, IsReady, PlaysBy};
 
 use crate::driving::perform_by;
 use crate::lanes::Lanes;
@@ -39,8 +36,8 @@ pub(crate) fn run<F: Files, S: Sink, C: Core, L: Lane>(
     lanes: &mut Lanes<L>,
 ) -> Result<Status, Failure>
     requires { AreHonest L.honest lanes.old }
-    ensures { KeepsPromises (asked_for diva (Run options)) (work_of C.gives
-        (asking core.old core.new (are_asked L.says lanes.old lanes.new))) (lent F.account files.old files.new) (lent S.account sink.old sink.new) result }
+    ensures { DoesJob C.gives (Run options) (asking core.old core.new (are_asked L.says lanes.old lanes.new))
+        (lent F.account files.old files.new) (lent S.account sink.old sink.new) result }
 {
     match make_ready(alloc, files, &options.setup) {
         Ok(mut ready) => run_ready(&mut ready, options, sink, core, lanes),
@@ -60,8 +57,7 @@ fn run_ready<S: Sink, C: Core, L: Lane>(
     requires new { ready.old.machine.timed.cycles ≡ 0 }
     requires fits { IsConfig options.setup.config }
     ensures { (bytes : FileBytes) → IsReady options.setup bytes ready.old
-        → WritesText (work_of C.gives
-        (asking core.old core.new (are_asked L.says lanes.old lanes.new))) (Run options) bytes (lent S.account sink.old sink.new) result }
+        → WritesJob C.gives (Run options) (asking core.old core.new (are_asked L.says lanes.old lanes.new)) bytes (lent S.account sink.old sink.new) result }
 {
     drive_run(
         ready,
@@ -125,8 +121,8 @@ pub(crate) fn tape<F: Files, S: Sink, C: Core, L: Lane>(
     lanes: &mut Lanes<L>,
 ) -> Result<Status, Failure>
     requires { AreHonest L.honest lanes.old }
-    ensures { KeepsPromises (asked_for diva (Tape options)) (work_of C.gives
-        (asking core.old core.new (are_asked L.says lanes.old lanes.new))) (lent F.account files.old files.new) (lent S.account sink.old sink.new) result }
+    ensures { DoesJob C.gives (Tape options) (asking core.old core.new (are_asked L.says lanes.old lanes.new))
+        (lent F.account files.old files.new) (lent S.account sink.old sink.new) result }
 {
     match make_ready(alloc, files, &options.setup) {
         Ok(mut ready) => tape_ready(&mut ready, options, sink, core, lanes),
@@ -146,8 +142,7 @@ fn tape_ready<S: Sink, C: Core, L: Lane>(
     requires new { ready.old.machine.timed.cycles ≡ 0 }
     requires fits { IsConfig options.setup.config }
     ensures { (bytes : FileBytes) → IsReady options.setup bytes ready.old
-        → WritesText (work_of C.gives
-        (asking core.old core.new (are_asked L.says lanes.old lanes.new))) (Tape options) bytes (lent S.account sink.old sink.new) result }
+        → WritesJob C.gives (Tape options) (asking core.old core.new (are_asked L.says lanes.old lanes.new)) bytes (lent S.account sink.old sink.new) result }
 {
     let mut task = Watched {
         cycles: u64::from(options.cycles.get()),

@@ -4,14 +4,11 @@ ghost use Rattle.std.specs.Prelude.{◌≡◌, IfOk};
 ghost use Rattle.diva_core.specs.Timed.{default_config, new_timed};
 ghost use Rattle.diva_tape.specs.Scalar.{IsScalarCall};
 ghost use Rattle.diva_args.specs.declared.job.Job.TheVariants.{Soak};
-ghost use Rattle.diva_process.specs.Programs.{asked_for, FileBytes};
+ghost use Rattle.diva_process.specs.Programs.{FileBytes};
 ghost use Rattle.diva_cli.specs.Changes.{asking, change};
 ghost use Rattle.diva_outside.specs.Lent.{lent};
 ghost use Rattle.diva_cli.specs.SoakTexts.{soak_cycles, soak_start};
-ghost use Rattle.diva_process.specs.Promises.{KeepsPromises};
-ghost use Rattle.diva_cli.specs.Parts.{IsSoakReady, Soaks, no_lanes};
-ghost use Rattle.diva_process.specs.Writing.{WritesText};
-ghost use Rattle.diva_cli.specs.Program.{diva, work_of};
+ghost use Rattle.diva_cli.specs.Parts.{DoesJob, IsSoakReady, Soaks, WritesJob, no_lanes};
 
 use crate::writing::write_soaked;
 use diva_args::SoakOptions;
@@ -33,8 +30,8 @@ pub(crate) fn soak<F: Files, S: Sink, C: Core>(
     sink: &mut S,
     core: &mut C,
 ) -> Result<Status, Failure>
-    ensures { KeepsPromises (asked_for diva (Soak options)) (work_of C.gives
-        (asking core.old core.new no_lanes)) (lent F.account _files.now _files.now) (lent S.account sink.old sink.new) result }
+    ensures { DoesJob C.gives (Soak options) (asking core.old core.new no_lanes)
+        (lent F.account _files.now _files.now) (lent S.account sink.old sink.new) result }
 {
     let mut ready = make_soak(alloc, &options)?;
     soak_ready(&mut ready, options, sink, core)
@@ -73,8 +70,7 @@ fn soak_ready<S: Sink, C: Core>(
     core: &mut C,
 ) -> Result<Status, Failure>
     requires { IsSoakReady options ready.old }
-    ensures { (bytes : FileBytes) → WritesText (work_of C.gives
-        (asking core.old core.new no_lanes)) (Soak options) bytes (lent S.account sink.old sink.new) result }
+    ensures { (bytes : FileBytes) → WritesJob C.gives (Soak options) (asking core.old core.new no_lanes) bytes (lent S.account sink.old sink.new) result }
 {
     drive_both(ready, &options, core);
     write_soaked(&ready.first, &ready.second, sink)?;

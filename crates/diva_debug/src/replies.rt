@@ -8,7 +8,7 @@ use crate::command::Command;
 use diva_core::FlushRow;
 use diva_machine::{End, Machine};
 use diva_outside::Line;
-use diva_trace::{flush_line, mem_line, push_end};
+use diva_trace::{flush_line, line_of, mem_line, push_end};
 
 /// What a machine that was moved by a command replies to it; so many undos were kept before.
 #[tactic(auto, unfolding(crate::specs::Replies::reply_at))]
@@ -67,11 +67,7 @@ fn back_line(count: u32, kept: u64, m: &Machine) -> Line
 fn kept_line(kept: u64) -> Line
     ensures { result ≡ kept_line kept }
 {
-    let mut line = Line::new();
-    line.text(b"kept ");
-    line.decimal(kept);
-    line.text(b"\n");
-    line
+    line_of!(text b"kept ", decimal kept, text b"\n")
 }
 
 /// A word of at most 8 letters, the place and the pc there.
@@ -80,13 +76,7 @@ fn place_line(word: &[u8], place: u64, pc: u32) -> Line
     requires { length word.now ≤ 8 }
     ensures { result ≡ place_line word.now place pc }
 {
-    let mut line = Line::new();
-    line.text(word);
-    line.decimal(place);
-    line.text(b" pc ");
-    line.hex_word(pc);
-    line.text(b"\n");
-    line
+    line_of!(text word, decimal place, text b" pc ", hex_word pc, text b"\n")
 }
 
 /// The place and how the machine ended.
@@ -94,10 +84,7 @@ fn place_line(word: &[u8], place: u64, pc: u32) -> Line
 fn ended_line(place: u64, end: End) -> Line
     ensures { result ≡ ended_line place end }
 {
-    let mut line = Line::new();
-    line.text(b"ended ");
-    line.decimal(place);
-    line.text(b" ");
+    let mut line = line_of!(text b"ended ", decimal place, text b" ");
     push_end(&mut line, end);
     line.text(b"\n");
     line
@@ -109,13 +96,7 @@ fn register_line(n: u8, m: &Machine) -> Line
     requires { n < 32 }
     ensures { result ≡ register_line m.now.timed.arch.regs n }
 {
-    let mut line = Line::new();
-    line.text(b"x");
-    line.decimal(u64::from(n));
-    line.text(b" ");
-    line.hex_word(m.view().reg(n));
-    line.text(b"\n");
-    line
+    line_of!(text b"x", decimal u64::from(n), text b" ", hex_word m.view().reg(n), text b"\n")
 }
 
 /// The newest flush, if one came.
@@ -124,10 +105,6 @@ fn why_line(newest: Option<FlushRow>) -> Line
 {
     match newest {
         Some(row) => flush_line(&row),
-        None => {
-            let mut line = Line::new();
-            line.text(b"no flush\n");
-            line
-        }
+        None => line_of!(text b"no flush\n"),
     }
 }

@@ -14,6 +14,7 @@ use diva_asm::list_line;
 use diva_core::Cause;
 use diva_isa::Record;
 use diva_outside::{Line, LineList, Sink, SinkFailed};
+use diva_trace::line_of;
 
 /// As many blanks as the name of a row has bytes.
 const BLANKS: &[u8; 26] = b"                          ";
@@ -233,9 +234,7 @@ fn push_cells<L: LineList, S: Sink>(
 fn line_end() -> Line
     ensures { result ≡ codes "\n" }
 {
-    let mut line = Line::new();
-    line.text(b"\n");
-    line
+    line_of!(text b"\n")
 }
 
 /// The name of a row: what the listing has of the word, without its address and its digits.
@@ -262,10 +261,7 @@ fn padded(text: &[u8]) -> Line
     requires { length text.now ≤ 110 }
     ensures { result ≡ padded text.now }
 {
-    let mut line = Line::new();
-    line.text(text);
-    line.text(BLANKS.get(text.len()..).unwrap_or(b""));
-    line
+    line_of!(text text, text BLANKS.get(text.len()..).unwrap_or(b""))
 }
 
 /// The cells of a row in the excerpt, up to its last one.
@@ -396,8 +392,5 @@ fn number_cell(cycle: u64) -> Line
     ensures { result ≡ number_cell cycle }
 {
     let digits = cycle % 100;
-    let mut line = Line::new();
-    line.text(if digits < 10 { b"  " } else { b" " });
-    line.decimal(digits);
-    line
+    line_of!(text if digits < 10 { b"  " } else { b" " }, decimal digits)
 }

@@ -14,6 +14,7 @@ use crate::stages::{Numbers, cause_line, note_lead, push_stage};
 use diva_asm::list_line;
 use diva_core::{Cause, Claim, Claims, Diff, FlushRow};
 use diva_outside::{Line, LineList, Sink, SinkFailed, put_line, put_lines};
+use diva_trace::line_of;
 
 /// Puts the first lines of a log. Where that fails, a prefix of them was appended.
 pub fn begin_log<S: Sink>(sink: &mut S) -> Result<(), SinkFailed>
@@ -27,9 +28,7 @@ pub fn begin_log<S: Sink>(sink: &mut S) -> Result<(), SinkFailed>
 fn first_lines() -> Line
     ensures { result ≡ log_begin }
 {
-    let mut line = Line::new();
-    line.text(b"Kanata\t0004\nC=\t0\n");
-    line
+    line_of!(text b"Kanata\t0004\nC=\t0\n")
 }
 
 /// Puts the lines of what goes on after a cycle, or begins in it: `row` is the number of the oldest such row. They are put in pieces.
@@ -95,9 +94,7 @@ fn push_others<S: Sink>(
 fn push_cycle<S: Sink>(block: &mut Block, sink: &mut S) -> Result<(), SinkFailed>
     ensures { Passes (lent S.account sink.old sink.new) cycle_line block.old block.new result }
 {
-    let mut line = Line::new();
-    line.text(b"C\t1\n");
-    block.push(&line, sink)
+    block.push(&line_of!(text b"C\t1\n"), sink)
 }
 
 /// Appends the lines of the pending claims, the oldest first.
@@ -348,15 +345,12 @@ impl LineList for EndLines {
 fn end_line(ending: Ending, row: u64, place: u64) -> Line
     ensures { result ≡ end_line ending row place }
 {
-    let mut line = Line::new();
-    line.text(b"R\t");
-    line.decimal(row);
-    line.text(b"\t");
-    line.decimal(place);
-    line.text(b"\t");
-    line.decimal(ending_number(ending));
-    line.text(b"\n");
-    line
+    line_of!(
+        text b"R\t", decimal row,
+        text b"\t", decimal place,
+        text b"\t", decimal ending_number(ending),
+        text b"\n",
+    )
 }
 
 /// The number of an ending in the log.

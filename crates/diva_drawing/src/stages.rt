@@ -7,7 +7,7 @@ use diva_asm::list_line;
 use diva_core::{Cause, Field};
 use diva_isa::Record;
 use diva_outside::Line;
-use diva_trace::push_cause;
+use diva_trace::{line_of, push_cause};
 
 /// A row: its number, and the place of its claim or instruction, which is how many instructions committed before it.
 #[derive(Clone, Copy, Debug)]
@@ -65,13 +65,7 @@ fn push_begun(block: &mut Block, stage: &'static [u8], numbers: Numbers, claim: 
 fn row_line(row: u64) -> Line
     ensures { result ≡ row_line row }
 {
-    let mut line = Line::new();
-    line.text(b"I\t");
-    line.decimal(row);
-    line.text(b"\t");
-    line.decimal(row);
-    line.text(b"\t0\n");
-    line
+    line_of!(text b"I\t", decimal row, text b"\t", decimal row, text b"\t0\n")
 }
 
 /// The beginning of the line that has the place of a row, and the listing of its word.
@@ -79,13 +73,7 @@ fn row_line(row: u64) -> Line
 fn place_lead(row: u64, place: u64) -> Line
     ensures { result ≡ place_lead row place }
 {
-    let mut line = Line::new();
-    line.text(b"L\t");
-    line.decimal(row);
-    line.text(b"\t0\t");
-    line.decimal(place);
-    line.text(b": ");
-    line
+    line_of!(text b"L\t", decimal row, text b"\t0\t", decimal place, text b": ")
 }
 
 /// The beginning of a line that says more of a row.
@@ -94,11 +82,7 @@ pub(crate) fn note_lead(row: u64) -> Line
     ensures text { result ≡ note_lead row }
     ensures len { length result ≤ 25 }
 {
-    let mut line = Line::new();
-    line.text(b"L\t");
-    line.decimal(row);
-    line.text(b"\t1\t");
-    line
+    line_of!(text b"L\t", decimal row, text b"\t1\t")
 }
 
 /// The fields of a row's record but pc and word.
@@ -133,13 +117,7 @@ fn stage_line(row: u64, stage: &[u8]) -> Line
     requires { length stage.now ≤ 8 }
     ensures { result ≡ stage_line row stage.now }
 {
-    let mut line = Line::new();
-    line.text(b"S\t");
-    line.decimal(row);
-    line.text(b"\t0\t");
-    line.text(stage);
-    line.text(b"\n");
-    line
+    line_of!(text b"S\t", decimal row, text b"\t0\t", text stage, text b"\n")
 }
 
 /// What is said of a row below its fields: the cause of a flush, or that a claim will lead to one.

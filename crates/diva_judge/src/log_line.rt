@@ -114,10 +114,7 @@ impl<'a> RestOfWords<'a> {
         ensures number { result ≡ first_by number_said self.old }
         ensures others { self.new ≡ others_of self.old }
     {
-        match self.next() {
-            Some(word) => number_said(word),
-            None => Err(Kind::WordCount),
-        }
+        number_said(self.next().ok_or(Kind::WordCount)?)
     }
 
     /// The next word, an end or nothing.
@@ -125,10 +122,7 @@ impl<'a> RestOfWords<'a> {
         ensures end { result ≡ first_by end_said_by self.old }
         ensures others { self.new ≡ others_of self.old }
     {
-        match self.next() {
-            Some(word) => end_said_by(word),
-            None => Err(Kind::WordCount),
-        }
+        end_said_by(self.next().ok_or(Kind::WordCount)?)
     }
 
     /// The next word.

@@ -4,7 +4,6 @@ ghost use Rattle.std.specs.Fmt.{decimal};
 ghost use Rattle.diva_outside.specs.Lent.{lent};
 ghost use Rattle.diva_outside.specs.Sink.{PutsTo};
 ghost use Rattle.diva_outside.specs.Text.{hex_word};
-ghost use Rattle.diva_trace.specs.Lines.{fields_text};
 ghost use Rattle.diva_judge.specs.Logs.{log_kind_number};
 ghost use Rattle.diva_judge.specs.Texts.{due_line, judged_line, late_text, left_line, listed, missing_row, refused_text, text_of_line, answer_of_line, unreadable_text, wrong_row, wrong_text};
 
@@ -14,7 +13,7 @@ use diva_claims::Wrong;
 use diva_core::{Cause, Field};
 use diva_isa::Record;
 use diva_outside::{FaultKind, Line, Sink, SinkFailed, put_line};
-use diva_trace::push_cause;
+use diva_trace::{line_of, push_cause, push_fields};
 
 /// Puts what is written of a line that is judged: its row if it is wrong, or its answer if answers are asked for.
 pub(crate) fn put_judged<S: Sink>(
@@ -46,25 +45,12 @@ fn put_answer<S: Sink>(due: &Record, wrong: Option<Wrong>, sink: &mut S) -> Resu
     }
 }
 
-/// Some fields of a record, a blank before each.
-fn push_fields(line: &mut Line, fields: &[Field], r: &Record)
-    requires { length line.old + 9 * length fields.now ≤ 128 }
-    ensures bytes { line.new ≡ line.old ++ fields_text fields.now r.now }
-    ensures len { length line.new ≡ length line.old + 9 * length fields.now }
-{
-    for field in fields {
-        line.text(b" ");
-        line.hex_word(field.of(r));
-    }
-}
-
 /// The record that is due, as an answer.
 #[tactic(auto, unfolding(crate::specs::Texts::due_line))]
 fn due_line(due: &Record) -> Line
     ensures { result ≡ due_line due.now }
 {
-    let mut line = Line::new();
-    line.text(b"due");
+    let mut line = line_of!(text b"due");
     push_fields(&mut line, &Field::ALL, due);
     line.text(b"\n");
     line
@@ -104,11 +90,7 @@ fn place_line(name: &[u8], place: u64) -> Line
     requires { length name.now ≤ 8 }
     ensures { result ≡ name.now ++ decimal place ++ codes " at " }
 {
-    let mut line = Line::new();
-    line.text(name);
-    line.decimal(place);
-    line.text(b" at ");
-    line
+    line_of!(text name, decimal place, text b" at ")
 }
 
 /// Puts an instruction: its pc, its word, and what that is.
@@ -130,8 +112,7 @@ fn without_feed(line: &[u8]) -> &[u8]
 fn wrong_line(wrong: Wrong) -> Line
     ensures { result ≡ codes ": " ++ wrong_text wrong ++ codes "\n" }
 {
-    let mut line = Line::new();
-    line.text(b": ");
+    let mut line = line_of!(text b": ");
     push_wrong(&mut line, wrong);
     line.text(b"\n");
     line
@@ -181,11 +162,7 @@ fn push_claimed(line: &mut Line, name: &[u8], said: u32, due: u32)
 pub(crate) fn left_line(n: u64) -> Line
     ensures { result ≡ left_line n }
 {
-    let mut line = Line::new();
-    line.text(b"left over ");
-    line.decimal(n);
-    line.text(b"\n");
-    line
+    line_of!(text b"left over ", decimal n, text b"\n")
 }
 
 /// How many lines were judged, how many there are, and how many are wrong.
@@ -193,15 +170,12 @@ pub(crate) fn left_line(n: u64) -> Line
 pub(crate) fn judged_line(judged: u64, lines: u64, wrong: u64) -> Line
     ensures { result ≡ judged_line judged lines wrong }
 {
-    let mut line = Line::new();
-    line.text(b"judged ");
-    line.decimal(judged);
-    line.text(b" of ");
-    line.decimal(lines);
-    line.text(b" wrong ");
-    line.decimal(wrong);
-    line.text(b"\n");
-    line
+    line_of!(
+        text b"judged ", decimal judged,
+        text b" of ", decimal lines,
+        text b" wrong ", decimal wrong,
+        text b"\n",
+    )
 }
 
 /// That a line of the log has a fault of this kind.
@@ -209,13 +183,7 @@ pub(crate) fn judged_line(judged: u64, lines: u64, wrong: u64) -> Line
 pub(crate) fn refused_line(number: u64, kind: Kind) -> Line
     ensures { result ≡ refused_text (record { line = number; kind = log_kind_number kind }) }
 {
-    let mut line = Line::new();
-    line.text(b"refused log ");
-    line.decimal(u64::from(kind.number()));
-    line.text(b" at ");
-    line.decimal(number);
-    line.text(b"\n");
-    line
+    line_of!(text b"refused log ", decimal u64::from(kind.number()), text b" at ", decimal number, text b"\n")
 }
 
 /// That the log could not be read to its end.

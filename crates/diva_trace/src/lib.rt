@@ -1,5 +1,6 @@
 //! The text that the program writes, line by line, and writers that put whole parts of it to a sink.
 //!
+//! - `line_of`: a line, by its pieces.
 //! - `lines`: one call for each line, which gives the line with its line feed.
 //! - `report`: `Report`, what a run's text is made of, `HartReport`, what the lines of one of two harts are made of, `Dump`, a
 //!   part of memory that is shown at the end, `SoakCore`, the cores of the two runs of `soak`, and `Tally`, what is counted of
@@ -11,6 +12,16 @@
 //! a campaign (`Text`).
 #![tactic(auto)]
 
+/// A line of these pieces, from left to right: of each, the call of `Line` that appends it, and what it appends. All have to fit.
+#[macro_export]
+macro_rules! line_of {
+    ($($append:ident $piece:expr),+ $(,)?) => {{
+        let mut line = diva_outside::Line::new();
+        $(line.$append($piece);)+
+        line
+    }};
+}
+
 mod harts;
 mod lines;
 mod report;
@@ -19,8 +30,8 @@ mod writers;
 pub use harts::write_hart;
 pub use lines::{
     commit_line, count_line, cycles_line, end_line, end_line_of, flush_line, flushes_line,
-    hart_line, mem_line, out_line, output_line, pc_line, push_cause, push_end, registers_line,
-    soak_line,
+    hart_line, mem_line, out_line, output_line, pc_line, push_cause, push_end, push_fields,
+    registers_line, soak_line,
 };
 pub use report::{Dump, HartReport, Report, SoakCore, Tally};
 pub use writers::{

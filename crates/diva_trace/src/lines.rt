@@ -29,8 +29,8 @@ pub(crate) fn fill_commit(line: &mut Line, index: u64, r: &Record)
     line.text(b"\n");
 }
 
-/// Some fields of a record, a blank before each.
-fn push_fields(line: &mut Line, fields: &[Field], r: &Record)
+/// Appends some fields of a record, a blank before each. There has to be room for 9 bytes a field.
+pub fn push_fields(line: &mut Line, fields: &[Field], r: &Record)
     requires { length line.old + 9 * length fields.now ≤ 128 }
     ensures bytes { line.new ≡ line.old ++ fields_text fields.now r.now }
     ensures len { length line.new ≡ length line.old + 9 * length fields.now }
@@ -46,12 +46,8 @@ fn push_fields(line: &mut Line, fields: &[Field], r: &Record)
 pub fn flush_line(row: &FlushRow) -> Line
     ensures { result ≡ flush_line row.now }
 {
-    let mut line = Line::new();
-    line.text(b"flush ");
-    line.decimal(row.cycle);
-    line.text(b" at ");
-    line.decimal(row.at);
-    line.text(b" ");
+    let mut line =
+        line_of!(text b"flush ", decimal row.cycle, text b" at ", decimal row.at, text b" ");
     push_cause(&mut line, &row.cause);
     line.text(b"\n");
     line
@@ -91,8 +87,7 @@ pub fn end_line(end: u32) -> Line
 pub fn end_line_of(end: End) -> Line
     ensures { result ≡ end_line_of end }
 {
-    let mut line = Line::new();
-    line.text(b"end ");
+    let mut line = line_of!(text b"end ");
     push_end(&mut line, end);
     line.text(b"\n");
     line
@@ -146,13 +141,7 @@ pub fn cycles_line(n: u64) -> Line
 pub fn flushes_line(n: u64, silent: u64) -> Line
     ensures { result ≡ flushes_line n silent }
 {
-    let mut line = Line::new();
-    line.text(b"flushes ");
-    line.decimal(n);
-    line.text(b" silent ");
-    line.decimal(silent);
-    line.text(b"\n");
-    line
+    line_of!(text b"flushes ", decimal n, text b" silent ", decimal silent, text b"\n")
 }
 
 /// A run of `soak`: its core, the number of committed instructions, the number of cycles, and that of flushes.
@@ -160,16 +149,13 @@ pub fn flushes_line(n: u64, silent: u64) -> Line
 pub fn soak_line(core: SoakCore, count: u64, cycles: u64, flushes: u64) -> Line
     ensures { result ≡ soak_line core count cycles flushes }
 {
-    let mut line = Line::new();
-    line.text(soak_core_name(core).as_bytes());
-    line.text(b" count ");
-    line.decimal(count);
-    line.text(b" cycles ");
-    line.decimal(cycles);
-    line.text(b" flushes ");
-    line.decimal(flushes);
-    line.text(b"\n");
-    line
+    line_of!(
+        text soak_core_name(core).as_bytes(),
+        text b" count ", decimal count,
+        text b" cycles ", decimal cycles,
+        text b" flushes ", decimal flushes,
+        text b"\n",
+    )
 }
 
 /// The name of a core of `soak`.
@@ -203,11 +189,7 @@ pub(crate) fn number_line(name: &[u8], n: u64) -> Line
     requires { length name.now ≤ 80 }
     ensures { result ≡ name.now ++ decimal n ++ codes "\n" }
 {
-    let mut line = Line::new();
-    line.text(name);
-    line.decimal(n);
-    line.text(b"\n");
-    line
+    line_of!(text name, decimal n, text b"\n")
 }
 
 /// 1 to 32 of the bytes that the program put out.
@@ -217,11 +199,7 @@ pub fn out_line(bytes: &[u8]) -> Line
     requires few { length bytes.now ≤ 32 }
     ensures { result ≡ out_line bytes.now }
 {
-    let mut line = Line::new();
-    line.text(b"out ");
-    line.hex_bytes(bytes);
-    line.text(b"\n");
-    line
+    line_of!(text b"out ", hex_bytes bytes, text b"\n")
 }
 
 /// The pc.
@@ -229,11 +207,7 @@ pub fn out_line(bytes: &[u8]) -> Line
 pub fn pc_line(pc: u32) -> Line
     ensures { result ≡ pc_line pc }
 {
-    let mut line = Line::new();
-    line.text(b"pc ");
-    line.hex_word(pc);
-    line.text(b"\n");
-    line
+    line_of!(text b"pc ", hex_word pc, text b"\n")
 }
 
 /// Four registers, from `first` on, which is a multiple of 4 below 32.
@@ -277,10 +251,7 @@ pub fn mem_line<R: Readable>(memory: &R, addr: u32, n: u32) -> Line
     requires in_range { addr + n ≤ 2 ^ 32 }
     ensures { result ≡ mem_line (R.shows memory.now) addr n }
 {
-    let mut line = Line::new();
-    line.text(b"mem ");
-    line.hex_word(addr);
-    line.text(b" ");
+    let mut line = line_of!(text b"mem ", hex_word addr, text b" ");
     for i in 0..n {
         push_byte(&mut line, memory.byte(addr + i));
     }

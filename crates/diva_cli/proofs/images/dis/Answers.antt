@@ -10,7 +10,7 @@ use Rattle.diva_cli.specs.Parts.{no_lanes}
 use Rattle.diva_cli.proofs.Alone.{wrote_all, wrote_part}
 use Rattle.diva_cli.proofs.Working.{stop_answers}
 use Rattle.diva_outside.specs.Lent.{lent}
-use Rattle.diva_cli.proofs.dis.dis.Goals as goal
+use Rattle.diva_cli.proofs.images.dis.Goals as goal
 
 pub returns-in-Err : goal.returns-in-Err
 returns-in-Err g c =

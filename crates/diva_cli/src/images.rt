@@ -1,22 +1,63 @@
-// The command `dis`: it lists the words of an image.
+// The commands `asm`, `dis` and `migrate`, each of which reads one file and writes what its image is. None of them can ask the core.
 ghost use Rattle.std.specs.Prelude.{◌≡◌, ◌+◌, ◌≤◌, ◌<◌, length, slice_index};
-ghost use Rattle.diva_args.specs.declared.job.Job.TheVariants.{Dis};
+ghost use Rattle.diva_args.specs.declared.job.Job.TheVariants.{Asm, Dis, Migrate};
 ghost use Rattle.diva_asm.specs.Listing.{list_line, word_at};
-ghost use Rattle.diva_process.specs.Programs.{asked_for};
 ghost use Rattle.diva_cli.specs.Changes.{asking};
 ghost use Rattle.diva_outside.specs.Lent.{lent};
-ghost use Rattle.diva_process.specs.Promises.{KeepsPromises};
-ghost use Rattle.diva_cli.specs.Parts.{no_lanes};
-ghost use Rattle.diva_cli.specs.Program.{diva, work_of};
+ghost use Rattle.diva_cli.specs.Parts.{DoesJob, no_lanes};
 
-use crate::files::{ImageFile, load};
-use diva_args::FileName;
+use crate::files::{ImageFile, SourceFile, load};
+use diva_args::{FileName, MigrateOptions};
 use diva_asm::list_line;
 use diva_core::Core;
-use diva_image::Image;
+use diva_image::{Image, write, write2};
 use diva_outside::{Files, Line, LineList, Sink, put_lines};
 use diva_process::{Failure, Status, write_stop};
 use std::alloc::Global;
+
+/// Assembles a source, and writes the bytes of its image in one put. All memory is taken before that, and the core can't be
+/// asked.
+#[inline(never)]
+pub(crate) fn asm<F: Files, S: Sink, C: Core>(
+    alloc: Global,
+    source: FileName,
+    files: &mut F,
+    sink: &mut S,
+    _core: &C,
+) -> Result<Status, Failure>
+    ensures { DoesJob C.gives (Asm source) (asking _core.now _core.now no_lanes)
+        (lent F.account files.old files.new) (lent S.account sink.old sink.new) result }
+{
+    let image = match load(alloc, files, &SourceFile, &source) {
+        Ok(image) => image,
+        Err(stop) => return write_stop(stop, sink),
+    };
+    let bytes = write(alloc, &image)?;
+    sink.put(&bytes)?;
+    Ok(Status::Halted)
+}
+
+/// Writes the bytes of an image in version 2, in one put. All memory is taken before that, and the core can't be asked.
+#[inline(never)]
+pub(crate) fn migrate<F: Files, S: Sink, C: Core>(
+    alloc: Global,
+    options: MigrateOptions,
+    files: &mut F,
+    sink: &mut S,
+    _core: &C,
+) -> Result<Status, Failure>
+    ensures { DoesJob C.gives (Migrate options) (asking _core.now _core.now no_lanes)
+        (lent F.account files.old files.new) (lent S.account sink.old sink.new) result }
+{
+    let kind = ImageFile { room: options.room };
+    let image = match load(alloc, files, &kind, &options.image) {
+        Ok(image) => image,
+        Err(stop) => return write_stop(stop, sink),
+    };
+    let bytes = write2(alloc, &image)?;
+    sink.put(&bytes)?;
+    Ok(Status::Halted)
+}
 
 /// Lists an image, each line in one put. The core can't be asked.
 #[inline(never)]
@@ -27,8 +68,8 @@ pub(crate) fn dis<F: Files, S: Sink, C: Core>(
     sink: &mut S,
     _core: &C,
 ) -> Result<Status, Failure>
-    ensures { KeepsPromises (asked_for diva (Dis image)) (work_of C.gives
-        (asking _core.now _core.now no_lanes)) (lent F.account files.old files.new) (lent S.account sink.old sink.new) result }
+    ensures { DoesJob C.gives (Dis image) (asking _core.now _core.now no_lanes)
+        (lent F.account files.old files.new) (lent S.account sink.old sink.new) result }
 {
     let listed = match load(alloc, files, &ImageFile { room: 0 }, &image) {
         Ok(listed) => listed,

@@ -13,7 +13,7 @@ use Rattle.diva_cli.proofs.Alone.{wrote_all, wrote_part}
 use Rattle.diva_cli.proofs.Migrating.{has_migrated}
 use Rattle.diva_cli.proofs.Working.{stop_answers}
 use Rattle.diva_outside.specs.Lent.{lent}
-use Rattle.diva_cli.proofs.migrate.migrate.Goals as goal
+use Rattle.diva_cli.proofs.images.migrate.Goals as goal
 
 pub returns-in-Err : goal.returns-in-Err
 returns-in-Err g c =

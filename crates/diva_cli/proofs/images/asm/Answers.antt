@@ -7,7 +7,7 @@ use Rattle.diva_cli.specs.Parts.{no_lanes}
 use Rattle.diva_cli.proofs.Alone.{wrote_all, wrote_part}
 use Rattle.diva_cli.proofs.Working.{stop_answers}
 use Rattle.diva_outside.specs.Lent.{lent}
-use Rattle.diva_cli.proofs.asm.asm.Goals as goal
+use Rattle.diva_cli.proofs.images.asm.Goals as goal
 
 pub returns-in-Err : goal.returns-in-Err
 returns-in-Err g c =

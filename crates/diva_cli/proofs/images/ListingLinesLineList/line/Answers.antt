@@ -2,7 +2,7 @@
 use Rattle.std.proofs.Common.{refl, arith}
 use Rattle.diva_image.specs.ImageLayout.{layout}
 use Rattle.diva_cli.proofs.Listing.{line_listed, place_inside}
-use Rattle.diva_cli.proofs.dis.ListingLinesLineList.line.Goals as goal
+use Rattle.diva_cli.proofs.images.ListingLinesLineList.line.Goals as goal
 
 pub overflow_mul-place : goal.overflow_mul-place
 overflow_mul-place c =
