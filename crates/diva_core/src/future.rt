@@ -37,6 +37,14 @@ impl FutureFile {
         }
     }
 
+    /// Becomes a copy of a file.
+    pub fn copy_from(&mut self, other: &FutureFile)
+        ensures { self.new ≡ other.now }
+    {
+        self.regs = other.regs;
+        self.claims = other.claims;
+    }
+
     /// The registers.
     #[inline(always)]
     pub fn regs(&self) -> &Regs

@@ -57,6 +57,14 @@ impl Output {
         let _ = self.bytes.push(byte);
     }
 
+    /// Becomes a copy of an output. It takes no memory.
+    pub fn copy_from(&mut self, other: &Output)
+        ensures { self.new ≡ other.now }
+    {
+        self.bytes.clear();
+        let _ = self.bytes.extend_from_slice(&other.bytes);
+    }
+
     /// Drops the bytes behind the first `len`.
     pub fn cut(&mut self, len: u32)
         requires { len ≤ length self.old }

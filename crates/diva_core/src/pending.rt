@@ -137,6 +137,18 @@ impl Pending {
         })
     }
 
+    /// Becomes a copy of pending claims for which there is as much room. It takes no memory.
+    pub fn copy_from(&mut self, other: &Pending)
+        requires { self.old.capacity ≡ other.now.capacity }
+        ensures { self.new ≡ other.now }
+    {
+        self.entries.clear();
+        for at in 0..other.len() {
+            let _ = self.entries.try_push_back(other.entry(at));
+        }
+        self.span = other.span;
+    }
+
     /// Recalls for a proof how many claims are pending at most. It does nothing.
     #[inline(always)]
     pub fn recall(&self)

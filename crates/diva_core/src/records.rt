@@ -74,6 +74,16 @@ impl<const N: usize> Records<N> {
         self.len = 0;
     }
 
+    /// Becomes a copy of some records.
+    pub fn copy_from(&mut self, other: &Records<N>)
+        ensures { self.new ≡ other.now }
+    {
+        self.clear();
+        for r in other.as_slice() {
+            self.push(*r);
+        }
+    }
+
     /// The records, in order.
     #[inline]
     pub fn as_slice(&self) -> &[Record]

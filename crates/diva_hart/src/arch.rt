@@ -65,6 +65,19 @@ impl HartArch {
         })
     }
 
+    /// Becomes a copy of a hart with a queue for as many stores. It takes no memory.
+    pub fn copy_from(&mut self, other: &HartArch)
+        requires { self.old.stores ≡ other.now.stores }
+        ensures { self.new ≡ other.now }
+    {
+        self.regs = other.regs;
+        self.pc = other.pc;
+        self.queue.copy_from(&other.queue);
+        self.output.copy_from(&other.output);
+        self.count = other.count;
+        self.end = other.end;
+    }
+
     /// Puts a word into the register `n`, 0 to 31, with which the hart begins. x0 stays 0.
     pub fn set_reg(&mut self, n: u8, word: u32)
         requires { n < 32 }

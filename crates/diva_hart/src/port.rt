@@ -33,6 +33,14 @@ impl Port {
         Port { period, opened: 0 }
     }
 
+    /// Becomes a copy of a port.
+    pub fn copy_from(&mut self, other: &Port)
+        ensures { self.new ≡ other.now }
+    {
+        self.period = other.period;
+        self.opened = other.opened;
+    }
+
     /// How many cycles there are from one opening to the next.
     #[inline(always)]
     pub fn period(&self) -> u32

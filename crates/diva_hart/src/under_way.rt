@@ -52,6 +52,19 @@ impl UnderWay {
         })
     }
 
+    /// Becomes a copy of what is under way in a machine with room for as many claims. It takes no memory.
+    pub fn copy_from(&mut self, other: &UnderWay)
+        requires { self.old.pending.capacity ≡ other.now.pending.capacity }
+        ensures { self.new ≡ other.now }
+    {
+        self.width = other.width;
+        self.pending.copy_from(&other.pending);
+        self.recover = other.recover;
+        self.watchdog = other.watchdog;
+        self.log.copy_from(&other.log);
+        self.undos = other.undos;
+    }
+
     /// How many claims the coming cycle of a hart accepts at most.
     #[inline(always)]
     pub fn room(&self, hart: &HartArch) -> usize

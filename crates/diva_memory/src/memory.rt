@@ -45,6 +45,15 @@ impl Memory {
         Ok(Memory { base, bytes })
     }
 
+    /// Becomes a copy of a memory of the same size. It takes no memory.
+    pub fn copy_from(&mut self, other: &Memory)
+        requires { length self.old.items ≡ length other.now.items }
+        ensures { self.new ≡ other.now }
+    {
+        self.base = other.base;
+        self.bytes.copy_from_slice(&other.bytes);
+    }
+
     /// Recalls for a proof where the bytes end at the latest. It does nothing.
     #[inline(always)]
     pub fn recall(&self)

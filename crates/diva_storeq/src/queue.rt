@@ -52,6 +52,18 @@ impl StoreQueue {
         })
     }
 
+    /// Becomes a copy of a queue for as many stores. It takes no memory.
+    pub fn copy_from(&mut self, other: &StoreQueue)
+        requires { self.old.capacity ≡ other.now.capacity }
+        ensures { self.new ≡ other.now }
+    {
+        self.entries.clear();
+        for at in 0..other.owed() {
+            let _ = self.entries.try_push_back(other.entry(at));
+        }
+        self.interval = other.interval;
+    }
+
     /// Whether there is no room for another store.
     pub fn full(&self) -> bool
         ensures value { result ≡ (length self.now.items == self.now.capacity) }
