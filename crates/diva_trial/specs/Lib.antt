@@ -1,0 +1,5 @@
+-- What the contracts of this crate and of those above it cite.
+pub mod Paths
+pub mod Trials
+-- what only private contracts cite
+pub mod Inner
