@@ -1,8 +1,7 @@
 -- What a script makes of the list that a core hands over.
--- Cited by `no_rows_change_nothing`; in `Spoiled.antt`, for what `Faulty` gives.
-use Rattle.std.specs.Prelude.{ℕ, ◌+◌, ◌^◌, ◌==◌, ◌&&◌, nat_le, nat_lt, bit_and, bit_or, bit_xor, Bool, true, false, List, [], ◌∷◌, ◌++◌, length, take, drop, fold, slice_get, Option, Some, None, if◌then◌else◌}
+-- Cited by `Row::lay_in` and the laws; in `Spoiled.antt`, for what `Faulty` gives.
+use Rattle.std.specs.Prelude.{ℕ, ◌+◌, ◌^◌, ◌==◌, bit_and, bit_or, bit_xor, Bool, true, false, List, [], ◌∷◌, ◌++◌, length, take, drop, fold, slice_get, Option, Some, None, if◌then◌else◌}
 use Rattle.std.specs.Int.{bit_not, w32}
-use Rattle.std.specs.List.{list_any}
 use Rattle.diva_isa.specs.declared.record.Record.{Record}
 use Rattle.diva_core.specs.declared.differences.Field.{Field}
 use Rattle.diva_core.specs.declared.differences.Field.TheVariants.{Pc, Word, Src1, Src2, Addr, Value, Next, End}
@@ -11,7 +10,7 @@ use Rattle.diva_faults.specs.declared.rows.Change.{Change}
 use Rattle.diva_faults.specs.declared.rows.Change.TheVariants.{Flip, Set, Lose, Double, Force}
 use Rattle.diva_faults.specs.declared.rows.Row.{Row}
 use Rattle.diva_faults.specs.declared.rows.Row.TheVariants.{Lane, Hush, Lasting}
-use Rattle.diva_faults.specs.Rows.{row_cycle}
+use Rattle.diva_faults.specs.Touched.{touches}
 
 -- a record with another value in a field
 abbrev pub with_field : Field → ℕ → Record → Record
@@ -42,34 +41,17 @@ abbrev pub change_at : Change → ℕ → List Record → Option Record → List
 change_at change lane list None = list
 change_at change lane list (Some claim) = take lane list ++ changed change (length list) claim ++ drop (lane + 1) list
 
--- the list after a row of its cycle; a hush and a row that lasts do nothing yet
-abbrev pub with_row : Row → List Record → List Record
-with_row (Lane cycle lane change) list = change_at change lane list (slice_get list lane)
-with_row (Hush cycle cycles) list = list
-with_row (Lasting cycle cycles lane change) list = list
+-- the list after a row, in a cycle that it touches
+abbrev pub laid : Row → List Record → List Record
+laid (Lane cycle lane change) list = change_at change lane list (slice_get list lane)
+laid (Hush cycle cycles) list = []
+laid (Lasting cycle cycles lane change) list = change_at change lane list (slice_get list lane)
 
--- the list after a row in the cycle `now`
-abbrev pub with_row_in : (now : ℕ) → List Record → Row → List Record
-with_row_in now list row = if row_cycle row == now then with_row row list else list
+-- the list after a row, in the cycle `now`
+abbrev pub laid_in : (now : ℕ) → List Record → Row → List Record
+laid_in now list row = if touches row now then laid row list else list
 
--- the row is a hush that lasts in the cycle `now`
-abbrev pub is_hush_in : (now : ℕ) → Row → Bool
-is_hush_in now (Lane cycle lane change) = false
-is_hush_in now (Hush cycle cycles) = nat_le cycle now && nat_lt now (cycle + cycles)
-is_hush_in now (Lasting cycle cycles lane change) = false
-
--- the list after what is done in the cycle `now` by rows that do not last: first those that change lanes, in their order, and then the
--- hushes
-abbrev pub passing : List Row → (now : ℕ) → List Record → List Record
-passing rows now list = if list_any (is_hush_in now) rows then [] else fold (with_row_in now) list rows
-
--- the list after a row that lasts, if it does in the cycle `now`
-abbrev pub with_lasting_in : (now : ℕ) → List Record → Row → List Record
-with_lasting_in now list (Lane cycle lane change) = list
-with_lasting_in now list (Hush cycle cycles) = list
-with_lasting_in now list (Lasting cycle cycles lane change) =
-    if nat_le cycle now && nat_lt now (cycle + cycles) then change_at change lane list (slice_get list lane) else list
-
--- the list after the rows of a script in the cycle `now`: first those that pass, and then those that last, in their order
+-- the list after the rows of a script in the cycle `now`, one after the other. No row makes claims of an empty list, so a hush leaves
+-- none, wherever it stands
 unfoldable pub scripted : List Row → (now : ℕ) → List Record → List Record
-scripted rows now list = fold (with_lasting_in now) (passing rows now list) rows
+scripted rows now list = fold (laid_in now) list rows

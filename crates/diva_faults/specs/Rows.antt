@@ -1,6 +1,6 @@
 -- The rows of a script.
--- Cited by `flip_at`, `Script::rows` and `of_row`.
-use Rattle.std.specs.Prelude.{ℕ, ⊤}
+-- Cited by `flip_at`, `Row::cycle`, `Row::end`, `Row::lay_in`, `Script::rows` and `of_row`.
+use Rattle.std.specs.Prelude.{◌≡◌, ℕ, Bool, true, false, ⊤}
 use Rattle.diva_outside.specs.NextWords.{IsInRange}
 use Rattle.diva_faults.specs.declared.rows.Change.{Change}
 use Rattle.diva_faults.specs.declared.rows.Change.TheVariants.{Flip, Set, Lose, Double, Force}
@@ -12,6 +12,11 @@ abbrev pub row_cycle : Row → ℕ
 row_cycle (Lane cycle lane change) = cycle
 row_cycle (Hush cycle cycles) = cycle
 row_cycle (Lasting cycle cycles lane change) = cycle
+
+abbrev pub lasts : Row → Bool
+lasts (Lane cycle lane change) = false
+lasts (Hush cycle cycles) = false
+lasts (Lasting cycle cycles lane change) = true
 
 -- cycles, and numbers of cycles
 abbrev pub IsCycle : ℕ → Type 0
@@ -29,3 +34,7 @@ abbrev pub IsRow : Row → Type 0
 IsRow (Lane cycle lane change) = IsCycle cycle × IsInRange 0 7 lane × IsChange change
 IsRow (Hush cycle cycles) = IsCycle cycle × IsCycle cycles
 IsRow (Lasting cycle cycles lane change) = IsCycle cycle × IsCycle cycles × IsInRange 0 7 lane × IsChange change
+
+-- and it may stand in a script: it is no row that lasts
+abbrev pub IsScriptRow : Row → Type 0
+IsScriptRow row = IsRow row × (lasts row ≡ false)

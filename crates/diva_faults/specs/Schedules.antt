@@ -3,8 +3,8 @@
 use Rattle.std.specs.Prelude.{◌≡◌, ℕ, List}
 use Rattle.diva_isa.specs.declared.record.Record.{Record}
 use Rattle.diva_faults.specs.declared.rows.Row.{Row}
-use Rattle.diva_faults.specs.Lists.{passing}
+use Rattle.diva_faults.specs.Lists.{scripted}
 
--- in each cycle, some rows make of a list what others make of it, but for those that last
+-- in each cycle, some rows make of a list what others make of it
 abbrev pub AreLike : List Row → List Row → Type 0
-AreLike rows others = (now : ℕ) (list : List Record) → passing rows now list ≡ passing others now list
+AreLike rows others = (now : ℕ) (list : List Record) → scripted rows now list ≡ scripted others now list

@@ -1,7 +1,7 @@
 // The flips of a campaign, by place.
 ghost use Rattle.std.specs.Prelude.{◌≡◌};
 ghost use Rattle.diva_faults.specs.Flips.{flip_at};
-ghost use Rattle.diva_faults.specs.Rows.{IsRow};
+ghost use Rattle.diva_faults.specs.Rows.{IsScriptRow};
 
 use crate::rows::{Change, Row};
 use diva_core::Field;
@@ -13,7 +13,7 @@ pub const FLIPS_IN_CYCLE: u32 = 256;
 /// first claim of the cycle's list.
 pub fn flip_at(place: u32) -> Row
     ensures row { result ≡ flip_at place }
-    ensures ranges { IsRow result }
+    ensures ranges { IsScriptRow result }
 {
     let in_cycle = place % FLIPS_IN_CYCLE;
     Row::Lane {

@@ -1,39 +1,25 @@
 // What a row makes of the list of a cycle.
 ghost use Rattle.std.specs.Prelude.{◌≡◌, ◌+◌, ◌≤◌, ◌<◌, ◌++◌, length, take, drop, slice_get};
-ghost use Rattle.diva_faults.specs.Lists.{change_at, changed, forced, with_field, with_lasting_in, with_row};
+ghost use Rattle.diva_faults.specs.Lists.{change_at, changed, forced, laid_in, with_field};
 ghost use Rattle.diva_faults.specs.Rows.{IsChange, IsRow};
 
 use crate::rows::{Change, Row};
 use diva_core::{Claim, Claims, Field};
 
 impl Row {
-    /// Changes the claim in the row's lane, if it names one that the list has.
-    pub(crate) fn lay(&self, list: &mut Claims)
+    /// Lays the row over the list of a cycle: in the cycles that it touches, it changes the claim in its lane, or a hush empties the list;
+    /// in any other, the list stays.
+    pub fn lay_in(&self, cycle: u64, list: &mut Claims)
         requires { IsRow self.now }
-        ensures { list.new ≡ with_row self.now list.old }
+        ensures { list.new ≡ laid_in cycle list.old self.now }
     {
-        match *self {
-            Row::Lane { lane, change, .. } => change_at(change, usize::from(lane), list),
-            Row::Hush { .. } | Row::Lasting { .. } => {}
+        if cycle < u64::from(self.cycle()) || u64::from(self.end()) <= cycle {
+            return;
         }
-    }
-
-    /// Changes the claim in the lane of a row that lasts, if it does in a cycle.
-    pub(crate) fn lay_lasting(&self, now: u64, list: &mut Claims)
-        requires { IsRow self.now }
-        ensures { list.new ≡ with_lasting_in now list.old self.now }
-    {
         match *self {
-            Row::Lane { .. } | Row::Hush { .. } => {}
-            Row::Lasting {
-                cycle,
-                cycles,
-                lane,
-                change,
-            } => {
-                if u64::from(cycle) <= now && now < u64::from(cycle + cycles) {
-                    change_at(change, usize::from(lane), list);
-                }
+            Row::Hush { .. } => list.clear(),
+            Row::Lane { lane, change, .. } | Row::Lasting { lane, change, .. } => {
+                change_at(change, usize::from(lane), list);
             }
         }
     }
@@ -92,7 +78,7 @@ fn forced(word: u32, bit: u8, high: bool) -> u32
     }
 }
 
-/// Puts claims behind the others.
+/// Puts claims after the others.
 fn push_all(list: &mut Claims, claims: &[Claim])
     requires { length list.old + length claims.now ≤ 8 }
     ensures { list.new ≡ list.old ++ claims.now }

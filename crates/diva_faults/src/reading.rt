@@ -6,7 +6,7 @@ ghost use Rattle.diva_core.specs.Difference.{all_fields, field_name};
 ghost use Rattle.diva_outside.specs.NextWords.{others_of};
 ghost use Rattle.diva_outside.specs.TextFaults.{IsFirstFault};
 ghost use Rattle.diva_faults.specs.Reading.{change_in, field_in, flip_in, hush_in, lane_in, part_in, row_in, script_of, set_in};
-ghost use Rattle.diva_faults.specs.Rows.{IsChange, IsCycle, IsRow};
+ghost use Rattle.diva_faults.specs.Rows.{IsChange, IsCycle, IsScriptRow};
 
 use crate::fault::{Kind, ScriptFault};
 use crate::rows::{Change, Row};
@@ -21,7 +21,7 @@ const MOST_ROWS: usize = 4096;
 #[tactic(auto, unfolding(crate::specs::Reading::script_of))]
 pub(crate) fn read_rows(alloc: Global, text: &[u8]) -> Result<Vec<Row>, ScriptFault>
     ensures rows { IfOk result (λ rows. script_of text.now ≡ Ok rows.items) }
-    ensures ranges { IfOk result (λ rows. All IsRow rows.items) }
+    ensures ranges { IfOk result (λ rows. All IsScriptRow rows.items) }
     ensures fault { IfErr result (IsFirstFault (script_of text.now)) }
 {
     read_items(alloc, &RowReader, text)
@@ -32,7 +32,7 @@ struct RowReader;
 
 impl ItemReader for RowReader {
     ghost use Rattle.diva_faults.specs.Reading.{row_in, surplus_row};
-    ghost use Rattle.diva_faults.specs.Rows.{IsRow};
+    ghost use Rattle.diva_faults.specs.Rows.{IsScriptRow};
 
     type Item = Row;
 
@@ -40,7 +40,7 @@ impl ItemReader for RowReader {
 
     ghost item = { row_in };
 
-    ghost keeps = { IsRow };
+    ghost keeps = { IsScriptRow };
 
     ghost surplus = { surplus_row };
 
@@ -61,7 +61,7 @@ impl ItemReader for RowReader {
 #[tactic(auto, unfolding(crate::specs::Reading::row_in))]
 fn row_in(word: &[u8], words: &mut LineWords<'_>) -> Result<Row, Kind>
     ensures row { result ≡ row_in word.now words.old }
-    ensures ranges { IfOk result IsRow }
+    ensures ranges { IfOk result IsScriptRow }
 {
     if !is_word(word, b"at") {
         return Err(Kind::Keyword);
@@ -75,7 +75,7 @@ fn row_in(word: &[u8], words: &mut LineWords<'_>) -> Result<Row, Kind>
 fn part_in(cycle: u32, words: &mut LineWords<'_>) -> Result<Row, Kind>
     requires { IsCycle cycle }
     ensures row { result ≡ part_in cycle words.old }
-    ensures ranges { IfOk result IsRow }
+    ensures ranges { IfOk result IsScriptRow }
 {
     let Some(word) = words.next() else {
         return Err(Kind::WordCount);
@@ -94,7 +94,7 @@ fn part_in(cycle: u32, words: &mut LineWords<'_>) -> Result<Row, Kind>
 fn hush_in(cycle: u32, words: &mut LineWords<'_>) -> Result<Row, Kind>
     requires { IsCycle cycle }
     ensures row { result ≡ hush_in cycle words.old }
-    ensures ranges { IfOk result IsRow }
+    ensures ranges { IfOk result IsScriptRow }
 {
     let cycles = words.number(1, 1_000_000_000)?;
     words.end()?;
@@ -106,7 +106,7 @@ fn hush_in(cycle: u32, words: &mut LineWords<'_>) -> Result<Row, Kind>
 fn lane_in(cycle: u32, words: &mut LineWords<'_>) -> Result<Row, Kind>
     requires { IsCycle cycle }
     ensures row { result ≡ lane_in cycle words.old }
-    ensures ranges { IfOk result IsRow }
+    ensures ranges { IfOk result IsScriptRow }
 {
     let lane = words.number(0, 7)? as u8;
     let change = change_in(words)?;

@@ -2,8 +2,8 @@
 ghost use Rattle.std.specs.Prelude.{◌≡◌, ◌+◌, ◌≤◌, ◌<◌, ℕ, [], length, take, fold, slice_index, nat_lt, IfOk};
 ghost use Rattle.std.specs.List.{All};
 ghost use Rattle.std.specs.List.Sorted.{IsNonDecreasingBy, IsPartitionPoint};
-ghost use Rattle.diva_faults.specs.Lists.{passing, with_row};
-ghost use Rattle.diva_faults.specs.Rows.{row_cycle, IsRow};
+ghost use Rattle.diva_faults.specs.Lists.{laid_in, scripted};
+ghost use Rattle.diva_faults.specs.Rows.{row_cycle, IsScriptRow};
 ghost use Rattle.diva_faults.specs.Schedules.{AreLike};
 ghost use Rattle.diva_faults.specs.Inner.{latest_end};
 
@@ -18,7 +18,7 @@ use std::marker::Model;
 #[derive(Debug, Drop)]
 pub(crate) struct Schedule {
     rows: Vec<Row>,
-    /// Beside each row, the cycle behind the last one of the hushes up to it, 0 where there is none.
+    /// Beside each row, the cycle after the last one of the hushes up to it, 0 if there is none.
     hush_ends: Vec<u32>,
 }
 
@@ -47,7 +47,7 @@ impl Schedule {
 
     /// The schedule of some rows.
     pub(crate) fn new(alloc: Global, rows: &[Row]) -> Result<Self, AllocError>
-        requires { All IsRow rows.now }
+        requires { All IsScriptRow rows.now }
         ensures { IfOk result (λ schedule. AreLike schedule rows.now) }
     {
         let rows = by_cycle(alloc, rows)?;
@@ -55,21 +55,22 @@ impl Schedule {
         Ok(Schedule { rows, hush_ends })
     }
 
-    /// Lays the rows of a cycle over a list, but for those that last. It is called, so that what is made part of a core's loop stays small.
+    /// Lays the rows of a cycle over a list. It is called, so that what is made part of a core's loop stays small.
     #[inline(never)]
     pub(crate) fn lay(&self, cycle: u64, list: &mut Claims)
-        ensures { list.new ≡ passing self.now cycle list.old }
+        ensures { list.new ≡ scripted self.now cycle list.old }
     {
         let begun = begun_by(&self.rows, cycle);
-        let rows = &self.rows[..begun];
-        let earlier = begun_before(rows, cycle);
-        lay_all(&rows[earlier..], list);
         if self.is_hushed(begun, cycle) {
             list.clear();
+        } else {
+            let rows = &self.rows[..begun];
+            let earlier = begun_before(rows, cycle);
+            lay_all(&rows[earlier..], cycle, list);
         }
     }
 
-    /// Whether one of the first `begun` rows is a hush that ends behind a cycle.
+    /// Whether one of the first `begun` rows is a hush that ends after a cycle.
     fn is_hushed(&self, begun: usize, cycle: u64) -> bool
         requires { begun ≤ length self.now }
         ensures { result ≡ nat_lt cycle (latest_end (take begun self.now)) }
@@ -80,8 +81,8 @@ impl Schedule {
 
 /// The rows in the order of their cycles, those of one cycle in the order that they have.
 fn by_cycle(alloc: Global, rows: &[Row]) -> Result<Vec<Row>, AllocError>
-    requires { All IsRow rows.now }
-    ensures ranges { IfOk result (λ sorted. All IsRow sorted.items) }
+    requires { All IsScriptRow rows.now }
+    ensures ranges { IfOk result (λ sorted. All IsScriptRow sorted.items) }
     ensures sorted { IfOk result (λ sorted. IsNonDecreasingBy row_cycle sorted.items) }
     ensures same { IfOk result (λ sorted. AreLike sorted.items rows.now) }
 {
@@ -108,19 +109,19 @@ fn begun_before(rows: &[Row], cycle: u64) -> usize
     rows.partition_point(|row| u64::from(row.cycle()) < cycle)
 }
 
-/// Lays rows over a list, one after another.
-fn lay_all(rows: &[Row], list: &mut Claims)
-    requires { All IsRow rows.now }
-    ensures { list.new ≡ fold (λ list row. with_row row list) list.old rows.now }
+/// Lays rows over the list of a cycle, one after the other.
+fn lay_all(rows: &[Row], cycle: u64, list: &mut Claims)
+    requires { All IsScriptRow rows.now }
+    ensures { list.new ≡ fold (laid_in cycle) list.old rows.now }
 {
     for row in rows {
-        row.lay(list);
+        row.lay_in(cycle, list);
     }
 }
 
 /// Beside each row, the latest end of the hushes up to it.
 fn hush_ends_of(alloc: Global, rows: &[Row]) -> Result<Vec<u32>, AllocError>
-    requires { All IsRow rows.now }
+    requires { All IsScriptRow rows.now }
     ensures beside { IfOk result (λ ends. length ends.items ≡ length rows.now) }
     ensures latest { IfOk result (λ ends. (k : ℕ) → k < length rows.now → slice_index ends.items k ≡ latest_end (take (k + 1) rows.now)) }
 {

@@ -1,11 +1,10 @@
 // A script, as it is read.
-ghost use Rattle.std.specs.Prelude.{◌≡◌, [], ◌∷◌, ◌++◌, Ok, IfOk, IfErr, filter, fold};
+ghost use Rattle.std.specs.Prelude.{◌≡◌, [], ◌∷◌, Ok, IfOk, IfErr};
 ghost use Rattle.std.specs.List.{All};
 ghost use Rattle.diva_outside.specs.TextFaults.{IsFirstFault};
-ghost use Rattle.diva_faults.specs.Inner.{lasts};
-ghost use Rattle.diva_faults.specs.Lists.{scripted, with_lasting_in};
+ghost use Rattle.diva_faults.specs.Lists.{scripted};
 ghost use Rattle.diva_faults.specs.Reading.{script_of};
-ghost use Rattle.diva_faults.specs.Rows.{IsRow};
+ghost use Rattle.diva_faults.specs.Rows.{IsScriptRow};
 ghost use Rattle.diva_faults.specs.Touched.{end_of_rows, first_touched};
 
 use crate::fault::ScriptFault;
@@ -18,19 +17,17 @@ use std::marker::Model;
 
 /// The rows of a script: at most 4,096, in the order of the file.
 ///
-/// A cycle before the first that a row touches, or behind the last, costs two comparisons where a core is asked under the script,
-/// and nothing where it is asked by itself: no row changes its list there. `first_cycle` and `end_cycle` say which cycles these are.
+/// A cycle before the first that a row touches, or after the last, costs two comparisons if a core is asked under the script, and nothing
+/// if it is asked by itself: no row changes its list then. `first_cycle` and `end_cycle` say which cycles these are.
 ///
-/// No call but `read`, `of_row` and `with_row` takes memory.
+/// No call but `read` and `of_row` takes memory.
 #[derive(Debug, Drop)]
 pub struct Script {
     rows: Vec<Row>,
     schedule: Schedule,
-    /// Those that last, in the same order.
-    lasting: Vec<Row>,
     /// The first cycle that a row touches.
     first: u64,
-    /// The cycle behind the last one that a row touches.
+    /// The cycle after the last one that a row touches.
     end: u64,
 }
 
@@ -43,11 +40,11 @@ impl Model for Script {
 
     ghost view = { λ s. s.rows.items };
 
-    ghost invariant = { λ s. IsScript s.rows.items s.schedule s.lasting.items s.first s.end };
+    ghost invariant = { λ s. IsScript s.rows.items s.schedule s.first s.end };
 }
 
 impl Script {
-    /// The script of a text. The error is its first fault, or `Memory` where memory runs out.
+    /// The script of a text. The error is its first fault, or `Memory` if memory runs out.
     ///
     /// Lines without words are skipped. Every other line is a row: `at C lane L flip FIELD B`, `at C lane L set FIELD H`,
     /// `at C lane L lose`, `at C lane L double` or `at C hush K`. C and K are 1 to 1,000,000,000, L is 0 to 7, B is 0 to
@@ -67,15 +64,14 @@ impl Script {
         Script {
             rows: Vec::new(alloc),
             schedule: Schedule::none(alloc),
-            lasting: Vec::new(alloc),
             first: u64::MAX,
             end: 0,
         }
     }
 
-    /// The script that has just this row. The error: out of memory.
+    /// The script that has just this row, which does not last. The error: out of memory.
     pub fn of_row(alloc: Global, row: Row) -> Result<Self, AllocError>
-        requires { IsRow row }
+        requires { IsScriptRow row }
         ensures { IfOk result (λ script. script ≡ row ∷ []) }
     {
         let mut rows = Vec::new(alloc);
@@ -83,32 +79,22 @@ impl Script {
         Script::of(alloc, rows)
     }
 
-    /// The script with one row more, after the others. The error: out of memory.
-    pub fn with_row(&self, alloc: Global, row: Row) -> Result<Self, AllocError>
-        requires { IsRow row }
-        ensures { IfOk result (λ script. script ≡ self.now ++ row ∷ []) }
-    {
-        let mut rows = self.rows.to_vec(alloc)?;
-        rows.push(row)?;
-        Script::of(alloc, rows)
-    }
-
     /// The rows, in the order of the file.
     pub fn rows(&self) -> &[Row]
         ensures value { result.now ≡ self.now }
-        ensures ranges { All IsRow result.now }
+        ensures ranges { All IsScriptRow result.now }
     {
         &self.rows
     }
 
-    /// The first cycle that a row touches. Where there is no row, it is 2^64-1, and no machine comes to it.
+    /// The first cycle that a row touches. If there is no row, it is 2^64-1, and no machine comes to it.
     pub fn first_cycle(&self) -> u64
         ensures { result ≡ first_touched self.now }
     {
         self.first
     }
 
-    /// The cycle behind the last one that a row touches, 0 where there is no row.
+    /// The cycle after the last one that a row touches, 0 if there is no row.
     pub fn end_cycle(&self) -> u64
         ensures { result ≡ end_of_rows self.now }
     {
@@ -122,51 +108,23 @@ impl Script {
     {
         if self.first <= cycle && cycle < self.end {
             self.schedule.lay(cycle, list);
-            lay_lasting(&self.lasting, cycle, list);
         }
     }
 
     fn of(alloc: Global, rows: Vec<Row>) -> Result<Self, AllocError>
-        requires { All IsRow rows.items }
+        requires { All IsScriptRow rows.items }
         ensures { IfOk result (λ script. script ≡ rows.items) }
     {
         let schedule = Schedule::new(alloc, &rows)?;
-        let lasting = lasting_of(alloc, &rows)?;
         let first = first_of(&rows);
         let end = end_of(&rows);
         Ok(Script {
             rows,
             schedule,
-            lasting,
             first,
             end,
         })
     }
-}
-
-/// Lays rows that last over the list of a cycle, one after another.
-fn lay_lasting(rows: &[Row], cycle: u64, list: &mut Claims)
-    requires { All IsRow rows.now }
-    ensures { list.new ≡ fold (with_lasting_in cycle) list.old rows.now }
-{
-    for row in rows {
-        row.lay_lasting(cycle, list);
-    }
-}
-
-/// The rows that last, in their order.
-fn lasting_of(alloc: Global, rows: &[Row]) -> Result<Vec<Row>, AllocError>
-    requires { All IsRow rows.now }
-    ensures rows { IfOk result (λ lasting. lasting.items ≡ filter lasts rows.now) }
-    ensures ranges { IfOk result (λ lasting. All IsRow lasting.items) }
-{
-    let mut lasting = Vec::new(alloc);
-    for row in rows {
-        if row.lasts() {
-            lasting.push(*row)?;
-        }
-    }
-    Ok(lasting)
 }
 
 /// The first cycle that a row touches.
@@ -180,9 +138,9 @@ fn first_of(rows: &[Row]) -> u64
     first
 }
 
-/// The cycle behind the last one that a row touches.
+/// The cycle after the last one that a row touches.
 fn end_of(rows: &[Row]) -> u64
-    requires { All IsRow rows.now }
+    requires { All IsScriptRow rows.now }
     ensures { result ≡ end_of_rows rows.now }
 {
     let mut end = 0;

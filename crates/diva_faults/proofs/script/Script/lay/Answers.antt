@@ -1,19 +1,10 @@
-use Rattle.std.proofs.Common.{◌∙◌, sym, subst, arith}
-use Rattle.std.specs.List.{All}
-use Rattle.diva_faults.specs.Rows.{IsRow}
-use Rattle.diva_faults.proofs.Laying.{before_first, behind_end, laid_in_two}
+use Rattle.std.proofs.Common.{◌∙◌, sym, arith}
+use Rattle.diva_faults.proofs.Laying.{before_first, behind_end}
 use Rattle.diva_faults.proofs.script.Script.lay.Goals as goal
 use Rattle.diva_faults.proofs.script.Script.lay.Goals.{else-self-cycle-via-then-self-cycle+else-cycle-self, else-self-cycle-via-else-self-cycle}
 
-pub lay_lasting-requires : goal.lay_lasting-requires
-lay_lasting-requires c = subst (All IsRow) (sym c.deref.ensures.value) c.self.invariant.lasting_ranges
-
 pub returns-then-cycle-self : goal.returns-then-cycle-self
-returns-then-cycle-self c =
-    let i = c.self.invariant in
-    rw (← c.self.view_is)
-    (laid_in_two c.args.cycle c.self.inside.rows.items c.self.inside.schedule c.deref.result.now c.args.list.now c.lay.new.list c.lay_lasting.new.list
-    i.like (c.deref.ensures.value ∙ i.lasting_rows) c.lay.ensures c.lay_lasting.ensures)
+returns-then-cycle-self c = rw (← c.self.view_is) (c.lay.ensures ∙ c.self.invariant.like c.args.cycle c.args.list.now)
 
 pub returns-else-self-cycle : goal.returns-else-self-cycle
 returns-else-self-cycle c =
