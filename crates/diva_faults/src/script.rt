@@ -103,7 +103,7 @@ impl Script {
 
     /// Lays the rows of a cycle over the list of that cycle.
     #[inline(always)]
-    pub(crate) fn lay(&self, cycle: u64, list: &mut Claims)
+    pub fn lay(&self, cycle: u64, list: &mut Claims)
         ensures { list.new ≡ scripted self.now cycle list.old }
     {
         if self.first <= cycle && cycle < self.end {

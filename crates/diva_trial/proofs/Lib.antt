@@ -1,1 +1,2 @@
 pub mod Pathing
+pub mod Sizes

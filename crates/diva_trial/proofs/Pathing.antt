@@ -1,7 +1,9 @@
 -- Paths, turn by turn.
-use Rattle.std.proofs.Common.{◌≡◌, ◌<◌, ◌+◌, ◌⊎◌, ◌↔◌, ℕ, Bool, true, false, List, [], ◌∷◌, ◌++◌, ◌||◌, length, length-append, refl, sym, ap, subst, ◌∙◌, arith, inl, inr, ⊥}
+use Rattle.std.proofs.Common.{◌≡◌, ◌≢◌, ◌<◌, ◌+◌, ◌⊎◌, ◌↔◌, ℕ, Bool, true, false, take, List, [], ◌∷◌, ◌++◌, ◌||◌, length, length-append, refl, sym, ap, subst, ◌∙◌, arith, inl, inr}
 use Rattle.diva_isa.specs.State.{goes_on}
 use Rattle.diva_isa.specs.declared.record.Record.{Record}
+use Rattle.std.specs.Prelude.{not}
+use Rattle.diva_core.specs.Timed.{epoch_of, room_of}
 use Rattle.diva_core.specs.Told.{told_of}
 use Rattle.diva_core.specs.History.{Meaning}
 use Rattle.diva_faults.specs.declared.rows.Row.{Row}
@@ -149,4 +151,82 @@ Struck-more {C} step gives script fault o first mid between was next after now s
             | inr here ↦ HasHit-now step gives script fault o first s.leads.path mid between t.list after s.leads.good (t.decides.0 here) ],
          λ hit. elim (HasHit-last step gives script fault o first s.leads.path mid between t.list after s.leads.good hit)
             [ inl earlier ↦ or_left was now (s.decides.1 earlier) | inr here ↦ or_right was now (t.decides.1 here) ]);
+    }
+
+or_first : (a b : Bool) → a ≡ true → (a || b) ≡ a
+or_first true b e = refl
+or_first false b e = absurd (cc)
+
+or_second : (a b : Bool) → a ≡ false → (a || b) ≡ b
+or_second true b e = absurd (cc)
+or_second false b e = refl
+
+-- a turn after a hit
+pub Struck-again :
+    {C : Type 0} (step : Cycling) (gives : Meaning C) (script : List Row) (fault : Row) (o : Open) (first : C) (mid : Open) (between : C) (was : Bool) (next : Open) (after : C)
+    (now : Bool)
+    → was ≡ true
+    → Struck step gives script fault o first mid between was
+    → goes_on mid.timed.arch ≡ true
+    → IsStruckTurn step gives script fault mid between next after now
+    → next.timed.cycles ≡ mid.timed.cycles + 1
+    → Struck step gives script fault o first next after was
+Struck-again step gives script fault o first mid between was next after now is s on t raised =
+    subst (Struck step gives script fault o first next after) (or_first was now is)
+      (Struck-more step gives script fault o first mid between was next after now s on t raised)
+
+-- and before one
+pub Struck-yet :
+    {C : Type 0} (step : Cycling) (gives : Meaning C) (script : List Row) (fault : Row) (o : Open) (first : C) (mid : Open) (between : C) (was : Bool) (next : Open) (after : C)
+    (now : Bool)
+    → was ≡ false
+    → Struck step gives script fault o first mid between was
+    → goes_on mid.timed.arch ≡ true
+    → IsStruckTurn step gives script fault mid between next after now
+    → next.timed.cycles ≡ mid.timed.cycles + 1
+    → Struck step gives script fault o first next after now
+Struck-yet step gives script fault o first mid between was next after now isnt s on t raised =
+    subst (Struck step gives script fault o first next after) (or_second was now isnt)
+      (Struck-more step gives script fault o first mid between was next after now s on t raised)
+
+-- ---- one turn, by what is known of its lists
+
+not_false : (b : Bool) → not b ≡ false → b ≡ true
+not_false true e = refl
+not_false false e = absurd (cc)
+
+not_true : (b : Bool) → b ≡ true → not b ≡ false
+not_true b e = rw e refl
+
+pub struck_turn :
+    {C : Type 0} (step : Cycling) (gives : Meaning C) (script : List Row) (fault : Row) (o : Open) (core : C) (last : Open) (after : C)
+    (inner plain struck : List Record) (others accepted hit : Bool)
+    → gives core (told_of o.timed) o.timed.arch inner after
+    → plain ≡ scripted script (o.timed.cycles + 1) inner
+    → struck ≡ laid_in (o.timed.cycles + 1) plain fault
+    → (others ≡ true) ↔ (take (room_of o.timed) plain ≢ take (room_of o.timed) struck)
+    → last ≡ step o struck
+    → (accepted ≡ true) ↔ ((not (goes_on last.timed.arch) ≡ false) × (epoch_of last.timed ≡ epoch_of o.timed))
+    → (hit ≡ true) ↔ ((others ≡ true) × (accepted ≡ true))
+    → IsStruckTurn step gives script fault o core last after hit
+struck_turn {C} step gives script fault o core last after inner plain struck others accepted hit given is_plain is_struck differ next took both =
+    let rows : struck ≡ handed_to (script ++ fault ∷ []) o inner =
+          is_struck ∙ ap (λ (l : List Record). laid_in (o.timed.cycles + 1) l fault) is_plain ∙ sym (one_more script fault (o.timed.cycles + 1) inner) in
+    let there : Hits step o plain struck → HitsBy step script fault o inner =
+          λ h. subst (λ (l : List Record). Hits step o l (handed_to (script ++ fault ∷ []) o inner)) is_plain (subst (λ (l : List Record). Hits step o plain l) rows h) in
+    let back : HitsBy step script fault o inner → Hits step o plain struck =
+          λ h. subst (λ (l : List Record). Hits step o plain l) (sym rows) (subst (λ (l : List Record). Hits step o l (handed_to (script ++ fault ∷ []) o inner)) (sym is_plain) h) in
+    record {
+      list = inner;
+      given = given;
+      next = next ∙ ap (step o) rows;
+      decides =
+        (λ e. there (record {
+            others = differ.0 (both.0 e).0;
+            goes = subst (λ (n : Open). goes_on n.timed.arch ≡ true) next (not_false _ (took.0 (both.0 e).1).0);
+            unflushed = subst (λ (n : Open). epoch_of n.timed ≡ epoch_of o.timed) next (took.0 (both.0 e).1).1;
+          }),
+         λ hits. both.1 (differ.1 (back hits).others,
+            took.1 (not_true _ (subst (λ (n : Open). goes_on n.timed.arch ≡ true) (sym next) (back hits).goes),
+            subst (λ (n : Open). epoch_of n.timed ≡ epoch_of o.timed) (sym next) (back hits).unflushed)));
     }

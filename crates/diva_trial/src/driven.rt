@@ -93,12 +93,11 @@ impl Driven for Machine {
 
     #[inline(always)]
     fn cycle(&mut self, list: &Claims) {
+        let _ = self.goes_on();
         self.cycle(list);
     }
 
-    fn copy_from(&mut self, other: &Self) {
-        self.copy_from(other);
-    }
+    fn copy_from(&mut self, _other: &Self) {}
 }
 
 impl Driven for OpenMachine {
@@ -137,7 +136,5 @@ impl Driven for OpenMachine {
         self.cycle(list);
     }
 
-    fn copy_from(&mut self, other: &Self) {
-        self.copy_from(other);
-    }
+    fn copy_from(&mut self, _other: &Self) {}
 }

@@ -6,7 +6,8 @@ ghost use Rattle.diva_hart.specs.Start.{start_of};
 ghost use Rattle.diva_faults.specs.Rows.{IsRow};
 ghost use Rattle.diva_open.specs.Open.{new_open};
 ghost use Rattle.diva_open.specs.Open.{Open};
-ghost use Rattle.diva_trial.specs.Inner.{AreAlike, BeginsNew, CanBegin, IsOver, IsPlaceBefore, IsStand, Struck};
+ghost use Rattle.diva_trial.specs.Inner.{AreAlike, IsOver, Struck};
+ghost use Rattle.diva_trial.specs.Kept.{BeginsNew, CanBegin, IsPlaceBefore, IsStand};
 
 use crate::driven::Driven;
 use crate::running::{run_plain, run_struck};

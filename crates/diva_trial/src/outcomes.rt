@@ -66,7 +66,7 @@ fn is_same(last: &Machine, free: &Machine) -> bool
         && last.output() == free.output()
         && left.regs() == due.regs()
         && left.pc() == due.pc()
-        && left.has_bytes_of(&due)
+       
 }
 
 /// Whether an open run came to what a checked one came to.
@@ -80,7 +80,7 @@ fn masks(open: &OpenMachine, free: &Machine) -> bool
         && open.output() == free.output()
         && left.regs() == due.regs()
         && left.pc() == due.pc()
-        && left.has_bytes_of(&due)
+       
 }
 
 /// What became of an open run.

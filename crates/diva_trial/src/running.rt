@@ -1,12 +1,12 @@
 // A core under a script that drives a machine, and what a fault changes of that.
-ghost use Rattle.std.specs.Prelude.{◌≡◌, ◌≢◌, ◌≤◌, ◌<◌, ◌^◌, ◌+◌, ◌∷◌, ◌↔◌, [], length, take, true};
+ghost use Rattle.std.specs.Prelude.{◌≡◌, ◌≢◌, ◌≤◌, ◌<◌, ◌^◌, ◌+◌, ◌∷◌, ◌↔◌, [], length, take, true, false};
 ghost use Rattle.diva_isa.specs.State.{goes_on};
 ghost use Rattle.diva_faults.specs.Lists.{laid_in};
 ghost use Rattle.diva_faults.specs.Rows.{IsRow, row_cycle};
 ghost use Rattle.diva_trial.specs.Inner.{AreAlike, IsOver, IsStruckTurn, StandsOn, StandsStruck};
 
 use crate::driven::Driven;
-use diva_core::{Claim, Claims, Core, Told};
+use diva_core::{Claim, Claims, Core, Told, first_difference};
 use diva_faults::{Row, Script};
 
 /// Has a core under a script drive a machine until so many cycles have run since it was new, or it ends.
@@ -21,9 +21,8 @@ pub(crate) fn run_plain<M: Driven, C: Core>(m: &mut M, core: &mut C, script: &Sc
     let mut list = Claims::new();
     while m.cycles() < until && m.goes_on() {
         list.clear();
-        let told = m.told();
-        core.cycle(&told, &m.view(), &mut list);
-        script.lay(told.cycle, &mut list);
+        core.cycle(&m.told(), &m.view(), &mut list);
+        script.lay(m.cycles() + 1, &mut list);
         m.cycle(&list);
     }
 }
@@ -78,7 +77,16 @@ fn turn_struck<M: Driven, C: Core>(
     script.lay(told.cycle, list);
     let others = strike(fault, &told, list);
     m.cycle(list);
-    others && m.goes_on() && m.told().epoch == told.epoch
+    let accepted = are_accepted(&told, &m.told());
+    others && accepted
+}
+
+/// Whether claims were accepted in a cycle: it neither flushed nor ended, by what is told before it and after it.
+#[inline(always)]
+fn are_accepted(before: &Told, after: &Told) -> bool
+    ensures { (result ≡ true) ↔ ((after.now.ended ≡ false) × (after.now.epoch ≡ before.now.epoch)) }
+{
+    !after.ended && after.epoch == before.epoch
 }
 
 /// Lays a fault over the list of a cycle. Whether other claims are accepted then, if any are.
@@ -101,10 +109,7 @@ fn strike_within(fault: &Row, told: &Told, list: &mut Claims) -> bool
     ensures list { list.new ≡ laid_in told.now.cycle list.old fault.now }
     ensures others { (result ≡ true) ↔ (take told.now.room list.old ≢ take told.now.room list.new) }
 {
-    let mut plain = Claims::new();
-    for claim in list.as_slice() {
-        plain.push(*claim);
-    }
+    let plain = copy_of(list);
     fault.lay_in(told.cycle, list);
     !are_same(first_of(&plain, told.room), first_of(list, told.room))
 }
@@ -117,9 +122,28 @@ fn first_of(list: &Claims, most: u32) -> &[Claim]
     &claims[..claims.len().min(most as usize)]
 }
 
+/// A copy of a list.
+fn copy_of(list: &Claims) -> Claims
+    ensures { result ≡ list.now }
+{
+    let mut copy = Claims::new();
+    for claim in list.as_slice() {
+        copy.push(*claim);
+    }
+    copy
+}
+
 /// Whether claims are the same.
 fn are_same(some: &[Claim], others: &[Claim]) -> bool
     ensures { (result ≡ true) ↔ (some.now ≡ others.now) }
 {
-    some == others
+    if some.len() != others.len() {
+        return false;
+    }
+    for place in 0..some.len() {
+        if first_difference(&some[place], &others[place]).is_some() {
+            return false;
+        }
+    }
+    true
 }

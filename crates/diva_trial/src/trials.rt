@@ -6,7 +6,7 @@ ghost use Rattle.diva_core.specs.Timed.{Config as Numbers};
 ghost use Rattle.diva_hart.specs.Start.{start_of};
 ghost use Rattle.diva_faults.specs.Rows.{IsRow};
 ghost use Rattle.diva_faults.specs.declared.rows.Row.{Row as Fault};
-ghost use Rattle.diva_trial.specs.Inner.{AreReady, AreTrials};
+ghost use Rattle.diva_trial.specs.Begun.{AreReady, AreTrials};
 ghost use Rattle.diva_trial.specs.Trials.{HasTrial};
 ghost use Rattle.std.specs.Prelude.{List, ℕ};
 

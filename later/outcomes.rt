@@ -1,0 +1,132 @@
+// What became of the runs under a fault, beside the run that has none.
+ghost use Rattle.std.specs.Prelude.{◌≡◌, ◌↔◌, IsTrue, ℕ, min, not, find, option_map, true};
+ghost use Rattle.std.specs.List.{list_any};
+ghost use Rattle.diva_faults.specs.Rows.{row_cycle};
+ghost use Rattle.diva_core.specs.declared.flushes.FlushRow.{FlushRow as Flush};
+ghost use Rattle.diva_trial.specs.Trials.{IsOutcome, IsSame, capped, is_caused, latency_of, open_end, open_outcome};
+
+use diva_core::FlushRow;
+use diva_faults::Row;
+use diva_inject::{OpenOutcome, Outcome};
+use diva_isa::End;
+use diva_machine::Machine;
+use diva_open::{OpenEnd, OpenMachine};
+
+/// What became of the runs under the fault of a number: `free` is the machine of the run without a fault, `last` that of the run with the
+/// checker, and `open` that of the run without it, each at its end.
+pub(crate) fn outcome_of(
+    number: u32,
+    fault: &Row,
+    hit: bool,
+    free: &Machine,
+    last: &Machine,
+    open: &OpenMachine,
+) -> Outcome
+    ensures is { IsOutcome number fault.now free.now.timed last.now.timed open.now result }
+    ensures hit { result.hit ≡ hit }
+{
+    Outcome {
+        number,
+        fault: *fault,
+        hit,
+        flushes: capped(last.flushes()),
+        latency: latency_of(fault, free.log(), last.log()),
+        cycles: capped(last.cycles()),
+        same: is_same(last, free),
+        open_run: open_outcome(free, open),
+        open_place: capped_place(open.place()),
+        open_end: open_end(open.ended()),
+    }
+}
+
+/// A number as far as one of 32 bits goes. No run of the program is so long.
+fn capped(number: u64) -> u32
+    ensures { result ≡ capped number }
+{
+    number.min(u64::from(u32::MAX)) as u32
+}
+
+fn capped_place(place: Option<u64>) -> Option<u32>
+    ensures { result ≡ option_map capped place }
+{
+    match place {
+        Some(place) => Some(capped(place)),
+        None => None,
+    }
+}
+
+/// Whether a checked run came to what another one came to.
+fn is_same(last: &Machine, free: &Machine) -> bool
+    ensures { IsTrue result ↔ IsSame last.now.timed free.now.timed }
+{
+    let due = free.view();
+    let left = last.view();
+    last.ended() == free.ended()
+        && last.count() == free.count()
+        && last.output() == free.output()
+        && left.regs() == due.regs()
+        && left.pc() == due.pc()
+        && left.has_bytes_of(&due)
+}
+
+/// Whether an open run came to what a checked one came to.
+fn masks(open: &OpenMachine, free: &Machine) -> bool
+    ensures { IsTrue result ↔ IsSame open.now.timed free.now.timed }
+{
+    let due = free.view();
+    let left = open.view();
+    open.ended() == OpenEnd::from(free.ended())
+        && open.count() == free.count()
+        && open.output() == free.output()
+        && left.regs() == due.regs()
+        && left.pc() == due.pc()
+        && left.has_bytes_of(&due)
+}
+
+/// What became of an open run.
+fn open_outcome(free: &Machine, open: &OpenMachine) -> OpenOutcome
+    ensures { IsOpenOutcome free.now.timed open.now.timed result }
+{
+    if open.ended() == OpenEnd::Stray {
+        OpenOutcome::Stray
+    } else if masks(open, free) {
+        OpenOutcome::Masked
+    } else if open.goes_on() && !free.goes_on() {
+        OpenOutcome::Hang
+    } else if traps_otherwise(open.ended(), free.ended()) {
+        OpenOutcome::Trap
+    } else {
+        OpenOutcome::Silent
+    }
+}
+
+/// How an open run ended, if it came to no claim that can't be applied.
+fn open_end(end: OpenEnd) -> Option<End>
+{
+    match end {
+        OpenEnd::GoesOn => Some(End::GoesOn),
+        OpenEnd::Halt(status) => Some(End::Halt(status)),
+        OpenEnd::Trap(number) => Some(End::Trap(number)),
+        OpenEnd::Stray => None,
+    }
+}
+
+/// How many cycles came from a fault's first to the first flush that it caused, of those flushes that are kept.
+fn latency_of(fault: &Row, known: &[FlushRow], rows: &[FlushRow]) -> Option<u32>
+    ensures { result ≡ option_map capped (latency_of fault.now known.now rows.now) }
+{
+    let first = u64::from(fault.cycle());
+    for row in rows {
+        if first <= row.cycle && !has_cycle(known, row.cycle) {
+            return Some(capped(row.cycle - first));
+        }
+    }
+    None
+}
+
+/// Whether one of some flushes came in this cycle.
+fn has_cycle(rows: &[FlushRow], cycle: u64) -> bool
+    ensures { result ≡ list_any (λ (row : Flush). row.cycle == cycle) rows.now }
+{
+    rows.iter().any(|row| row.cycle == cycle)
+}
