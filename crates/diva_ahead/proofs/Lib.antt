@@ -1,5 +1,6 @@
 -- What follows from the definitions.
 pub mod Clear
 pub mod Handing
+pub mod Keeping
 pub mod Leading
 pub mod Whole

@@ -61,6 +61,34 @@ impl Ahead {
         })
     }
 
+    /// A copy of it. The one error is that memory runs out.
+    pub fn copied(&self, alloc: Global) -> Result<Self, AllocError>
+        ensures { IfOk result (λ a. a ≡ self.now) }
+    {
+        Ok(Ahead {
+            epoch: self.epoch,
+            regs: self.regs,
+            pc: self.pc,
+            out_len: self.out_len,
+            instret: self.instret,
+            ring: self.ring.copied(alloc)?,
+            stopped: self.stopped,
+        })
+    }
+
+    /// Becomes a copy of another. It takes no memory.
+    pub fn copy_from(&mut self, other: &Ahead)
+        ensures { self.new ≡ other.now }
+    {
+        self.epoch = other.epoch;
+        self.regs = other.regs;
+        self.pc = other.pc;
+        self.out_len = other.out_len;
+        self.instret = other.instret;
+        self.ring.copy_from(&other.ring);
+        self.stopped = other.stopped;
+    }
+
     /// Whether the core's state is of this epoch.
     #[inline(always)]
     pub fn is_of(&self, epoch: u64) -> bool

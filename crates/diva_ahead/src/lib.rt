@@ -2,6 +2,7 @@
 //!
 //! - `ahead`: where such a core stands, `Ahead`.
 //! - `ring`: what it handed over, laid over the machine's memory, `Ring`.
+//! - `buffers`: how a buffer becomes a copy of another, `copy_buffer`.
 //! - `effects`: which effects change memory, `is_store`.
 //! - `stand`: the core's own state, to read, `Stand`.
 //!
@@ -11,10 +12,12 @@
 #![tactic(auto)]
 
 mod ahead;
+mod buffers;
 mod effects;
 mod ring;
 mod stand;
 
 pub use ahead::Ahead;
+pub use buffers::copy_buffer;
 pub use effects::is_store;
 pub use ring::Ring;

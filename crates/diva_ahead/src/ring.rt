@@ -4,6 +4,7 @@ ghost use Rattle.std.specs.List.{list_all};
 ghost use Rattle.diva_isa.specs.State.{State, byte_of, word_of};
 ghost use Rattle.diva_core.specs.Effects.{is_apart, with_effects};
 
+use crate::buffers::copy_buffer;
 use crate::effects::is_store;
 use circular_buffer::HeapCircularBuffer;
 use diva_core::{View, byte_in, is_apart};
@@ -48,6 +49,23 @@ impl Ring {
             effects: HeapCircularBuffer::with_capacity(alloc, Self::MOST)?,
             span: Span::none(),
         })
+    }
+
+    /// A copy of the ring. The one error is that memory runs out.
+    pub fn copied(&self, alloc: Global) -> Result<Self, AllocError>
+        ensures { IfOk result (λ r. r ≡ self.now) }
+    {
+        let mut copy = Ring::new(alloc)?;
+        copy.copy_from(self);
+        Ok(copy)
+    }
+
+    /// Becomes a copy of another ring. It takes no memory.
+    pub fn copy_from(&mut self, other: &Ring)
+        ensures { self.new ≡ other.now }
+    {
+        copy_buffer(&mut self.effects, &other.effects);
+        self.span = other.span;
     }
 
     /// Keeps the youngest `most`.

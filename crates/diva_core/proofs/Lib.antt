@@ -27,6 +27,7 @@ pub mod Phases
 pub mod Promising
 pub mod Progressing
 pub mod Reaching
+pub mod Reading
 pub mod Rows
 pub mod Stalling
 pub mod Starting

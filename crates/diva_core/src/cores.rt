@@ -1,9 +1,10 @@
 // The trait of the cores that hand over claims.
-ghost use Rattle.std.specs.Prelude.{◌≡◌, []};
+ghost use Rattle.std.specs.Prelude.{◌≡◌, [], IfOk};
 
 use crate::claims::Claims;
 use crate::told::Told;
 use crate::view::View;
+use std::alloc::{AllocError, Global};
 
 /// A core: what hands over claims, asked once before each cycle (after Austin, MICRO-32, 1999,
 /// where a complex core feeds a simple checker).
@@ -24,6 +25,19 @@ pub trait Core {
     fn cycle(&mut self, told: &Told, view: &View<'_>, out: &mut Claims)
         requires { out.old ≡ [] }
         ensures { gives self.old told.now view.now out.new self.new };
+}
+
+/// A core that can be copied, so that runs can begin where another one stands.
+pub trait CopyCore: Core {
+    /// A copy of the core. The one error is that memory runs out.
+    fn copied(&self, alloc: Global) -> Result<Self, AllocError>
+    where
+        Self: Sized,
+        ensures { IfOk result (λ core. core ≡ self.now) };
+
+    /// Becomes a copy of a core that was copied from it, or from which it was copied. It takes no memory.
+    fn copy_from(&mut self, other: &Self)
+        ensures { self.new ≡ other.now };
 }
 
 impl<C: Core> Core for &mut C {

@@ -4,7 +4,7 @@
 //! - `records`: the records of one cycle, `Records`;
 //! - `claims`: what a core hands over, `Claim` and `Claims`;
 //! - `told`, `view`: what a core is told and shown before a cycle, `Told` and `View`;
-//! - `cores`: the trait `Core`, with its one meaning `gives`;
+//! - `cores`: the trait `Core`, with its one meaning `gives`, and `CopyCore` of those that can be copied;
 //! - `output`: the bytes that the program put, `Output`;
 //! - `pending`: the claims that wait to be judged, `Entry` and `Pending`;
 //! - `future`: the registers as the oldest pending claims leave them, `FutureFile`;
@@ -41,7 +41,7 @@ mod walks;
 pub use bypass::Bypass;
 pub use claims::{Claim, Claims};
 pub use config::Config;
-pub use cores::Core;
+pub use cores::{CopyCore, Core};
 pub use differences::{Diff, Field, difference_in, first_difference};
 pub use effects::{byte_in, is_apart};
 pub use flushes::{Cause, FlushRow};

@@ -142,10 +142,7 @@ impl Pending {
         requires { self.old.capacity ≡ other.now.capacity }
         ensures { self.new ≡ other.now }
     {
-        self.entries.clear();
-        for at in 0..other.len() {
-            let _ = self.entries.try_push_back(other.entry(at));
-        }
+        copy_entries(&mut self.entries, &other.entries);
         self.span = other.span;
     }
 
@@ -296,6 +293,18 @@ impl Pending {
     {
         self.span.is_apart(addr, n)
     }
+}
+
+/// Makes entries a copy of others for which there is as much room.
+fn copy_entries(entries: &mut HeapCircularBuffer<Entry>, others: &HeapCircularBuffer<Entry>)
+    requires { entries.old.capacity ≡ others.now.capacity }
+    ensures { entries.new ≡ others.now }
+{
+    let (front, back) = others.as_slices();
+    prove!(others.len() <= others.capacity());
+    entries.clear();
+    entries.extend_from_slice(front);
+    entries.extend_from_slice(back);
 }
 
 /// Whether a word has the opcode of stores. (RISC-V Unprivileged ISA, chapter "RV32/64G Instruction Set Listings".)

@@ -78,10 +78,10 @@ impl<const N: usize> Records<N> {
     pub fn copy_from(&mut self, other: &Records<N>)
         ensures { self.new ≡ other.now }
     {
-        self.clear();
-        for r in other.as_slice() {
-            self.push(*r);
-        }
+        self.places
+            .as_mut_slice()
+            .copy_from_slice(other.places.as_slice());
+        self.len = other.len;
     }
 
     /// The records, in order.

@@ -1,8 +1,8 @@
 // The committed state as a core sees it.
-ghost use Rattle.std.specs.Prelude.{◌≡◌, ◌<◌, ◌≤◌, ◌%◌, ◌^◌, length};
+ghost use Rattle.std.specs.Prelude.{◌≡◌, ◌<◌, ◌≤◌, ◌%◌, ◌^◌, ◌↔◌, IsTrue, length};
 ghost use Rattle.diva_isa.specs.Kind.{size};
 ghost use Rattle.diva_memory.specs.Bytes.{number_at};
-ghost use Rattle.diva_isa.specs.State.{State, reg_of, byte_of, number_of, word_of, output_limit};
+ghost use Rattle.diva_isa.specs.State.{State, memory_of, reg_of, byte_of, number_of, word_of, output_limit};
 ghost use Rattle.diva_core.specs.Older.{older, with_claims};
 ghost use Rattle.diva_storeq.specs.Stores.{laid};
 
@@ -164,6 +164,15 @@ impl View<'_> {
         pending.number_behind(count, self.memory, self.queue, addr, width)
     }
 
+    /// Whether two states have the same memory, as a program reads it: the same first address, and the same bytes from there on.
+    ///
+    /// Where no store is owed, or the same ones over the same bytes, that is one comparison of slices.
+    pub fn has_bytes_of(&self, other: &View<'_>) -> bool
+        ensures { IsTrue result ↔ (memory_of self.now ≡ memory_of other.now) }
+    {
+        are_same(self.memory, self.queue, other.memory, other.queue)
+    }
+
     /// How many instructions have committed: at most 2^62.
     #[inline(always)]
     pub fn instret(&self) -> u64
@@ -259,4 +268,55 @@ fn half_number(memory: &Memory, queue: &StoreQueue, addr: u32) -> Option<u32>
     ensures { result ≡ number_at (laid memory.now queue.now.items) 2 addr }
 {
     Some(u32::from(queue.half(memory, addr)?))
+}
+
+/// Whether two memories are the same once all stores are in them.
+fn are_same(
+    memory: &Memory,
+    queue: &StoreQueue,
+    other_memory: &Memory,
+    other_queue: &StoreQueue,
+) -> bool
+    ensures { IsTrue result ↔ (laid memory.now queue.now.items ≡ laid other_memory.now other_queue.now.items) }
+{
+    if memory.base() != other_memory.base() || memory.size() != other_memory.size() {
+        return false;
+    }
+    let same = are_same_bytes(memory.bytes(), other_memory.bytes());
+    if queue.owed() == 0 && other_queue.owed() == 0 {
+        return same;
+    }
+    same && queue.has_stores_of(other_queue)
+        || are_same_by_bytes(memory, queue, other_memory, other_queue)
+}
+
+/// Whether two lists of bytes are the same.
+#[inline]
+fn are_same_bytes(bytes: &[u8], others: &[u8]) -> bool
+    ensures { IsTrue result ↔ (bytes.now ≡ others.now) }
+{
+    bytes == others
+}
+
+/// The same as `are_same`, byte by byte. Both memories have the same addresses.
+#[cold]
+#[inline(never)]
+fn are_same_by_bytes(
+    memory: &Memory,
+    queue: &StoreQueue,
+    other_memory: &Memory,
+    other_queue: &StoreQueue,
+) -> bool
+    requires base { memory.now.base ≡ other_memory.now.base }
+    requires size { length memory.now.items ≡ length other_memory.now.items }
+    ensures { IsTrue result ↔ (laid memory.now queue.now.items ≡ laid other_memory.now other_queue.now.items) }
+{
+    let base = memory.base();
+    for place in 0..memory.size() {
+        let addr = base + place;
+        if queue.byte(memory, addr) != other_queue.byte(other_memory, addr) {
+            return false;
+        }
+    }
+    true
 }

@@ -78,6 +78,14 @@ impl Memory {
         self.bytes.len() as u32
     }
 
+    /// The bytes, from the first address on.
+    #[inline]
+    pub fn bytes(&self) -> &[u8]
+        ensures { result.now ≡ self.now.items }
+    {
+        &self.bytes
+    }
+
     /// Whether the `n` bytes from `addr` on are inside.
     pub fn inside(&self, addr: u32, n: u32) -> bool
         ensures value { result ≡ is_inside self.now addr n }

@@ -57,10 +57,7 @@ impl StoreQueue {
         requires { self.old.capacity ≡ other.now.capacity }
         ensures { self.new ≡ other.now }
     {
-        self.entries.clear();
-        for at in 0..other.owed() {
-            let _ = self.entries.try_push_back(other.entry(at));
-        }
+        copy_entries(&mut self.entries, &other.entries);
         self.interval = other.interval;
     }
 
@@ -87,6 +84,21 @@ impl StoreQueue {
         ensures masked { IsMasked result }
     {
         *self.entries.get(at).unwrap()
+    }
+
+    /// Whether two queues hold the same stores, in the same order.
+    pub fn has_stores_of(&self, other: &StoreQueue) -> bool
+        ensures { IsTrue result ↔ (self.now.items ≡ other.now.items) }
+    {
+        if self.owed() != other.owed() {
+            return false;
+        }
+        for at in 0..self.owed() {
+            if self.entry(at) != other.entry(at) {
+                return false;
+            }
+        }
+        true
     }
 
     /// Adds the youngest store. There is room for it, its address is a multiple of its width, and it ends at 2^32 at the
@@ -220,4 +232,16 @@ impl StoreQueue {
         }
         Some(word)
     }
+}
+
+/// Makes entries a copy of others for which there is as much room.
+fn copy_entries(entries: &mut HeapCircularBuffer<Masked>, others: &HeapCircularBuffer<Masked>)
+    requires { entries.old.capacity ≡ others.now.capacity }
+    ensures { entries.new ≡ others.now }
+{
+    let (front, back) = others.as_slices();
+    prove!(others.len() <= others.capacity());
+    entries.clear();
+    entries.extend_from_slice(front);
+    entries.extend_from_slice(back);
 }
