@@ -100,6 +100,16 @@ fn open_outcome(free: &Machine, open: &OpenMachine) -> OpenOutcome
     }
 }
 
+/// Whether an open run trapped, and the run without a fault did not, or by another trap.
+fn traps_otherwise(end: OpenEnd, free: End) -> bool
+    ensures { (open : ℕ) (due : ℕ) → end ≡ open_end_of open → free ≡ end_of due → result ≡ (is_trap open && not (open == due)) }
+{
+    match end {
+        OpenEnd::Trap(number) => free != End::Trap(number),
+        OpenEnd::GoesOn | OpenEnd::Halt(_) | OpenEnd::Stray => false,
+    }
+}
+
 /// How an open run ended, if it came to no claim that can't be applied.
 fn open_end(end: OpenEnd) -> Option<End>
 {
