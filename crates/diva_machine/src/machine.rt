@@ -82,6 +82,16 @@ impl Machine {
         })
     }
 
+    /// Becomes a copy of a machine with the same numbers, and memory of the same size: the two go on alike. It takes no memory.
+    pub fn copy_from(&mut self, other: &Machine)
+        requires config { self.old.timed.config ≡ other.now.timed.config }
+        requires size { length self.old.timed.arch.bytes ≡ length other.now.timed.arch.bytes }
+        ensures { self.new ≡ other.now }
+    {
+        self.parts.copy_from(&other.parts);
+        self.outvoted = other.outvoted;
+    }
+
     /// What a core is told before the coming cycle.
     pub fn told(&self) -> Told
         ensures { result ≡ told_of self.now.timed }

@@ -95,6 +95,22 @@ impl Parts {
         })
     }
 
+    /// Become a copy of the parts of a machine with the same numbers, and memory of the same size. It takes no memory.
+    pub fn copy_from(&mut self, other: &Parts)
+        requires config { self.old.timed.config ≡ other.now.timed.config }
+        requires size { length self.old.timed.arch.bytes ≡ length other.now.timed.arch.bytes }
+        ensures { self.new ≡ other.now }
+    {
+        self.arch.copy_from(&other.arch);
+        self.port.copy_from(&other.port);
+        self.cycles = other.cycles;
+        self.under.copy_from(&other.under);
+        self.passed = other.passed;
+        self.future.copy_from(&other.future);
+        self.filled = other.filled;
+        self.last.copy_from(&other.last);
+    }
+
     /// How many claims the coming cycle accepts at most.
     pub fn room(&self) -> usize
         ensures { result ≡ room_of self.now.timed }

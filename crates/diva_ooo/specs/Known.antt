@@ -9,6 +9,7 @@ use Rattle.diva_ahead.specs.Effects.{done_by}
 use Rattle.diva_ooo.specs.declared.entry.WindowEntry.TheInside.{Inside}
 use Rattle.diva_ooo.specs.declared.profile.Profile.{Profile}
 use Rattle.diva_ooo.specs.Profile.{profile_by}
+use Rattle.diva_ooo.specs.WindowEntry.{WindowEntry, profile_of}
 use Rattle.diva_ooo.specs.Issue.{is_waiting}
 
 -- its registers are below 32
@@ -27,3 +28,17 @@ pub record IsKnown (e : Inside) : Type 0 where
   pub register : HasRegister e.effect
   -- one that waits has no result yet
   pub fresh : is_waiting e.progress ≡ true → is_store e.effect ≡ false
+
+-- an entry with all that is noted of it
+abbrev pub noted : WindowEntry → Inside
+noted e =
+    record {
+      pc = e.pc;
+      decoded = option_and_then row_of e.word;
+      word = e.word;
+      profile = profile_of e;
+      predicted = e.predicted;
+      progress = e.progress;
+      result = e.result;
+      effect = done_by e.result;
+    }

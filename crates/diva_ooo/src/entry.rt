@@ -28,7 +28,7 @@ impl Progress {
 }
 
 /// An instruction under way. What follows from its word and its result is noted beside them, so that it is worked out once.
-#[derive(Drop)]
+#[derive(Clone, Copy)]
 pub struct WindowEntry {
     /// The address where it was fetched.
     pub pc: u32,
@@ -58,4 +58,8 @@ impl Model for WindowEntry {
     ghost view = { λ e. record { pc = e.pc; word = e.word; predicted = e.predicted; progress = e.progress; result = e.result } };
 
     ghost invariant = { IsKnown };
+
+    ghost use Rattle.diva_ooo.specs.Known.{noted};
+
+    ghost inverse = { noted };
 }

@@ -13,7 +13,7 @@ use crate::predicting::predicted;
 use crate::profile::Profile;
 use crate::window::Window;
 use diva_ahead::Ahead;
-use diva_core::{Claims, Core, Told, View};
+use diva_core::{Claims, CopyCore, Core, Told, View};
 use diva_decode::Instr;
 use diva_isa::{Effect, Record, decoded_of, effect_of};
 use std::alloc::{AllocError, Global};
@@ -250,5 +250,23 @@ impl Core for Ooo {
         }
         self.trim(told);
         self.work(told.room, view, out);
+    }
+}
+
+impl CopyCore for Ooo {
+    fn copied(&self, alloc: Global) -> Result<Self, AllocError> {
+        Ok(Ooo {
+            ahead: self.ahead.copied(alloc)?,
+            window: self.window.copied(alloc)?,
+            fetch_pc: self.fetch_pc,
+            dry: self.dry,
+        })
+    }
+
+    fn copy_from(&mut self, other: &Self) {
+        self.ahead.copy_from(&other.ahead);
+        self.window.copy_from(&other.window);
+        self.fetch_pc = other.fetch_pc;
+        self.dry = other.dry;
     }
 }

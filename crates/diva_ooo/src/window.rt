@@ -12,7 +12,7 @@ use crate::board::Board;
 use crate::entry::{Progress, WindowEntry};
 use crate::mark_set::MarkSet;
 use circular_buffer::HeapCircularBuffer;
-use diva_ahead::is_store;
+use diva_ahead::{copy_buffer, is_store};
 use diva_isa::{Effect, Record, Regs};
 use std::alloc::{AllocError, Global};
 use std::marker::Model;
@@ -53,6 +53,23 @@ impl Window {
             entries: HeapCircularBuffer::with_capacity(alloc, Self::MOST)?,
             board: Board::new(),
         })
+    }
+
+    /// A copy of the window. The one error is that memory runs out.
+    pub(crate) fn copied(&self, alloc: Global) -> Result<Self, AllocError>
+        ensures { IfOk result (λ w. w ≡ self.now) }
+    {
+        let mut copy = Window::new(alloc)?;
+        copy.copy_from(self);
+        Ok(copy)
+    }
+
+    /// Becomes a copy of another window. It takes no memory.
+    pub(crate) fn copy_from(&mut self, other: &Window)
+        ensures { self.new ≡ other.now }
+    {
+        copy_buffer(&mut self.entries, &other.entries);
+        self.board = other.board;
     }
 
     /// Recalls for a proof how many entries there are at most. It does nothing.
