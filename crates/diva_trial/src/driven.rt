@@ -97,7 +97,9 @@ impl Driven for Machine {
         self.cycle(list);
     }
 
-    fn copy_from(&mut self, _other: &Self) {}
+    fn copy_from(&mut self, other: &Self) {
+        self.copy_from(other);
+    }
 }
 
 impl Driven for OpenMachine {
@@ -136,5 +138,7 @@ impl Driven for OpenMachine {
         self.cycle(list);
     }
 
-    fn copy_from(&mut self, _other: &Self) {}
+    fn copy_from(&mut self, other: &Self) {
+        self.copy_from(other);
+    }
 }

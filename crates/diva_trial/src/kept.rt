@@ -72,6 +72,7 @@ impl<M: Driven, C: CopyCore> Kept<M, C> {
         more: u32,
         gap: u32,
     ) -> Result<Self, AllocError>
+        requires { more ≤ 64 }
         ensures stands { IfOk result (λ kept. All (IsStand M.seen M.step C.gives script.now (new_open config (start_of (layout image.now))) core.now) kept.stands.items) }
         ensures begins { IfOk result (CanBegin M.seen) }
     {

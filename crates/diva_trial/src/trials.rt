@@ -105,6 +105,8 @@ const MOST_BYTES: usize = 64 << 20;
 const MOST_KEPT: usize = 63;
 
 /// How many machines are kept beside a new one: as many as fit, each with its open one.
-fn kept_beside(image: &Image) -> u32 {
+fn kept_beside(image: &Image) -> u32
+    ensures { result ≤ 64 }
+{
     MOST_KEPT.min(MOST_BYTES / (2 * (image.size as usize + 1))) as u32
 }
