@@ -1,6 +1,5 @@
 -- What follows from the definitions.
 pub mod Clear
 pub mod Handing
-pub mod Keeping
 pub mod Leading
 pub mod Whole

@@ -50,3 +50,8 @@ pub leaf_more : (a : App) (xs : List RowOfTable) (i : ℕ) (d : RowOfTable) → 
     → with_subcommand (with_subcommands a (map leaf_of (take i xs))) (leaf_shape (leaf_of (slice_index_or xs i d)))
     ≡ with_subcommands a (map leaf_of (take (i + 1) xs))
 leaf_more a xs i d lt = rw (take_more xs i d lt, map-append) (subcommands-push a (map leaf_of (take i xs)) (leaf_of (slice_index_or xs i d)))
+
+-- the commands of one table and then those of another are those of both
+pub subcommands_append : (a : App) (xs ys : List Leaf) → with_subcommands (with_subcommands a xs) ys ≡ with_subcommands a (xs ++ ys)
+subcommands_append a [] ys = refl
+subcommands_append a (x ∷ xs) ys = subcommands_append (with_subcommand a (leaf_shape x)) xs ys

@@ -7,4 +7,6 @@ pub mod PlainSteps
 pub mod PlainFlags
 pub mod PlainOptions
 pub mod PlainEnd
+pub mod PlainValues
+pub mod PlainTaken
 pub mod PlainLaw

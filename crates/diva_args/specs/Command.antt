@@ -1,10 +1,11 @@
 -- The commands of the program, and the command line as `clap` sees it.
--- Cited in `Line.antt`, for `read_words`.
-use Rattle.std.specs.Prelude.{true, List, [], ◌∷◌, ◌++◌, map, Some, codes}
+-- Cited in `Line.antt`, for `read_words`; by `matches`.
+use Rattle.std.specs.Prelude.{◌≡◌, true, List, [], ◌∷◌, ◌++◌, map, Some, codes}
 use Rattle.clap.specs.Walk.{Rule, Text}
 use Rattle.clap.specs.Simple.{App, Shape, new_rule, new_shape, with_subcommand}
+use Rattle.clap.specs.Faults.{is_simple_and_free}
 use Rattle.clap.specs.declared.builder.action.ArgAction.TheVariants.{SetTrue}
-use Rattle.diva_args.specs.Rows.{campaign_cycles_row, cycles_row, from_row, last_row, length_row, room_row, seed_row, stop_row, to_row}
+use Rattle.diva_args.specs.Rows.{campaign_cycles_row, cycles_row, last_row, length_row, room_row, seed_row}
 use Rattle.diva_args.specs.Rows.{port_row, stores_row, watchdog_row, width_row, window_row}
 
 -- a command: its name, the ids of its positionals in order, the names of its options, and those of its flags
@@ -86,32 +87,9 @@ campaign = record {
   flags = [];
 }
 
--- the options of a run that is drawn: those of `run`, but for the part of memory to show
-abbrev pub drawn_options : List Text
-drawn_options = setup_options ++ cycles_row.word ∷ codes "liar" ∷ []
-
-abbrev pub log : Leaf
-log = record { name = codes "log"; positionals = codes "IMAGE" ∷ []; options = drawn_options; flags = [] }
-
-abbrev pub draw : Leaf
-draw = record {
-  name = codes "draw";
-  positionals = codes "IMAGE" ∷ [];
-  options = drawn_options ++ from_row.word ∷ to_row.word ∷ [];
-  flags = [];
-}
-
-abbrev pub judge : Leaf
-judge = record {
-  name = codes "judge";
-  positionals = codes "IMAGE" ∷ codes "LOG" ∷ [];
-  options = width_row.word ∷ machine_options ++ room_option ++ stop_row.word ∷ [];
-  flags = codes "answer" ∷ [];
-}
-
--- the commands of `diva`, and after them those for which only the workbench has a job
+-- the commands of `diva`
 abbrev pub leaves : List Leaf
-leaves = run ∷ tape ∷ duo ∷ debug ∷ asm ∷ dis ∷ migrate ∷ soak ∷ campaign ∷ log ∷ draw ∷ judge ∷ []
+leaves = run ∷ tape ∷ duo ∷ debug ∷ asm ∷ dis ∷ migrate ∷ soak ∷ campaign ∷ []
 
 -- ---- the same for `clap`
 
@@ -149,6 +127,10 @@ abbrev pub with_subcommands : App → List Leaf → App
 with_subcommands a [] = a
 with_subcommands a (l ∷ ls) = with_subcommands (with_subcommand a (leaf_shape l)) ls
 
--- the whole command
-unfoldable pub diva : App
-diva = with_subcommands (top_app (codes "diva")) leaves
+-- the whole command of a table
+unfoldable pub app_with : List Leaf → App
+app_with table = with_subcommands (top_app (codes "diva")) table
+
+-- what is said of `clap` says all that it makes of words by this table
+abbrev pub IsExact : List Leaf → Type 0
+IsExact table = is_simple_and_free (app_with table) ≡ true

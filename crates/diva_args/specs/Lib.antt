@@ -2,10 +2,8 @@
 pub mod Command
 pub mod Fault
 pub mod Line
-pub mod Lab
 pub mod Options
 pub mod Plain
 pub mod Rows
-pub mod Values
--- what only private contracts cite
 pub mod Table
+pub mod Values

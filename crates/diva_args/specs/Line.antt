@@ -1,5 +1,5 @@
 -- What a command line asks for: the words as `clap` matches them, then the rules on the options' values.
--- Cited by `read_words`.
+-- Cited by `read_words`; by `matches` and `setup`, which serve other programs too.
 use Rattle.std.specs.Prelude.{ℕ, Bool, List, [], ◌∷◌, Option, Some, None, codes}
 use Rattle.std.specs.Prelude.{option_and_then, option_map}
 use Rattle.clap.specs.Walk.{Row, Text, first_of}
@@ -8,7 +8,7 @@ use Rattle.clap.specs.Faults.{fault_of}
 use Rattle.clap.specs.Kinds.{Kinds}
 use Rattle.diva_core.specs.Timed.{Config}
 use Rattle.diva_core.specs.Machine.{config_in_range}
-use Rattle.diva_args.specs.Command.{diva}
+use Rattle.diva_args.specs.Command.{Leaf, app_with, leaves}
 use Rattle.diva_args.specs.Options.{DebugOptions, DumpRange, DuoOptions, MigrateOptions, Setup}
 use Rattle.diva_args.specs.Rows.{campaign_cycles_row, cycles_row, last_row, length_row, room_row, seed_row}
 use Rattle.diva_args.specs.Rows.{port_row, stores_row, watchdog_row, width_row, window_row}
@@ -28,9 +28,9 @@ abbrev pub unless : Kinds → Option (Text × List Row) → Option (Text × List
 unless [] found = found
 unless (fault ∷ faults) found = None
 
--- the command and its matches, where `clap` takes the words
-unfoldable pub taken : List Text → Option (Text × List Row)
-taken words = unless (fault_of diva words) (subcommand_of diva words)
+-- the command of a table and its matches, where `clap` takes the words
+unfoldable pub taken : (table : List Leaf) → List Text → Option (Text × List Row)
+taken table words = unless (fault_of (app_with table) words) (subcommand_of (app_with table) words)
 
 -- ---- jobs, by the value of each positional, option and flag
 
@@ -167,4 +167,4 @@ job_of found = job_from found.0 (values_of found.1)
 
 -- the job that the words ask for, or `None` where they are not a valid command line
 unfoldable pub command_of : List Text → Option Job
-command_of words = option_and_then job_of (taken words)
+command_of words = option_and_then job_of (taken leaves words)

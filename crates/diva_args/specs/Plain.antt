@@ -1,12 +1,12 @@
--- A plain line: a command, its positionals in order, then options and flags in any order, each at most once and an option
+-- A plain line: a command of a table, its positionals in order, then options and flags in any order, each at most once and an option
 -- with its value as the next word, where no positional and no value is empty or begins with `-`.
--- Cited by `read_words` and `read_lab_words`.
+-- Cited by `read_words`.
 use Rattle.std.specs.Prelude.{◌≡◌, ◌==◌, Bool, true, false, not, ◌&&◌, List, [], ◌∷◌, ◌++◌, length, map}
 use Rattle.std.specs.Prelude.{Option, codes}
 use Rattle.std.specs.List.{Contains, flat_map, list_all, list_any, zip}
 use Rattle.std.specs.Str.{bytes_eq}
 use Rattle.clap.specs.Walk.{Text}
-use Rattle.diva_args.specs.Command.{Leaf, leaves}
+use Rattle.diva_args.specs.Command.{Leaf}
 use Rattle.diva_args.specs.Line.{job_from}
 use Rattle.diva_args.specs.Values.{named}
 use Rattle.diva_args.specs.declared.job.Job.{Job}
@@ -69,10 +69,10 @@ abbrev pub is_use_of : Leaf → Use → Bool
 is_use_of command (valued name value) = has_text name command.options
 is_use_of command (flagged name) = has_text name command.flags
 
--- the words are this plain line
-pub record IsPlainLine (words : List Text) (line : PlainLine) : Type 0 where
+-- the words are this plain line of a table's command
+pub record IsPlainLine (table : List Leaf) (words : List Text) (line : PlainLine) : Type 0 where
   pub spelled : words ≡ words_of line
-  pub listed : Contains leaves line.command
+  pub listed : Contains table line.command
   pub complete : length line.positionals ≡ length line.command.positionals
   pub known : list_all (is_use_of line.command) line.uses ≡ true
   pub once : are_distinct (names_in line.uses) ≡ true

@@ -1,5 +1,5 @@
 -- The numbers that words can give, a row for each.
--- Cited in `Command.antt` and `Line.antt`, for `read_words`, and by the types of options.
+-- Cited in `Command.antt` and `Line.antt`, for `read_words`; by `width`, and by the types of options.
 use Rattle.std.specs.Prelude.{ℕ, Option, Some, None, codes}
 use Rattle.clap.specs.Walk.{Text}
 use Rattle.diva_core.specs.Timed.{default_config}
@@ -28,23 +28,12 @@ last_row = record { word = codes "LAST"; least = 1; most = 32; default = None }
 abbrev pub room_row : NumberRow
 room_row = record { word = codes "room"; least = 0; most = 16777212; default = Some 0 }
 
--- the seed of an image, and how many instructions are drawn from it
+-- a seed: any number; and how many instructions are drawn from that of an image
 abbrev pub seed_row : NumberRow
 seed_row = record { word = codes "SEED"; least = 0; most = 4294967295; default = None }
 
 abbrev pub length_row : NumberRow
 length_row = record { word = codes "LENGTH"; least = 1; most = 65536; default = None }
-
--- the first and the last cycle that are drawn: all that a run can have, if the words give none
-abbrev pub from_row : NumberRow
-from_row = record { word = codes "from"; least = 1; most = 1000000000; default = Some 1 }
-
-abbrev pub to_row : NumberRow
-to_row = record { word = codes "to"; least = 1; most = 1000000000; default = Some 1000000000 }
-
--- after so many wrong lines of a log no further one is judged
-abbrev pub stop_row : NumberRow
-stop_row = record { word = codes "stop"; least = 1; most = 4294967295; default = None }
 
 -- a number of the machine, whose range `config_in_range` has
 abbrev pub machine_row : Text → ℕ → NumberRow

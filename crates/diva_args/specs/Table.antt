@@ -1,5 +1,5 @@
 -- A row of the code's table of commands, as the definitions'.
--- Only private contracts of this crate cite this: a reader of its promises can pass over it.
+-- Cited by `matches`.
 use Rattle.clap.specs.Walk.{texts}
 use Rattle.diva_args.specs.Command.{Leaf}
 use Rattle.diva_args.specs.declared.command.Leaf.{Leaf as Row}

@@ -1,5 +1,5 @@
 -- What the texts of a command line stand for: the rules on the values of options.
--- Cited in `Line.antt`, for `read_words`.
+-- Cited in `Line.antt`, for `read_words`; by `number_of` and `liar`.
 use Rattle.std.specs.Prelude.{ℕ, zero, suc, ◌+◌, ◌%◌, ◌==◌, Bool, false, nat_le, List, [], ◌∷◌, codes}
 use Rattle.std.specs.Prelude.{Option, Some, None, option_and_then, option_map, if◌then◌else◌}
 use Rattle.std.specs.List.{before_first, after_first}
@@ -70,14 +70,6 @@ number_by row word = option_and_then (ranged row.least row.most) (spelled_or row
 
 abbrev pub number_of : NumberRow → (Text → Option Text) → Option ℕ
 number_of row value = number_by row (value row.word)
-
--- the same of a number that need not be given
-abbrev pub optional_by : NumberRow → Option Text → Option (Option ℕ)
-optional_by row None = Some None
-optional_by row (Some word) = option_map Some (number_in_range row.least row.most word)
-
-abbrev pub optional_of : NumberRow → (Text → Option Text) → Option (Option ℕ)
-optional_of row value = optional_by row (value row.word)
 
 -- the number, where it is a multiple of 4
 abbrev pub in_words : ℕ → Option ℕ

@@ -1,9 +1,9 @@
 // The table of commands, and the command line as `clap` sees it.
-ghost use Rattle.std.specs.Prelude.{◌≡◌, codes, false, IfOk, map};
+ghost use Rattle.std.specs.Prelude.{◌≡◌, ◌++◌, codes, false, IfOk, map};
 ghost use Rattle.clap.specs.Walk.{rule_of};
 ghost use Rattle.clap.specs.Simple.{app_of, shape_of};
 ghost use Rattle.clap.specs.declared.builder.Command.TheViews.{out-Command as fields_of};
-ghost use Rattle.diva_args.specs.Command.{diva, flag_rule, leaf_shape, option_rule, positional_rule, top_app};
+ghost use Rattle.diva_args.specs.Command.{app_with, flag_rule, leaf_shape, leaves, option_rule, positional_rule, top_app};
 ghost use Rattle.diva_args.specs.Command.{with_subcommands};
 ghost use Rattle.diva_args.specs.Table.{leaf_of};
 
@@ -11,15 +11,19 @@ use clap::{Arg, ArgAction, Command};
 use std::alloc::{AllocError, Global};
 
 /// A command: its name, the ids of its positionals in order, the names of its options, and those of its flags.
-pub(crate) struct Leaf {
-    name: &'static str,
-    positionals: &'static [&'static str],
-    options: &'static [&'static str],
-    flags: &'static [&'static str],
+pub struct Leaf {
+    /// The word that the command line begins with.
+    pub name: &'static str,
+    /// The ids of its positionals, in the order in which they stand.
+    pub positionals: &'static [&'static str],
+    /// The names of its options, each of which takes a value.
+    pub options: &'static [&'static str],
+    /// The names of its flags.
+    pub flags: &'static [&'static str],
 }
 
-/// The commands of `diva`, and after them those of the workbench alone.
-static LEAVES: [Leaf; 12] = [
+/// The commands of `diva`.
+static LEAVES: [Leaf; 9] = [
     Leaf {
         name: "run",
         positionals: &["IMAGE"],
@@ -84,39 +88,15 @@ static LEAVES: [Leaf; 12] = [
         options: &["cycles"],
         flags: &[],
     },
-    Leaf {
-        name: "log",
-        positionals: &["IMAGE"],
-        options: &[
-            "core", "script", "tape", "width", "window", "stores", "watchdog", "port", "room",
-            "cycles", "liar",
-        ],
-        flags: &[],
-    },
-    Leaf {
-        name: "draw",
-        positionals: &["IMAGE"],
-        options: &[
-            "core", "script", "tape", "width", "window", "stores", "watchdog", "port", "room",
-            "cycles", "liar", "from", "to",
-        ],
-        flags: &[],
-    },
-    Leaf {
-        name: "judge",
-        positionals: &["IMAGE", "LOG"],
-        options: &[
-            "width", "window", "stores", "watchdog", "port", "room", "stop",
-        ],
-        flags: &["answer"],
-    },
 ];
 
-/// The whole command, over words without the program's name. The error: out of memory.
-pub(crate) fn command<'a>(alloc: Global) -> Result<Command<'a>, AllocError>
-    ensures { IfOk result (λ c. app_of c ≡ diva) }
+/// The whole command with the commands of `diva` and then those of `more`, over words without the program's name. The error: out of
+/// memory.
+pub(crate) fn command<'a>(alloc: Global, more: &[Leaf]) -> Result<Command<'a>, AllocError>
+    ensures { IfOk result (λ c. app_of c ≡ app_with (leaves ++ map leaf_of more.now)) }
 {
-    with_leaves(alloc, bare(alloc), &LEAVES)
+    let command = with_leaves(alloc, bare(alloc), &LEAVES)?;
+    with_leaves(alloc, command, more)
 }
 
 /// The command with no subcommand yet. Help words have no meaning in it.

@@ -19,7 +19,7 @@ impl Model for FileName {
 
 impl FileName {
     /// A copy of the text. The error: out of memory.
-    pub(crate) fn new(alloc: Global, text: &str) -> Result<FileName, AllocError>
+    pub fn new(alloc: Global, text: &str) -> Result<FileName, AllocError>
         ensures { IfOk result (λ name. name ≡ text.now) }
     {
         Ok(FileName {

@@ -3,7 +3,7 @@ use crate::ranged::Ranged;
 
 /// A number from `LEAST` to `MOST` that words can give.
 #[derive(Drop)]
-pub(crate) struct NumberRow<const LEAST: u32, const MOST: u32> {
+pub struct NumberRow<const LEAST: u32, const MOST: u32> {
     /// The name of its option, or the id of its positional.
     pub word: &'static str,
     /// What it is if the words do not give it; `None` if they have to.
@@ -11,33 +11,15 @@ pub(crate) struct NumberRow<const LEAST: u32, const MOST: u32> {
 }
 
 /// The most cycles that a run can be given.
-const MOST_CYCLES: u32 = 1_000_000_000;
+pub const MOST_CYCLES: u32 = 1_000_000_000;
 
 /// The cycles to run at most: 1 to 1,000,000,000.
 pub type Cycles = Ranged<1, MOST_CYCLES>;
 
 /// `--cycles` of what runs an image.
-pub(crate) static CYCLES: NumberRow<1, MOST_CYCLES> = NumberRow {
+pub static CYCLES: NumberRow<1, MOST_CYCLES> = NumberRow {
     word: "cycles",
     default: Some(1_000_000),
-};
-
-/// `--from`: the first cycle that is drawn.
-pub(crate) static FROM: NumberRow<1, MOST_CYCLES> = NumberRow {
-    word: "from",
-    default: Some(1),
-};
-
-/// `--to`: the last cycle that is drawn.
-pub(crate) static TO: NumberRow<1, MOST_CYCLES> = NumberRow {
-    word: "to",
-    default: Some(MOST_CYCLES),
-};
-
-/// `--stop`: after so many wrong lines of a log no further one is judged; there is no such number if the words give none.
-pub(crate) static STOP: NumberRow<1, { u32::MAX }> = NumberRow {
-    word: "stop",
-    default: None,
 };
 
 /// The most cycles that each run of a campaign can be given.
@@ -77,7 +59,7 @@ pub(crate) static LENGTH: NumberRow<1, LONGEST_SOAK> = NumberRow {
 };
 
 /// `SEED`: any number.
-pub(crate) static SEED: NumberRow<0, { u32::MAX }> = NumberRow {
+pub static SEED: NumberRow<0, { u32::MAX }> = NumberRow {
     word: "SEED",
     default: None,
 };

@@ -68,9 +68,7 @@ fn named_hart_core(name: &str) -> Option<HartCore>
 }
 
 /// The number from `LEAST` to `MOST` that the word spells.
-pub(crate) fn number_within<const LEAST: u32, const MOST: u32>(
-    word: &str,
-) -> Option<Ranged<LEAST, MOST>>
+pub fn number_within<const LEAST: u32, const MOST: u32>(word: &str) -> Option<Ranged<LEAST, MOST>>
     ensures { result ≡ number_in_range LEAST MOST word.now }
 {
     Ranged::new(decimal(word.as_bytes())?)
@@ -103,7 +101,7 @@ fn dump_range(word: &str) -> Option<DumpRange>
 
 /// The place of `--liar`: `Some(None)` where the option is not given, and `None` where the word is not 0, 1 or 2.
 #[tactic(auto, unfolding(crate::specs::Values::liar_of))]
-pub(crate) fn liar(word: Option<&str>) -> Option<Option<LanePlace>>
+pub fn liar(word: Option<&str>) -> Option<Option<LanePlace>>
     ensures { result ≡ liar_of (option_map (λ text. text.now) word.entry) }
 {
     match word {

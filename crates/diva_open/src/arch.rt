@@ -6,7 +6,7 @@ ghost use Rattle.diva_isa.specs.Step.{apply, effect_of, with_effect, HasRegister
 ghost use Rattle.diva_image.specs.ImageLayout.{layout};
 ghost use Rattle.diva_core.specs.Cycle.{is_store, puts_store};
 ghost use Rattle.diva_hart.specs.Start.{start_of};
-ghost use Rattle.diva_open.specs.Ends.{open_end_of};
+ghost use Rattle.diva_open.specs.Ends.{open_end_number, open_end_of};
 ghost use Rattle.diva_open.specs.Open.{can_apply, can_go_on, finds_place, is_end, stray};
 
 use crate::ends::{OpenEnd, STRAY};
@@ -38,12 +38,13 @@ pub(crate) struct OpenArch {
 impl Model for OpenArch {
     ghost use Rattle.std.specs.Prelude.{◌≡◌, ◌≤◌, ◌^◌, []};
     ghost use Rattle.diva_isa.specs.State.{State};
+    ghost use Rattle.diva_open.specs.Open.{stray};
 
     ghost Value = { State };
 
     ghost view = { λ a. record { regs = a.regs; pc = a.pc; base = a.memory.base; bytes = a.memory.items; output = a.output; instret = a.count; end = a.end } };
 
-    ghost invariant = { λ a. (a.queue.items ≡ []) × (a.count ≤ 2 ^ 62) };
+    ghost invariant = { λ a. (a.queue.items ≡ []) × (a.count ≤ 2 ^ 62) × (a.end ≤ stray) };
 }
 
 impl OpenArch {
@@ -60,6 +61,20 @@ impl OpenArch {
             count: 0,
             end: 0,
         })
+    }
+
+    /// Becomes a copy of a state with a memory of the same size. It takes no memory.
+    pub fn copy_from(&mut self, other: &OpenArch)
+        requires { length self.old.bytes ≡ length other.now.bytes }
+        ensures { self.new ≡ other.now }
+    {
+        // Neither queue holds a store.
+        self.regs = other.regs;
+        self.pc = other.pc;
+        self.memory.copy_from(&other.memory);
+        self.output.copy_from(&other.output);
+        self.count = other.count;
+        self.end = other.end;
     }
 
     /// The state as a core reads it.
@@ -111,7 +126,8 @@ impl OpenArch {
 
     /// How the state has ended, if it has.
     pub fn ended(&self) -> OpenEnd
-        ensures { result ≡ open_end_of self.now.end }
+        ensures value { result ≡ open_end_of self.now.end }
+        ensures number { open_end_number result ≡ self.now.end }
     {
         OpenEnd::of(self.end)
     }

@@ -1,6 +1,7 @@
 // How an open machine has ended.
-ghost use Rattle.std.specs.Prelude.{◌≡◌};
-ghost use Rattle.diva_open.specs.Ends.{open_end, open_end_of};
+ghost use Rattle.std.specs.Prelude.{◌≡◌, ◌≤◌};
+ghost use Rattle.diva_open.specs.Ends.{open_end, open_end_number, open_end_of};
+ghost use Rattle.diva_open.specs.Open.{stray};
 
 use diva_isa::End;
 
@@ -23,7 +24,8 @@ pub enum OpenEnd {
 impl OpenEnd {
     /// What a number says: 0 where a machine goes on, 1 + a trap's number, 256 + the status of a halt, or 512.
     pub(crate) fn of(number: u32) -> OpenEnd
-        ensures { result ≡ open_end_of number }
+        ensures value { result ≡ open_end_of number }
+        ensures number { number ≤ stray → open_end_number result ≡ number }
     {
         if number == STRAY {
             OpenEnd::Stray

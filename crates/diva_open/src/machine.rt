@@ -4,7 +4,7 @@ ghost use Rattle.diva_isa.specs.State.{goes_on, output_limit};
 ghost use Rattle.diva_image.specs.ImageLayout.{layout};
 ghost use Rattle.diva_core.specs.Told.{told_of};
 ghost use Rattle.diva_hart.specs.Start.{start_of};
-ghost use Rattle.diva_open.specs.Ends.{open_end_of};
+ghost use Rattle.diva_open.specs.Ends.{open_end_number, open_end_of};
 ghost use Rattle.diva_open.specs.Open.{new_open, open_cycle_of};
 
 use crate::ends::OpenEnd;
@@ -42,6 +42,15 @@ impl OpenMachine {
         Ok(OpenMachine {
             parts: Parts::new(alloc, image, config)?,
         })
+    }
+
+    /// Becomes a copy of an open machine with the same numbers, and memory of the same size: the two go on alike. It takes no memory.
+    pub fn copy_from(&mut self, other: &OpenMachine)
+        requires config { self.old.timed.config ≡ other.now.timed.config }
+        requires size { length self.old.timed.arch.bytes ≡ length other.now.timed.arch.bytes }
+        ensures { self.new ≡ other.now }
+    {
+        self.parts.copy_from(&other.parts);
     }
 
     /// What a core is told before the coming cycle.
@@ -102,7 +111,8 @@ impl OpenMachine {
 
     /// How the machine has ended, if it has.
     pub fn ended(&self) -> OpenEnd
-        ensures { result ≡ open_end_of self.now.timed.arch.end }
+        ensures value { result ≡ open_end_of self.now.timed.arch.end }
+        ensures number { open_end_number result ≡ self.now.timed.arch.end }
     {
         self.parts.arch.ended()
     }

@@ -84,6 +84,24 @@ impl Parts {
         })
     }
 
+    /// Become a copy of the parts of a machine with room for as many claims, and memory of the same size. It takes no memory.
+    pub fn copy_from(&mut self, other: &Parts)
+        requires window { self.old.timed.config.window ≡ other.now.timed.config.window }
+        requires size { length self.old.timed.arch.bytes ≡ length other.now.timed.arch.bytes }
+        ensures { self.new ≡ other.now }
+    {
+        self.arch.copy_from(&other.arch);
+        self.pending.copy_from(&other.pending);
+        self.port.copy_from(&other.port);
+        self.width = other.width;
+        self.stores = other.stores;
+        self.limit = other.limit;
+        self.cycles = other.cycles;
+        self.owed = other.owed;
+        self.idle = other.idle;
+        self.place = other.place;
+    }
+
     /// Whether the machine has not ended.
     #[inline(always)]
     pub fn goes_on(&self) -> bool

@@ -1,6 +1,7 @@
 // A core that says the same again while it waits.
-use diva_core::{Claims, Core, Told, View};
+use diva_core::{Claims, CopyCore, Core, Told, View};
 use diva_isa::record_of;
+use std::alloc::{AllocError, Global};
 
 /// A core that hands over the due record of the committed state in each call with room for it, also where that
 /// instruction is pending already. So its first claim is right, and those behind it are the same one again.
@@ -16,5 +17,15 @@ impl Core for Echo {
         if told.room > 0 {
             out.push(record_of(view));
         }
+    }
+}
+
+impl CopyCore for Echo {
+    fn copied(&self, _alloc: Global) -> Result<Self, AllocError> {
+        Ok(*self)
+    }
+
+    fn copy_from(&mut self, other: &Self) {
+        *self = *other;
     }
 }

@@ -1,6 +1,7 @@
 // A core that hands over as much as a call can take.
 use crate::tape_core::hand_over;
-use diva_core::{Claim, Claims, Core, Told, View};
+use diva_core::{Claim, Claims, CopyCore, Core, Told, View};
+use std::alloc::{AllocError, Global};
 
 /// A core that hands over eight claims of zeros in every call, whatever it is told. Where a zero is due in one field it is
 /// right in that one: none of its claims has an instruction's word.
@@ -26,5 +27,15 @@ impl Core for Flood {
 
     fn cycle(&mut self, _told: &Told, _view: &View<'_>, out: &mut Claims) {
         hand_over(&[ZEROS; Claims::MOST], out);
+    }
+}
+
+impl CopyCore for Flood {
+    fn copied(&self, _alloc: Global) -> Result<Self, AllocError> {
+        Ok(*self)
+    }
+
+    fn copy_from(&mut self, other: &Self) {
+        *self = *other;
     }
 }

@@ -3,8 +3,9 @@ ghost use Rattle.std.specs.Prelude.{◌≡◌};
 ghost use Rattle.diva_seed.specs.Generator.{next_number};
 ghost use Rattle.diva_tape.specs.Noise.{noise_claim, number_after};
 
-use diva_core::{Claim, Claims, Core, Told, View};
+use diva_core::{Claim, Claims, CopyCore, Core, Told, View};
 use diva_seed::next_number;
+use std::alloc::{AllocError, Global};
 use std::marker::Model;
 
 /// A core that hands over one claim in every call, whatever it is told: its eight fields are the next eight numbers of a
@@ -69,5 +70,15 @@ impl Core for Noise {
 
     fn cycle(&mut self, _told: &Told, _view: &View<'_>, out: &mut Claims) {
         out.push(self.claim());
+    }
+}
+
+impl CopyCore for Noise {
+    fn copied(&self, _alloc: Global) -> Result<Self, AllocError> {
+        Ok(Noise { last: self.last })
+    }
+
+    fn copy_from(&mut self, other: &Self) {
+        self.last = other.last;
     }
 }

@@ -3,7 +3,7 @@ ghost use Rattle.std.specs.Prelude.{◌≡◌, ◌<◌, [], length, IfOk};
 ghost use Rattle.diva_tape.specs.Scalar.{new_scalar, next_call};
 
 use diva_ahead::Ahead;
-use diva_core::{Claims, Core, Told, View};
+use diva_core::{Claims, CopyCore, Core, Told, View};
 use std::alloc::{AllocError, Global};
 use std::marker::Model;
 
@@ -62,5 +62,17 @@ impl Core for Scalar {
         self.ahead.sync(told, view);
         self.ahead.trim(told);
         self.hand_over(view, out);
+    }
+}
+
+impl CopyCore for Scalar {
+    fn copied(&self, alloc: Global) -> Result<Self, AllocError> {
+        Ok(Scalar {
+            ahead: self.ahead.copied(alloc)?,
+        })
+    }
+
+    fn copy_from(&mut self, other: &Self) {
+        self.ahead.copy_from(&other.ahead);
     }
 }

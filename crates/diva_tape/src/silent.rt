@@ -1,5 +1,6 @@
 // A core that hands over nothing.
-use diva_core::{Claims, Core, Told, View};
+use diva_core::{Claims, CopyCore, Core, Told, View};
+use std::alloc::{AllocError, Global};
 
 /// A core that hands over nothing, ever.
 #[derive(Clone, Copy, Debug)]
@@ -11,4 +12,14 @@ impl Core for Silent {
     ghost gives = { λ before told state list after. list ≡ [] };
 
     fn cycle(&mut self, _told: &Told, _view: &View<'_>, _out: &mut Claims) {}
+}
+
+impl CopyCore for Silent {
+    fn copied(&self, _alloc: Global) -> Result<Self, AllocError> {
+        Ok(*self)
+    }
+
+    fn copy_from(&mut self, other: &Self) {
+        *self = *other;
+    }
 }

@@ -24,10 +24,10 @@ mod traces;
 mod watched;
 
 use crate::cores::{counting, flipped};
-use diva_args::read_lab_words;
 use diva_cli::{Failure, Lanes, top};
 use diva_core::Core;
 use diva_isa::Record;
+use diva_lab_args::read_lab_words;
 use diva_outside::{Fail as SinkFail, MemFile, MemFiles, MemSink, What};
 use diva_process::Status;
 use diva_source::NoSource;

@@ -15,10 +15,10 @@ use Rattle.diva_outside.specs.Lent.{lent}
 use Rattle.diva_outside.specs.Sink.{TakesPast, PutsTo, SinkAccount}
 use Rattle.diva_outside.specs.declared.sink.SinkFailed.{SinkFailed}
 use Rattle.diva_outside.proofs.Sinks.{past_nothing, puts_past, puts_then}
-use Rattle.diva_args.specs.declared.lab.DrawOptions.{DrawOptions}
-use Rattle.diva_args.specs.declared.lab.Format.{Format}
+use Rattle.diva_lab_args.specs.declared.draw.DrawOptions.{DrawOptions}
+use Rattle.diva_lab_args.specs.declared.draw.Format.{Format}
 use Rattle.diva_args.specs.declared.job.LanePlace.{LanePlace}
-use Rattle.diva_args.specs.declared.lab.LabJob.TheVariants.{Draw}
+use Rattle.diva_lab_args.specs.declared.lab.LabJob.TheVariants.{Draw}
 use Rattle.diva_drawing.specs.Rows.{Pen}
 use Rattle.diva_drawing.specs.Snapshot.{AreSnapshots, IsSnapshot, Snapshot}
 use Rattle.diva_workbench.specs.declared.drawing.Drawer.{Drawer}

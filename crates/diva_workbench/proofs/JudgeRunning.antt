@@ -8,8 +8,8 @@ use Rattle.diva_source.specs.Source.{LentSource, Opens, SourceAccount}
 use Rattle.diva_source.specs.declared.source.SourceFailed.{SourceFailed}
 use Rattle.diva_isa.specs.State.{State}
 use Rattle.diva_core.specs.Timed.{Timed}
-use Rattle.diva_args.specs.declared.judge.JudgeOptions.{JudgeOptions}
-use Rattle.diva_args.specs.declared.lab.LabJob.TheVariants.{Judge}
+use Rattle.diva_lab_args.specs.declared.judge.JudgeOptions.{JudgeOptions}
+use Rattle.diva_lab_args.specs.declared.lab.LabJob.TheVariants.{Judge}
 use Rattle.diva_judge.specs.Judging.{IsJudging}
 use Rattle.diva_judge.specs.Texts.{unreadable_text}
 use Rattle.diva_judge.specs.declared.terms.Terms.{Terms}

@@ -7,12 +7,12 @@ use Rattle.diva_source.specs.Source.{LentSource, SourceAccount}
 use Rattle.diva_core.specs.History.{Meaning}
 use Rattle.diva_vote.specs.Questions.{Question}
 use Rattle.diva_args.specs.Options.{Setup}
-use Rattle.diva_args.specs.declared.judge.JudgeOptions.{JudgeOptions}
-use Rattle.diva_args.specs.declared.lab.DrawOptions.{DrawOptions}
+use Rattle.diva_lab_args.specs.declared.judge.JudgeOptions.{JudgeOptions}
+use Rattle.diva_lab_args.specs.declared.draw.DrawOptions.{DrawOptions}
 use Rattle.diva_judge.specs.declared.verdict.Verdict.{Verdict}
 use Rattle.diva_judge.specs.declared.verdict.Verdict.TheVariants as verdict
-use Rattle.diva_args.specs.declared.lab.LabJob.{LabJob}
-use Rattle.diva_args.specs.declared.lab.LabJob.TheVariants.{Diva, Draw, Judge}
+use Rattle.diva_lab_args.specs.declared.lab.LabJob.{LabJob}
+use Rattle.diva_lab_args.specs.declared.lab.LabJob.TheVariants.{Diva, Draw, Judge}
 use Rattle.diva_args.specs.declared.job.Job.{Job}
 use Rattle.diva_args.specs.declared.job.LanePlace.{LanePlace}
 use Rattle.diva_process.specs.declared.status.Status.{Status}

@@ -7,9 +7,9 @@ use Rattle.diva_isa.specs.State.{State}
 use Rattle.diva_isa.specs.declared.record.Record.{Record}
 use Rattle.diva_core.specs.History.{Meaning}
 use Rattle.diva_core.specs.Timed.{Timed, new_timed}
-use Rattle.diva_args.specs.declared.lab.DrawOptions.{DrawOptions}
-use Rattle.diva_args.specs.declared.lab.Format.{Format}
-use Rattle.diva_args.specs.declared.lab.Format.TheVariants.{Log, Drawing}
+use Rattle.diva_lab_args.specs.declared.draw.DrawOptions.{DrawOptions}
+use Rattle.diva_lab_args.specs.declared.draw.Format.{Format}
+use Rattle.diva_lab_args.specs.declared.draw.Format.TheVariants.{Log, Drawing}
 use Rattle.diva_drawing.specs.Drawing.{drawn_cycle, drawn_end}
 use Rattle.diva_drawing.specs.Log.{log_begin, log_cycle}
 use Rattle.diva_drawing.specs.Rows.{Pen, begun_rows}

@@ -8,7 +8,7 @@ use Rattle.diva_outside.specs.declared.sink.SinkFailed.{SinkFailed}
 use Rattle.diva_source.specs.Source.{HasFailed, LentSource, Opens}
 use Rattle.diva_source.specs.declared.source.SourceFailed.{SourceFailed}
 use Rattle.diva_isa.specs.State.{State}
-use Rattle.diva_args.specs.declared.judge.JudgeOptions.{JudgeOptions}
+use Rattle.diva_lab_args.specs.declared.judge.JudgeOptions.{JudgeOptions}
 use Rattle.diva_judge.specs.Judging.{IsAnswer, IsCutAmid, IsCutLast, SaysWhat}
 use Rattle.diva_judge.specs.Texts.{unreadable_text}
 use Rattle.diva_judge.specs.declared.terms.Terms.{Terms}

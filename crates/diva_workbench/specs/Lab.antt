@@ -5,11 +5,11 @@ use Rattle.diva_outside.specs.Lent.{lent}
 use Rattle.diva_outside.specs.Text.{Text}
 use Rattle.diva_source.specs.Source.{LentSource, SourceAccount}
 use Rattle.diva_core.specs.History.{Meaning}
-use Rattle.diva_args.specs.Lab.{lab_of}
-use Rattle.diva_args.specs.declared.judge.JudgeOptions.{JudgeOptions}
-use Rattle.diva_args.specs.declared.lab.DrawOptions.{DrawOptions}
-use Rattle.diva_args.specs.declared.lab.LabJob.{LabJob}
-use Rattle.diva_args.specs.declared.lab.LabJob.TheVariants.{Diva, Draw, Judge}
+use Rattle.diva_lab_args.specs.Lab.{lab_of}
+use Rattle.diva_lab_args.specs.declared.judge.JudgeOptions.{JudgeOptions}
+use Rattle.diva_lab_args.specs.declared.draw.DrawOptions.{DrawOptions}
+use Rattle.diva_lab_args.specs.declared.lab.LabJob.{LabJob}
+use Rattle.diva_lab_args.specs.declared.lab.LabJob.TheVariants.{Diva, Draw, Judge}
 use Rattle.diva_process.specs.declared.status.Status.{Status}
 use Rattle.diva_process.specs.Answers.{IsDone, IsJudged}
 use Rattle.diva_process.specs.Programs.{Doing, FileBytes, Program, Wanted, doing}

@@ -1,7 +1,7 @@
 // The commands `log` and `draw`: each reads its files with neither core nor sink in its hands, and then drives a machine, and draws
 // what becomes of each claim in each cycle, as it goes.
 ghost use Rattle.std.specs.Prelude.{◌≡◌};
-ghost use Rattle.diva_args.specs.declared.lab.LabJob.TheVariants.{Draw};
+ghost use Rattle.diva_lab_args.specs.declared.lab.LabJob.TheVariants.{Draw};
 ghost use Rattle.diva_core.specs.Machine.{IsConfig};
 ghost use Rattle.diva_process.specs.Programs.{asked_for, FileBytes};
 ghost use Rattle.diva_outside.specs.Sink.{PutsTo};
@@ -14,10 +14,10 @@ ghost use Rattle.diva_cli.specs.Ready.{IsReady};
 ghost use Rattle.diva_process.specs.Writing.{WritesText};
 ghost use Rattle.diva_workbench.specs.Lab.{lab, lab_work_of, no_source};
 
-use diva_args::{DrawOptions, Format};
 use diva_cli::{Lanes, Ready, Watched, Watcher, end_status, make_ready};
 use diva_core::{Claims, Core};
 use diva_drawing::{Excerpt, Pen, begin_log};
+use diva_lab_args::{DrawOptions, Format};
 use diva_machine::Machine;
 use diva_outside::{Files, Sink, SinkFailed};
 use diva_process::{Failure, Status, write_stop};

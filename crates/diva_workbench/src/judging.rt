@@ -1,6 +1,6 @@
 // The command `judge`: it loads its image with neither source nor sink in its hands, and then judges the log line by line, as it reads it.
 ghost use Rattle.std.specs.Prelude.{◌≡◌, ◌<◌, ◌^◌};
-ghost use Rattle.diva_args.specs.declared.lab.LabJob.TheVariants.{Judge};
+ghost use Rattle.diva_lab_args.specs.declared.lab.LabJob.TheVariants.{Judge};
 ghost use Rattle.diva_core.specs.Timed.{new_timed};
 ghost use Rattle.diva_outside.specs.Lent.{lent};
 ghost use Rattle.diva_process.specs.Programs.{FileBytes, asked_for};
@@ -13,9 +13,9 @@ ghost use Rattle.diva_workbench.specs.Judges.{status_by, terms_of};
 ghost use Rattle.diva_workbench.specs.Draws.{WritesJudgement};
 ghost use Rattle.diva_workbench.specs.Lab.{lab, lab_work_of, no_core, none_asked};
 
-use diva_args::JudgeOptions;
 use diva_cli::{Ready, make_ready};
 use diva_judge::{Terms, Verdict, judge, put_unreadable};
+use diva_lab_args::JudgeOptions;
 use diva_outside::{Files, Sink};
 use diva_process::{Failure, Status, write_stop};
 use diva_source::Source;

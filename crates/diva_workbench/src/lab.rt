@@ -11,9 +11,10 @@ ghost use Rattle.diva_cli.specs.Lanes.{AreHonest, are_asked};
 
 use crate::drawing::draw;
 use crate::judging::judge_log;
-use diva_args::{ArgsFault, LabJob, read_lab_words};
+use diva_args::ArgsFault;
 use diva_cli::{Lanes, work};
 use diva_core::Core;
+use diva_lab_args::{LabJob, read_lab_words};
 use diva_outside::{Files, Line, Sink};
 use diva_process::{Failure, Front, Status, run_process};
 use diva_source::Source;

@@ -5,9 +5,10 @@ use super::texts::text_due;
 use super::{
     Answer, FIVE_TEXT, Outside, ROOM, compare, file_name, five_files, run_program, words_of,
 };
-use diva_args::{LabJob, read_lab_words, read_words};
+use diva_args::read_words;
 use diva_cli::{LanePair, Lanes};
 use diva_core::{Diff, Pending, View};
+use diva_lab_args::{LabJob, read_lab_words};
 use diva_ooo::Ooo;
 use diva_outside::{MemFile, MemFiles, MemSink, What};
 use diva_source::NoSource;

@@ -6,14 +6,24 @@ use Rattle.clap.specs.Walk.{Row, Text}
 use Rattle.diva_args.specs.Line.{job_from, run_with, taken, values_of, wide_from}
 use Rattle.diva_args.specs.Plain.{PlainLine, given_in}
 use Rattle.diva_args.specs.Options.{Setup}
-use Rattle.diva_args.specs.Rows.{cycles_row, from_row, stop_row, to_row}
-use Rattle.diva_args.specs.Values.{is_set_by, liar_of, named, number_of, optional_of}
+use Rattle.diva_args.specs.Rows.{NumberRow, cycles_row}
+use Rattle.diva_args.specs.Values.{is_set_by, liar_of, named, number_in_range, number_of}
 use Rattle.diva_args.specs.declared.job.RunOptions.{RunOptions}
-use Rattle.diva_args.specs.declared.judge.JudgeOptions.{JudgeOptions}
-use Rattle.diva_args.specs.declared.lab.Format.{Format}
-use Rattle.diva_args.specs.declared.lab.Format.TheVariants.{Log, Drawing}
-use Rattle.diva_args.specs.declared.lab.LabJob.{LabJob}
-use Rattle.diva_args.specs.declared.lab.LabJob.TheVariants.{Diva, Draw, Judge}
+use Rattle.diva_lab_args.specs.Commands.{lab_leaves}
+use Rattle.diva_lab_args.specs.Rows.{from_row, stop_row, to_row}
+use Rattle.diva_lab_args.specs.declared.draw.Format.{Format}
+use Rattle.diva_lab_args.specs.declared.draw.Format.TheVariants.{Log, Drawing}
+use Rattle.diva_lab_args.specs.declared.judge.JudgeOptions.{JudgeOptions}
+use Rattle.diva_lab_args.specs.declared.lab.LabJob.{LabJob}
+use Rattle.diva_lab_args.specs.declared.lab.LabJob.TheVariants.{Diva, Draw, Judge}
+
+-- a number that need not be given
+abbrev pub optional_by : NumberRow → Option Text → Option (Option ℕ)
+optional_by row None = Some None
+optional_by row (Some word) = option_map Some (number_in_range row.least row.most word)
+
+abbrev pub optional_of : NumberRow → (Text → Option Text) → Option (Option ℕ)
+optional_of row value = optional_by row (value row.word)
 
 -- a run that is drawn has neither commit lines nor a part of memory to show
 unfoldable pub drawn_run_from : (Text → Option Text) → Option RunOptions
@@ -50,7 +60,7 @@ lab_job_of found = lab_job_from found.0 (values_of found.1)
 
 -- the job that the words ask for, or `None` where they are not a valid command line
 unfoldable pub lab_of : List Text → Option LabJob
-lab_of words = option_and_then lab_job_of (taken words)
+lab_of words = option_and_then lab_job_of (taken lab_leaves words)
 
 -- what a plain line asks for
 abbrev pub lab_job_on : PlainLine → Option LabJob

@@ -3,18 +3,14 @@ ghost use Rattle.std.specs.Prelude.{◌≡◌, option_map};
 ghost use Rattle.clap.specs.Walk.{rows_of};
 ghost use Rattle.clap.specs.Words.{found_of};
 ghost use Rattle.diva_args.specs.Fault.{Reads};
-ghost use Rattle.diva_args.specs.Lab.{judge_from};
 ghost use Rattle.diva_args.specs.Line.{values_of};
-ghost use Rattle.diva_args.specs.Rows.{stop_row};
-ghost use Rattle.diva_args.specs.Values.{optional_by};
+ghost use Rattle.diva_lab_args.specs.Lab.{judge_from, optional_by};
+ghost use Rattle.diva_lab_args.specs.Rows.{stop_row};
 
-use crate::fault::ArgsFault;
-use crate::file_name::FileName;
-use crate::job::Setup;
-use crate::read::{file_of, is_set, or_usage, setup, text_of, width};
 use crate::rows::STOP;
-use crate::values::number_within;
 use clap::ArgMatches;
+use diva_args::parts::{file_of, is_set, number_within, or_usage, setup, text_of, width};
+use diva_args::{ArgsFault, FileName, Setup};
 use std::alloc::Global;
 
 /// `judge IMAGE LOG` with its options.

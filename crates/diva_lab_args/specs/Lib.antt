@@ -1,0 +1,4 @@
+-- What the contracts of this crate cite.
+pub mod Commands
+pub mod Lab
+pub mod Rows
