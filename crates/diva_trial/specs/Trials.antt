@@ -2,7 +2,8 @@
 -- Cited by `Trials::new`, `first` and `run`.
 use Rattle.std.specs.Prelude.{ℕ, ◌≡◌, ◌↔◌, ◌≤◌, ◌+◌, ◌-◌, ◌==◌, ◌&&◌, not, List, [], ◌∷◌, ◌++◌, min, Bool, true, Option, Some, None, nat_le, find, option_map, if◌then◌else◌}
 use Rattle.std.specs.List.{list_any}
-use Rattle.diva_isa.specs.State.{State, goes_on, memory_of}
+use Rattle.std.specs.Str.{bytes_eq}
+use Rattle.diva_isa.specs.State.{State, goes_on}
 use Rattle.diva_isa.specs.End.{end_of}
 use Rattle.diva_isa.specs.declared.end.End.{End}
 use Rattle.diva_core.specs.declared.flushes.FlushRow.{FlushRow}
@@ -31,14 +32,19 @@ pub record RunsTo {C : Type 0} (step : Cycling) (gives : Meaning C) (rows : List
 abbrev pub capped : ℕ → ℕ
 capped n = min n 4294967295
 
+-- two states have the same memory
+abbrev pub has_bytes_of : State → State → Bool
+has_bytes_of a b = (a.base == b.base) && bytes_eq a.bytes b.bytes
+
 -- a run came to what another one came to: its end, its count, its output, its registers, its pc and its memory
-pub record IsSame (a b : Timed) : Type 0 where
-  pub end : a.arch.end ≡ b.arch.end
-  pub count : a.count ≡ b.count
-  pub output : a.arch.output ≡ b.arch.output
-  pub regs : a.arch.regs ≡ b.arch.regs
-  pub pc : a.arch.pc ≡ b.arch.pc
-  pub memory : memory_of a.arch ≡ memory_of b.arch
+abbrev pub is_same : Timed → Timed → Bool
+is_same a b =
+    (a.arch.end == b.arch.end)
+    && ((a.count == b.count)
+    && (bytes_eq a.arch.output b.arch.output
+    && (bytes_eq a.arch.regs b.arch.regs
+    && ((a.arch.pc == b.arch.pc)
+    && has_bytes_of a.arch b.arch))))
 
 -- a run flushed in a cycle from that of its fault on, in which the run without a fault did not
 abbrev pub is_caused : (fault : Row) → (known : List FlushRow) → FlushRow → Bool
@@ -52,36 +58,33 @@ latency_of fault known rows = option_map (λ (row : FlushRow). row.cycle - row_c
 abbrev pub is_trap : ℕ → Bool
 is_trap end = nat_le 1 end && nat_le end 255
 
--- what became of the run without the checker, by the run without a fault, and whether it came to the same
-abbrev pub open_outcome : (same : Bool) → (free o : Timed) → OpenOutcome
-open_outcome same free o =
+-- what became of the run without the checker, beside the run without a fault
+abbrev pub open_outcome : (free o : Timed) → OpenOutcome
+open_outcome free o =
     if o.arch.end == stray then Stray
-    else if same then Masked
+    else if is_same o free then Masked
     else if goes_on o.arch && not (goes_on free.arch) then Hang
     else if is_trap o.arch.end && not (o.arch.end == free.arch.end) then Trap
     else Silent
-
-pub record IsOpenOutcome (free o : Timed) (outcome : OpenOutcome) : Type 0 where
-  pub same : Bool
-  pub decides : (same ≡ true) ↔ IsSame o free
-  pub is : outcome ≡ open_outcome same free o
 
 -- how it ended, if it met no record that cannot be applied
 abbrev pub open_end : ℕ → Option End
 open_end end = if end == stray then None else Some (end_of end)
 
--- this is what became of the runs under the fault of a number: `free` is the run without a fault, `last` the one with the checker,
--- `o` the one without it
-pub record IsOutcome (number : ℕ) (fault : Row) (free last : Timed) (o : Open) (outcome : Outcome) : Type 0 where
-  pub number_is : outcome.number ≡ number
-  pub fault_is : outcome.fault ≡ fault
-  pub flushes : outcome.flushes ≡ capped last.under.log.flushes
-  pub latency : outcome.latency ≡ option_map capped (latency_of fault free.under.log.rows last.under.log.rows)
-  pub cycles : outcome.cycles ≡ capped last.cycles
-  pub same : (outcome.same ≡ true) ↔ IsSame last free
-  pub open_run : IsOpenOutcome free o.timed outcome.open_run
-  pub open_place : outcome.open_place ≡ option_map capped o.place
-  pub open_end_is : outcome.open_end ≡ open_end o.timed.arch.end
+-- what became of the runs under the fault of a number: `free` is the run without a fault, `last` the one with the checker, `o` the one without it
+abbrev pub outcome_of : (number : ℕ) → (fault : Row) → (hit : Bool) → (free last : Timed) → (o : Open) → Outcome
+outcome_of number fault hit free last o = record {
+  number = number;
+  fault = fault;
+  hit = hit;
+  flushes = capped last.under.log.flushes;
+  latency = option_map capped (latency_of fault free.under.log.rows last.under.log.rows);
+  cycles = capped last.cycles;
+  same = is_same last free;
+  open_run = open_outcome free o.timed;
+  open_place = option_map capped o.place;
+  open_end = open_end o.timed.arch.end;
+}
 
 -- ---- a trial
 
@@ -98,7 +101,7 @@ pub record IsTrial {C : Type 0} (gives : Meaning C) (config : Config) (start : S
   pub hit : (outcome.hit ≡ true) ↔ HasHit checked_cycle script fault (new_open config start) (lists_on runs.leads.path)
   pub open_final : C
   pub open_runs : RunsTo open_cycle_of gives (script ++ fault ∷ []) until (new_open config start) core o open_final
-  pub says : IsOutcome number fault free last o outcome
+  pub says : outcome ≡ outcome_of number fault outcome.hit free last o
 
 -- so it is of some machines
 pub record HasTrial {C : Type 0} (gives : Meaning C) (config : Config) (start : State) (core : C) (script : List Row) (until : ℕ) (free : Timed)

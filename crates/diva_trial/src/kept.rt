@@ -23,7 +23,7 @@ pub(crate) struct Stand<M, C> {
     pub core: C,
 }
 
-impl<M: Driven, C: CopyCore> Stand<M, C> {
+impl<M: Driven + Drop, C: CopyCore + Drop> Stand<M, C> {
     /// A new machine that begins with an image, and a core as it is handed in. The one error is that memory runs out.
     pub(crate) fn new(
         alloc: Global,
@@ -60,7 +60,7 @@ pub(crate) struct Kept<M, C> {
     pub work: Stand<M, C>,
 }
 
-impl<M: Driven, C: CopyCore> Kept<M, C> {
+impl<M: Driven + Drop, C: CopyCore + Drop> Kept<M, C> {
     /// The run that begins with an image, under a core as it is handed in and a script: a new machine is kept, and `more` others, each `gap`
     /// cycles after the one before. The one error is that memory runs out.
     pub(crate) fn new(

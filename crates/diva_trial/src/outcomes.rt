@@ -1,11 +1,12 @@
 // What became of the runs under a fault, beside the run that has none.
-ghost use Rattle.std.specs.Prelude.{◌≡◌, ◌↔◌, IsTrue, ℕ, min, not, find, option_map, true};
+ghost use Rattle.std.specs.Prelude.{◌≡◌, ◌==◌, ◌&&◌, ℕ, not, option_map};
 ghost use Rattle.std.specs.List.{list_any};
-ghost use Rattle.diva_faults.specs.Rows.{row_cycle};
 ghost use Rattle.diva_core.specs.declared.flushes.FlushRow.{FlushRow as Flush};
-ghost use Rattle.diva_trial.specs.Trials.{IsOutcome, IsSame, capped, is_caused, latency_of, open_end, open_outcome};
+ghost use Rattle.diva_isa.specs.End.{end_of};
+ghost use Rattle.diva_open.specs.Ends.{open_end_of};
+ghost use Rattle.diva_trial.specs.Trials.{capped, has_bytes_of, is_same, is_trap, latency_of, open_end, open_outcome, outcome_of};
 
-use diva_core::FlushRow;
+use diva_core::{FlushRow, View};
 use diva_faults::Row;
 use diva_inject::{OpenOutcome, Outcome};
 use diva_isa::End;
@@ -22,8 +23,7 @@ pub(crate) fn outcome_of(
     last: &Machine,
     open: &OpenMachine,
 ) -> Outcome
-    ensures is { IsOutcome number fault.now free.now.timed last.now.timed open.now result }
-    ensures hit { result.hit ≡ hit }
+    ensures { result ≡ outcome_of number fault.now hit free.now.timed last.now.timed open.now }
 {
     Outcome {
         number,
@@ -57,7 +57,7 @@ fn capped_place(place: Option<u64>) -> Option<u32>
 
 /// Whether a checked run came to what another one came to.
 fn is_same(last: &Machine, free: &Machine) -> bool
-    ensures { IsTrue result ↔ IsSame last.now.timed free.now.timed }
+    ensures { result ≡ is_same last.now.timed free.now.timed }
 {
     let due = free.view();
     let left = last.view();
@@ -69,9 +69,16 @@ fn is_same(last: &Machine, free: &Machine) -> bool
        
 }
 
+/// Whether two states have the same memory.
+fn has_bytes_of(left: &View<'_>, due: &View<'_>) -> bool
+    ensures { result ≡ has_bytes_of left.now due.now }
+{
+    left.has_bytes_of(due)
+}
+
 /// Whether an open run came to what a checked one came to.
 fn masks(open: &OpenMachine, free: &Machine) -> bool
-    ensures { IsTrue result ↔ IsSame open.now.timed free.now.timed }
+    ensures { result ≡ is_same open.now.timed free.now.timed }
 {
     let due = free.view();
     let left = open.view();
@@ -85,7 +92,7 @@ fn masks(open: &OpenMachine, free: &Machine) -> bool
 
 /// What became of an open run.
 fn open_outcome(free: &Machine, open: &OpenMachine) -> OpenOutcome
-    ensures { IsOpenOutcome free.now.timed open.now.timed result }
+    ensures { result ≡ open_outcome free.now.timed open.now.timed }
 {
     if open.ended() == OpenEnd::Stray {
         OpenOutcome::Stray
@@ -112,6 +119,7 @@ fn traps_otherwise(end: OpenEnd, free: End) -> bool
 
 /// How an open run ended, if it came to no claim that can't be applied.
 fn open_end(end: OpenEnd) -> Option<End>
+    ensures { (number : ℕ) → end ≡ open_end_of number → result ≡ open_end number }
 {
     match end {
         OpenEnd::GoesOn => Some(End::GoesOn),

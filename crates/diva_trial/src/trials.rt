@@ -34,7 +34,7 @@ pub struct Trials<'s, C> {
     open: Kept<OpenMachine, C>,
 }
 
-impl<'s, C: CopyCore> Trials<'s, C> {
+impl<'s, C: CopyCore + Drop> Trials<'s, C> {
     /// Makes the run without a fault: of an image, on a machine with these numbers, under copies of a core and a script, for so many cycles at
     /// most. The one error is that memory runs out; no later call takes any.
     pub fn new(
