@@ -28,32 +28,60 @@ unfolding app_with walked
 each_entered l listed =
     All-contains (IsEntered lab_leaves) lab_leaves l (All-from_recursion (IsEntered lab_leaves) lab_leaves (
       record { words = λ words. refl; enters = record { walk_is = refl; turn = refl; sub = refl; label = refl; bare = refl; negates = refl } },
-      (record { words = λ words. refl; enters = record { walk_is = refl; turn = refl; sub = refl; label = refl; bare = refl; negates = refl } },
-      (record { words = λ words. refl; enters = record { walk_is = refl; turn = refl; sub = refl; label = refl; bare = refl; negates = refl } },
-      (record { words = λ words. refl; enters = record { walk_is = refl; turn = refl; sub = refl; label = refl; bare = refl; negates = refl } },
-      (record { words = λ words. refl; enters = record { walk_is = refl; turn = refl; sub = refl; label = refl; bare = refl; negates = refl } },
-      (record { words = λ words. refl; enters = record { walk_is = refl; turn = refl; sub = refl; label = refl; bare = refl; negates = refl } },
-      (record { words = λ words. refl; enters = record { walk_is = refl; turn = refl; sub = refl; label = refl; bare = refl; negates = refl } },
-      (record { words = λ words. refl; enters = record { walk_is = refl; turn = refl; sub = refl; label = refl; bare = refl; negates = refl } },
-      (record { words = λ words. refl; enters = record { walk_is = refl; turn = refl; sub = refl; label = refl; bare = refl; negates = refl } },
-      (record { words = λ words. refl; enters = record { walk_is = refl; turn = refl; sub = refl; label = refl; bare = refl; negates = refl } },
-      (record { words = λ words. refl; enters = record { walk_is = refl; turn = refl; sub = refl; label = refl; bare = refl; negates = refl } },
-      (record { words = λ words. refl; enters = record { walk_is = refl; turn = refl; sub = refl; label = refl; bare = refl; negates = refl } },
-      tt))))))))))))) listed
+      (
+        record { words = λ words. refl; enters = record { walk_is = refl; turn = refl; sub = refl; label = refl; bare = refl; negates = refl } },
+        (
+          record { words = λ words. refl; enters = record { walk_is = refl; turn = refl; sub = refl; label = refl; bare = refl; negates = refl } },
+          (
+            record { words = λ words. refl; enters = record { walk_is = refl; turn = refl; sub = refl; label = refl; bare = refl; negates = refl } },
+            (
+              record { words = λ words. refl; enters = record { walk_is = refl; turn = refl; sub = refl; label = refl; bare = refl; negates = refl } },
+              (
+                record { words = λ words. refl; enters = record { walk_is = refl; turn = refl; sub = refl; label = refl; bare = refl; negates = refl } },
+                (
+                  record { words = λ words. refl; enters = record { walk_is = refl; turn = refl; sub = refl; label = refl; bare = refl; negates = refl } },
+                  (
+                    record { words = λ words. refl; enters = record { walk_is = refl; turn = refl; sub = refl; label = refl; bare = refl; negates = refl } },
+                    (
+                      record { words = λ words. refl; enters = record { walk_is = refl; turn = refl; sub = refl; label = refl; bare = refl; negates = refl } },
+                      (
+                        record { words = λ words. refl; enters = record { walk_is = refl; turn = refl; sub = refl; label = refl; bare = refl; negates = refl } },
+                        (
+                          record { words = λ words. refl; enters = record { walk_is = refl; turn = refl; sub = refl; label = refl; bare = refl; negates = refl } },
+                          (
+                            record { words = λ words. refl; enters = record { walk_is = refl; turn = refl; sub = refl; label = refl; bare = refl; negates = refl } },
+                            tt,
+                          ),
+                        ),
+                      ),
+                    ),
+                  ),
+                ),
+              ),
+            ),
+          ),
+        ),
+      ),
+    )) listed
 
 own_regular : (l : Leaf) → Contains own_leaves l → IsRegular l
 own_regular l listed =
     All-contains IsRegular own_leaves l (All-from_recursion IsRegular own_leaves (
       record { places = (refl, refl, refl, tt); names = refl },
-      (record { places = (refl, refl, refl, tt); names = refl },
-      (record { places = (refl, refl, refl, (refl, refl, refl, tt)); names = refl },
-      tt)))) listed
+      (
+        record { places = (refl, refl, refl, tt); names = refl },
+        (
+          record { places = (refl, refl, refl, (refl, refl, refl, tt)); names = refl },
+          tt,
+        ),
+      ),
+    )) listed
 
 lab_regular : (l : Leaf) → Contains lab_leaves l → IsRegular l
 lab_regular l listed = elim (Contains-append_cases leaves own_leaves l listed) [
-    | inl of_diva ↦ each_regular l of_diva
-    | inr own ↦ own_regular l own
-  ]
+  | inl of_diva ↦ each_regular l of_diva
+  | inr own ↦ own_regular l own
+]
 
 -- ---- two sources of the same values give the same job
 
@@ -86,13 +114,15 @@ same_without_flags l none f g s = ap (lab_job_from l.name) (one_source f g (subs
 own_same : (l : Leaf) → Contains own_leaves l → GivesSame l
 own_same l listed =
     All-contains GivesSame own_leaves l (All-from_recursion GivesSame own_leaves (
-      same_without_flags log refl, (same_without_flags draw refl, (λ f g s. ap (option_map Judge) (judge_same f g s), tt)))) listed
+      same_without_flags log refl,
+      (same_without_flags draw refl, (λ f g s. ap (option_map Judge) (judge_same f g s), tt)),
+    )) listed
 
 lab_same : (l : Leaf) → Contains lab_leaves l → GivesSame l
 lab_same l listed = elim (Contains-append_cases leaves own_leaves l listed) [
-    | inl of_diva ↦ same_of_diva l of_diva
-    | inr own ↦ own_same l own
-  ]
+  | inl of_diva ↦ same_of_diva l of_diva
+  | inr own ↦ own_same l own
+]
 
 -- ---- the whole line
 
