@@ -1,5 +1,5 @@
 -- Paths, turn by turn.
-use Rattle.std.proofs.Common.{◌≡◌, ◌≢◌, ◌<◌, ◌+◌, ◌⊎◌, ◌↔◌, ℕ, Bool, true, false, take, List, [], ◌∷◌, ◌++◌, ◌||◌, length, length-append, refl, sym, ap, subst, ◌∙◌, arith, inl, inr}
+use Rattle.std.proofs.Common.{◌≡◌, ◌≢◌, ◌<◌, ◌+◌, ◌⊎◌, ◌↔◌, ℕ, Bool, true, false, take, List, [], ◌∷◌, ◌++◌, ◌||◌, length-append, refl, sym, ap, subst, ◌∙◌, arith, inl, inr}
 use Rattle.diva_isa.specs.State.{goes_on}
 use Rattle.diva_isa.specs.declared.record.Record.{Record}
 use Rattle.std.specs.Prelude.{not}
@@ -11,7 +11,7 @@ use Rattle.diva_faults.specs.Lists.{laid_in, scripted}
 use Rattle.diva_faults.specs.Rows.{row_cycle}
 use Rattle.diva_faults.proofs.Laying.{laid_in-before, one_more}
 use Rattle.diva_open.specs.Open.{Open}
-use Rattle.diva_trial.specs.Paths.{Cycling, HasHit, Hits, HitsBy, IsPath, Leads, handed_to, lists_on}
+use Rattle.diva_trial.specs.Paths.{Cycling, HasHit, Hits, HitsBy, IsPath, handed_to, lists_on}
 use Rattle.diva_trial.specs.Inner.{IsStruckTurn, Stands, Struck}
 
 -- ---- one turn more
@@ -39,7 +39,7 @@ HasHit-last step gives script fault o core [] mid between list after h (inr none
 HasHit-last step gives script fault o core (turn ∷ rest) mid between list after h (inl hit) = inl (inl hit)
 HasHit-last step gives script fault o core (turn ∷ rest) mid between list after h (inr later) =
     elim (HasHit-last step gives script fault (step o (handed_to (script ++ fault ∷ []) o turn.0)) turn.1 rest mid between list after h.1.1 later)
-      [ inl hit ↦ inl (inr hit) | inr hit ↦ inr hit ]
+    [ inl hit ↦ inl (inr hit) | inr hit ↦ inr hit ]
 
 pub HasHit-earlier :
     {C : Type 0} (step : Cycling) (script : List Row) (fault : Row) (o : Open) (path : List (List Record × C)) (list : List Record) (after : C)
@@ -97,12 +97,12 @@ Stands-more {C} step gives script o first mid between next list after s on asked
       };
       early = λ fault before.
           let same : step mid (handed_to (script ++ fault ∷ []) mid list) ≡ next =
-                ap (λ (l : List Record). step mid l) (early_list script fault (mid.timed.cycles + 1) list (omega arith)) ∙ sym is in
+          ap (λ (l : List Record). step mid l) (early_list script fault (mid.timed.cycles + 1) list (omega arith)) ∙ sym is in
           subst (λ (n : Open). IsPath step gives (script ++ fault ∷ []) o first (s.leads.path ++ (list, after) ∷ []) n after) same
-            (IsPath-more step gives (script ++ fault ∷ []) o first s.leads.path mid between list after (s.early fault (omega arith)) on asked);
+          (IsPath-more step gives (script ++ fault ∷ []) o first s.leads.path mid between list after (s.early fault (omega arith)) on asked);
       unhit = λ fault before hit.
           elim (HasHit-last step gives script fault o first s.leads.path mid between list after (s.early fault (omega arith)) hit)
-            [ inl earlier ↦ s.unhit fault (omega arith) earlier | inr now ↦ early_unhit step script fault mid list (omega arith) now ];
+          [ inl earlier ↦ s.unhit fault (omega arith) earlier | inr now ↦ early_unhit step script fault mid list (omega arith) now ];
     }
 
 -- ---- under a fault
@@ -145,12 +145,14 @@ Struck-more {C} step gives script fault o first mid between was next after now s
         good = rw t.next (IsPath-more step gives (script ++ fault ∷ []) o first s.leads.path mid between t.list after s.leads.good on t.given);
         each = rw length-append (let e = s.leads.each in omega arith);
       };
-      decides =
-        (λ e. elim (or_true was now e)
-            [ inl earlier ↦ HasHit-earlier step script fault o s.leads.path t.list after (s.decides.0 earlier)
-            | inr here ↦ HasHit-now step gives script fault o first s.leads.path mid between t.list after s.leads.good (t.decides.0 here) ],
-         λ hit. elim (HasHit-last step gives script fault o first s.leads.path mid between t.list after s.leads.good hit)
-            [ inl earlier ↦ or_left was now (s.decides.1 earlier) | inr here ↦ or_right was now (t.decides.1 here) ]);
+      decides = (
+        λ e. elim (or_true was now e) [
+          | inl earlier ↦ HasHit-earlier step script fault o s.leads.path t.list after (s.decides.0 earlier)
+          | inr here ↦ HasHit-now step gives script fault o first s.leads.path mid between t.list after s.leads.good (t.decides.0 here)
+        ],
+        λ hit. elim (HasHit-last step gives script fault o first s.leads.path mid between t.list after s.leads.good hit)
+            [ inl earlier ↦ or_left was now (s.decides.1 earlier) | inr here ↦ or_right was now (t.decides.1 here) ],
+      );
     }
 
 or_first : (a b : Bool) → a ≡ true → (a || b) ≡ a
@@ -173,7 +175,7 @@ pub Struck-again :
     → Struck step gives script fault o first next after was
 Struck-again step gives script fault o first mid between was next after now is s on t raised =
     subst (Struck step gives script fault o first next after) (or_first was now is)
-      (Struck-more step gives script fault o first mid between was next after now s on t raised)
+    (Struck-more step gives script fault o first mid between was next after now s on t raised)
 
 -- and before one
 pub Struck-yet :
@@ -187,7 +189,7 @@ pub Struck-yet :
     → Struck step gives script fault o first next after now
 Struck-yet step gives script fault o first mid between was next after now isnt s on t raised =
     subst (Struck step gives script fault o first next after) (or_second was now isnt)
-      (Struck-more step gives script fault o first mid between was next after now s on t raised)
+    (Struck-more step gives script fault o first mid between was next after now s on t raised)
 
 -- ---- one turn, by what is known of its lists
 
@@ -211,22 +213,27 @@ pub struck_turn :
     → IsStruckTurn step gives script fault o core last after hit
 struck_turn {C} step gives script fault o core last after inner plain struck others accepted hit given is_plain is_struck differ next took both =
     let rows : struck ≡ handed_to (script ++ fault ∷ []) o inner =
-          is_struck ∙ ap (λ (l : List Record). laid_in (o.timed.cycles + 1) l fault) is_plain ∙ sym (one_more script fault (o.timed.cycles + 1) inner) in
+    is_struck ∙ ap (λ (l : List Record). laid_in (o.timed.cycles + 1) l fault) is_plain ∙ sym (one_more script fault (o.timed.cycles + 1) inner) in
     let there : Hits step o plain struck → HitsBy step script fault o inner =
-          λ h. subst (λ (l : List Record). Hits step o l (handed_to (script ++ fault ∷ []) o inner)) is_plain (subst (λ (l : List Record). Hits step o plain l) rows h) in
+    λ h. subst (λ (l : List Record). Hits step o l (handed_to (script ++ fault ∷ []) o inner)) is_plain (subst (λ (l : List Record). Hits step o plain l) rows h) in
     let back : HitsBy step script fault o inner → Hits step o plain struck =
-          λ h. subst (λ (l : List Record). Hits step o plain l) (sym rows) (subst (λ (l : List Record). Hits step o l (handed_to (script ++ fault ∷ []) o inner)) (sym is_plain) h) in
+    λ h. subst (λ (l : List Record). Hits step o plain l) (sym rows) (subst (λ (l : List Record). Hits step o l (handed_to (script ++ fault ∷ []) o inner)) (sym is_plain) h) in
     record {
       list = inner;
       given = given;
       next = next ∙ ap (step o) rows;
-      decides =
-        (λ e. there (record {
-            others = differ.0 (both.0 e).0;
-            goes = subst (λ (n : Open). goes_on n.timed.arch ≡ true) next (not_false _ (took.0 (both.0 e).1).0);
-            unflushed = subst (λ (n : Open). epoch_of n.timed ≡ epoch_of o.timed) next (took.0 (both.0 e).1).1;
-          }),
-         λ hits. both.1 (differ.1 (back hits).others,
-            took.1 (not_true _ (subst (λ (n : Open). goes_on n.timed.arch ≡ true) (sym next) (back hits).goes),
-            subst (λ (n : Open). epoch_of n.timed ≡ epoch_of o.timed) (sym next) (back hits).unflushed)));
+      decides = (
+        λ e. there (record {
+          others = differ.0 (both.0 e).0;
+          goes = subst (λ (n : Open). goes_on n.timed.arch ≡ true) next (not_false _ (took.0 (both.0 e).1).0);
+          unflushed = subst (λ (n : Open). epoch_of n.timed ≡ epoch_of o.timed) next (took.0 (both.0 e).1).1;
+        }),
+        λ hits. both.1 (
+          differ.1 (back hits).others,
+          took.1 (
+            not_true _ (subst (λ (n : Open). goes_on n.timed.arch ≡ true) (sym next) (back hits).goes),
+            subst (λ (n : Open). epoch_of n.timed ≡ epoch_of o.timed) (sym next) (back hits).unflushed,
+          ),
+        ),
+      );
     }

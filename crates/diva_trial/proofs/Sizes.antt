@@ -1,5 +1,5 @@
 -- Memory keeps its size, and a machine its numbers.
-use Rattle.std.proofs.Common.{◌≡◌, ℕ, zero, suc, ◌==◌, List, [], ◌∷◌, length, Bool, true, false, cond, refl, ap, ◌∙◌}
+use Rattle.std.proofs.Common.{◌≡◌, ℕ, zero, suc, ◌==◌, List, [], ◌∷◌, length, Bool, true, false, cond, refl, ◌∙◌}
 use Rattle.diva_memory.specs.Bytes.{low_bytes}
 use Rattle.diva_memory.proofs.Writing.{put_all_length}
 use Rattle.diva_isa.specs.Kind.{size}

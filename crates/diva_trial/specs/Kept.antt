@@ -1,6 +1,6 @@
 -- The machines that are kept of a run without a fault.
 -- Only private contracts of this crate cite this: a reader of its promises can pass over it.
-use Rattle.std.specs.Prelude.{ℕ, ◌≡◌, ◌≤◌, ◌<◌, List, [], ◌∷◌, Some, slice_get, ⊥}
+use Rattle.std.specs.Prelude.{ℕ, ◌≡◌, ◌≤◌, ◌<◌, List, [], ◌∷◌, Some, slice_get}
 use Rattle.std.specs.List.{All}
 use Rattle.diva_core.specs.History.{Meaning}
 use Rattle.diva_faults.specs.declared.rows.Row.{Row}

@@ -1,6 +1,6 @@
 -- Paths of a machine and a core under the rows of a script: what the core hands over in each cycle, and the machines to which that leads.
 -- Cited in `Trials.antt`, for `Trials::run`.
-use Rattle.std.specs.Prelude.{ℕ, ◌≡◌, ◌≢◌, ◌⊎◌, ◌+◌, List, [], ◌∷◌, ◌++◌, length, map, take, true}
+use Rattle.std.specs.Prelude.{◌≡◌, ◌≢◌, ◌⊎◌, ◌+◌, List, [], ◌∷◌, ◌++◌, length, map, take, true}
 use Rattle.diva_isa.specs.State.{goes_on}
 use Rattle.diva_isa.specs.declared.record.Record.{Record}
 use Rattle.diva_core.specs.Timed.{epoch_of, room_of}

@@ -1,6 +1,6 @@
 -- What becomes of the runs under a fault, with the checker and without it, beside the run that has none.
 -- Cited by `Trials::new`, `first` and `run`.
-use Rattle.std.specs.Prelude.{ℕ, ◌≡◌, ◌↔◌, ◌≤◌, ◌+◌, ◌-◌, ◌==◌, ◌&&◌, not, List, [], ◌∷◌, ◌++◌, min, Bool, true, Option, Some, None, nat_le, find, option_map, if◌then◌else◌}
+use Rattle.std.specs.Prelude.{ℕ, ◌≡◌, ◌↔◌, ◌≤◌, ◌-◌, ◌==◌, ◌&&◌, not, List, [], ◌∷◌, ◌++◌, min, Bool, true, Option, Some, None, nat_le, find, option_map, if◌then◌else◌}
 use Rattle.std.specs.List.{list_any}
 use Rattle.std.specs.Str.{bytes_eq}
 use Rattle.diva_isa.specs.State.{State, goes_on}

@@ -14,16 +14,16 @@ use diva_machine::Machine;
 use diva_open::{OpenEnd, OpenMachine};
 
 /// What became of the runs under the fault of a number: `free` is the machine of the run without a fault, `last` that of the run with the
-/// checker, and `open` that of the run without it, each at its end.
+/// checker, and `left` that of the run without it, each at its end.
 pub(crate) fn outcome_of(
     number: u32,
     fault: &Row,
     hit: bool,
     free: &Machine,
     last: &Machine,
-    open: &OpenMachine,
+    left: &OpenMachine,
 ) -> Outcome
-    ensures { result ≡ outcome_of number fault.now hit free.now.timed last.now.timed open.now }
+    ensures { result ≡ outcome_of number fault.now hit free.now.timed last.now.timed left.now }
 {
     Outcome {
         number,
@@ -33,9 +33,9 @@ pub(crate) fn outcome_of(
         latency: latency_of(fault, free.log(), last.log()),
         cycles: capped(last.cycles()),
         same: is_same(last, free),
-        open_run: open_outcome(free, open),
-        open_place: capped_place(open.place()),
-        open_end: open_end(open.ended()),
+        open_run: open_outcome(free, left),
+        open_place: capped_place(left.place()),
+        open_end: open_end(left.ended()),
     }
 }
 
@@ -66,7 +66,7 @@ fn is_same(last: &Machine, free: &Machine) -> bool
         && last.output() == free.output()
         && left.regs() == due.regs()
         && left.pc() == due.pc()
-       
+        && has_bytes_of(&left, &due)
 }
 
 /// Whether two states have the same memory.
@@ -77,30 +77,30 @@ fn has_bytes_of(left: &View<'_>, due: &View<'_>) -> bool
 }
 
 /// Whether an open run came to what a checked one came to.
-fn masks(open: &OpenMachine, free: &Machine) -> bool
-    ensures { result ≡ is_same open.now.timed free.now.timed }
+fn masks(left: &OpenMachine, free: &Machine) -> bool
+    ensures { result ≡ is_same left.now.timed free.now.timed }
 {
     let due = free.view();
-    let left = open.view();
-    open.ended() == OpenEnd::from(free.ended())
-        && open.count() == free.count()
-        && open.output() == free.output()
-        && left.regs() == due.regs()
-        && left.pc() == due.pc()
-       
+    let view = left.view();
+    left.ended() == OpenEnd::from(free.ended())
+        && left.count() == free.count()
+        && left.output() == free.output()
+        && view.regs() == due.regs()
+        && view.pc() == due.pc()
+        && has_bytes_of(&view, &due)
 }
 
 /// What became of an open run.
-fn open_outcome(free: &Machine, open: &OpenMachine) -> OpenOutcome
-    ensures { result ≡ open_outcome free.now.timed open.now.timed }
+fn open_outcome(free: &Machine, left: &OpenMachine) -> OpenOutcome
+    ensures { result ≡ open_outcome free.now.timed left.now.timed }
 {
-    if open.ended() == OpenEnd::Stray {
+    if left.ended() == OpenEnd::Stray {
         OpenOutcome::Stray
-    } else if masks(open, free) {
+    } else if masks(left, free) {
         OpenOutcome::Masked
-    } else if open.goes_on() && !free.goes_on() {
+    } else if left.goes_on() && !free.goes_on() {
         OpenOutcome::Hang
-    } else if traps_otherwise(open.ended(), free.ended()) {
+    } else if traps_otherwise(left.ended(), free.ended()) {
         OpenOutcome::Trap
     } else {
         OpenOutcome::Silent
@@ -109,7 +109,7 @@ fn open_outcome(free: &Machine, open: &OpenMachine) -> OpenOutcome
 
 /// Whether an open run trapped, and the run without a fault did not, or by another trap.
 fn traps_otherwise(end: OpenEnd, free: End) -> bool
-    ensures { (open : ℕ) (due : ℕ) → end ≡ open_end_of open → free ≡ end_of due → result ≡ (is_trap open && not (open == due)) }
+    ensures { (left due : ℕ) → end ≡ open_end_of left → free ≡ end_of due → result ≡ (is_trap left && not (left == due)) }
 {
     match end {
         OpenEnd::Trap(number) => free != End::Trap(number),

@@ -31,7 +31,7 @@ pub struct Trials<'s, C> {
     /// The machine of the run without a fault, at its end.
     free: Machine,
     checked: Kept<Machine, C>,
-    open: Kept<OpenMachine, C>,
+    unchecked: Kept<OpenMachine, C>,
 }
 
 impl<'s, C: CopyCore + Drop> Trials<'s, C> {
@@ -45,23 +45,20 @@ impl<'s, C: CopyCore + Drop> Trials<'s, C> {
         script: &'s Script,
         until: u32,
     ) -> Result<Self, AllocError>
-        ensures are { IfOk result (AreTrials C.gives config (start_of (layout image.now)) core.now script.now until) }
+        ensures are { IfOk result (AreTrials C.gives config (start_of (layout image.now)) core.now) }
+        ensures script { IfOk result (λ trials. trials.script.now ≡ script.now) }
+        ensures until { IfOk result (λ trials. trials.until ≡ until) }
         ensures ready { IfOk result AreReady }
     {
         let mut free: Stand<Machine, C> = Stand::new(alloc, image, config, core)?;
-        run_plain(
-            &mut free.machine,
-            &mut free.core,
-            script,
-            u64::from(until),
-        );
+        run_plain(&mut free.machine, &mut free.core, script, u64::from(until));
         let more = kept_beside(image);
         let gap = (free.machine.cycles() / (u64::from(more) + 1)) as u32;
         Ok(Trials {
             script,
             until,
             checked: Kept::new(alloc, image, config, core, script, more, gap)?,
-            open: Kept::new(alloc, image, config, core, script, more, gap)?,
+            unchecked: Kept::new(alloc, image, config, core, script, more, gap)?,
             free: free.machine,
         })
     }
@@ -77,23 +74,25 @@ impl<'s, C: CopyCore + Drop> Trials<'s, C> {
     pub fn run(&mut self, number: u32, fault: &Row) -> Outcome
         requires fault { IsRow fault.now }
         requires ready { AreReady self.old }
-        ensures trial { (config : Numbers) (start : State) (core : C) (script : List Fault) (until : ℕ)
-            → AreTrials C.gives config start core script until self.old
-            → HasTrial C.gives config start core script until self.old.free.timed number fault.now result
-            × AreTrials C.gives config start core script until self.new }
+        ensures trial { (config : Numbers) (start : State) (core : C) → AreTrials C.gives config start core self.old
+            → HasTrial C.gives config start core self.old.script.now self.old.until self.old.free.timed number fault.now result }
+        ensures stays { (config : Numbers) (start : State) (core : C) → AreTrials C.gives config start core self.old
+            → AreTrials C.gives config start core self.new }
         ensures ready { AreReady self.new }
         ensures free { self.new.free ≡ self.old.free }
+        ensures script { self.new.script.now ≡ self.old.script.now }
+        ensures until { self.new.until ≡ self.old.until }
     {
         let until = u64::from(self.until);
         let hit = self.checked.strike(self.script, fault, until);
-        let _ = self.open.strike(self.script, fault, until);
+        let _ = self.unchecked.strike(self.script, fault, until);
         outcome_of(
             number,
             fault,
             hit,
             &self.free,
             &self.checked.work.machine,
-            &self.open.work.machine,
+            &self.unchecked.work.machine,
         )
     }
 }

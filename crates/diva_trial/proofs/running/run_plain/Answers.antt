@@ -1,8 +1,5 @@
 -- One turn more.
-use Rattle.std.proofs.Common.{◌≡◌, ◌∙◌, sym, ap, ◌+◌, arith}
-use Rattle.diva_isa.specs.State.{State}
-use Rattle.diva_isa.specs.declared.record.Record.{Record}
-use Rattle.diva_core.specs.Told.{Told, told_of}
+use Rattle.std.proofs.Common.{◌∙◌, sym, ap, ◌+◌, arith}
 use Rattle.diva_faults.specs.Lists.{scripted}
 use Rattle.diva_trial.proofs.Pathing.{Stands-more}
 use Rattle.diva_trial.proofs.running.run_plain.Goals as goal

@@ -1,5 +1,5 @@
 -- One turn more.
-use Rattle.std.proofs.Common.{◌≡◌, ◌∙◌, sym, refl, arith}
+use Rattle.std.proofs.Common.{◌∙◌, sym, refl, arith}
 use Rattle.diva_trial.proofs.Pathing.{Struck-again, Struck-begins, Struck-yet}
 use Rattle.diva_trial.proofs.running.run_struck.Goals as goal
 

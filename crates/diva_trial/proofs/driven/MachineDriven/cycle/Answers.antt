@@ -1,4 +1,4 @@
-use Rattle.std.proofs.Common.{◌≡◌, ap, ◌∙◌, length}
+use Rattle.std.proofs.Common.{ap, ◌∙◌, length}
 use Rattle.diva_core.specs.Timed.{Timed}
 use Rattle.diva_isa.specs.State.{State}
 use Rattle.diva_core.proofs.Outcomes.{cycle-cycles}

@@ -1,4 +1,4 @@
-use Rattle.std.proofs.Common.{◌≡◌, ap, ◌∙◌, length}
+use Rattle.std.proofs.Common.{ap, ◌∙◌, length}
 use Rattle.diva_open.specs.Open.{Open}
 use Rattle.diva_open.proofs.Phases.{cycle_cycles}
 use Rattle.diva_trial.proofs.Sizes.{cycle_config, cycle_size}

@@ -2,7 +2,7 @@ use Rattle.std.proofs.Common.{◌≤◌, ◌*◌}
 use Rattle.std.specs.List.{All}
 use Rattle.diva_image.specs.ImageLayout.{layout}
 use Rattle.diva_hart.specs.Start.{start_of}
-use Rattle.diva_open.specs.Open.{Open, new_open}
+use Rattle.diva_open.specs.Open.{new_open}
 use Rattle.diva_trial.specs.Inner.{AreAlike, Stands}
 use Rattle.diva_trial.specs.Kept.{BeginsNew, IsStand}
 use Rattle.diva_trial.specs.declared.kept.Stand.{Stand}
