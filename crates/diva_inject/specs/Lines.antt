@@ -47,7 +47,7 @@ bit_cell Lose = []
 bit_cell Double = []
 bit_cell (Force field bit high) = decimal bit
 
--- what became of the run without the checker
+-- how texts call what became of the run without the checker
 abbrev pub open_name : OpenOutcome → Text
 open_name open_run.Masked = codes "masked"
 open_name open_run.Silent = codes "silent"
@@ -82,8 +82,10 @@ checked_cells o = yes_or_no o.hit ∷ decimal o.flushes ∷ number_or_none o.lat
 abbrev pub open_cells : Outcome → List Text
 open_cells o = open_name o.open_run ∷ number_or_none o.open_place ∷ open_end_cell o.open_end ∷ []
 
+-- the line of a fault: its number, and these
 unfoldable pub outcome_text : Outcome → Text
-outcome_text o = joined (decimal o.number ∷ joined (fault_cells o.fault) ∷ joined (checked_cells o) ∷ joined (open_cells o) ∷ []) ++ codes "\n"
+outcome_text o = joined ((decimal o.number ∷ fault_cells o.fault) ++ checked_cells o ++ open_cells o) ++ codes "\n"
 
+-- what the cells are
 unfoldable pub header_text : Text
 header_text = codes "fault,model,cycle,lane,field,bit,hit,flushes,latency,cycles,same,open,open_place,open_end\n"

@@ -12,7 +12,7 @@ use Rattle.diva_inject.specs.Numbers.{number_of_seed}
 
 pub record Plan : Type 0 where
   pub seed : ℕ
-  -- of these the model of a fault is drawn, and its field
+  -- the model of a fault is drawn from these, and its field
   pub models : List FaultModel
   pub fields : List Field
   -- it begins in one of these cycles
@@ -71,11 +71,11 @@ drawn_high plan i = drawn plan i 5 % 2 == 1
 abbrev pub drawn_cycles : Plan → ℕ → ℕ
 drawn_cycles plan i = 1 + drawn plan i 5 % (2 * plan.limit)
 
--- what is stuck stays so
+-- for how many cycles a bit is stuck
 abbrev pub for_ever : ℕ
 for_ever = 1000000000
 
--- ---- the fault, as a row of a script
+-- ---- the fault, as a row
 
 -- the fault i, if it is of this model
 abbrev pub fault_by : FaultModel → Plan → (i : ℕ) → Row

@@ -51,7 +51,7 @@ impl<T: Copy, const N: usize> Choice<T, N> {
         self.count
     }
 
-    /// The item that a number picks: the one at the rest that its division by their number leaves.
+    /// The item that a number picks: the one whose place is the rest of the number by how many items there are.
     pub fn pick(&self, number: u64) -> T
         ensures { slice_get self.now (number % length self.now) ≡ Some result }
     {

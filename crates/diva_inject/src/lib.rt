@@ -2,12 +2,13 @@
 //!
 //! - `numbers`: the numbers of a seed.
 //! - `models`: the models of faults, `FaultModel`. `choice`: a list of which one is drawn, `Choice`.
-//! - `plan`: `Plan`, what the faults of a campaign are drawn of, and `fault_at`, the fault of a number: a row of a script.
+//! - `plan`: `Plan`, what the faults of a campaign are drawn from, and `fault_at`, the fault of a number, as a row of `diva_faults`.
 //! - `part`: `Part`, the faults that one of many machines runs. `laws`: that the parts make the whole.
 //! - `outcome`: what became of the runs under a fault, `Outcome`, and the line that says so.
 //! - `tests`: numbers, faults, parts and lines, worked out elsewhere.
 //!
-//! `specs/` has the numbers of a seed (`Numbers`), the fault of each number (`Plans`), the parts (`Parts`) and the line (`Lines`).
+//! `specs/` has the numbers of a seed (`Numbers`), how texts call the models (`Models`), the fault of each number (`Plans`), the parts (`Parts`)
+//! and the line (`Lines`).
 #![tactic(auto)]
 
 mod choice;

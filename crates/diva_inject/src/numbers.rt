@@ -2,7 +2,7 @@
 ghost use Rattle.std.specs.Prelude.{◌≡◌};
 ghost use Rattle.diva_inject.specs.Numbers.{number_of_seed};
 
-/// The number of a seed at a place, from 0 on: it depends on these two alone.
+/// The number of a seed at a place, from 0 on, which depends on these two alone: that of SplitMix64.
 #[tactic(auto, unfolding(crate::specs::Numbers::number_of_seed))]
 pub fn number_of_seed(seed: u64, place: u64) -> u64
     ensures { result ≡ number_of_seed seed place }

@@ -12,16 +12,16 @@ use diva_outside::Line;
 use diva_trace::push_end;
 use itoa::Buffer;
 
-/// What became of the run without the checker, beside the run without a fault.
+/// What became of the run without the checker, compared with the run without a fault.
 #[derive(Clone, Copy, Debug, PartialEq, Eq)]
 pub enum OpenOutcome {
-    /// It came to the same.
+    /// It came to the same as the run without a fault.
     Masked,
-    /// It ended in the same way, and something else differs: silent data corruption.
+    /// It came to something else, in none of the ways below: silent data corruption.
     Silent,
-    /// It trapped, and the run without a fault did not, or by another trap.
+    /// It trapped, and the run without a fault did not, or did by another trap.
     Trap,
-    /// It goes on when the cycles are run.
+    /// It goes on after all cycles are run, and the run without a fault has ended by then.
     Hang,
     /// It came to a claim that can't be applied.
     Stray,
@@ -43,32 +43,32 @@ impl OpenOutcome {
     }
 }
 
-/// What became of the runs under a fault.
+/// What became of the runs under a fault. A run has fewer than 2^32 cycles.
 #[derive(Clone, Copy, Debug, PartialEq, Eq)]
 pub struct Outcome {
-    /// The fault's number.
+    /// The fault's number, from 0 on.
     pub number: u32,
-    /// The fault.
+    /// The fault. Rates are read from its line if its numbers are in their ranges, as those of `fault_at` are.
     pub fault: Row,
     /// Whether it changed what the machine accepted.
     pub hit: bool,
-    /// The flushes of the checked run.
+    /// How many flushes the checked run has.
     pub flushes: u32,
-    /// The cycles from the fault to the flush that it caused, if it caused one.
+    /// How many cycles came from the fault's first to the first flush that it caused, if it caused one.
     pub latency: Option<u32>,
-    /// The cycles of the checked run.
+    /// How many cycles the checked run has.
     pub cycles: u32,
-    /// Whether the checked run came to what the run without a fault came to.
+    /// Whether the checked run came to the same as the run without a fault.
     pub same: bool,
     /// What became of the open run.
     pub open_run: OpenOutcome,
-    /// The instruction, from 0, in which the open run first differs, if it does.
+    /// For which instruction, from 0, the open run first took a claim that was not due, if it took one.
     pub open_place: Option<u32>,
     /// How the open run ended; `None` if it came to a claim that can't be applied.
     pub open_end: Option<End>,
 }
 
-/// The header of the lines of a campaign.
+/// The header of the lines of a campaign, which names their cells.
 #[tactic(auto, unfolding(crate::specs::Lines::header_text))]
 pub fn header_line() -> Line
     ensures { result ≡ header_text }
@@ -80,7 +80,7 @@ pub fn header_line() -> Line
     line
 }
 
-/// The line of a fault.
+/// The line of a fault: 14 cells with commas between them.
 #[tactic(auto, unfolding(crate::specs::Lines::outcome_text))]
 pub fn outcome_line(outcome: &Outcome) -> Line
     ensures { result ≡ outcome_text outcome.now }
@@ -144,17 +144,17 @@ fn push_fault(line: &mut Line, fault: &Row)
     ensures len { length line.new ≤ length line.old + 31 }
 {
     match *fault {
-        Row::Lane {
-            cycle,
-            lane,
-            change,
-        } => push_change(line, cycle, lane, change),
         Row::Hush { cycle, .. } => {
             line.text(b"hush,");
             push_number(line, cycle);
             line.text(b",,,");
         }
-        Row::Lasting {
+        Row::Lane {
+            cycle,
+            lane,
+            change,
+        }
+        | Row::Lasting {
             cycle,
             lane,
             change,

@@ -4,7 +4,7 @@ ghost use Rattle.diva_inject.specs.Parts.{IsNext};
 
 use std::marker::Model;
 
-/// A part of a campaign: of so many, the one with an index. It has the faults whose numbers leave the index as a rest.
+/// A part of a campaign: of so many parts, the one with an index. It has the faults whose numbers leave the index as a rest.
 #[derive(Clone, Copy, Debug, PartialEq, Eq)]
 pub struct Part {
     index: u32,

@@ -1,6 +1,7 @@
 // The plan of a campaign of faults, and the fault of each number.
-ghost use Rattle.std.specs.Prelude.{◌≡◌, ◌<◌, ◌≤◌, ◌^◌, ◌↔◌, IsSome, IfSome};
-ghost use Rattle.diva_faults.specs.Rows.{IsChange, IsRow};
+ghost use Rattle.std.specs.Prelude.{◌≡◌, ◌<◌, ◌^◌, ◌↔◌, IsSome, IfSome};
+ghost use Rattle.diva_outside.specs.NextWords.{IsInRange};
+ghost use Rattle.diva_faults.specs.Rows.{IsChange, IsCycle, IsRow};
 ghost use Rattle.diva_faults.specs.declared.rows.Row.TheVariants.{Lane};
 ghost use Rattle.diva_inject.specs.Plans.{AreCycles, drawn, drawn_bit, drawn_cycle, drawn_cycles, drawn_field, drawn_high, drawn_lane, drawn_model, drawn_value, fault_at, fault_by};
 
@@ -11,10 +12,10 @@ use diva_core::{Config, Field};
 use diva_faults::{Change, Row};
 use std::marker::Model;
 
-/// How many cycles a row lasts of what is stuck: more than any run has.
+/// For how many cycles a bit is stuck: no run has more.
 const FOR_EVER: u32 = 1_000_000_000;
 
-/// What the faults of a campaign are drawn of.
+/// What the faults of a campaign are drawn from.
 #[derive(Drop)]
 pub struct Plan {
     seed: u32,
@@ -37,8 +38,8 @@ impl Model for Plan {
 }
 
 impl Plan {
-    /// The plan of a seed: faults of some models, in some fields, that begin in the cycles `from` to `to`, in lanes of a machine with
-    /// these numbers. `None` exactly if these are no cycles within 1 to 1,000,000,000, `from` being at most `to`.
+    /// The plan of a seed: faults of some models, in some fields, which begin in the cycles `from` to `to`, in the lanes of a machine with
+    /// these numbers. `None` exactly if `from` is 0 or above `to`, or `to` is above 1,000,000,000.
     pub fn new(
         seed: u32,
         models: Choice<FaultModel, 6>,
@@ -64,7 +65,7 @@ impl Plan {
         })
     }
 
-    /// One of the eight numbers that are drawn for a fault.
+    /// One of the eight numbers that are drawn for a fault, by its place among them.
     fn drawn(&self, number: u64, place: u64) -> u64
         requires number { number < 2 ^ 40 }
         requires place { place < 8 }
@@ -83,8 +84,7 @@ impl Plan {
     fn cycle(&self, number: u64) -> u32
         requires { number < 2 ^ 40 }
         ensures cycle { result ≡ drawn_cycle self.now number }
-        ensures from { self.now.from ≤ result }
-        ensures to { result ≤ self.now.to }
+        ensures range { IsCycle result }
     {
         let cycles = u64::from(self.to - self.from + 1);
         self.from + (self.drawn(number, 1) % cycles) as u32
@@ -93,7 +93,7 @@ impl Plan {
     fn lane(&self, number: u64) -> u8
         requires { number < 2 ^ 40 }
         ensures lane { result ≡ drawn_lane self.now number }
-        ensures most { result < self.now.width }
+        ensures range { IsInRange 0 7 result }
     {
         (self.drawn(number, 2) % u64::from(self.width)) as u8
     }
@@ -108,7 +108,7 @@ impl Plan {
     fn bit(&self, number: u64) -> u8
         requires { number < 2 ^ 40 }
         ensures bit { result ≡ drawn_bit self.now number }
-        ensures most { result < 32 }
+        ensures range { IsInRange 0 31 result }
     {
         (self.drawn(number, 4) % 32) as u8
     }
@@ -120,7 +120,6 @@ impl Plan {
         ensures row { result ≡ Lane (drawn_cycle self.now number) (drawn_lane self.now number) change }
         ensures ranges { IsRow result }
     {
-        let _ = &self.from;
         Row::Lane {
             cycle: self.cycle(number),
             lane: self.lane(number),
@@ -166,7 +165,8 @@ impl Plan {
     }
 }
 
-/// The fault of a number below 2^40, as a row of a script: it depends on the plan and the number alone, and not on how many faults there are.
+/// The fault of a number below 2^40, as a row that is laid over what a core hands over: it depends on the plan and the number alone,
+/// and not on how many faults there are.
 #[tactic(auto, unfolding(crate::specs::Plans::fault_at))]
 pub fn fault_at(plan: &Plan, number: u64) -> Row
     requires { number < 2 ^ 40 }

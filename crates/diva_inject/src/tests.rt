@@ -143,7 +143,7 @@ const FOUND: Outcome = Outcome {
     open_end: Some(End::Halt(34)),
 };
 
-fn lines() -> [(Outcome, &'static [u8]); 5] {
+fn lines() -> [(Outcome, &'static [u8]); 7] {
     [
         (
             FOUND,
@@ -167,13 +167,32 @@ fn lines() -> [(Outcome, &'static [u8]); 5] {
         ),
         (
             Outcome {
-                number: 4_294_967_295,
+                number: u32::MAX,
                 fault: stuck(1_000_000_000, 3, Field::Value, 31, true),
+                flushes: u32::MAX,
+                latency: Some(u32::MAX),
+                cycles: u32::MAX,
+                open_place: Some(u32::MAX),
+                open_end: Some(End::Halt(255)),
+                ..FOUND
+            },
+            b"4294967295,stuck1,1000000000,3,value,31,yes,4294967295,4294967295,4294967295,yes,silent,4294967295,halt 255\n",
+        ),
+        (
+            Outcome {
+                fault: stuck(7, 0, Field::Pc, 0, false),
                 open_run: OpenOutcome::Hang,
                 open_end: Some(End::GoesOn),
                 ..FOUND
             },
-            b"4294967295,stuck1,1000000000,3,value,31,yes,1,6,22301,yes,hang,15,none\n",
+            b"12,stuck0,7,0,pc,0,yes,1,6,22301,yes,hang,15,none\n",
+        ),
+        (
+            Outcome {
+                fault: lane(7, 2, Change::Lose),
+                ..FOUND
+            },
+            b"12,lose,7,2,,,yes,1,6,22301,yes,silent,15,halt 34\n",
         ),
         (
             Outcome {

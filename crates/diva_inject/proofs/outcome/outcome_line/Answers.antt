@@ -24,5 +24,5 @@ returns c =
     ∙ ap (λ (t : Text). t ++ joined (fault_cells o.fault))
     (c.push.ensures.bytes
     ∙ ap (λ (t : Text). t ++ codes ",")
-    (c.push_number.ensures.bytes ∙ ap (λ (t : Text). t ++ decimal o.number) c.new-line.ensures)))))))
-    ∙ in_order (decimal o.number) (joined (fault_cells o.fault)) (joined (checked_cells o)) (joined (open_cells o)) (codes "\n")
+    (c.push_number.ensures.bytes ∙ ap (λ (t : Text). t ++ decimal o.number) c.new-line.ensures))))))
+    ∙ in_order o)
