@@ -1,5 +1,5 @@
 -- On a plain line the job is read off the words.
-use Rattle.std.proofs.Common.{◌≡◌, List, [], refl, ap, subst, Option, codes}
+use Rattle.std.proofs.Common.{◌≡◌, List, [], ◌∷◌, map, refl, ap, subst, Option, codes}
 use Rattle.std.specs.Prelude.{option_map}
 use Rattle.std.specs.List.{Contains}
 use Rattle.std.proofs.lemmas.List.Elements.{All-contains, All-from_recursion}
@@ -10,6 +10,7 @@ use Rattle.diva_args.specs.Plain.{IsPlainLine, PlainLine, given_in, job_on}
 use Rattle.diva_args.specs.Rows.{cycles_row}
 use Rattle.diva_args.specs.Values.{dump_of, liar_of}
 use Rattle.diva_args.specs.declared.job.Job.TheVariants.{Run}
+use Rattle.diva_args.proofs.PlainEnd.{Enters, built_shape}
 use Rattle.diva_args.proofs.PlainTaken.{IsEntered, IsRegular, plain_taken}
 use Rattle.diva_args.proofs.PlainValues.{SameValues, one_source, same_at, same_number, same_values, wide_same}
 

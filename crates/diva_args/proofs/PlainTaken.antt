@@ -8,7 +8,7 @@ use Rattle.clap.specs.Simple.{Shape, argument_words, built}
 use Rattle.clap.proofs.WalkLemmas.{both}
 use Rattle.diva_args.specs.Command.{Leaf, app_with}
 use Rattle.diva_args.specs.Line.{taken}
-use Rattle.diva_args.specs.Plain.{IsPlainLine, PlainLine, Use, are_distinct, flagged, given_by, given_in, has_text, is_plain_word, is_use_of, name_of, names_in, use_words, valued, values_in}
+use Rattle.diva_args.specs.Plain.{IsPlainLine, PlainLine, Use, are_distinct, flagged, given_by, given_in, has_text, is_plain_word, is_use_of, name_of, names_in, use_words, valued, values_in, words_of}
 use Rattle.diva_args.proofs.PlainSteps.{Stands, given_row}
 use Rattle.diva_args.proofs.PlainFlags.{with_flags}
 use Rattle.diva_args.proofs.PlainOptions.{Given, Places, apart_at, are_apart, built_rules, has_first, has_later, is_name, line_end, serves}
