@@ -11,7 +11,7 @@ use crate::tasks::Task;
 use diva_core::Core;
 use diva_faults::Script;
 use diva_outside::{Sink, SinkFailed};
-use diva_tape::{Echo, Flood, Lockstep, Noise, Scalar, Silent, TapeCore};
+use diva_tape::{Echo, Flood, Lockstep, Noise, Scalar, Silent, Tape, TapeCore};
 use diva_vote::Lane;
 
 /// The core that drives a machine, with all memory that it ever needs.
@@ -25,7 +25,8 @@ pub enum CoreInUse {
     Flood,
     Echo,
     Noise(Noise),
-    Tape(TapeCore),
+    /// A core that plays this tape from its first list on.
+    Tape(Tape),
 }
 
 /// Does a task with the core in use, under a script; `own` is the core handed in, and `lanes` are those that may vote.
@@ -52,7 +53,14 @@ pub(crate) fn perform_by<T: Task, C: Core, S: Sink, L: Lane>(
         CoreInUse::Flood => perform_under(task, on, &mut Flood, script, lanes, sink),
         CoreInUse::Echo => perform_under(task, on, &mut Echo, script, lanes, sink),
         CoreInUse::Noise(noise) => perform_under(task, on, noise, script, lanes, sink),
-        CoreInUse::Tape(tape) => perform_under(task, on, tape, script, lanes, sink),
+        CoreInUse::Tape(tape) => perform_under(
+            task,
+            on,
+            &mut TapeCore::new(tape),
+            script,
+            lanes,
+            sink,
+        ),
     }
 }
 

@@ -22,7 +22,7 @@ use diva_image::Image;
 use diva_machine::Machine;
 use diva_outside::{Files, What};
 use diva_process::Stop;
-use diva_tape::{Noise, Scalar, TapeCore};
+use diva_tape::{Noise, Scalar};
 use std::alloc::Global;
 
 /// What a command needs that drives a machine.
@@ -173,7 +173,7 @@ fn load_core<F: Files>(alloc: Global, files: &mut F, choice: &CoreChoice) -> Res
         CoreChoice::Noise => Ok(CoreInUse::Noise(Noise::new(0))),
         CoreChoice::Tape(name) => {
             let tape = load(alloc, files, &TapeFile, name)?;
-            Ok(CoreInUse::Tape(TapeCore::new(tape)))
+            Ok(CoreInUse::Tape(tape))
         }
     }
 }

@@ -3,8 +3,8 @@
 use Rattle.std.specs.Prelude.{List, [], ◌∷◌, ◌++◌, codes}
 use Rattle.clap.specs.Walk.{Text}
 use Rattle.diva_args.specs.Command.{Leaf, leaves, machine_options, room_option, setup_options}
-use Rattle.diva_args.specs.Rows.{cycles_row, width_row}
-use Rattle.diva_lab_args.specs.Rows.{from_row, stop_row, to_row}
+use Rattle.diva_args.specs.Rows.{cycles_row, seed_row, width_row}
+use Rattle.diva_lab_args.specs.Rows.{count_row, earliest_row, first_row, from_row, latest_row, stop_row, to_row}
 
 -- the options of a run that is drawn: those of `run`, but for the part of memory to show
 abbrev pub drawn_options : List Text
@@ -29,9 +29,18 @@ judge = record {
   flags = codes "answer" ∷ [];
 }
 
--- its own commands
+abbrev pub inject : Leaf
+inject = record {
+  name = codes "inject";
+  positionals = codes "IMAGE" ∷ count_row.word ∷ seed_row.word ∷ [];
+  options =
+      setup_options ++ cycles_row.word ∷ codes "model" ∷ codes "fields" ∷ earliest_row.word ∷ latest_row.word ∷ codes "part" ∷ first_row.word ∷ [];
+  flags = [];
+}
+
+-- its own commands, but for `rate`
 abbrev pub own_leaves : List Leaf
-own_leaves = log ∷ draw ∷ judge ∷ []
+own_leaves = log ∷ draw ∷ judge ∷ inject ∷ []
 
 -- all of them
 abbrev pub lab_leaves : List Leaf

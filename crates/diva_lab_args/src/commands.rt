@@ -1,4 +1,4 @@
-// The table of the commands that the workbench has besides those of `diva`.
+// The table of the commands that the workbench has besides those of `diva`, but for `rate`, which takes any number of words.
 ghost use Rattle.std.specs.Prelude.{◌≡◌, IfOk, None, map};
 ghost use Rattle.clap.specs.Words.{subcommand_rows_of};
 ghost use Rattle.diva_args.specs.Line.{taken};
@@ -10,7 +10,7 @@ use diva_args::parts::{Leaf, matches};
 use std::alloc::Global;
 
 /// The workbench's own commands.
-static LEAVES: [Leaf; 3] = [
+static LEAVES: [Leaf; 4] = [
     Leaf {
         name: "log",
         positionals: &["IMAGE"],
@@ -36,6 +36,15 @@ static LEAVES: [Leaf; 3] = [
             "width", "window", "stores", "watchdog", "port", "room", "stop",
         ],
         flags: &["answer"],
+    },
+    Leaf {
+        name: "inject",
+        positionals: &["IMAGE", "COUNT", "SEED"],
+        options: &[
+            "core", "script", "tape", "width", "window", "stores", "watchdog", "port", "room",
+            "cycles", "model", "fields", "from", "to", "part", "first",
+        ],
+        flags: &[],
     },
 ];
 

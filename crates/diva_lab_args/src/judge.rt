@@ -1,15 +1,15 @@
 // The words of `judge`.
-ghost use Rattle.std.specs.Prelude.{◌≡◌, option_map};
+ghost use Rattle.std.specs.Prelude.{◌≡◌};
 ghost use Rattle.clap.specs.Walk.{rows_of};
 ghost use Rattle.clap.specs.Words.{found_of};
 ghost use Rattle.diva_args.specs.Fault.{Reads};
 ghost use Rattle.diva_args.specs.Line.{values_of};
-ghost use Rattle.diva_lab_args.specs.Lab.{judge_from, optional_by};
-ghost use Rattle.diva_lab_args.specs.Rows.{stop_row};
+ghost use Rattle.diva_lab_args.specs.Lab.{judge_from};
+ghost use Rattle.diva_lab_args.specs.Rows.{optional_of, stop_row};
 
-use crate::rows::STOP;
+use crate::rows::{STOP, optional};
 use clap::ArgMatches;
-use diva_args::parts::{file_of, is_set, number_within, or_usage, setup, text_of, width};
+use diva_args::parts::{file_of, is_set, or_usage, setup, width};
 use diva_args::{ArgsFault, FileName, Setup};
 use std::alloc::Global;
 
@@ -34,7 +34,7 @@ pub(crate) fn judge(alloc: Global, found: &ArgMatches<'_>) -> Result<JudgeOption
 {
     let setup = setup(alloc, found, width(found))?;
     let log = file_of(alloc, found, "LOG")?;
-    let stop = or_usage(stop(text_of(found, STOP.word)))?;
+    let stop = or_usage(stop(found))?;
     Ok(JudgeOptions {
         setup,
         log,
@@ -44,11 +44,11 @@ pub(crate) fn judge(alloc: Global, found: &ArgMatches<'_>) -> Result<JudgeOption
 }
 
 /// The number of `--stop`: `Some(None)` if the option is not given, and `None` if the word spells none in its range.
-fn stop(word: Option<&str>) -> Option<Option<u32>>
-    ensures { result ≡ optional_by stop_row (option_map (λ text. text.now) word.entry) }
+fn stop(found: &ArgMatches<'_>) -> Option<Option<u32>>
+    ensures { result ≡ optional_of stop_row (values_of (rows_of (found_of found.now))) }
 {
-    match word {
-        Some(word) => Some(Some(number_within::<1, { u32::MAX }>(word)?.get())),
+    match optional(found, &STOP)? {
+        Some(stop) => Some(Some(stop.get())),
         None => Some(None),
     }
 }

@@ -1,4 +1,4 @@
-// The words of the workbench: those of `diva`, and three commands more.
+// The words of the workbench: those of `diva`, and commands of its own.
 ghost use Rattle.std.specs.Prelude.{◌≡◌, IfOk, Err, None, Some, map, option_and_then};
 ghost use Rattle.clap.specs.Words.{subcommand_rows_of};
 ghost use Rattle.diva_args.specs.Fault.{Reads};
@@ -8,14 +8,16 @@ ghost use Rattle.diva_lab_args.specs.Lab.{lab_job_of, lab_job_on, lab_of};
 
 use crate::commands::lab_matches;
 use crate::draw::{DrawOptions, Format, drawing, drawn};
+use crate::inject::{InjectOptions, inject};
 use crate::judge::{JudgeOptions, judge};
+use crate::rate::{FileNames, rate};
 use clap::ArgMatches;
 use diva_args::parts::or_usage;
 use diva_args::{ArgsFault, Job, job_named};
 use std::alloc::Global;
 
 /// A command of the workbench with its options.
-#[derive(Debug, Drop)]
+#[derive(Drop)]
 pub enum LabJob {
     /// A command of `diva`.
     Diva(Job),
@@ -23,10 +25,15 @@ pub enum LabJob {
     Draw(DrawOptions),
     /// `judge IMAGE LOG`: judges what a log says of each instruction of an image.
     Judge(JudgeOptions),
+    /// `inject IMAGE COUNT SEED`: runs an image with faults that follow a seed, and says of each what became of the run.
+    Inject(InjectOptions),
+    /// `rate FILE..`: counts what lines of such runs say, in one file or more. The names are the words as they are, each of which may be
+    /// empty or `-`. A longer name that begins with `-` has to stand after the word `--`.
+    Rate(FileNames),
 }
 
-/// The job that the words ask for of the workbench. `words` are those after the program's name: `log`, `draw` or `judge` with an
-/// image and options, or any words of `diva`.
+/// The job that the words ask for of the workbench. `words` are those after the program's name: `log`, `draw`, `judge` or `inject` with an
+/// image and options, `rate` with the names of files, or any words of `diva`.
 ///
 /// The error is `Usage` where the words are not a valid command line, and `Memory` where memory runs out.
 #[tactic(auto, using(crate::proofs::LabLaw::plain_lab_line), unfolding(crate::specs::Lab::lab_of))]
@@ -39,8 +46,10 @@ pub fn read_lab_words(alloc: Global, words: &[&str]) -> Result<LabJob, ArgsFault
     ensures plain { (line : PlainLine) → IsPlainLine lab_leaves (map (λ w. w.now) words.now) line
         → lab_of (map (λ w. w.now) words.now) ≡ lab_job_on line }
 {
-    let matches = lab_matches(alloc, words)?;
-    job(alloc, &matches)
+    match words.split_first() {
+        Some((first, names)) if *first == "rate" => Ok(LabJob::Rate(rate(alloc, names)?)),
+        _ => job(alloc, &lab_matches(alloc, words)?),
+    }
 }
 
 /// The job of the subcommand that the matches entered.
@@ -52,6 +61,7 @@ fn job(alloc: Global, matches: &ArgMatches<'_>) -> Result<LabJob, ArgsFault>
         "log" => drawn(alloc, found, Some(Format::Log)),
         "draw" => drawn(alloc, found, drawing(found)),
         "judge" => Ok(LabJob::Judge(judge(alloc, found)?)),
+        "inject" => Ok(LabJob::Inject(inject(alloc, found)?)),
         _ => Ok(LabJob::Diva(job_named(alloc, name, found)?)),
     }
 }

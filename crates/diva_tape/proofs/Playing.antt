@@ -1,35 +1,24 @@
 -- The lists that a core hands over that plays a tape.
-use Rattle.std.proofs.Common.{◌≡◌, ◌≤◌, ◌<◌, ◌+◌, ℕ, suc, List, [], ◌∷◌, ◌++◌, length, take, drop, get_or, replicate, sum, refl, ap, sym, ◌∙◌, arith, append_assoc, add-one, length-append, length-drop}
-use Rattle.std.proofs.lemmas.List.{take-append-le, length-replicate, replicate_more, drop-drop}
+use Rattle.std.proofs.Common.{◌≡◌, ◌≤◌, ℕ, suc, List, [], ◌∷◌, ◌++◌, length, take, drop, replicate, refl, ap, sym, ◌∙◌, arith, append_assoc, add-one, length-append, length-drop}
+use Rattle.std.proofs.lemmas.List.{take-append-le, length-replicate, replicate_more}
 use Rattle.std.proofs.lemmas.List.Elements.{All-drop}
-use Rattle.std.proofs.lemmas.List.Sums.{sum_by-drop_more}
+use Rattle.std.proofs.lemmas.List.Sums.{sum_by-cons}
 use Rattle.diva_isa.specs.declared.record.Record.{Record}
 use Rattle.diva_core.specs.Cycle.{cycle_of}
 use Rattle.diva_core.specs.History.{IsHistory, lists_of}
 use Rattle.diva_core.specs.Timed.{Timed}
 use Rattle.diva_tape.specs.TapeCalls.{next_list, later_lists, tape_call, played}
-use Rattle.diva_tape.specs.TapeParts.{IsPlayed}
+use Rattle.diva_tape.specs.TapeParts.{IsParted}
 
 -- ---- one call
 
-module _ (counts : List ℕ) (claims : List Record) (calls place : ℕ) (is : IsPlayed counts claims calls place) (more : calls < length counts) where
-  left : sum (drop calls counts) ≡ get_or counts calls 0 + sum (drop (calls + 1) counts)
-  left = sum_by-drop_more (λ n. n) counts calls 0 more
-
-  inside : place + get_or counts calls 0 ≤ length claims
-  inside = let w = is.rest.whole in let l = left in let d = length-drop place claims in let h = is.handed in omega arith
-
-  pub still_played : IsPlayed counts claims (calls + 1) (place + get_or counts calls 0)
-  still_played =
-      record {
-        called = omega arith;
-        handed = inside;
-        rest =
-            record {
-              most = λ k d h. rw (← drop-drop 1 calls counts) (All-drop (λ n. n ≤ 8) 1 (drop calls counts) is.rest.most k d (rw drop-drop h));
-              whole = (let w = is.rest.whole in let l = left in let d = length-drop place claims in let e = length-drop (place + get_or counts calls 0) claims in let h = inside in omega arith);
-            };
-      }
+-- without the first list, those that are left are parted too
+pub rest_parted : (count : ℕ) (counts : List ℕ) (claims : List Record) → IsParted (count ∷ counts) claims → IsParted counts (drop count claims)
+rest_parted count counts claims is =
+    record {
+      most = All-drop (λ n. n ≤ 8) 1 (count ∷ counts) is.most;
+      whole = (let w = is.whole in let s = sum_by-cons (λ n. n) count counts in let d = length-drop count claims in omega arith);
+    }
 
 -- ---- all calls
 

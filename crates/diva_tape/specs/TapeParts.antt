@@ -13,9 +13,3 @@ parted (count ∷ counts) claims = take count claims ∷ parted counts (drop cou
 pub record IsParted (counts : List ℕ) (claims : List Record) : Type 0 where
   pub most : All (λ count. count ≤ 8) counts
   pub whole : sum counts ≡ length claims
-
--- so many calls were made, and the claims of the next one begin at a place
-pub record IsPlayed (counts : List ℕ) (claims : List Record) (calls place : ℕ) : Type 0 where
-  pub called : calls ≤ length counts
-  pub handed : place ≤ length claims
-  pub rest : IsParted (drop calls counts) (drop place claims)

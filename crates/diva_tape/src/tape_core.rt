@@ -2,61 +2,71 @@
 ghost use Rattle.std.specs.Prelude.{◌≡◌, ◌≤◌, [], length};
 
 use crate::tape::Tape;
-use diva_core::{Claim, Claims, Core, Told, View};
+use diva_core::{Claim, Claims, CopyCore, Core, Told, View};
+use std::alloc::{AllocError, Global};
 use std::marker::Model;
 
 /// A core that hands over the lists of a tape, one in each call, and nothing past the last, whatever it is told.
 ///
-/// No call takes memory.
+/// It borrows the tape, so neither a call nor a copy of it takes memory.
 #[derive(Debug, Drop)]
-pub struct TapeCore {
-    claims: Vec<Claim>,
-    counts: Vec<u8>,
-    /// Where the claims of the next list begin.
-    place: usize,
-    /// How many lists were handed over.
-    calls: usize,
+pub struct TapeCore<'t> {
+    /// The claims of the lists that are left, one after another.
+    claims: &'t [Claim],
+    /// How many claims each of these lists has.
+    counts: &'t [u8],
 }
 
-impl Model for TapeCore {
-    ghost use Rattle.std.specs.Prelude.{List, drop};
+impl<'t> Model for TapeCore<'t> {
+    ghost use Rattle.std.specs.Prelude.{List};
     ghost use Rattle.diva_isa.specs.declared.record.Record.{Record};
-    ghost use Rattle.diva_tape.specs.TapeParts.{parted, IsPlayed};
+    ghost use Rattle.diva_tape.specs.TapeParts.{parted, IsParted};
 
     ghost Value = { List (List Record) };
 
-    ghost view = { λ c. parted (drop c.calls c.counts.items) (drop c.place c.claims.items) };
+    ghost view = { λ c. parted c.counts.now c.claims.now };
 
-    ghost invariant = { λ c. IsPlayed c.counts.items c.claims.items c.calls c.place };
+    ghost invariant = { λ c. IsParted c.counts.now c.claims.now };
 }
 
-impl TapeCore {
+impl<'t> TapeCore<'t> {
     /// A core that is to play the whole tape.
-    pub fn new(tape: Tape) -> Self
-        ensures { result ≡ tape }
+    pub fn new(tape: &'t Tape) -> Self
+        ensures { result ≡ tape.now }
     {
         TapeCore {
-            claims: tape.claims,
-            counts: tape.counts,
-            place: 0,
-            calls: 0,
+            claims: &tape.claims,
+            counts: &tape.counts,
         }
     }
 }
 
-impl Core for TapeCore {
+impl Core for TapeCore<'_> {
     ghost use Rattle.diva_tape.specs.TapeCalls.{tape_call};
 
     ghost gives = { tape_call };
 
     fn cycle(&mut self, _told: &Told, _view: &View<'_>, out: &mut Claims) {
-        if self.calls == self.counts.len() {
-            return;
+        if let Some((count, counts)) = self.counts.split_first() {
+            let (list, claims) = self.claims.split_at(usize::from(*count));
+            hand_over(list, out);
+            self.claims = claims;
+            self.counts = counts;
         }
-        let end = self.place + usize::from(self.counts[self.calls]);
-        hand_over(&self.claims[self.place..end], out);
-        self.place = end;
-        self.calls += 1;
+    }
+}
+
+impl CopyCore for TapeCore<'_> {
+    fn copied(&self, _alloc: Global) -> Result<Self, AllocError> {
+        Ok(TapeCore {
+            claims: self.claims,
+            counts: self.counts,
+        })
+    }
+
+    fn copy_from(&mut self, other: &Self) {
+        self.claims = other.claims;
+        self.counts = other.counts;
     }
 }
 

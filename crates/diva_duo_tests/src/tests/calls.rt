@@ -1,8 +1,9 @@
 // Two harts on given lists, action by action.
 mod tables;
 
-use crate::tests::harts::{GO_0, GO_1, compare_flushes, duo_of, tape_core, word_at};
+use crate::tests::harts::{GO_0, GO_1, compare_flushes, duo_of, word_at};
 use diva_duo::{Action, Drive, Duo, drive2};
+use diva_tape::{Tape, TapeCore};
 use std::alloc::Global;
 use std::process::Abort;
 use std::test::Fail;
@@ -12,8 +13,10 @@ use tables::{ENDS, ORDERS, Row, VALUES, WAITS};
 /// the row's cycles, and not before.
 fn compare_cycles(rt: &impl Abort, alloc: Global, row: &Row) -> Result<(), Fail> {
     let mut duo = duo_of(alloc, 64, row.words, row.numbers)?;
-    let mut first = tape_core(alloc, row.tapes[0])?;
-    let mut second = tape_core(alloc, row.tapes[1])?;
+    let first_tape = Tape::read(alloc, row.tapes[0])?;
+    let second_tape = Tape::read(alloc, row.tapes[1])?;
+    let mut first = TapeCore::new(&first_tape);
+    let mut second = TapeCore::new(&second_tape);
     for before in 0..row.cycles {
         assert_eq!(rt; duo.cycles(), u64::from(before), "{}", row.name);
         let driven = drive2(&mut duo, &mut first, &mut second, 1);

@@ -4,7 +4,6 @@ ghost use Rattle.std.specs.Prelude.{◌≡◌, ◌<◌, IfOk};
 use diva_core::{Cause, Config, Diff, Field, FlushRow};
 use diva_duo::{Action, Duo};
 use diva_image::Image;
-use diva_tape::{Tape, TapeCore};
 use std::alloc::Global;
 use std::process::Abort;
 use std::test::Fail;
@@ -43,11 +42,6 @@ pub(crate) fn duo_of(alloc: Global, size: u32, words: &[u32], numbers: Numbers) 
     let [width, window, stores, limit] = numbers;
     let config = Config::new(width, window, stores, limit).ok_or("a number out of its range")?;
     Ok(Duo::new(alloc, &image, config)?)
-}
-
-/// A core that plays a text.
-pub(crate) fn tape_core(alloc: Global, text: &[u8]) -> Result<TapeCore, Fail> {
-    Ok(TapeCore::new(Tape::read(alloc, text)?))
 }
 
 /// The word at an address of the shared memory, whose lowest byte comes first; a byte outside counts as 0.

@@ -5,11 +5,11 @@ mod cores;
 mod shapes;
 mod tables;
 
-use crate::tests::harts::{duo_of, tape_core, word_at};
+use crate::tests::harts::{duo_of, word_at};
 use cores::Planned;
 use diva_core::{Cause, Diff, Field, FlushRow};
 use diva_duo::{Drive, Duo, drive2};
-use diva_tape::{Scalar, TapeCore};
+use diva_tape::{Scalar, Tape, TapeCore};
 use shapes::{Came, SHAPES, Shape};
 use std::alloc::{AllocError, Global};
 use std::process::Abort;
@@ -182,21 +182,23 @@ fn compare_shape(rt: &impl Abort, alloc: Global, shape: &Shape) -> Result<(), Fa
 /// Two harts that are over, to which the tapes of a shape were played, so many cycles late.
 fn played(rt: &impl Abort, alloc: Global, shape: &Shape, late: [u32; 2]) -> Result<Duo, Fail> {
     let mut duo = duo_of(alloc, 128, shape.words, [4, 16, 4, 64])?;
-    let mut first = late_core(alloc, shape.tapes[0], late[0])?;
-    let mut second = late_core(alloc, shape.tapes[1], late[1])?;
+    let first_tape = late_tape(alloc, shape.tapes[0], late[0])?;
+    let second_tape = late_tape(alloc, shape.tapes[1], late[1])?;
+    let mut first = TapeCore::new(&first_tape);
+    let mut second = TapeCore::new(&second_tape);
     let driven = drive2(&mut duo, &mut first, &mut second, 500);
     assert_eq!(rt; driven, Drive::Ended, "{}", shape.name);
     Ok(duo)
 }
 
-/// A core that plays a tape behind so many empty lists.
-fn late_core(alloc: Global, tape: &[u8], late: u32) -> Result<TapeCore, Fail> {
+/// A tape behind so many empty lists.
+fn late_tape(alloc: Global, tape: &[u8], late: u32) -> Result<Tape, Fail> {
     let mut text = Vec::new(alloc);
     for _ in 0..late {
         text.push(b'\n')?;
     }
     text.extend_from_slice(tape)?;
-    tape_core(alloc, text.as_slice())
+    Ok(Tape::read(alloc, text.as_slice())?)
 }
 
 /// Whether the first flush of a hart, 0 or 1, came since a value that was claimed was not due.

@@ -1,13 +1,11 @@
 // All that is seen of two harts, between some cycles of a run.
 ghost use Rattle.std.specs.Prelude.{◌<◌};
 
-use crate::tests::harts::{
-    DRAIN_0, DRAIN_1, Flush, GO_0, GO_1, compare_flushes, duo_of, tape_core, word_at,
-};
+use crate::tests::harts::{DRAIN_0, DRAIN_1, Flush, GO_0, GO_1, compare_flushes, duo_of, word_at};
 use diva_core::Field;
 use diva_duo::{Action, Drive, Duo, drive2};
 use diva_isa::End;
-use diva_tape::TapeCore;
+use diva_tape::{Tape, TapeCore};
 use diva_test_programs::{Numbers, laid, numbers};
 use std::process::Abort;
 use std::test::Fail;
@@ -68,8 +66,8 @@ static MOMENTS: [Moment; 6] = laid! {
 fn drive_to(
     rt: &impl Abort,
     duo: &mut Duo,
-    first: &mut TapeCore,
-    second: &mut TapeCore,
+    first: &mut TapeCore<'_>,
+    second: &mut TapeCore<'_>,
     cycles: u32,
 ) {
     assert!(rt; duo.cycles() <= u64::from(cycles));
@@ -128,8 +126,10 @@ fn compare_hart(rt: &impl Abort, duo: &Duo, hart: u8, moment: &Moment)
 #[test]
 fn all_that_is_seen(rt: HostRuntime) -> Result<(), Fail> {
     let mut duo = duo_of(rt.alloc(), 64, &WORDS, [2, 16, 4, 16])?;
-    let mut first = tape_core(rt.alloc(), FIRST)?;
-    let mut second = tape_core(rt.alloc(), SECOND)?;
+    let first_tape = Tape::read(rt.alloc(), FIRST)?;
+    let second_tape = Tape::read(rt.alloc(), SECOND)?;
+    let mut first = TapeCore::new(&first_tape);
+    let mut second = TapeCore::new(&second_tape);
     for moment in &MOMENTS {
         drive_to(&rt, &mut duo, &mut first, &mut second, moment.cycles);
         compare_moment(&rt, &duo, moment);

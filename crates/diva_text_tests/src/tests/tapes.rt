@@ -59,7 +59,8 @@ fn fault_of(alloc: Global, text: &[u8]) -> Option<TapeFault> {
 
 /// What the core of a tape hands over in some calls, a line for each.
 fn played(alloc: Global, tape: &str, calls: u64) -> Result<Vec<u8>, Fail> {
-    let mut core = TapeCore::new(Tape::read(alloc, tape.as_bytes())?);
+    let tape = Tape::read(alloc, tape.as_bytes())?;
+    let mut core = TapeCore::new(&tape);
     let mut text = Vec::new(alloc);
     for cycle in 0..calls {
         let list = list_of(alloc, &mut core, cycle, 0)?;

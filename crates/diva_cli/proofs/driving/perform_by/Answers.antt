@@ -25,4 +25,4 @@ pub returns-in-Noise : goal.returns-in-Noise
 returns-in-Noise g c = rw c.in-Noise.is (plays_other g.C.Core.gives _ _ _ _ _ _ _ _ c.perform_under-in-Noise.ensures _ (λ h. h))
 
 pub returns-in-Tape : goal.returns-in-Tape
-returns-in-Tape g c = rw c.in-Tape.is (plays_other g.C.Core.gives _ _ _ _ _ _ _ _ c.perform_under-in-Tape.ensures _ (λ h. h))
+returns-in-Tape g c = rw (c.in-Tape.is, ← c.new.ensures) (plays_other g.C.Core.gives _ _ _ _ _ _ _ _ c.perform_under-in-Tape.ensures _ (λ h. h))

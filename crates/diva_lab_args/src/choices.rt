@@ -1,0 +1,81 @@
+// Lists of names with commas between them.
+ghost use Rattle.std.specs.Prelude.{◌≡◌, ◌≤◌, ◌∷◌, ◌++◌, [], find, length};
+ghost use Rattle.std.specs.Str.{bytes_eq};
+ghost use Rattle.diva_core.specs.Difference.{all_fields, field_name};
+ghost use Rattle.diva_inject.specs.Models.{model_name};
+ghost use Rattle.diva_lab_args.specs.Choices.{all_models, at_most, choice_of, field_named, model_named};
+ghost use Rattle.diva_lab_args.specs.Inner.{items_in};
+
+use diva_core::Field;
+use diva_inject::{Choice, FaultModel};
+use diva_outside::is_word;
+
+/// What a list of names can have.
+pub(crate) trait Named: Copy {
+    ghost use Rattle.std.specs.Prelude.{Option};
+    ghost use Rattle.clap.specs.Walk.{Text};
+
+    /// The item of a name.
+    ghost named: { Text → Option Self };
+
+    /// The item of this name, if there is one.
+    fn named(name: &str) -> Option<Self>
+        ensures { result ≡ named name.now };
+}
+
+impl Named for FaultModel {
+    ghost use Rattle.diva_lab_args.specs.Choices.{model_named};
+
+    ghost named = { model_named };
+
+    fn named(name: &str) -> Option<FaultModel> {
+        FaultModel::ALL
+            .iter()
+            .copied()
+            .find(|model| is_word(name.as_bytes(), model.name()))
+    }
+}
+
+impl Named for Field {
+    ghost use Rattle.diva_lab_args.specs.Choices.{field_named};
+
+    ghost named = { field_named };
+
+    fn named(name: &str) -> Option<Field> {
+        Field::ALL
+            .iter()
+            .copied()
+            .find(|field| is_word(name.as_bytes(), field.name()))
+    }
+}
+
+/// The items of one name to `MOST`, with commas between them.
+#[tactic(auto, unfolding(crate::specs::Choices::choice_of))]
+pub(crate) fn choice<T: Named, const MOST: usize>(word: &str) -> Option<Choice<T, MOST>>
+    requires { 1 ≤ MOST }
+    ensures { result ≡ choice_of T.named MOST word.now }
+{
+    let mut choice = None;
+    for name in word.split(',') {
+        choice = Some(with_item(choice, T::named(name)?)?);
+    }
+    choice
+}
+
+/// The items with one more, if there is room for it.
+fn with_item<T: Copy, const MOST: usize>(
+    choice: Option<Choice<T, MOST>>,
+    item: T,
+) -> Option<Choice<T, MOST>>
+    requires { 1 ≤ MOST }
+    ensures { result ≡ at_most MOST (items_in choice ++ item ∷ []) }
+{
+    let Some(mut choice) = choice else {
+        return Some(Choice::of(item));
+    };
+    if choice.len() == MOST {
+        return None;
+    }
+    choice.push(item);
+    Some(choice)
+}

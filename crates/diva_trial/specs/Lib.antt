@@ -1,0 +1,7 @@
+-- What the contracts of this crate and of those above it cite.
+pub mod Paths
+pub mod Trials
+pub mod Kept
+pub mod Begun
+-- what only private contracts cite
+pub mod Inner
