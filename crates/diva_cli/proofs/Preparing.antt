@@ -1,19 +1,22 @@
 -- What was loaded, as the machine, the core and the script that a command needs.
-use Rattle.std.proofs.Common.{◌≡◌, ℕ, List, [], ◌∷◌, ◌++◌, Option, Some, None, sym, ap, ◌∙◌}
+use Rattle.std.proofs.Common.{◌≡◌, ℕ, List, [], ◌∷◌, ◌++◌, Option, Some, None, sym, ap, subst, ◌∙◌}
 use Rattle.diva_outside.specs.Files.{Contents}
 use Rattle.diva_outside.specs.declared.files.What.TheVariants.{Image, Script, Tape as TapeFile, Commands}
+use Rattle.diva_image.specs.ImageLayout.{layout}
 use Rattle.diva_image.specs.Layout.{Layout}
 use Rattle.diva_image.specs.Programs.{image_in}
 use Rattle.diva_core.specs.Timed.{new_timed}
 use Rattle.diva_hart.specs.Start.{start_of}
 use Rattle.diva_args.specs.Options.{DebugOptions, Setup}
+use Rattle.diva_cli.specs.declared.loading.Loaded.{Loaded}
 use Rattle.diva_cli.specs.declared.loading.Ready.{Ready}
 use Rattle.diva_cli.specs.declared.loading.SessionReady.{SessionReady}
 use Rattle.diva_process.specs.Stops.{AreSound}
 use Rattle.diva_process.specs.Programs.{FileBytes}
 use Rattle.diva_cli.specs.Wanted.{file, file_if, file_rules, file_with, machine_files, tape_name}
 use Rattle.diva_cli.specs.Parts.{AreCommands, Holds, HoldsRows, HoldsCore, HoldsSession}
-use Rattle.diva_cli.specs.Ready.{HoldsReady}
+use Rattle.diva_cli.specs.Ready.{HoldsLoaded, HoldsReady, IsCore}
+use Rattle.diva_cli.specs.Sessions.{AreRows}
 use Rattle.diva_cli.proofs.Stopping.{sound_both, sound_if}
 
 -- the bytes of an image, a script and a tape
@@ -23,13 +26,12 @@ all image script tape Script = script
 all image script tape TapeFile = tape
 all image script tape _ = []
 
-pub ready_held : (contents : Contents) (setup : Setup) (i : Layout) (ready : Ready)
-    → Holds contents (file_with setup.room Image setup.image) (λ bytes. image_in setup.room bytes ≡ i)
-    → HoldsRows contents setup.script ready.script
-    → HoldsCore contents setup.core ready.core
-    → ready.machine.timed ≡ new_timed setup.config (start_of i)
-    → HoldsReady contents setup ready
-ready_held contents setup i ready image script core begun =
+pub loaded_held : (contents : Contents) (setup : Setup) (loaded : Loaded)
+    → Holds contents (file_with setup.room Image setup.image) (λ bytes. image_in setup.room bytes ≡ layout loaded.image)
+    → HoldsRows contents setup.script loaded.script
+    → HoldsCore contents setup.core loaded.core
+    → HoldsLoaded contents setup loaded
+loaded_held contents setup loaded image script core =
     record {
       bytes = all image.bytes script.bytes core.bytes;
       sound = (
@@ -38,10 +40,23 @@ ready_held contents setup i ready image script core begun =
             (sound_if contents Script setup.script (all image.bytes script.bytes core.bytes) script.sound)
             (sound_if contents TapeFile (tape_name setup.core) (all image.bytes script.bytes core.bytes) core.sound),
       );
+      is = record { image = sym image.holds; rows = script.holds; core = core.holds };
+    }
+
+pub ready_held : (contents : Contents) (setup : Setup) (loaded : Loaded) (ready : Ready)
+    → HoldsLoaded contents setup loaded
+    → ready.machine.timed ≡ new_timed setup.config (start_of (layout loaded.image))
+    → ready.script ≡ loaded.script
+    → ready.core ≡ loaded.core
+    → HoldsReady contents setup ready
+ready_held contents setup loaded ready h begun script core =
+    record {
+      bytes = h.bytes;
+      sound = h.sound;
       is = record {
-        begun = begun ∙ ap (λ (l : Layout). new_timed setup.config (start_of l)) (sym image.holds);
-        rows = script.holds;
-        core = core.holds;
+        begun = begun ∙ ap (λ (l : Layout). new_timed setup.config (start_of l)) h.is.image;
+        rows = subst (AreRows setup.script (h.bytes Script)) (sym script) h.is.rows;
+        core = subst (IsCore setup.core (h.bytes TapeFile)) (sym core) h.is.core;
       };
     }
 

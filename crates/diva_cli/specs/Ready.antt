@@ -3,7 +3,9 @@
 -- Cited by `make_ready` and `Watched::drive`.
 use Rattle.std.specs.Prelude.{◌≡◌, ◌+◌, ℕ, List, [], ◌∷◌, length}
 use Rattle.diva_outside.specs.Files.{Contents}
-use Rattle.diva_outside.specs.declared.files.What.TheVariants.{Script, Tape as TapeFile}
+use Rattle.diva_outside.specs.declared.files.What.TheVariants.{Image, Script, Tape as TapeFile}
+use Rattle.diva_image.specs.ImageLayout.{layout}
+use Rattle.diva_image.specs.Programs.{image_in}
 use Rattle.diva_isa.specs.declared.record.Record.{Record}
 use Rattle.diva_core.specs.Timed.{Timed, new_timed}
 use Rattle.diva_core.specs.History.{Meaning}
@@ -24,6 +26,7 @@ use Rattle.diva_cli.specs.Sessions.{AreLists, AreRows, start_in}
 use Rattle.diva_cli.specs.Wanted.{file_rules, machine_files, tape_name}
 use Rattle.diva_cli.specs.declared.driving.CoreInUse.{CoreInUse}
 use Rattle.diva_cli.specs.declared.driving.CoreInUse.TheVariants.{Own, Lockstep, Scalar, Silent, Flood, Echo, Noise, Tape}
+use Rattle.diva_cli.specs.declared.loading.Loaded.{Loaded}
 use Rattle.diva_cli.specs.declared.loading.Ready.{Ready}
 use Rattle.diva_args.specs.declared.job.CoreChoice.TheVariants as choice
 
@@ -45,6 +48,18 @@ pub record IsCore (asked : CoreChoice) (bytes : List ℕ) (core : CoreInUse) : T
   pub tape : List (List Record)
   pub lists : AreLists (tape_name asked) bytes tape
   pub is : core ≡ core_for asked tape
+
+-- the image is that of these bytes, the script has their rows, and the core is the one asked for
+pub record IsLoaded (setup : Setup) (bytes : FileBytes) (loaded : Loaded) : Type 0 where
+  pub image : layout loaded.image ≡ image_in setup.room (bytes Image)
+  pub rows : AreRows setup.script (bytes Script) loaded.script
+  pub core : IsCore setup.core (bytes TapeFile) loaded.core
+
+-- the same, of the bytes of sound files with these names
+pub record HoldsLoaded (contents : Contents) (setup : Setup) (loaded : Loaded) : Type 0 where
+  pub bytes : FileBytes
+  pub sound : AreSound file_rules contents (machine_files setup) bytes
+  pub is : IsLoaded setup bytes loaded
 
 -- the machine is new and begins with the image of these bytes, the script has their rows, and the core is the one asked for
 pub record IsReady (setup : Setup) (bytes : FileBytes) (ready : Ready) : Type 0 where

@@ -61,7 +61,7 @@ pub use diva_process::Failure;
 pub use diva_soak::soak_image;
 pub use driving::CoreInUse;
 pub use lanes::{LanePair, Lanes};
-pub use loading::{Ready, make_ready};
+pub use loading::{Loaded, Ready, load_machine_files, make_ready};
 pub use program::{top, work};
 pub use sure::top_sure;
 pub use tasks::Watched;

@@ -10,7 +10,7 @@ ghost use Rattle.diva_cli.specs.Replies.{keep};
 ghost use Rattle.diva_cli.specs.Wanted.{file_if, file_limit, file_with, machine_files, session_files, tape_name, file_rules};
 ghost use Rattle.diva_process.specs.Writing.{Stops};
 ghost use Rattle.diva_cli.specs.Parts.{Holds, HoldsCore, HoldsRows, HoldsSession};
-ghost use Rattle.diva_cli.specs.Ready.{HoldsReady};
+ghost use Rattle.diva_cli.specs.Ready.{HoldsLoaded, HoldsReady};
 ghost use Rattle.diva_outside.specs.Lent.{lent};
 
 use crate::driving::CoreInUse;
@@ -105,24 +105,23 @@ pub(crate) fn make_session<F: Files>(
 
 /// What was read of the files of a machine.
 #[derive(Drop)]
-struct Loaded {
-    image: Image,
-    script: Script,
-    core: CoreInUse,
+pub struct Loaded {
+    /// What the machine begins with.
+    pub image: Image,
+    /// What is laid over the core.
+    pub script: Script,
+    /// The core that drives it, but for one that is handed in.
+    pub core: CoreInUse,
 }
 
 /// The image of a setup, then the script, if there is one, and then the tape, if that is the core.
-fn load_machine_files<F: Files>(alloc: Global, files: &mut F, setup: &Setup) -> Result<Loaded, Stop>
+pub fn load_machine_files<F: Files>(alloc: Global, files: &mut F, setup: &Setup) -> Result<Loaded, Stop>
     ensures stays { (F.account files.new).contents ≡ (F.account files.old).contents }
     ensures later { (w : What) → (F.account files.old).faults w ≤ (F.account files.new).faults w }
     ensures others { (w : What) → w ≢ What.Image → w ≢ What.Script → w ≢ What.Tape
         → (F.account files.new).faults w ≡ (F.account files.old).faults w }
     ensures uncounted { OnOk result (IsUncounted (lent F.account files.old files.new)) }
-    ensures image { IfOk result (λ loaded. Holds (F.account files.old).contents
-        (file_with setup.now.room What.Image setup.now.image)
-        (λ bytes. image_in setup.now.room bytes ≡ layout loaded.image)) }
-    ensures script { IfOk result (λ loaded. HoldsRows (F.account files.old).contents setup.now.script loaded.script) }
-    ensures core { IfOk result (λ loaded. HoldsCore (F.account files.old).contents setup.now.core loaded.core) }
+    ensures loaded { IfOk result (HoldsLoaded (F.account files.old).contents setup.now) }
     ensures stopped { IfErr result (λ stop. Stops file_rules (F.account files.old) (F.account files.new) (machine_files setup.now) stop) }
 {
     let image = load(alloc, files, &ImageFile { room: setup.room }, &setup.image)?;

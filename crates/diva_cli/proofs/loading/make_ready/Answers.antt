@@ -1,5 +1,5 @@
 -- The machine begins with the image that was loaded, and the script and the core are those of their files.
-use Rattle.std.proofs.Common.{ap, ◌∙◌}
+use Rattle.std.proofs.Common.{ap, refl, ◌∙◌}
 use Rattle.diva_core.specs.Timed.{new_timed}
 use Rattle.diva_image.specs.ImageLayout.{layout}
 use Rattle.diva_hart.specs.Start.{start_of}
@@ -9,5 +9,5 @@ use Rattle.diva_cli.proofs.loading.make_ready.Goals as goal
 
 pub returns-clause-ready : goal.returns-clause-ready
 returns-clause-ready g c =
-    ready_held (g.F.Files.account c.args.files.now).contents c.args.setup.now (layout c.in_ok-image.field-0.image) _ c.in_ok-image.ensures.image c.in_ok-image.ensures.script c.in_ok-image.ensures.core
-    (c.in_ok-machine.ensures.timed ∙ ap (λ (s : Setup). new_timed s.config (start_of (layout c.in_ok-image.field-0.image))) c.setup.view_is)
+    ready_held (g.F.Files.account c.args.files.now).contents c.args.setup.now c.in_ok-image.field-0 _ c.in_ok-image.ensures.loaded
+    (c.in_ok-machine.ensures.timed ∙ ap (λ (s : Setup). new_timed s.config (start_of (layout c.in_ok-image.field-0.image))) c.setup.view_is) refl refl
