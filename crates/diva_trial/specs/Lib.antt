@@ -3,5 +3,7 @@ pub mod Paths
 pub mod Trials
 pub mod Kept
 pub mod Begun
+pub mod Lines
 -- what only private contracts cite
 pub mod Inner
+pub mod Putting
