@@ -1,4 +1,5 @@
 -- The lemmas of this crate.
 pub mod DrawRunning
-pub mod LabWorking
+pub mod InjectRunning
 pub mod JudgeRunning
+pub mod LabWorking

@@ -10,12 +10,14 @@ ghost use Rattle.diva_workbench.specs.Lab.{lab, lab_usage_line, lab_wanted, lab_
 ghost use Rattle.diva_cli.specs.Lanes.{AreHonest, are_asked};
 
 use crate::drawing::draw;
+use crate::injecting::inject;
 use crate::judging::judge_log;
 use diva_args::ArgsFault;
 use diva_cli::{Lanes, work};
-use diva_core::Core;
+use diva_core::CopyCore;
 use diva_lab_args::{LabJob, read_lab_words};
 use diva_outside::{Files, Line, Sink};
+use diva_rating::rate_files;
 use diva_process::{Failure, Front, Status, run_process};
 use diva_source::Source;
 use diva_vote::Lane;
@@ -31,23 +33,24 @@ pub struct Hands<C, D> {
 }
 
 /// Runs the workbench on the words of its command line (without its name) over the files, the sink
-/// what it has in its hands, and answers the number of its status. It does all that [`top`](diva_cli::top) does, and has three
+/// and what it has in its hands, and answers the number of its status. It does all that [`top`](diva_cli::top) does, and has five
 /// commands besides. The statuses of `log` and `draw` are those of `run`: what is drawn of a run is told from what is seen of the machine
 /// after each cycle, and all that is promised of a run holds of it. `judge` reads the log of a core line by line, and tells by its status
-/// whether all that the log says of the program's instructions is due.
+/// whether all that the log says of the program's instructions is due. `inject` runs an image under one fault after the other, with the checker
+/// and without it, and `rate` tells the rates of such faults.
 ///
 /// | status | comes |
 /// |---|---|
-/// | 0 | the run halted, of two harts both, of a campaign the first run; of the commands that run nothing to its end, the whole text was written; each line of a log that is judged is right, and each instruction has its line |
+/// | 0 | the run halted, of two harts both, of a campaign the first run; of the commands that run nothing to its end, and of `inject` and `rate`, the whole text was written; each line of a log that is judged is right, and each instruction has its line |
 /// | 2 | the words are not a valid command line; the usage line is written |
 /// | 3 | the run trapped, of a campaign the first one; of two harts both have ended, and one by a trap at least; a log is right as for 0, and the program traps |
 /// | 4 | exactly the cycles asked for were run, and the machine goes on; of two harts one does, or owes a store; a log ends before its program does, and no line of it is wrong |
-/// | 5 | the first file that can't be used has a fault, or is too long, or a line of a log has a fault; a line says so |
+/// | 5 | the first file that can't be used has a fault, or is too long, or a line of a log, or of a file that is rated, has a fault; a line says so |
 /// | 6 | a line of a log is wrong, or lines are left over after the program's end |
-/// | 8 | the first file that can't be used can't be read, or a log can't be read to its end; a line says so |
+/// | 8 | the first file that can't be used can't be read, or a log, or a file that is rated, can't be read to its end, or memory ran out for the lines of the latter; a line says so |
 /// | 9 | the sink failed; a prefix of the text was written |
 /// | 10 | memory ran out; nothing was written |
-pub fn lab_top<F: Files, S: Sink, C: Core, D: Source>(
+pub fn lab_top<F: Files, S: Sink, C: CopyCore + Drop, D: Source>(
     alloc: Global,
     words: &[&str],
     files: &mut F,
@@ -63,7 +66,7 @@ pub fn lab_top<F: Files, S: Sink, C: Core, D: Source>(
 /// The workbench, over what it has in its hands.
 struct Lab;
 
-impl<C: Core, D: Source> Front<Hands<C, D>> for Lab {
+impl<C: CopyCore + Drop, D: Source> Front<Hands<C, D>> for Lab {
     ghost use Rattle.diva_workbench.specs.Lab.{LabEnds, lab, own_lab_done};
 
     type Job = LabJob;
@@ -108,7 +111,7 @@ impl<C: Core, D: Source> Front<Hands<C, D>> for Lab {
 
 /// Does a job of the workbench over the files, the sink, the core, the source and the lanes that it is handed, as [`work`](diva_cli::work)
 /// does one of `diva`. The lanes are asked in a run that is drawn as they are in `run`.
-pub fn lab_work<F: Files, S: Sink, C: Core, D: Source, L: Lane>(
+pub fn lab_work<F: Files, S: Sink, C: CopyCore + Drop, D: Source, L: Lane>(
     alloc: Global,
     job: LabJob,
     files: &mut F,
@@ -127,6 +130,8 @@ pub fn lab_work<F: Files, S: Sink, C: Core, D: Source, L: Lane>(
         LabJob::Diva(job) => work(alloc, job, files, sink, core, lanes),
         LabJob::Draw(options) => draw(alloc, options, files, sink, core, lanes),
         LabJob::Judge(options) => judge_log(alloc, &options, files, sink, source),
+        LabJob::Inject(options) => inject(alloc, options, files, sink, core),
+        LabJob::Rate(names) => rate_files(alloc, names.as_slice(), source, sink),
     }
 }
 
@@ -137,7 +142,7 @@ fn lab_usage_line() -> Line
 {
     let mut line = Line::new();
     line.text(
-        b"usage: diva_lab log IMAGE, draw IMAGE [--from CYCLE] [--to CYCLE], judge IMAGE LOG, with options, or the words of diva\n",
+        b"usage: diva_lab log|draw IMAGE, judge IMAGE LOG, inject IMAGE COUNT SEED, rate FILE.., with options, or the words of diva\n",
     );
     line
 }
