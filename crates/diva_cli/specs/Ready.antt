@@ -1,6 +1,6 @@
 -- What a run begins with: a new machine, the core that drives it and the script that is laid over that core, as files have them; and what
 -- they come to when they are driven.
--- Cited by `make_ready` and `Watched::drive`.
+-- Cited by `load_machine_files`, `make_ready` and `Watched::drive`.
 use Rattle.std.specs.Prelude.{◌≡◌, ◌+◌, ℕ, List, [], ◌∷◌, length}
 use Rattle.diva_outside.specs.Files.{Contents}
 use Rattle.diva_outside.specs.declared.files.What.TheVariants.{Image, Script, Tape as TapeFile}

@@ -16,8 +16,8 @@
 //!   the text of a run is the same with a liar in any place and without (`one_liar_is_outvoted`), and what a session of one part says of its
 //!   lists (`run_is_one_part`).
 //!
-//! A program that has commands of its own, as the workbench does (`diva_workbench`), does any other job by `work`, and drives a run of its
-//! own by `make_ready`, `Watched::drive` and `end_status`.
+//! A program that has commands of its own, as the workbench does (`diva_workbench`), does any other job by `work`, drives a run of its
+//! own by `make_ready`, `Watched::drive` and `end_status`, and has what a run begins with by `load_machine_files` if it makes the machines.
 //!
 //! What a process is (words to a job, files in order, a status with its cause) stands in `diva_process`. What is promised here, each part in a
 //! file of `specs/`, in the order in which it is best read:

@@ -1,15 +1,13 @@
 // What the files of a job come to: they are loaded and read one after another.
 ghost use Rattle.std.specs.Prelude.{◌≡◌, ◌≢◌, ◌≤◌, [], length, IfOk, IfErr, OnOk, Ok};
 ghost use Rattle.std.specs.List.{All};
-ghost use Rattle.diva_image.specs.ImageLayout.{layout};
-ghost use Rattle.diva_image.specs.Programs.{image_in};
 ghost use Rattle.diva_core.specs.Machine.{IsConfig};
 ghost use Rattle.diva_debug.specs.Moves.{IsShort};
 ghost use Rattle.diva_outside.specs.Files.{IsUncounted};
 ghost use Rattle.diva_cli.specs.Replies.{keep};
-ghost use Rattle.diva_cli.specs.Wanted.{file_if, file_limit, file_with, machine_files, session_files, tape_name, file_rules};
+ghost use Rattle.diva_cli.specs.Wanted.{file_if, file_limit, machine_files, session_files, tape_name, file_rules};
 ghost use Rattle.diva_process.specs.Writing.{Stops};
-ghost use Rattle.diva_cli.specs.Parts.{Holds, HoldsCore, HoldsRows, HoldsSession};
+ghost use Rattle.diva_cli.specs.Parts.{HoldsCore, HoldsRows, HoldsSession};
 ghost use Rattle.diva_cli.specs.Ready.{HoldsLoaded, HoldsReady};
 ghost use Rattle.diva_outside.specs.Lent.{lent};
 
@@ -115,7 +113,11 @@ pub struct Loaded {
 }
 
 /// The image of a setup, then the script, if there is one, and then the tape, if that is the core.
-pub fn load_machine_files<F: Files>(alloc: Global, files: &mut F, setup: &Setup) -> Result<Loaded, Stop>
+pub fn load_machine_files<F: Files>(
+    alloc: Global,
+    files: &mut F,
+    setup: &Setup,
+) -> Result<Loaded, Stop>
     ensures stays { (F.account files.new).contents ≡ (F.account files.old).contents }
     ensures later { (w : What) → (F.account files.old).faults w ≤ (F.account files.new).faults w }
     ensures others { (w : What) → w ≢ What.Image → w ≢ What.Script → w ≢ What.Tape

@@ -1,7 +1,7 @@
 // All that is seen of two harts, between some cycles of a run.
 ghost use Rattle.std.specs.Prelude.{◌<◌};
 
-use crate::tests::harts::{DRAIN_0, DRAIN_1, Flush, GO_0, GO_1, compare_flushes, duo_of, word_at};
+use crate::tests::harts::{Flush, GO_0, GO_1, compare_flushes, duo_of, word_at};
 use diva_core::Field;
 use diva_duo::{Action, Drive, Duo, drive2};
 use diva_isa::End;
