@@ -1,3 +1,4 @@
 -- The lemmas of this crate.
 pub mod LabLaw
 pub mod PartLemmas
+pub mod RateLemmas
