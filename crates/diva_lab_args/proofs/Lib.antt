@@ -1,4 +1,5 @@
 -- The lemmas of this crate.
+pub mod ChoiceLemmas
 pub mod LabLaw
 pub mod PartLemmas
 pub mod RateLemmas
