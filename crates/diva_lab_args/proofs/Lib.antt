@@ -2,4 +2,5 @@
 pub mod ChoiceLemmas
 pub mod LabLaw
 pub mod PartLemmas
+pub mod RateLaw
 pub mod RateLemmas
