@@ -1,5 +1,5 @@
 -- The words before and after the first that passes a test, if a list is seen through a function.
-use Rattle.std.proofs.Common.{◌≡◌, ◌∙◌, ◌||◌, ◌≤◌, ◌<◌, ◌+◌, ◌-◌, ℕ, Bool, true, false, not, nat_lt, List, [], ◌∷◌, length, map, take, drop, refl, ap, sym, cond, Option, Some, None, arith}
+use Rattle.std.proofs.Common.{◌≡◌, ◌∙◌, ◌||◌, ◌≤◌, ◌+◌, ◌-◌, ℕ, Bool, not, List, [], ◌∷◌, length, map, take, drop, refl, ap, sym, cond, Some, None, arith}
 use Rattle.std.specs.List.{after_first, before_first, list_any, position, position_or_len}
 use Rattle.std.proofs.lemmas.List.{drop-map, drop_all, length-drop, length-map, take-map, take_all}
 

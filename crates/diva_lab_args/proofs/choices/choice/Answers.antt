@@ -1,5 +1,5 @@
 -- The name before the first comma is read, and then those after it.
-use Rattle.std.proofs.Common.{rules, ◌≡◌, ◌∙◌, lit<, sym, Some, None}
+use Rattle.std.proofs.Common.{rules, ◌∙◌, lit<, sym, Some, None}
 use Rattle.std.proofs.lemmas.Str.Pattern.{split_once_first}
 use Rattle.diva_lab_args.specs.Inner.{items_in}
 use Rattle.diva_lab_args.proofs.ChoiceLemmas.{ends, first_name, goes, last}
