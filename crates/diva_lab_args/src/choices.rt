@@ -1,16 +1,13 @@
 // Lists of names with commas between them.
-ghost use Rattle.std.specs.Prelude.{◌≡◌, ◌≤◌, ◌∷◌, ◌++◌, [], find, length};
-ghost use Rattle.std.specs.Str.{bytes_eq};
-ghost use Rattle.diva_core.specs.Difference.{all_fields, field_name};
-ghost use Rattle.diva_inject.specs.Models.{model_name};
-ghost use Rattle.diva_lab_args.specs.Choices.{all_models, at_most, choice_of, field_named, model_named};
+ghost use Rattle.std.specs.Prelude.{◌≡◌, ◌≤◌};
+ghost use Rattle.diva_lab_args.specs.Choices.{choice_of};
 ghost use Rattle.diva_lab_args.specs.Inner.{items_in, with_name};
 
 use diva_core::Field;
 use diva_inject::{Choice, FaultModel};
 use diva_outside::is_word;
 
-/// What a list of names can have.
+/// What a name in a list can stand for.
 pub(crate) trait Named: Copy {
     ghost use Rattle.std.specs.Prelude.{Option};
     ghost use Rattle.clap.specs.Walk.{Text};
@@ -49,7 +46,7 @@ impl Named for Field {
     }
 }
 
-/// The items of one name to `MOST`, with commas between them.
+/// The items of the names in a word, which has commas between them; `None` if a name has no item, or there are more names than `MOST`.
 #[tactic(auto, unfolding(crate::specs::Choices::choice_of))]
 pub(crate) fn choice<T: Named, const MOST: usize>(word: &str) -> Option<Choice<T, MOST>>
     requires { 1 ≤ MOST }

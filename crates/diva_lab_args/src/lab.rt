@@ -35,8 +35,8 @@ pub enum LabJob {
     Rate(FileNames),
 }
 
-/// The job that the words ask for of the workbench. `words` are those after the program's name: `log`, `draw`, `judge` or `inject` with an
-/// image and options, `rate` with the names of files, or any words of `diva`.
+/// The job that the words ask for of the workbench. `words` are those after the program's name: `log`, `draw`, `judge` or `inject` with
+/// their positionals and options, `rate` with the names of files, or any words of `diva`.
 ///
 /// The error is `Usage` where the words are not a valid command line, and `Memory` where memory runs out.
 #[tactic(auto, using(crate::proofs::LabLaw::plain_lab_line, crate::proofs::RateLaw::plain_rate_line, crate::proofs::RateLaw::rate_line_round_end), unfolding(crate::specs::Lab::lab_of))]
