@@ -1,5 +1,5 @@
 -- On a plain line the workbench's job is read off the words.
-use Rattle.std.proofs.Common.{◌≡◌, ◌∙◌, Bool, false, List, [], refl, ap, subst, sym, Option, codes, inl, inr}
+use Rattle.std.proofs.Common.{◌≡◌, ◌∙◌, false, List, [], refl, ap, subst, sym, Option, codes, inl, inr}
 use Rattle.std.specs.Prelude.{option_map}
 use Rattle.std.specs.List.{Contains}
 use Rattle.std.specs.Str.{bytes_eq}

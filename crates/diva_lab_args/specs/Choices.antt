@@ -1,4 +1,4 @@
--- What a list of names has, with commas between them.
+-- What a list of names with commas between them stands for.
 -- Cited in `Inject.antt`, for `read_lab_words`.
 use Rattle.std.specs.Prelude.{ℕ, ◌==◌, nat_le, Bool, List, [], ◌∷◌, length, find, Option, Some, None, option_and_then, option_map, if◌then◌else◌}
 use Rattle.std.specs.List.{slice_split}
@@ -13,7 +13,7 @@ use Rattle.diva_inject.specs.declared.models.FaultModel.TheVariants.{Flip, Set, 
 abbrev pub is_comma : ℕ → Bool
 is_comma byte = byte == 44
 
--- what each of some names names
+-- what each of some names stands for, if each stands for something
 abbrev pub all_named : {A : Type 0} → (named : Text → Option A) → List Text → Option (List A)
 all_named named [] = Some []
 all_named named (name ∷ names) = option_and_then (λ x. option_map (λ xs. x ∷ xs) (all_named named names)) (named name)
@@ -22,7 +22,7 @@ all_named named (name ∷ names) = option_and_then (λ x. option_map (λ xs. x �
 abbrev pub at_most : {A : Type 0} → ℕ → List A → Option (List A)
 at_most most items = if nat_le (length items) most then Some items else None
 
--- the items of one name to `most`, in their order; a name may stand there twice
+-- the items of the names in a word, in their order; a name may stand there twice
 unfoldable pub choice_of : {A : Type 0} → (named : Text → Option A) → (most : ℕ) → Text → Option (List A)
 choice_of named most word = option_and_then (at_most most) (all_named named (slice_split is_comma word))
 

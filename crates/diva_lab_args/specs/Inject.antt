@@ -16,6 +16,7 @@ use Rattle.diva_lab_args.specs.declared.inject.InjectOptions.{InjectOptions}
 
 -- ---- the cycles in which a fault can begin: the first and the last, as far as the words give them
 
+-- the last is not before the first
 abbrev pub are_in_order : (from to : Option ℕ) → Bool
 are_in_order (Some from) (Some to) = nat_le from to
 are_in_order (Some from) None = true
@@ -33,6 +34,7 @@ begin_from value = option_and_then (λ from. option_and_then (in_order from) (op
 abbrev pub is_slash : ℕ → Bool
 is_slash byte = byte == 47
 
+-- of so many parts the one with this index, if there is one
 abbrev pub part_at : (index of : ℕ) → Option Part
 part_at index of = if nat_lt index of then Some (record { index = index; of = of }) else None
 

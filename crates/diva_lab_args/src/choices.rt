@@ -1,16 +1,13 @@
 // Lists of names with commas between them.
-ghost use Rattle.std.specs.Prelude.{◌≡◌, ◌≤◌, ◌∷◌, ◌++◌, [], find, length};
-ghost use Rattle.std.specs.Str.{bytes_eq};
-ghost use Rattle.diva_core.specs.Difference.{all_fields, field_name};
-ghost use Rattle.diva_inject.specs.Models.{model_name};
-ghost use Rattle.diva_lab_args.specs.Choices.{all_models, at_most, choice_of, field_named, model_named};
-ghost use Rattle.diva_lab_args.specs.Inner.{items_in};
+ghost use Rattle.std.specs.Prelude.{◌≡◌, ◌≤◌};
+ghost use Rattle.diva_lab_args.specs.Choices.{choice_of};
+ghost use Rattle.diva_lab_args.specs.Inner.{items_in, with_name};
 
 use diva_core::Field;
 use diva_inject::{Choice, FaultModel};
 use diva_outside::is_word;
 
-/// What a list of names can have.
+/// What a name in a list can stand for.
 pub(crate) trait Named: Copy {
     ghost use Rattle.std.specs.Prelude.{Option};
     ghost use Rattle.clap.specs.Walk.{Text};
@@ -49,27 +46,30 @@ impl Named for Field {
     }
 }
 
-/// The items of one name to `MOST`, with commas between them.
+/// The items of the names in a word, which has commas between them; `None` if a name has no item, or there are more names than `MOST`.
 #[tactic(auto, unfolding(crate::specs::Choices::choice_of))]
 pub(crate) fn choice<T: Named, const MOST: usize>(word: &str) -> Option<Choice<T, MOST>>
     requires { 1 ≤ MOST }
     ensures { result ≡ choice_of T.named MOST word.now }
 {
     let mut choice = None;
-    for name in word.split(',') {
-        choice = Some(with_item(choice, T::named(name)?)?);
+    let mut rest = word;
+    while let Some((name, more)) = rest.split_once(',') {
+        choice = Some(with_name(choice, name)?);
+        rest = more;
     }
-    choice
+    with_name(choice, rest)
 }
 
-/// The items with one more, if there is room for it.
-fn with_item<T: Copy, const MOST: usize>(
+/// The items with that of one more name; `None` if no item has this name, or there is no room for it.
+fn with_name<T: Named, const MOST: usize>(
     choice: Option<Choice<T, MOST>>,
-    item: T,
+    name: &str,
 ) -> Option<Choice<T, MOST>>
     requires { 1 ≤ MOST }
-    ensures { result ≡ at_most MOST (items_in choice ++ item ∷ []) }
+    ensures { result ≡ with_name T.named MOST (items_in choice) name.now }
 {
+    let item = T::named(name)?;
     let Some(mut choice) = choice else {
         return Some(Choice::of(item));
     };

@@ -1,10 +1,13 @@
 // The words of the workbench: those of `diva`, and commands of its own.
-ghost use Rattle.std.specs.Prelude.{◌≡◌, IfOk, Err, None, Some, map, option_and_then};
+ghost use Rattle.std.specs.Prelude.{◌≡◌, ◌≤◌, ◌∷◌, ◌++◌, false, codes, length, List, IfOk, Err, None, Some, map, option_and_then};
+ghost use Rattle.std.specs.List.{list_any};
+ghost use Rattle.clap.specs.Walk.{Text};
 ghost use Rattle.clap.specs.Words.{subcommand_rows_of};
 ghost use Rattle.diva_args.specs.Fault.{Reads};
 ghost use Rattle.diva_args.specs.Plain.{IsPlainLine, PlainLine};
 ghost use Rattle.diva_lab_args.specs.Commands.{lab_leaves};
 ghost use Rattle.diva_lab_args.specs.Lab.{lab_job_of, lab_job_on, lab_of};
+ghost use Rattle.diva_lab_args.specs.Rate.{is_dashed};
 
 use crate::commands::lab_matches;
 use crate::draw::{DrawOptions, Format, drawing, drawn};
@@ -32,11 +35,11 @@ pub enum LabJob {
     Rate(FileNames),
 }
 
-/// The job that the words ask for of the workbench. `words` are those after the program's name: `log`, `draw`, `judge` or `inject` with an
-/// image and options, `rate` with the names of files, or any words of `diva`.
+/// The job that the words ask for of the workbench. `words` are those after the program's name: `log`, `draw`, `judge` or `inject` with
+/// their positionals and options, `rate` with the names of files, or any words of `diva`.
 ///
 /// The error is `Usage` where the words are not a valid command line, and `Memory` where memory runs out.
-#[tactic(auto, using(crate::proofs::LabLaw::plain_lab_line), unfolding(crate::specs::Lab::lab_of))]
+#[tactic(auto, using(crate::proofs::LabLaw::plain_lab_line, crate::proofs::RateLaw::plain_rate_line, crate::proofs::RateLaw::rate_line_round_end), unfolding(crate::specs::Lab::lab_of))]
 pub fn read_lab_words(alloc: Global, words: &[&str]) -> Result<LabJob, ArgsFault>
     ensures job { IfOk result (λ job. lab_of (map (λ w. w.now) words.now) ≡ Some job) }
     ensures usage { result ≡ Err ArgsFault.Usage
@@ -45,6 +48,14 @@ pub fn read_lab_words(alloc: Global, words: &[&str]) -> Result<LabJob, ArgsFault
     // A plain line is read off its words, and only the rules on values refuse it.
     ensures plain { (line : PlainLine) → IsPlainLine lab_leaves (map (λ w. w.now) words.now) line
         → lab_of (map (λ w. w.now) words.now) ≡ lab_job_on line }
+
+    // The words after `rate` are the names, if none looks like an option; any words after `--` are names too.
+    ensures names { (names : List Text) → list_any is_dashed names ≡ false → 1 ≤ length names
+        → map (λ w. w.now) words.now ≡ codes "rate" ∷ names
+        → lab_of (map (λ w. w.now) words.now) ≡ Some (LabJob.Rate names) }
+    ensures any_names { (names others : List Text) → list_any is_dashed names ≡ false → 1 ≤ length (names ++ others)
+        → map (λ w. w.now) words.now ≡ codes "rate" ∷ names ++ codes "--" ∷ others
+        → lab_of (map (λ w. w.now) words.now) ≡ Some (LabJob.Rate (names ++ others)) }
 {
     match words.split_first() {
         Some((first, names)) if *first == "rate" => Ok(LabJob::Rate(rate(alloc, names)?)),

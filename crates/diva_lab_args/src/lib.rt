@@ -9,8 +9,8 @@
 //! - `inject`: the command `inject`. `choices`: lists of names, which its options take. `rate`: the command `rate`, and `FileNames`.
 //!
 //! `specs/Lab.antt` says which job the words ask for, over the table of commands (`Commands`) and the numbers (`Rows`);
-//! `specs/Inject.antt` what those of `inject` ask for, with `Choices`, what a list of names has, and `specs/Rate.antt` what those of
-//! `rate` do. `Inner` is for private contracts alone.
+//! `specs/Inject.antt` what those of `inject` ask for, with `Choices`, what a list of names stands for, and `specs/Rate.antt` what
+//! those of `rate` do. `Inner` is for private contracts alone.
 #![tactic(auto)]
 
 mod choices;

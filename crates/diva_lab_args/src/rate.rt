@@ -1,6 +1,6 @@
 // The words of `rate`.
 ghost use Rattle.std.specs.Prelude.{◌≡◌, ◌++◌, IfOk, map};
-ghost use Rattle.std.specs.List.{after_first, before_first};
+ghost use Rattle.std.specs.List.{after_first, before_first, list_any, position};
 ghost use Rattle.diva_args.specs.Fault.{Reads};
 ghost use Rattle.diva_lab_args.specs.Rate.{is_dashed, is_end, names_of};
 
@@ -36,29 +36,48 @@ impl FileNames {
 
 /// The names that the words after `rate` give. The error is `Usage` if there is none, or one that looks like an option stands before
 /// `--`, and `Memory` if memory runs out.
-#[tactic(auto, unfolding(crate::specs::Rate::names_of))]
+#[tactic(auto, using(crate::proofs::RateLemmas::any_map), unfolding(crate::specs::Rate::names_of))]
 pub(crate) fn rate(alloc: Global, words: &[&str]) -> Result<FileNames, ArgsFault>
     ensures { Reads (names_of (map (λ w. w.now) words.now)) result }
 {
     let (given, rest) = cut(words);
-    if given.iter().any(|word| is_dashed(word)) || given.is_empty() && rest.is_empty() {
+    if has_dashed(given) {
         return Err(ArgsFault::Usage);
     }
     let mut names = Vec::new(alloc);
     push_names(alloc, &mut names, given)?;
     push_names(alloc, &mut names, rest)?;
-    Ok(FileNames { names })
+    if names.is_empty() {
+        Err(ArgsFault::Usage)
+    } else {
+        Ok(FileNames { names })
+    }
 }
 
 /// The words before the first `--`, and those after it.
+#[tactic(auto, using(crate::proofs::RateLemmas::before, crate::proofs::RateLemmas::after, crate::proofs::RateLemmas::all_before, crate::proofs::RateLemmas::none_after))]
 fn cut<'a>(words: &'a [&'a str]) -> (&'a [&'a str], &'a [&'a str])
     ensures given { map (λ w. w.now) result.0.now ≡ before_first is_end (map (λ w. w.now) words.entry.now) }
     ensures rest { map (λ w. w.now) result.1.now ≡ after_first is_end (map (λ w. w.now) words.entry.now) }
 {
-    match words.iter().position(|word| *word == "--") {
+    match place_of_end(words) {
         Some(place) => (&words[..place], &words[place + 1..]),
         None => (words, &[]),
     }
+}
+
+/// The place of the first `--`.
+fn place_of_end(words: &[&str]) -> Option<usize>
+    ensures { result ≡ position (λ word. is_end word.now) words.now }
+{
+    words.iter().position(|word| *word == "--")
+}
+
+/// Whether a word among these looks like an option.
+fn has_dashed(words: &[&str]) -> bool
+    ensures { result ≡ list_any (λ word. is_dashed word.now) words.now }
+{
+    words.iter().any(|word| is_dashed(word))
 }
 
 /// Whether a word looks like an option: it begins with `-`, and is longer.
