@@ -1,6 +1,7 @@
 // Cores over others, one that counts and one that misleads, and one of given lists.
-use diva_core::{Claim, Claims, Core, Told, View};
+use diva_core::{Claim, Claims, CopyCore, Core, Told, View};
 use diva_isa::Record;
+use std::alloc::{AllocError, Global};
 
 /// Counts its calls, and hands over what another core does.
 #[derive(Clone, Copy, Debug, Drop)]
@@ -17,6 +18,20 @@ impl<C: Core> Core for Counting<C> {
     fn cycle(&mut self, told: &Told, view: &View<'_>, out: &mut Claims) {
         self.calls = self.calls.saturating_add(1);
         self.core.cycle(told, view, out);
+    }
+}
+
+impl<C: CopyCore> CopyCore for Counting<C> {
+    fn copied(&self, alloc: Global) -> Result<Self, AllocError> {
+        Ok(Counting {
+            calls: self.calls,
+            core: self.core.copied(alloc)?,
+        })
+    }
+
+    fn copy_from(&mut self, other: &Self) {
+        self.calls = other.calls;
+        self.core.copy_from(&other.core);
     }
 }
 
@@ -44,6 +59,20 @@ impl<C: Core> Core for Misled<C> {
                 ..claim
             });
         }
+    }
+}
+
+impl<C: CopyCore> CopyCore for Misled<C> {
+    fn copied(&self, alloc: Global) -> Result<Self, AllocError> {
+        Ok(Misled {
+            cycle: self.cycle,
+            core: self.core.copied(alloc)?,
+        })
+    }
+
+    fn copy_from(&mut self, other: &Self) {
+        self.cycle = other.cycle;
+        self.core.copy_from(&other.core);
     }
 }
 

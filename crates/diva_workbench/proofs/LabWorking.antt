@@ -1,5 +1,5 @@
 -- What a command of the workbench answers, and what it does with lanes of its own.
-use Rattle.std.proofs.Common.{◌≡◌, ◌⊎◌, ℕ, List, [], Option, None, Result, Ok, inl, inr, refl, sym, subst}
+use Rattle.std.proofs.Common.{◌≡◌, ◌⊎◌, ℕ, List, [], Option, None, Result, Ok, Err, inl, inr, refl, sym, subst}
 use Rattle.diva_outside.specs.Files.{IsUncounted, LentFiles}
 use Rattle.diva_outside.specs.Lent.{given, left, lent}
 use Rattle.diva_outside.specs.Sink.{LentSink}
@@ -9,24 +9,28 @@ use Rattle.diva_vote.specs.Questions.{Question}
 use Rattle.diva_args.specs.Options.{Setup}
 use Rattle.diva_lab_args.specs.declared.judge.JudgeOptions.{JudgeOptions}
 use Rattle.diva_lab_args.specs.declared.draw.DrawOptions.{DrawOptions}
+use Rattle.diva_lab_args.specs.declared.inject.InjectOptions.{InjectOptions}
 use Rattle.diva_judge.specs.declared.verdict.Verdict.{Verdict}
 use Rattle.diva_judge.specs.declared.verdict.Verdict.TheVariants as verdict
 use Rattle.diva_lab_args.specs.declared.lab.LabJob.{LabJob}
-use Rattle.diva_lab_args.specs.declared.lab.LabJob.TheVariants.{Diva, Draw, Judge}
+use Rattle.diva_lab_args.specs.declared.lab.LabJob.TheVariants.{Diva, Draw, Judge, Inject, Rate}
 use Rattle.diva_args.specs.declared.job.Job.{Job}
 use Rattle.diva_args.specs.declared.job.LanePlace.{LanePlace}
 use Rattle.diva_process.specs.declared.status.Status.{Status}
 use Rattle.diva_process.specs.declared.stop.Failure.{Failure}
 use Rattle.diva_process.specs.declared.stop.Stop.{Stop}
 use Rattle.diva_process.specs.Answers.{EndsSo, IsDone, IsJudged}
-use Rattle.diva_process.specs.Programs.{FileBytes, asked_for}
+use Rattle.diva_process.specs.Programs.{Doing, FileBytes, asked_for}
+use Rattle.diva_process.specs.declared.stop.Failure.TheVariants.{Cut, Memory}
+use Rattle.diva_outside.specs.Text.{Text}
+use Rattle.diva_rating.specs.Rated.{HasRated, no_memory, rated, rating_of, refused, unread}
 use Rattle.diva_process.specs.Promises.{KeepsPromises}
 use Rattle.diva_process.specs.Writing.{Stops, WritesStop, WritesText}
 use Rattle.diva_cli.specs.declared.loading.Ready.{Ready}
 use Rattle.diva_cli.specs.Changes.{Asking, IsUnasked, LanesAsked, asking, core_of}
 use Rattle.diva_workbench.specs.Judges.{HasJudgement, status_by}
 use Rattle.diva_workbench.specs.declared.lab.Hands.{Hands}
-use Rattle.diva_workbench.specs.Lab.{HasDrawn, IsUnread, LabAnswered, lab, lab_work_of, no_core, no_source, none_asked, own_lab_work}
+use Rattle.diva_workbench.specs.Lab.{HasDrawn, IsUnread, LabAnswered, lab, lab_work_of, no_core, no_lanes, no_source, none_asked, own_lab_work}
 use Rattle.diva_cli.specs.Lanes.{are_asked, own_asked, own_lanes, own_says}
 use Rattle.diva_cli.specs.declared.lanes.Lanes.{Lanes}
 use Rattle.diva_vote.specs.declared.lanes.EitherLane.{EitherLane}
@@ -95,6 +99,8 @@ module _ {C D F S : Type 0} (gives : Meaning C) (account : D → SourceAccount) 
       (answered_less gives before after (are_asked own_says lanes last) own_asked less job bytes ended text h.0, h.1)
   answered (Draw options) bytes ended text h = (record { means = h.0.means; lanes = less options.run.liar _ h.0.lanes }, h.1)
   answered (Judge options) bytes ended text h = record { means = h.means; unasked = h.unasked; unvoted = less None [] h.unvoted }
+  answered (Inject options) bytes ended text h = (record { means = h.0.means; unasked = h.0.unasked; unvoted = less None [] h.0.unvoted }, h.1)
+  answered (Rate names) bytes ended text h = record { means = h.means; unasked = h.unasked; unvoted = less None [] h.unvoted }
 
   abbrev had : Hands C D
   had = record { core = before; source = first }
@@ -138,6 +144,49 @@ pub judgement_answers : {C D F S : Type 0} (gives : Meaning C) (core : C) (lanes
 judgement_answers gives core lanes unasked source files sink options result =
     process.promises_so lab lab (Judge options) (Judge options) (lab_work_of no_core none_asked source) (lab_work_of gives (asking core core lanes) source) files sink refl refl
     (λ u. (record { core = refl; lanes = unasked }, u.1)) (λ bytes ended text h. record { means = h.means; unasked = refl; unvoted = unasked }) (λ status c. c) result
+
+-- with which statuses the rates of lines can end
+rated_ends : {D : Type 0} (names : List Text) (source : LentSource D) (status : Status) (text : Text) → HasRated names source (Ok status) text
+    → IsDone status ⊎ IsJudged status
+rated_ends names source status text (rated h) = inl (inl h.rates.ends)
+rated_ends names source status text (unread h) = inr (inr (inr h.holds.written.ends))
+rated_ends names source status text (refused h) = inr (inr (inl h.holds.written.ends))
+rated_ends names source status text (no_memory h) = inr (inr (inr h.ends))
+
+-- what is promised of runs under faults holds beside any lanes of which none was asked, and any source of which nothing was read
+pub trials_answer : {C D F S : Type 0} (gives : Meaning C) (core : C) (lanes : LanesAsked) → lanes None [] → (source : LentSource D) → IsUnread source
+    → (files : LentFiles F) (sink : LentSink S) (options : InjectOptions) (result : Result Status Failure)
+    → KeepsPromises (asked_for lab (Inject options)) (lab_work_of gives (asking core core no_lanes) no_source) files sink result
+    → KeepsPromises (asked_for lab (Inject options)) (lab_work_of gives (asking core core lanes) source) files sink result
+trials_answer gives core lanes unasked source unread files sink options result =
+    process.promises_so lab lab (Inject options) (Inject options) (lab_work_of gives (asking core core no_lanes) no_source) (lab_work_of gives (asking core core lanes) source) files sink refl refl
+    (λ u. (record { core = refl; lanes = unasked }, unread))
+    (λ bytes ended text h. (record { means = h.0.means; unasked = refl; unvoted = unasked }, unread)) (λ status c. c) result
+
+-- what was written of files whose lines were rated is what the workbench answers, of which neither a core nor a lane was asked
+pub rates_answer : {C D F S : Type 0} (gives : Meaning C) (core : C) (lanes : LanesAsked) → lanes None [] → (source : LentSource D)
+    → (files : LentFiles F) → IsUncounted files → (sink : LentSink S) (names : List Text) (result : Result Status Failure)
+    → ((bytes : FileBytes) → WritesText (rating_of source) names bytes sink result)
+    → KeepsPromises (asked_for lab (Rate names)) (lab_work_of gives (asking core core lanes) source) files sink result
+rates_answer {C} {D} {F} {S} gives core lanes unasked source files none sink names result w = go result (w (λ what. []))
+  where
+    abbrev work : Doing LabJob
+    work = lab_work_of gives (asking core core lanes) source
+
+    abbrev tells : (ended : Result Status Text) (text : Text) → HasRated names source ended text → work.done (Rate names) (λ what. []) ended text
+    tells ended text h = record { means = h; unasked = refl; unvoted = unasked }
+
+    done_so : (r : Result Status Failure) → ((status : Status) (text : Text) → work.done (Rate names) (λ what. []) (Ok status) text → EndsSo work (Rate names) status)
+        → WritesText work (Rate names) (λ what. []) sink r → KeepsPromises (asked_for lab (Rate names)) work files sink r
+    done_so r can v = process.done_answers lab work files sink (Rate names) (λ what. []) r tt none can v
+
+    can : (status : Status) (text : Text) → work.done (Rate names) (λ what. []) (Ok status) text → EndsSo work (Rate names) status
+    can status text d = let ends = rated_ends names source status text d.means in record { done = ends; can = ends }
+
+    go : (r : Result Status Failure) → WritesText (rating_of source) names (λ what. []) sink r → KeepsPromises (asked_for lab (Rate names)) work files sink r
+    go (Ok status) v = done_so (Ok status) can (record { text = v.text; means = tells (Ok status) v.text v.means; written = v.written })
+    go (Err Cut) v = done_so (Err Cut) can (record { rose = v.rose; put = v.put; text = v.text; means = tells (Err v.put) v.text v.means; written = v.written })
+    go (Err Memory) v = absurd v
 
 -- with which statuses a judgement can end
 status_done : (verdict : Verdict) → IsDone (status_by verdict) ⊎ IsJudged (status_by verdict)

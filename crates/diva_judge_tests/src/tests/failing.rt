@@ -78,5 +78,5 @@ fn words_that_are_not_taken(rt: HostRuntime) -> Result<(), Fail> {
 
 /// The usage line of the workbench.
 const USAGE: &str = "\
-usage: diva_lab log IMAGE, draw IMAGE [--from CYCLE] [--to CYCLE], judge IMAGE LOG, with options, or the words of diva
+usage: diva_lab log|draw IMAGE, judge IMAGE LOG, inject IMAGE COUNT SEED, rate FILE.., with options, or the words of diva
 ";

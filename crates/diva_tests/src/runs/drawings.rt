@@ -17,7 +17,7 @@ pub(super) struct Drawn {
 
 /// The usage line of that program.
 const LAB_USAGE: &str = "\
-usage: diva_lab log IMAGE, draw IMAGE [--from CYCLE] [--to CYCLE], judge IMAGE LOG, with options, or the words of diva
+usage: diva_lab log|draw IMAGE, judge IMAGE LOG, inject IMAGE COUNT SEED, rate FILE.., with options, or the words of diva
 ";
 
 /// The claim of cycle 1 has a wrong value, which the stage that executes finds in cycle 5. It flushes in cycle 7, and its
