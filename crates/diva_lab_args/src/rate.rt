@@ -1,5 +1,5 @@
 // The words of `rate`.
-ghost use Rattle.std.specs.Prelude.{◌≡◌, ◌++◌, IfOk, map};
+ghost use Rattle.std.specs.Prelude.{◌≡◌, ◌≤◌, ◌++◌, length, IfOk, map};
 ghost use Rattle.std.specs.List.{after_first, before_first, list_any, position};
 ghost use Rattle.diva_args.specs.Fault.{Reads};
 ghost use Rattle.diva_lab_args.specs.Rate.{is_dashed, is_end, names_of};
@@ -26,9 +26,10 @@ impl Model for FileNames {
 }
 
 impl FileNames {
-    /// The names in their order.
+    /// The names in their order, one or more.
     pub fn as_slice(&self) -> &[FileName]
-        ensures { result.now ≡ self.now }
+        ensures names { result.now ≡ self.now }
+        ensures least { 1 ≤ length result.now }
     {
         self.names.as_slice()
     }
