@@ -1,5 +1,5 @@
 -- What is written of files, as the answer that it is.
-use Rattle.std.proofs.Common.{List, [], Result, Ok, Err, refl, ap}
+use Rattle.std.proofs.Common.{◌≡◌, ◌⊎◌, List, [], Result, Ok, Err, inl, inr, refl, ap}
 use Rattle.diva_outside.specs.Lent.{given}
 use Rattle.diva_outside.specs.Lines.{LineFault}
 use Rattle.diva_outside.specs.Sink.{LentSink, PutsTo, Takes}
@@ -9,6 +9,7 @@ use Rattle.diva_outside.proofs.Sinks.{past_nothing}
 use Rattle.diva_source.specs.Source.{LentSource}
 use Rattle.diva_rate.specs.Rates.{Rates}
 use Rattle.diva_rate.specs.Text.{rates_text}
+use Rattle.diva_process.specs.Answers.{IsDone, IsJudged}
 use Rattle.diva_process.specs.Programs.{FileBytes}
 use Rattle.diva_process.specs.Writing.{WritesText}
 use Rattle.diva_process.specs.declared.status.Status.{Status}
@@ -120,3 +121,11 @@ module _ {D S : Type 0} (source : LentSource D) (names : List Text) (bytes : Fil
   wrote_stop stop.Memory (Err Cut) s w =
       record { rose = w.0; put = []; text = no_memory_line; means = no_memory (record { lines = refl; ends = tt; cut = refl }); written = past_nothing sink no_memory_line w.1 }
   wrote_stop stop.Memory (Err Memory) s w = absurd w
+
+-- with which statuses the rates of lines can end
+pub rated_ends : {D : Type 0} (names : List Text) (source : LentSource D) (status : Status) (text : Text) → HasRated names source (Ok status) text
+    → IsDone status ⊎ IsJudged status
+rated_ends names source status text (rated h) = inl (inl h.rates.ends)
+rated_ends names source status text (unread h) = inr (inr (inr h.holds.written.ends))
+rated_ends names source status text (refused h) = inr (inr (inl h.holds.written.ends))
+rated_ends names source status text (no_memory h) = inr (inr (inr h.ends))

@@ -1,6 +1,6 @@
 -- Runs under faults as runs of `run`, and what is written of them.
-use Rattle.std.proofs.Common.{◌≡◌, ◌≤◌, ◌+◌, ◌*◌, ◌&&◌, ◌==◌, ℕ, List, [], ◌∷◌, ◌++◌, length, true, Bool, Result, Ok, Err, inl, refl, sym, ap, subst, ◌∙◌, append-nil, arith}
-use Rattle.std.specs.Prelude.{IfOk, IfErr, OnOk, OnErr}
+use Rattle.std.proofs.Common.{◌≡◌, ◌≤◌, ◌+◌, ◌*◌, ◌&&◌, ◌==◌, ℕ, suc, List, [], ◌∷◌, ◌++◌, length, true, Result, Ok, Err, inl, refl, sym, ap, subst, ◌∙◌, append-nil, arith}
+use Rattle.std.specs.Prelude.{IfOk, IfErr}
 use Rattle.std.specs.List.{All}
 use Rattle.std.specs.Str.{bytes_eq}
 use Rattle.std.proofs.lemmas.Bool.Decides.{nat_tests}
@@ -14,12 +14,12 @@ use Rattle.diva_outside.specs.declared.sink.SinkFailed.{SinkFailed}
 use Rattle.diva_isa.specs.State.{State, goes_on}
 use Rattle.diva_isa.specs.Step.{steps}
 use Rattle.diva_isa.specs.declared.record.Record.{Record}
-use Rattle.diva_core.specs.Cycle.{cycle_of, run_of}
+use Rattle.diva_core.specs.Cycle.{run_of}
 use Rattle.diva_core.specs.Headline.{EndsAfter}
-use Rattle.diva_core.specs.History.{IsHistory, Meaning, Turns, lists_of}
-use Rattle.diva_core.specs.Legs.{Handed, Part, handed_in, run_parts}
+use Rattle.diva_core.specs.History.{IsHistory, Meaning, Turns}
+use Rattle.diva_core.specs.Legs.{Part, handed_in, run_parts}
 use Rattle.diva_core.specs.Machine.{IsConfig}
-use Rattle.diva_core.specs.Timed.{Timed, depth, new_timed}
+use Rattle.diva_core.specs.Timed.{Config, Timed, depth, new_timed}
 use Rattle.diva_core.proofs.Ending.{same_end}
 use Rattle.diva_core.proofs.Turning.{length-lists_of}
 use Rattle.diva_faults.specs.declared.rows.Row.{Row}
@@ -28,10 +28,18 @@ use Rattle.diva_inject.specs.declared.outcome.Outcome.{Outcome}
 use Rattle.diva_open.specs.Laws.{opened}
 use Rattle.diva_open.specs.Open.{Open, new_open}
 use Rattle.diva_tape.specs.Lists.{IsEchoCall, IsFloodCall, IsLockstepCall, echo_list, flood_list, lockstep_list, silent_list}
+use Rattle.diva_tape.specs.declared.echo.Echo.{Echo}
+use Rattle.diva_tape.specs.declared.flood.Flood.{Flood}
+use Rattle.diva_tape.specs.declared.lockstep.Lockstep.{Lockstep}
+use Rattle.diva_tape.specs.declared.silent.Silent.{Silent}
 use Rattle.diva_tape.proofs.Following.{new_leads}
-use Rattle.diva_trial.specs.Lines.{AreOutcomes, PutsTrials, before_last, trials_text}
+use Rattle.diva_inject.specs.Plans.{fault_at}
+use Rattle.diva_trial.specs.Begun.{AreTrials}
+use Rattle.diva_trial.specs.Lines.{AreOutcomes, IsOutcome, PutsTrials, before_last, numbers_in, trials_text}
 use Rattle.diva_trial.specs.Paths.{IsPath, checked_cycle, handed_to}
-use Rattle.diva_trial.specs.Trials.{HasTrial, IsTrial, RunsTo, is_same}
+use Rattle.diva_trial.specs.declared.lines.Faults.{Faults}
+use Rattle.diva_trial.specs.declared.trials.Trials.{Trials}
+use Rattle.diva_trial.specs.Trials.{HasTrial, IsFree, IsTrial, RunsTo, is_same}
 use Rattle.diva_args.specs.Options.{Setup}
 use Rattle.diva_hart.specs.Start.{start_of}
 use Rattle.diva_image.specs.ImageLayout.{layout}
@@ -61,19 +69,19 @@ use Rattle.diva_cli.proofs.Sessions.{handed_for, run_from_start}
 use Rattle.diva_lab_args.specs.declared.inject.InjectOptions.{InjectOptions}
 use Rattle.diva_lab_args.specs.declared.lab.LabJob.{LabJob}
 use Rattle.diva_lab_args.specs.declared.lab.LabJob.TheVariants.{Inject}
-use Rattle.diva_workbench.specs.Injects.{IsInjected, IsRunWith, OfCore, fault_in}
-use Rattle.diva_workbench.specs.Injecting.{HasPut, InjectsUnder}
+use Rattle.diva_workbench.specs.Injects.{IsInjected, IsRunWith, OfCore, fault_in, numbers_by}
+use Rattle.diva_workbench.specs.Injecting.{HasPut, InjectsUnder, faults_by}
 use Rattle.diva_workbench.specs.Lab.{HasTried, lab, lab_work_of, no_lanes, no_source}
 
 -- ---- a path of a machine with its checker is a history of the core under the script
 
-history_on : {C : Type 0} (rows : List Row) (o : Open) → List (List Record × C) → List (List Record × C)
+abbrev pub history_on : {C : Type 0} → (rows : List Row) → (o : Open) → List (List Record × C) → List (List Record × C)
 history_on rows o [] = []
 history_on rows o (turn ∷ rest) = (handed_to rows o turn.0, turn.1) ∷ history_on rows (checked_cycle o (handed_to rows o turn.0)) rest
 
 history_length : {C : Type 0} (rows : List Row) (o : Open) (path : List (List Record × C)) → length (history_on rows o path) ≡ length path
 history_length rows o [] = refl
-history_length rows o (turn ∷ rest) = ap (λ n. n + 1) (history_length rows (checked_cycle o (handed_to rows o turn.0)) rest)
+history_length rows o (turn ∷ rest) = ap suc (history_length rows (checked_cycle o (handed_to rows o turn.0)) rest)
 
 history_good : {C : Type 0} (gives : Meaning C) (rows : List Row) (o : Open) (core : C) (path : List (List Record × C)) (last : Open) (final : C)
     → IsPath checked_cycle gives rows o core path last final → IsHistory (spoiled rows gives) o.timed core (history_on rows o path) last.timed final
@@ -145,62 +153,83 @@ module _ {C : Type 0} (gives : Meaning C) (setup : Setup) (cycles : ℕ) (tape :
 -- ---- the runs of the core in use
 
 -- what it does in each run is what it is said to do, and what holds of it holds of the core in use
-pub record IsUsed {C D : Type 0} (gives : Meaning C) (setup : Setup) (cycles : ℕ) (start : State) (core : C) (in_use : CoreInUse) (its : Meaning D) (first : D) : Type 1 where
+pub record IsUsed {C : Type 0} (gives : Meaning C) (setup : Setup) (cycles : ℕ) (start : State) (core : C) (in_use : CoreInUse) (D : Type 0) (its : Meaning D) (first : D) : Type 1 where
   pub played : (rows : List Row) (last : Timed) (final : D) → RunsTo checked_cycle its rows cycles (new_open setup.config start) first (opened last) final
       → HasPlayed gives setup cycles start core in_use rows last
-  pub of : (this : {E : Type 0} → Meaning E → E → Type 0) → this its first → OfCore gives in_use core this
+  pub of : (this : (E : Type 0) → Meaning E → E → Type 0) → this D its first → OfCore gives in_use core this
 
 -- this follows for the core in use, if it does for each core that it may be
 pub for_core :
     {C : Type 0} (gives : Meaning C) (setup : Setup) (cycles : ℕ) (start : State) (core : C) (in_use : CoreInUse)
-    (this : {E : Type 0} → Meaning E → E → Type 0) (that : Type 0)
-    → ({D : Type 0} (its : Meaning D) (first : D) → IsUsed gives setup cycles start core in_use its first → this its first → that)
+    (this : (E : Type 0) → Meaning E → E → Type 0) (that : Type 0)
+    → ((D : Type 0) (its : Meaning D) (first : D) → IsUsed gives setup cycles start core in_use D its first → this D its first → that)
     → OfCore gives in_use core this → that
 for_core gives setup cycles start core used.Own this that so h =
-    so gives core (record {
+    so _ gives core (record {
       played = λ rows last final runs. record { after = final; plays = plays_own gives rows (new_timed setup.config start) last core final _ (plays gives setup cycles start core rows last final runs) };
       of = λ those is. is;
     }) h
 for_core gives setup cycles start core used.Lockstep this that so h =
-    so IsLockstepCall (record {}) (record {
-      played = λ rows last final runs. record { after = core; plays = plays_rule gives IsLockstepCall rows (new_timed setup.config start) last core (record {}) final _
-          (plays IsLockstepCall setup cycles start (record {}) rows last final runs) used.Lockstep lockstep_list (λ h. h) (λ n before list after h. h) };
+    so Lockstep IsLockstepCall (record {}) (record {
+      played = λ rows last final runs. record {
+        after = core;
+        plays = plays_rule gives IsLockstepCall rows (new_timed setup.config start) last core (record {}) final _
+            (plays IsLockstepCall setup cycles start (record {}) rows last final runs) used.Lockstep lockstep_list (λ h. h) (λ n before list after h. h);
+      };
       of = λ those is. is;
     }) h
 for_core gives setup cycles start core (used.Scalar scalar) this that so h =
-    so _ scalar (record {
-      played = λ rows last final runs. record { after = core; plays = plays_other gives _ rows (new_timed setup.config start) last core scalar final _
-          (plays _ setup cycles start scalar rows last final runs) (used.Scalar scalar) (λ h. h) };
+    so _ _ scalar (record {
+      played = λ rows last final runs. record {
+        after = core;
+        plays = plays_other gives _ rows (new_timed setup.config start) last core scalar final _
+            (plays _ setup cycles start scalar rows last final runs) (used.Scalar scalar) (λ h. h);
+      };
       of = λ those is. is;
     }) h
 for_core gives setup cycles start core used.Silent this that so h =
-    so _ (record {}) (record {
-      played = λ rows last final runs. record { after = core; plays = plays_rule gives _ rows (new_timed setup.config start) last core (record {}) final _
-          (plays _ setup cycles start (record {}) rows last final runs) used.Silent silent_list (λ h. h) (λ n before list after h. h) };
+    so Silent _ (record {}) (record {
+      played = λ rows last final runs. record {
+        after = core;
+        plays = plays_rule gives _ rows (new_timed setup.config start) last core (record {}) final _
+            (plays _ setup cycles start (record {}) rows last final runs) used.Silent silent_list (λ h. h) (λ n before list after h. h);
+      };
       of = λ those is. is;
     }) h
 for_core gives setup cycles start core used.Flood this that so h =
-    so IsFloodCall (record {}) (record {
-      played = λ rows last final runs. record { after = core; plays = plays_rule gives IsFloodCall rows (new_timed setup.config start) last core (record {}) final _
-          (plays IsFloodCall setup cycles start (record {}) rows last final runs) used.Flood flood_list (λ h. h) (λ n before list after h. h) };
+    so Flood IsFloodCall (record {}) (record {
+      played = λ rows last final runs. record {
+        after = core;
+        plays = plays_rule gives IsFloodCall rows (new_timed setup.config start) last core (record {}) final _
+            (plays IsFloodCall setup cycles start (record {}) rows last final runs) used.Flood flood_list (λ h. h) (λ n before list after h. h);
+      };
       of = λ those is. is;
     }) h
 for_core gives setup cycles start core used.Echo this that so h =
-    so IsEchoCall (record {}) (record {
-      played = λ rows last final runs. record { after = core; plays = plays_rule gives IsEchoCall rows (new_timed setup.config start) last core (record {}) final _
-          (plays IsEchoCall setup cycles start (record {}) rows last final runs) used.Echo echo_list (λ h. h) (λ n before list after h. h) };
+    so Echo IsEchoCall (record {}) (record {
+      played = λ rows last final runs. record {
+        after = core;
+        plays = plays_rule gives IsEchoCall rows (new_timed setup.config start) last core (record {}) final _
+            (plays IsEchoCall setup cycles start (record {}) rows last final runs) used.Echo echo_list (λ h. h) (λ n before list after h. h);
+      };
       of = λ those is. is;
     }) h
 for_core gives setup cycles start core (used.Noise noise) this that so h =
-    so _ noise (record {
-      played = λ rows last final runs. record { after = core; plays = plays_other gives _ rows (new_timed setup.config start) last core noise final _
-          (plays _ setup cycles start noise rows last final runs) (used.Noise noise) (λ h. h) };
+    so _ _ noise (record {
+      played = λ rows last final runs. record {
+        after = core;
+        plays = plays_other gives _ rows (new_timed setup.config start) last core noise final _
+            (plays _ setup cycles start noise rows last final runs) (used.Noise noise) (λ h. h);
+      };
       of = λ those is. is;
     }) h
 for_core gives setup cycles start core (used.Tape tape) this that so h =
-    so _ tape (record {
-      played = λ rows last final runs. record { after = core; plays = plays_other gives _ rows (new_timed setup.config start) last core tape final _
-          (plays _ setup cycles start tape rows last final runs) (used.Tape tape) (λ h. h) };
+    so _ _ tape (record {
+      played = λ rows last final runs. record {
+        after = core;
+        plays = plays_other gives _ rows (new_timed setup.config start) last core tape final _
+            (plays _ setup cycles start tape rows last final runs) (used.Tape tape) (λ h. h);
+      };
       of = λ those is. is;
     }) h
 
@@ -227,7 +256,7 @@ is_same_by a b arch count = rw (arch, count) (same_self b)
 
 module _ {C D : Type 0} (gives : Meaning C) (options : InjectOptions) (tape : List (List Record)) (script : List Row) (start : State) (core : C)
     (its : Meaning D) (first : D) (fits : IsConfig options.setup.config) (zero : start.instret ≡ 0)
-    (u : IsUsed gives options.setup options.cycles start core (core_for options.setup.core tape) its first) (free : Timed) where
+    (u : IsUsed gives options.setup options.cycles start core (core_for options.setup.core tape) D its first) (free : Timed) where
   abbrev HasIts : (number : ℕ) → Outcome → Type 0
   HasIts number outcome = HasTrial its options.setup.config start first script options.cycles free number (fault_in options free number) outcome
 
@@ -240,7 +269,7 @@ module _ {C D : Type 0} (gives : Meaning C) (options : InjectOptions) (tape : Li
       record {
         last = h.last;
         left = h.o;
-        trial = u.of (λ it at. IsTrial it options.setup.config start at script options.cycles free number (fault_in options free number) h.last h.o outcome) h.trial;
+        trial = u.of (λ E it at. IsTrial it options.setup.config start at script options.cycles free number (fault_in options free number) h.last h.o outcome) h.trial;
         run = run_of_rows (script ++ fault_in options free number ∷ []) h.last h.trial.final h.trial.runs;
       }
 
@@ -260,12 +289,31 @@ module _ {C D : Type 0} (gives : Meaning C) (options : InjectOptions) (tape : Li
         ap (λ (o : Outcome). o.same) h.trial.says ∙ is_same_by h.last free (got.0 ∙ sym due.0) (got.1 ∙ sym due.1)
 
     same_all : (numbers : List ℕ) (outcomes : List Outcome) → AreOutcomes HasIts numbers outcomes → All (λ (outcome : Outcome). outcome.same ≡ true) outcomes
-    same_all [] [] are = All-nil
-    same_all (k ∷ numbers) (o ∷ outcomes) are = All-cons o outcomes (same_one k o are.0) (same_all numbers outcomes are.1)
+    same_all [] [] are = All-nil (λ (outcome : Outcome). outcome.same ≡ true)
+    same_all (k ∷ numbers) (o ∷ outcomes) are = All-cons (λ (outcome : Outcome). outcome.same ≡ true) o outcomes (same_one k o are.0) (same_all numbers outcomes are.1)
     same_all [] (o ∷ outcomes) are = absurd are
     same_all (k ∷ numbers) [] are = absurd are
 
 -- ---- what is written of them
+
+-- the lines that were put of trials are those of the options
+pub has_put :
+    {D S : Type 0} (its : Meaning D) (options : InjectOptions) (trials : Trials D) (faults : Faults) (sink : LentSink S) (result : Result (Unit {0}) SinkFailed) (start : State)
+    (core : D)
+    → faults ≡ faults_by options trials.free.timed
+    → AreTrials its options.setup.config start core trials
+    → trials.until ≡ options.cycles
+    → PutsTrials (IsOutcome its options.setup.config start core trials faults.plan) (numbers_in faults) sink result
+    → HasPut options trials.script.now start sink result D its core
+has_put its options trials faults sink result start core same are until puts =
+    let config : Config = options.setup.config in
+    let free : Timed = trials.free.timed in
+    record {
+      free = free;
+      is = subst (λ (n : ℕ). IsFree its config start core trials.script.now n free) until are.free;
+      puts = subst (λ (n : ℕ). PutsTrials (λ number outcome. HasTrial its config start core trials.script.now n free number (fault_in options free number) outcome) (numbers_by options) sink result) until
+          (subst (λ (f : Faults). PutsTrials (λ number outcome. HasTrial its config start core trials.script.now trials.until free number (fault_at f.plan number) outcome) (numbers_in f) sink result) same puts);
+    }
 
 -- the text was written, or a part of it; or memory ran out, and nothing was put
 abbrev pub WritesOrNot : {S : Type 0} → Doing LabJob → LabJob → FileBytes → LentSink S → Result Status Failure → Type 0
@@ -290,8 +338,8 @@ module _ {C S : Type 0} (gives : Meaning C) (options : InjectOptions) (bytes : F
   abbrev work : Doing LabJob
   work = lab_work_of gives (asking core core no_lanes) no_source
 
-  module _ {D : Type 0} (its : Meaning D) (first : D) (u : IsUsed gives options.setup options.cycles start core (core_for options.setup.core tape) its first) where
-    has_lines : (result : Result (Unit {0}) SinkFailed) (h : HasPut options script start sink result its first) (ended : Result Status Text)
+  module _ {D : Type 0} (its : Meaning D) (first : D) (u : IsUsed gives options.setup options.cycles start core (core_for options.setup.core tape) D its first) where
+    has_lines : (result : Result (Unit {0}) SinkFailed) (h : HasPut options script start sink result D its first) (ended : Result Status Text)
         → IfOk ended (λ ends. (ends ≡ Halted) × (h.puts.later ≡ [])) → IfErr ended (λ put. put ≡ before_last h.puts.outcomes)
         → HasTried gives no_lanes (change core core) options bytes ended (trials_text h.puts.outcomes)
     has_lines result h ended all cut =
@@ -320,7 +368,7 @@ module _ {C S : Type 0} (gives : Meaning C) (options : InjectOptions) (bytes : F
           unvoted = tt;
         }
 
-    writes : (result : Result Status Failure) → InjectsUnder options script start sink result its first → WritesOrNot work (Inject options) bytes sink result
+    writes : (result : Result Status Failure) → InjectsUnder options script start sink result D its first → WritesOrNot work (Inject options) bytes sink result
     writes (Ok ends) h =
         record {
           text = trials_text h.1.puts.outcomes;
@@ -343,7 +391,7 @@ module _ {C S : Type 0} (gives : Meaning C) (options : InjectOptions) (bytes : F
   injects result h =
       for_core gives options.setup options.cycles start core (core_for options.setup.core tape) (InjectsUnder options script start sink result)
       (WritesOrNot work (Inject options) bytes sink result)
-      (λ its first u i. writes its first u result i)
+      (λ D its first u i. writes its first u result i)
       (subst (λ (k : CoreInUse). OfCore gives k core (InjectsUnder options script start sink result)) is.core.is
       (subst (λ (l : Layout). OfCore gives loaded.core core (InjectsUnder options script (start_of l) sink result)) is.image h))
 

@@ -23,7 +23,8 @@ use Rattle.diva_process.specs.Answers.{EndsSo, IsDone, IsJudged}
 use Rattle.diva_process.specs.Programs.{Doing, FileBytes, asked_for}
 use Rattle.diva_process.specs.declared.stop.Failure.TheVariants.{Cut, Memory}
 use Rattle.diva_outside.specs.Text.{Text}
-use Rattle.diva_rating.specs.Rated.{HasRated, no_memory, rated, rating_of, refused, unread}
+use Rattle.diva_rating.specs.Rated.{HasRated, rating_of}
+use Rattle.diva_rating.proofs.Writing.{rated_ends}
 use Rattle.diva_process.specs.Promises.{KeepsPromises}
 use Rattle.diva_process.specs.Writing.{Stops, WritesStop, WritesText}
 use Rattle.diva_cli.specs.declared.loading.Ready.{Ready}
@@ -145,14 +146,6 @@ judgement_answers gives core lanes unasked source files sink options result =
     process.promises_so lab lab (Judge options) (Judge options) (lab_work_of no_core none_asked source) (lab_work_of gives (asking core core lanes) source) files sink refl refl
     (λ u. (record { core = refl; lanes = unasked }, u.1)) (λ bytes ended text h. record { means = h.means; unasked = refl; unvoted = unasked }) (λ status c. c) result
 
--- with which statuses the rates of lines can end
-rated_ends : {D : Type 0} (names : List Text) (source : LentSource D) (status : Status) (text : Text) → HasRated names source (Ok status) text
-    → IsDone status ⊎ IsJudged status
-rated_ends names source status text (rated h) = inl (inl h.rates.ends)
-rated_ends names source status text (unread h) = inr (inr (inr h.holds.written.ends))
-rated_ends names source status text (refused h) = inr (inr (inl h.holds.written.ends))
-rated_ends names source status text (no_memory h) = inr (inr (inr h.ends))
-
 -- what is promised of runs under faults holds beside any lanes of which none was asked, and any source of which nothing was read
 pub trials_answer : {C D F S : Type 0} (gives : Meaning C) (core : C) (lanes : LanesAsked) → lanes None [] → (source : LentSource D) → IsUnread source
     → (files : LentFiles F) (sink : LentSink S) (options : InjectOptions) (result : Result Status Failure)
@@ -170,10 +163,10 @@ pub rates_answer : {C D F S : Type 0} (gives : Meaning C) (core : C) (lanes : La
     → KeepsPromises (asked_for lab (Rate names)) (lab_work_of gives (asking core core lanes) source) files sink result
 rates_answer {C} {D} {F} {S} gives core lanes unasked source files none sink names result w = go result (w (λ what. []))
   where
-    abbrev work : Doing LabJob
+    work : Doing LabJob
     work = lab_work_of gives (asking core core lanes) source
 
-    abbrev tells : (ended : Result Status Text) (text : Text) → HasRated names source ended text → work.done (Rate names) (λ what. []) ended text
+    tells : (ended : Result Status Text) (text : Text) → HasRated names source ended text → work.done (Rate names) (λ what. []) ended text
     tells ended text h = record { means = h; unasked = refl; unvoted = unasked }
 
     done_so : (r : Result Status Failure) → ((status : Status) (text : Text) → work.done (Rate names) (λ what. []) (Ok status) text → EndsSo work (Rate names) status)

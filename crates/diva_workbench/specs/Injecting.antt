@@ -23,16 +23,16 @@ abbrev pub faults_by : InjectOptions → (free : Timed) → Faults
 faults_by options free = record { plan = plan_by options free; part = options.part; first = options.first; count = options.count }
 
 -- the run without a fault was made under a core, and then those under faults, with a line put of each
-pub record HasPut {D S : Type 0} (options : InjectOptions) (script : List Row) (start : State) (sink : LentSink S)
-    (result : Result (Unit {0}) SinkFailed) (its : Meaning D) (first : D) : Type 0 where
+pub record HasPut {S : Type 0} (options : InjectOptions) (script : List Row) (start : State) (sink : LentSink S)
+    (result : Result (Unit {0}) SinkFailed) (D : Type 0) (its : Meaning D) (first : D) : Type 0 where
   pub free : Timed
   pub is : IsFree its options.setup.config start first script options.cycles free
   pub puts : PutsTrials (λ (number : ℕ) (outcome : Outcome). HasTrial its options.setup.config start first script options.cycles free number (fault_in options free number) outcome)
       (numbers_by options) sink result
 
 -- so it is; or memory ran out, and nothing was put
-abbrev pub InjectsUnder : {D S : Type 0} → InjectOptions → (script : List Row) → (start : State) → LentSink S → Result Status Failure
-    → Meaning D → (first : D) → Type 0
-InjectsUnder options script start sink (Ok ends) its first = (ends ≡ Halted) × HasPut options script start sink (Ok tt) its first
-InjectsUnder options script start sink (Err Cut) its first = HasPut options script start sink (Err (record {})) its first
-InjectsUnder options script start sink (Err Memory) its first = sink.after ≡ sink.before
+abbrev pub InjectsUnder : {S : Type 0} → InjectOptions → (script : List Row) → (start : State) → LentSink S → Result Status Failure
+    → (D : Type 0) → Meaning D → (first : D) → Type 0
+InjectsUnder options script start sink (Ok ends) D its first = (ends ≡ Halted) × HasPut options script start sink (Ok tt) D its first
+InjectsUnder options script start sink (Err Cut) D its first = HasPut options script start sink (Err (record {})) D its first
+InjectsUnder options script start sink (Err Memory) D its first = sink.after ≡ sink.before

@@ -1,6 +1,6 @@
 -- The text of `inject`: what became of the runs of an image under one fault each, with the checker and without it.
 -- Cited in `Lab.antt`, for `lab_top`.
-use Rattle.std.specs.Prelude.{ℕ, ◌≡◌, ◌≤◌, ◌*◌, ◌+◌, max, List, [], ◌∷◌, ◌++◌, true, Option, Some, None, Result, IfOk, IfErr, unwrap_or}
+use Rattle.std.specs.Prelude.{ℕ, ◌≡◌, ◌≤◌, ◌*◌, ◌+◌, max, List, [], ◌∷◌, ◌++◌, true, Result, IfOk, IfErr, unwrap_or}
 use Rattle.std.specs.List.{All}
 use Rattle.diva_outside.specs.Text.{Text}
 use Rattle.diva_isa.specs.State.{State}
@@ -13,6 +13,7 @@ use Rattle.diva_inject.specs.Parts.{numbers_of}
 use Rattle.diva_inject.specs.Plans.{Plan, fault_at}
 use Rattle.diva_inject.specs.declared.outcome.Outcome.{Outcome}
 use Rattle.diva_open.specs.Open.{Open}
+use Rattle.diva_ahead.specs.Ahead.{Ahead}
 use Rattle.diva_tape.specs.Lists.{IsEchoCall, IsFloodCall, IsLockstepCall}
 use Rattle.diva_tape.specs.Noise.{noise_call}
 use Rattle.diva_tape.specs.Scalar.{IsScalarCall}
@@ -28,7 +29,7 @@ use Rattle.diva_lab_args.specs.declared.inject.InjectOptions.{InjectOptions}
 use Rattle.diva_process.specs.Programs.{FileBytes}
 use Rattle.diva_process.specs.declared.status.Status.{Status}
 use Rattle.diva_process.specs.declared.status.Status.TheVariants.{Halted}
-use Rattle.diva_cli.specs.Changes.{Change, change}
+use Rattle.diva_cli.specs.Changes.{change}
 use Rattle.diva_cli.specs.Ready.{core_for}
 use Rattle.diva_cli.specs.Runs.{IsRunFrom, IsWhole}
 use Rattle.diva_cli.specs.Sessions.{OverFiles, start_in}
@@ -74,15 +75,15 @@ pub record IsRunWith {C : Type 0} (gives : Meaning C) (setup : Setup) (cycles : 
   pub whole : IsWhole setup cycles start last
 
 -- this holds of what the core in use means, and of what it is at first: `core` is the one that is handed in
-abbrev pub OfCore : {C : Type 0} → Meaning C → CoreInUse → (core : C) → (this : {D : Type 0} → Meaning D → D → Type 0) → Type 0
-OfCore gives used.Own core this = this gives core
-OfCore gives used.Lockstep core this = this {D = Lockstep} IsLockstepCall (record {})
-OfCore gives (used.Scalar first) core this = this IsScalarCall first
-OfCore gives used.Silent core this = this {D = Silent} (λ before told s list after. list ≡ []) (record {})
-OfCore gives used.Flood core this = this {D = Flood} IsFloodCall (record {})
-OfCore gives used.Echo core this = this {D = Echo} IsEchoCall (record {})
-OfCore gives (used.Noise first) core this = this noise_call first
-OfCore gives (used.Tape tape) core this = this tape_call tape
+abbrev pub OfCore : {C : Type 0} → Meaning C → CoreInUse → (core : C) → (this : (D : Type 0) → Meaning D → D → Type 0) → Type 0
+OfCore {C} gives used.Own core this = this C gives core
+OfCore gives used.Lockstep core this = this Lockstep IsLockstepCall (record {})
+OfCore gives (used.Scalar first) core this = this Ahead IsScalarCall first
+OfCore gives used.Silent core this = this Silent (λ before told s list after. list ≡ []) (record {})
+OfCore gives used.Flood core this = this Flood IsFloodCall (record {})
+OfCore gives used.Echo core this = this Echo IsEchoCall (record {})
+OfCore gives (used.Noise first) core this = this ℕ noise_call first
+OfCore gives (used.Tape tape) core this = this (List (List Record)) tape_call tape
 
 -- ---- the runs under a fault
 
@@ -91,7 +92,7 @@ pub record IsInjected {C : Type 0} (gives : Meaning C) (options : InjectOptions)
     (free : Timed) (number : ℕ) (outcome : Outcome) : Type 0 where
   pub last : Timed
   pub left : Open
-  pub trial : OfCore gives (core_for options.setup.core tape) core (λ its first.
+  pub trial : OfCore gives (core_for options.setup.core tape) core (λ D its first.
       IsTrial its options.setup.config start first script options.cycles free number (fault_in options free number) last left outcome)
   -- the one with the checker is a run of `run` with one row more
   pub run : IsRunWith gives options.setup options.cycles tape start core (script ++ fault_in options free number ∷ []) last

@@ -1,6 +1,6 @@
 // The command `inject`: it loads its files, makes the run without a fault, and then the runs under each fault, and puts a line of each as its
 // runs end.
-ghost use Rattle.std.specs.Prelude.{◌≡◌, ◌≤◌, ◌<◌};
+ghost use Rattle.std.specs.Prelude.{◌≡◌, ◌≤◌, IfOk};
 ghost use Rattle.diva_core.specs.Machine.{IsConfig};
 ghost use Rattle.diva_hart.specs.Start.{start_of};
 ghost use Rattle.diva_image.specs.ImageLayout.{layout};
@@ -9,6 +9,8 @@ ghost use Rattle.diva_process.specs.Programs.{asked_for};
 ghost use Rattle.diva_process.specs.Promises.{KeepsPromises};
 ghost use Rattle.diva_cli.specs.Changes.{asking};
 ghost use Rattle.diva_lab_args.specs.declared.lab.LabJob.TheVariants.{Inject};
+ghost use Rattle.diva_isa.specs.State.{State};
+ghost use Rattle.diva_trial.specs.Begun.{AreReady, AreTrials};
 ghost use Rattle.diva_workbench.specs.Injecting.{InjectsUnder, faults_by};
 ghost use Rattle.diva_workbench.specs.Injects.{OfCore};
 ghost use Rattle.diva_workbench.specs.Lab.{lab, lab_work_of, no_lanes, no_source};
@@ -22,7 +24,7 @@ use diva_outside::{Files, Sink};
 use diva_process::{Failure, Status, write_stop};
 use diva_tape::{Echo, Flood, Lockstep, Silent, TapeCore};
 use diva_trial::{Faults, Trials, put_trials};
-use std::alloc::Global;
+use std::alloc::{AllocError, Global};
 
 /// Runs an image under one fault after the other. All memory is taken before anything is written, and the core that is handed in is copied.
 #[inline(never)]
@@ -77,16 +79,47 @@ fn inject_under<S: Sink, D: CopyCore + Drop>(
     core: &D,
 ) -> Result<Status, Failure>
     ensures config { IsConfig options.setup.config }
-    ensures injects { InjectsUnder options loaded.now.script (start_of (layout loaded.now.image)) (lent S.account sink.old sink.new) result D.gives core.now }
+    ensures injects { InjectsUnder options loaded.now.script (start_of (layout loaded.now.image)) (lent S.account sink.old sink.new) result D D.gives core.now }
 {
-    let mut trials = Trials::new(
+    let trials = trials_of(alloc, loaded, &options, core)?;
+    put_lines(trials, options, sink)
+}
+
+/// The run without a fault, and what the others begin with.
+fn trials_of<'l, D: CopyCore + Drop>(
+    alloc: Global,
+    loaded: &'l Loaded,
+    options: &InjectOptions,
+    core: &D,
+) -> Result<Trials<'l, D>, AllocError>
+    ensures are { IfOk result (AreTrials D.gives options.now.setup.config (start_of (layout loaded.now.image)) core.now) }
+    ensures script { IfOk result (λ trials. trials.script.now ≡ loaded.now.script) }
+    ensures until { IfOk result (λ trials. trials.until ≡ options.now.cycles) }
+    ensures ready { IfOk result AreReady }
+    ensures config { IsConfig options.now.setup.config }
+    ensures cycles { options.now.cycles ≤ 1000000000 }
+{
+    Trials::new(
         alloc,
         &loaded.image,
         options.setup.config,
         core,
         &loaded.script,
         options.cycles.get(),
-    )?;
+    )
+}
+
+/// Makes the runs under each fault, and puts a line of each.
+fn put_lines<S: Sink, D: CopyCore + Drop>(
+    mut trials: Trials<'_, D>,
+    options: InjectOptions,
+    sink: &mut S,
+) -> Result<Status, Failure>
+    requires ready { AreReady trials }
+    requires most { trials.free.timed.cycles ≤ 1000000000 }
+    ensures { (start : State) (core : D) → AreTrials D.gives options.setup.config start core trials.entry → trials.entry.until ≡ options.cycles
+        → InjectsUnder options trials.entry.script.now start (lent S.account sink.old sink.new) result D D.gives core }
+{
     let faults = faults_of(options, trials.free());
     put_trials(&mut trials, &faults, sink)?;
     Ok(Status::Halted)
@@ -97,28 +130,25 @@ fn faults_of(options: InjectOptions, free: &Machine) -> Faults
     requires { free.now.timed.cycles ≤ 1000000000 }
     ensures { result ≡ faults_by options free.now.timed }
 {
-    let from = match options.from {
-        Some(from) => from.get(),
-        None => 1,
-    };
-    let to = match options.to {
-        Some(to) => to.get(),
-        None => free.cycles() as u32,
-    };
-    let config = &options.setup.config;
-    let plan = Plan::new(
-        options.seed,
-        options.models,
-        options.fields,
+    let InjectOptions {
+        setup,
+        count,
+        seed,
+        models,
+        fields,
         from,
-        from.max(to),
-        config,
-    )
-    .unwrap();
+        to,
+        part,
+        first,
+        ..
+    } = options;
+    let from = from.map_or(1, |from| from.get());
+    let to = to.map_or(free.cycles() as u32, |to| to.get());
+    let plan = Plan::new(seed, models, fields, from, from.max(to), &setup.config);
     Faults {
-        plan,
-        part: options.part,
-        first: options.first,
-        count: options.count.get(),
+        plan: plan.unwrap(),
+        part,
+        first,
+        count: count.get(),
     }
 }

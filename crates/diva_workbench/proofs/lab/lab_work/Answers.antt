@@ -18,4 +18,4 @@ returns-in-Inject-clause-answers g c = rw c.in-Inject.is (trials_answer g.C.Core
 
 pub returns-in-Rate-clause-answers : goal.returns-in-Rate-clause-answers
 returns-in-Rate-clause-answers g c =
-    rw c.in-Rate.is (rates_answer g.C.Core.gives _ _ (none_asked g.L.Lane.says c.args.lanes.now None) _ _ refl _ _ _ (rw c.as_slice.ensures at c.rate_files.ensures))
+    rw c.in-Rate.is (rates_answer g.C.Core.gives _ _ (none_asked g.L.Lane.says c.args.lanes.now None) _ _ (λ what. refl) _ _ _ (rw c.as_slice.ensures.names at c.rate_files.ensures))
