@@ -5,6 +5,7 @@
 //! - `running`: a core under a script that drives a machine, and what a fault changes of that.
 //! - `driven`: what a machine with its checker and one without have in common here.
 //! - `outcomes`: what became of the runs under a fault.
+//! - `tests`: lines of faults, worked out by hand.
 //!
 //! `specs/Paths.antt` has the paths of a machine and a core, and what a hit is; `specs/Trials.antt` what is told of the runs. `Inner` is for
 //! private contracts alone.
@@ -14,6 +15,8 @@ mod driven;
 mod kept;
 mod outcomes;
 mod running;
+#[cfg(test)]
+mod tests;
 mod trials;
 
 pub use trials::Trials;
