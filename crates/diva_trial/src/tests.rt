@@ -217,13 +217,27 @@ fn compare(rt: &impl Abort, trials: &mut Trials<'_, OneByOne>, rows: &[(Row, &'s
     }
 }
 
+/// Makes the runs of a program under some faults twice, one after the other, so that a fault comes after each other one, later or earlier. Also
+/// compares how many cycles the run without a fault has.
+fn compare_runs(
+    rt: &impl Abort,
+    alloc: Global,
+    words: &[u32],
+    until: u32,
+    cycles: u64,
+    rows: &[(Row, &'static [u8])],
+) -> Result<(), Fail> {
+    let script = Script::none(alloc);
+    let mut trials = trials(alloc, words, &script, until)?;
+    compare(rt, &mut trials, rows);
+    compare(rt, &mut trials, rows);
+    assert_eq!(rt; trials.free().cycles(), cycles);
+    Ok(())
+}
+
 #[test]
 fn faults_of_a_letter(rt: HostRuntime) -> Result<(), Fail> {
-    let script = Script::none(rt.alloc());
-    let mut trials = trials(rt.alloc(), &LETTER, &script, 200)?;
-    compare(&rt, &mut trials, &letters());
-    assert_eq!(rt; trials.free().cycles(), 49);
-    Ok(())
+    compare_runs(&rt, rt.alloc(), &LETTER, 200, 49, &letters())
 }
 
 /// `addi x1, x0, 5`, and `ebreak`, which traps with number 3: in the cycle 14.
@@ -256,12 +270,8 @@ fn cut() -> [(Row, &'static [u8]); 1] {
 
 #[test]
 fn faults_of_runs_that_do_not_halt(rt: HostRuntime) -> Result<(), Fail> {
-    let script = Script::none(rt.alloc());
-    let mut trapped = trials(rt.alloc(), &BREAK, &script, 200)?;
-    compare(&rt, &mut trapped, &breaks());
-    let mut short = trials(rt.alloc(), &LETTER, &script, 47)?;
-    compare(&rt, &mut short, &cut());
-    Ok(())
+    compare_runs(&rt, rt.alloc(), &BREAK, 200, 14, &breaks())?;
+    compare_runs(&rt, rt.alloc(), &LETTER, 47, 47, &cut())
 }
 
 /// Adds 3 to x2 and stores it, in a hundred turns: `addi x1, x0, 100`, then `addi x2, x2, 3`, `sw x2, 60(x0)`, `addi x1, x1, -1`, and
@@ -323,18 +333,12 @@ fn turns() -> [(Row, &'static [u8]); 8] {
     ]
 }
 
-/// Runs under the same fault come to the same: the first ones of their trials, and those that come after many others, whether these had earlier
-/// or later faults.
+/// Runs under the same fault come to the same, after others and by themselves.
 #[test]
 fn faults_of_a_hundred_turns(rt: HostRuntime) -> Result<(), Fail> {
-    let script = Script::none(rt.alloc());
-    let mut used = trials(rt.alloc(), &TURNS, &script, 4000)?;
-    compare(&rt, &mut used, &turns());
-    compare(&rt, &mut used, &turns());
-    assert_eq!(rt; used.free().cycles(), 2821);
+    compare_runs(&rt, rt.alloc(), &TURNS, 4000, 2821, &turns())?;
     for row in turns().chunks(1) {
-        let mut fresh = trials(rt.alloc(), &TURNS, &script, 4000)?;
-        compare(&rt, &mut fresh, row);
+        compare_runs(&rt, rt.alloc(), &TURNS, 4000, 2821, row)?;
     }
     Ok(())
 }
