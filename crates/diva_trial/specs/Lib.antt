@@ -3,5 +3,5 @@ pub mod Paths
 pub mod Trials
 pub mod Kept
 pub mod Begun
--- what only private contracts cite
+-- what only private contracts cite, and `Kept`
 pub mod Inner
