@@ -1,4 +1,4 @@
--- What only private contracts of this crate cite. A reader of its promises can pass over it.
+-- What only private contracts of this crate cite, and `Kept.antt`. A reader of its promises can pass over it.
 use Rattle.std.specs.Prelude.{ℕ, ◌≡◌, ◌↔◌, ◌≤◌, ◌<◌, List, [], ◌∷◌, ◌++◌, length, true, Bool}
 use Rattle.diva_isa.specs.State.{goes_on}
 use Rattle.diva_isa.specs.declared.record.Record.{Record}
@@ -29,12 +29,12 @@ pub record Struck {C : Type 0} (step : Cycling) (gives : Meaning C) (script : Li
   pub leads : Leads step gives (script ++ fault ∷ []) o first last core
   pub decides : (hit ≡ true) ↔ HasHit step script fault o (lists_on leads.path)
 
--- where a machine and a core stand that stood in a run without a fault, now others do
+-- if a machine and a core stand where a run without a fault once stood, so do these others
 abbrev pub StandsOn : {C : Type 0} → Cycling → Meaning C → (script : List Row) → Open → C → Open → C → Type 0
 StandsOn {C} step gives script m core last final =
     (o : Open) (first : C) → Stands step gives script o first m core → Stands step gives script o first last final
 
--- or do so under a fault
+-- and if they do, these others stand where the run under a fault once stood
 abbrev pub StandsStruck : {C : Type 0} → Cycling → Meaning C → (script : List Row) → (fault : Row) → Open → C → Open → C → (hit : Bool) → Type 0
 StandsStruck {C} step gives script fault m core last final hit =
     (o : Open) (first : C) → Stands step gives script o first m core → Struck step gives script fault o first last final hit

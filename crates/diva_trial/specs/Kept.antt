@@ -1,5 +1,6 @@
 -- The machines that are kept of a run without a fault.
--- Only private contracts of this crate cite this: a reader of its promises can pass over it.
+-- Cited in `Begun.antt`, for `Trials::new`, which ensures it, and `run`, which requires it. Nothing else is promised by it: a reader of the promises
+-- can pass over it.
 use Rattle.std.specs.Prelude.{ℕ, ◌≡◌, ◌≤◌, ◌<◌, List, [], ◌∷◌, Some, slice_get}
 use Rattle.std.specs.List.{All}
 use Rattle.diva_core.specs.History.{Meaning}
@@ -10,7 +11,7 @@ use Rattle.diva_trial.specs.declared.kept.Stand.{Stand}
 use Rattle.diva_trial.specs.Inner.{AreAlike, Stands}
 use Rattle.diva_trial.specs.Paths.{Cycling}
 
--- the same of a machine that is kept
+-- a machine that is kept stands where the run without a fault once stood, and so did the run under any fault that comes later
 abbrev pub IsStand : {M C : Type 0} → (seen : M → Open) → Cycling → Meaning C → (rows : List Row) → Open → C → Stand M C → Type 0
 IsStand seen step gives script o first stand = Stands step gives script o first (seen stand.machine) stand.core
 

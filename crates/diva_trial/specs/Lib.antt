@@ -4,6 +4,6 @@ pub mod Trials
 pub mod Kept
 pub mod Begun
 pub mod Lines
--- what only private contracts cite
+-- what only private contracts cite, and `Kept`
 pub mod Inner
 pub mod Putting

@@ -1,5 +1,5 @@
 -- What becomes of the runs under a fault, with the checker and without it, beside the run that has none.
--- Cited by `Trials::new`, `first` and `run`.
+-- Cited by `Trials::run`; in `Begun.antt`, for `Trials::new`.
 use Rattle.std.specs.Prelude.{ℕ, ◌≡◌, ◌↔◌, ◌≤◌, ◌-◌, ◌==◌, ◌&&◌, not, List, [], ◌∷◌, ◌++◌, min, Bool, true, Option, Some, None, nat_le, find, option_map, if◌then◌else◌}
 use Rattle.std.specs.List.{list_any}
 use Rattle.std.specs.Str.{bytes_eq}
@@ -58,7 +58,8 @@ latency_of fault known rows = option_map (λ (row : FlushRow). row.cycle - row_c
 abbrev pub is_trap : ℕ → Bool
 is_trap end = nat_le 1 end && nat_le end 255
 
--- what became of the run without the checker, beside the run without a fault
+-- what became of the run without the checker, beside the run without a fault. It is silent if something differs, and it halted, or it traps by
+-- the same number, or both go on
 abbrev pub open_outcome : (free o : Timed) → OpenOutcome
 open_outcome free o =
     if o.arch.end == stray then Stray

@@ -6,6 +6,7 @@
 //! - `running`: a core under a script that drives a machine, and what a fault changes of that.
 //! - `driven`: what a machine with its checker and one without have in common here.
 //! - `outcomes`: what became of the runs under a fault.
+//! - `tests`: lines of faults, worked out by hand.
 //!
 //! `specs/Paths.antt` has the paths of a machine and a core, and what a hit is; `specs/Trials.antt` what is told of the runs, and
 //! `specs/Lines.antt` what is put of them. `Inner` is for
@@ -17,6 +18,8 @@ mod kept;
 mod lines;
 mod outcomes;
 mod running;
+#[cfg(test)]
+mod tests;
 mod trials;
 
 pub use lines::{Faults, put_trials};
