@@ -78,7 +78,7 @@ impl<C: CopyCore> CopyCore for Misled<C> {
 
 /// Hands over given lists, whatever they claim: each of them in its cycle and in those that follow, up
 /// to the next one's. The cycles rise.
-#[derive(Clone, Copy, Debug)]
+#[derive(Clone, Copy, Debug, Drop)]
 pub struct Lists<'a> {
     pub lists: &'a [(u64, &'a [Claim])],
 }
@@ -103,5 +103,15 @@ impl Core for Lists<'_> {
                 out.push(claim);
             }
         }
+    }
+}
+
+impl CopyCore for Lists<'_> {
+    fn copied(&self, _alloc: Global) -> Result<Self, AllocError> {
+        Ok(Lists { lists: self.lists })
+    }
+
+    fn copy_from(&mut self, other: &Self) {
+        self.lists = other.lists;
     }
 }

@@ -25,7 +25,7 @@ mod watched;
 
 use crate::cores::{counting, flipped};
 use diva_cli::{Failure, Lanes, top};
-use diva_core::Core;
+use diva_core::CopyCore;
 use diva_isa::Record;
 use diva_lab_args::read_lab_words;
 use diva_outside::{Fail as SinkFail, MemFile, MemFiles, MemSink, What};
@@ -151,7 +151,7 @@ fn run_unasked(rt: &impl Abort, line: &str, outside: Outside) -> Result<Answer, 
 
 /// Runs the program on a command line, over the files of `outside` and with this core as its own, and
 /// compares status and text.
-fn compare_by<C: Core>(
+fn compare_by<C: CopyCore + Drop>(
     rt: &impl Abort,
     core: &mut C,
     line: &str,
@@ -186,7 +186,7 @@ struct Answer {
 }
 
 /// Runs the program on a command line, in which an empty word is written `''`.
-fn run_program<C: Core>(core: &mut C, line: &str, outside: Outside) -> Result<Answer, Fail> {
+fn run_program<C: CopyCore + Drop>(core: &mut C, line: &str, outside: Outside) -> Result<Answer, Fail> {
     let alloc = outside.alloc;
     let words = words_of(alloc, line)?;
     let (mut files, mut sink) = files_and_sink(outside)?;
@@ -241,7 +241,7 @@ fn answer_from(
 }
 
 /// Runs the program whose command these words begin with: the one that draws runs, or the other.
-fn run_words<C: Core>(
+fn run_words<C: CopyCore + Drop>(
     alloc: Global,
     words: &[&str],
     files: &mut NotingFiles,
@@ -255,7 +255,7 @@ fn run_words<C: Core>(
 }
 
 /// Does the job of the workbench that the words ask for, with no source to read.
-fn do_lab_job<C: Core>(
+fn do_lab_job<C: CopyCore + Drop>(
     alloc: Global,
     words: &[&str],
     files: &mut NotingFiles,
@@ -316,7 +316,7 @@ fn compare_rows(rt: &impl Abort, alloc: Global, rows: &[Row]) -> Result<(), Fail
 }
 
 /// Runs the program on a row, with this core as its own, and compares status and text.
-fn compare_row<C: Core>(
+fn compare_row<C: CopyCore + Drop>(
     rt: &impl Abort,
     alloc: Global,
     core: &mut C,

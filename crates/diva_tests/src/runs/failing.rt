@@ -15,7 +15,7 @@ use super::texts::text_due;
 use super::traces::FIVE_TRACE;
 use super::{Answer, FIVE_TEXT, Outside, compare_unasked, file_name, image_files, run_program};
 use crate::cores::{counting, flipped};
-use diva_core::Core;
+use diva_core::CopyCore;
 use diva_outside::{Fail as SinkFail, What};
 use diva_test_programs::{FIVE_FILE, FIVE_SEGMENTED, image_file, laid};
 use std::alloc::Global;
@@ -352,7 +352,7 @@ fn compare_put(
 }
 
 /// What the program answers on sound files with this image, and a sink of which this put fails and takes so many bytes.
-fn run_cut<C: Core>(
+fn run_cut<C: CopyCore + Drop>(
     alloc: Global,
     core: &mut C,
     image: &[u8],

@@ -1,7 +1,7 @@
 // Images of seeds, each run under two cores.
 use super::{Outside, compare_by};
 use crate::cores::flipped;
-use diva_core::Core;
+use diva_core::CopyCore;
 use diva_ooo::Ooo;
 use diva_test_programs::registers_text;
 use std::alloc::Global;
@@ -48,7 +48,7 @@ fn seeds_that_soak(rt: HostRuntime) -> Result<(), Fail> {
 }
 
 /// Compares what is written with this core as the program's own: the lines of both runs, and what is left.
-fn compare_soak<C: Core>(
+fn compare_soak<C: CopyCore + Drop>(
     rt: &impl Abort,
     alloc: Global,
     core: &mut C,

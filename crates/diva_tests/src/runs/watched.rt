@@ -2,7 +2,7 @@
 ghost use Rattle.std.specs.Prelude.{◌≡◌, ◌≤◌, ◌^◌, IfOk};
 
 use diva_cli::{Watcher, watch};
-use diva_core::{Claims, Config, Core};
+use diva_core::{Claims, Config, CopyCore};
 use diva_machine::Machine;
 use diva_outside::{MemSink, Sink, SinkFailed};
 use diva_tape::{Echo, Lockstep, Silent};
@@ -50,7 +50,7 @@ fn machine(alloc: Global) -> Result<Machine, Fail>
 }
 
 /// Watches a run of `FIVE` for so many cycles at most, and compares what was seen of it, and how many dots were written.
-fn compare_watched<C: Core>(
+fn compare_watched<C: CopyCore + Drop>(
     rt: &impl Abort,
     alloc: Global,
     core: &mut C,
