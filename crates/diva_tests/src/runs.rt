@@ -186,7 +186,11 @@ struct Answer {
 }
 
 /// Runs the program on a command line, in which an empty word is written `''`.
-fn run_program<C: CopyCore + Drop>(core: &mut C, line: &str, outside: Outside) -> Result<Answer, Fail> {
+fn run_program<C: CopyCore + Drop>(
+    core: &mut C,
+    line: &str,
+    outside: Outside,
+) -> Result<Answer, Fail> {
     let alloc = outside.alloc;
     let words = words_of(alloc, line)?;
     let (mut files, mut sink) = files_and_sink(outside)?;
