@@ -1,5 +1,5 @@
-//! The workbench: `diva_lab log IMAGE`, `draw IMAGE`, and all that `diva` does, over the real files and standard
-//! output.
+//! The workbench: `diva_lab log IMAGE`, `draw IMAGE`, `judge IMAGE LOG`, `inject IMAGE COUNT SEED`, `rate FILE..`, and all that `diva` does,
+//! over the real files and standard output.
 //!
 //! All that it does is `lab_top` of `diva_workbench`; this crate hands in the files of the disk, standard
 //! output and a core, and ends with the status that `lab_top` answers.
