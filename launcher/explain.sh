@@ -1,10 +1,9 @@
 # What `diva` says on a terminal's standard error of a run that ended with another status than 0. It reads this file then, and has in `status`
-# how the run ended, in `took` how many seconds it took, and in `given` how many words the person gave. The words of most calls below are the
-# whole command that was run, the last of which are those of the person.
+# how the run ended, in `took` how many seconds it took, in `given` how many words the person gave, and in `command` the first of them. The words
+# of most calls below are the whole command that was run, the last of which are those of the person.
 
 # Says what the status means.
 explain() {
-    set_command "$@"
     case $status in
     2) of_words fault "$@" >&2 ;;
     3) say_trapped "$@" ;;
@@ -15,19 +14,6 @@ explain() {
     9) say_unwritten ;;
     10) say 'memory ran out, and nothing was written' ;;
     esac
-}
-
-# Sets `command` to the first of the person's words.
-set_command() {
-    shift $(($# - given))
-    command=${1-}
-}
-
-# Asks the parts in awk for something of the person's words.
-of_words() {
-    wanted=$1
-    shift $(($# - given))
-    ask 'table shown words' "$@"
 }
 
 # ---- the files that the words name: in `files` a line for each, what it is, which word names it, and how
