@@ -4,7 +4,7 @@
 
 _diva_commands() {
     echo run tape duo debug asm dis migrate soak campaign help
-    [ "${COMP_WORDS[0]##*/}" != diva_lab ] || echo log draw judge
+    [ "${COMP_WORDS[0]##*/}" != diva_lab ] || echo log draw judge inject rate
 }
 
 _diva_options() {
@@ -18,16 +18,20 @@ _diva_options() {
     log) echo --core --tape --script --width --window --stores --watchdog --port --room --cycles --liar ;;
     draw) echo --core --tape --script --width --window --stores --watchdog --port --room --cycles --liar --from --to ;;
     judge) echo --width --window --stores --watchdog --port --room --stop --answer ;;
+    inject) echo --core --tape --script --width --window --stores --watchdog --port --room --cycles --model --fields --from --to --part --first ;;
     esac
 }
 
-# The names that an option of a command takes, nothing if it takes a file, or `-` if it takes what can't be listed.
+# The names that an option of a command takes, after a comma if it takes a list of them; nothing if it takes a file, or `-` if it takes what can't
+# be listed.
 _diva_values() {
     case $1,$2 in
-    run,--core | tape,--core | debug,--core | log,--core | draw,--core) echo own lockstep scalar silent flood echo noise tape ;;
+    run,--core | tape,--core | debug,--core | log,--core | draw,--core | inject,--core) echo own lockstep scalar silent flood echo noise tape ;;
     duo,--core) echo scalar lockstep silent ;;
-    run,--tape | tape,--tape | debug,--tape | log,--tape | draw,--tape) ;;
-    run,--script | tape,--script | debug,--script | log,--script | draw,--script) ;;
+    inject,--model) echo , flip set lose double hush stuck ;;
+    inject,--fields) echo , pc word src1 src2 addr value next end ;;
+    run,--tape | tape,--tape | debug,--tape | log,--tape | draw,--tape | inject,--tape) ;;
+    run,--script | tape,--script | debug,--script | log,--script | draw,--script | inject,--script) ;;
     *) echo - ;;
     esac
 }
@@ -55,6 +59,11 @@ _diva() {
     case $words in
     '') ;;
     -) compopt +o default 2>/dev/null ;;
+    ,*)
+        # The names before the last comma stay as they are, and another comma may follow.
+        compopt -o nospace 2>/dev/null
+        COMPREPLY=($(compgen -P "${word%"${word##*,}"}" -W "${words#,}" -- "${word##*,}"))
+        ;;
     *) COMPREPLY=($(compgen -W "$words" -- "$word")) ;;
     esac
 }

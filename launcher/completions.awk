@@ -26,12 +26,13 @@ function options_of(command,    row, list) {
     return list
 }
 
-# For bash: the options that take names or a file, each with the commands that have it so.
-function option_for(row, option, form,    names, count, place, patterns) {
-    if (option !~ /^-/ || !(wanted == "names" && form == "NAME" || wanted == "files" && form == "FILE")) return
+# For bash: the options that take names or a file, each with the commands that have it so. A comma says that the names make a list.
+function option_for(row, option, form,    names, count, place, patterns, has_names) {
+    has_names = form == "NAME" || form == "LIST"
+    if (option !~ /^-/ || !(wanted == "names" && has_names || wanted == "files" && form == "FILE")) return
     count = split(cell["options", row, 5], names, " ")
     for (place = 1; place <= count; place++) patterns = patterns (place > 1 ? " | " : "") names[place] "," option
-    print "    " patterns ") " (form == "NAME" ? "echo " cell["options", row, 3] " " : "") ";;"
+    print "    " patterns ") " (has_names ? "echo " (form == "LIST" ? ", " : "") cell["options", row, 3] " " : "") ";;"
 }
 
 # For zsh: all that a command takes.
@@ -41,8 +42,14 @@ function print_arguments(row, command,    words, count, place, option) {
     for (option = 1; option <= options; option++)
         if (cell["options", option, 1] ~ /^-/ && lists(cell["options", option, 5], command)) print_argument(option)
     count = split(cell["commands", row, 2], words, " ")
-    for (place = 1; place <= count; place++) printf " \\\n    '%d:%s:%s'", place, words[place], action_of(option_row(command, words[place]))
+    for (place = 1; place <= count; place++) print_word(place, words[place], action_of(option_row(command, words[place])))
     print "\n  ;;"
+}
+
+# A word that is no option, at its place; one that stands for many has none.
+function print_word(place, word, action) {
+    if (sub(/[.][.]$/, "", word)) place = "*"
+    printf " \\\n    '%s:%s:%s'", place, word, action
 }
 
 function print_argument(row,    form) {
@@ -51,8 +58,9 @@ function print_argument(row,    form) {
         (form == "" ? "" : ":" (form == "NUMBER" ? cell["options", row, 3] : form) ":" action_of(row))
 }
 
-# What zsh offers for a value: names, files, or nothing.
+# What zsh offers for a value: names, names with commas between them, files, or nothing.
 function action_of(row) {
     if (cell["options", row, 2] == "NAME") return "(" cell["options", row, 3] ")"
+    if (cell["options", row, 2] == "LIST") return "_values -s , LIST " cell["options", row, 3]
     return cell["options", row, 2] == "FILE" ? "_files" : " "
 }

@@ -1,10 +1,9 @@
 # What `diva` says on a terminal's standard error of a run that ended with another status than 0. It reads this file then, and has in `status`
-# how the run ended, in `took` how many seconds it took, and in `given` how many words the person gave. The words of most calls below are the
-# whole command that was run, the last of which are those of the person.
+# how the run ended, in `took` how many seconds it took, in `given` how many words the person gave, and in `command` the first of them. The words
+# of most calls below are the whole command that was run, the last of which are those of the person.
 
 # Says what the status means.
 explain() {
-    set_command "$@"
     case $status in
     2) of_words fault "$@" >&2 ;;
     3) say_trapped "$@" ;;
@@ -15,19 +14,6 @@ explain() {
     9) say_unwritten ;;
     10) say 'memory ran out, and nothing was written' ;;
     esac
-}
-
-# Sets `command` to the first of the person's words.
-set_command() {
-    shift $(($# - given))
-    command=${1-}
-}
-
-# Asks the parts in awk for something of the person's words.
-of_words() {
-    wanted=$1
-    shift $(($# - given))
-    ask 'table shown words' "$@"
 }
 
 # ---- the files that the words name: in `files` a line for each, what it is, which word names it, and how
@@ -52,9 +38,12 @@ END
     what=$wanted
 }
 
-# Whether the file is a log that is read from standard input.
+# Whether the file is a log, or one that is rated, that is read from standard input.
 is_input() {
-    [ "$what" = log ] && [ "$file" = - ]
+    case $what,$file in
+    log,- | file,-) ;;
+    *) return 1 ;;
+    esac
 }
 
 # Whether the command may be run once more: then each file that is there gives the same bytes again. A pipe would not, nor would standard input.
@@ -69,7 +58,7 @@ $files
 END
 }
 
-# The same of what has run, or was judged: for that again it must have taken a second at most.
+# The same of what has run, or was judged or rated: for that again it must have taken a second at most.
 can_be_made_again() {
     [ "$took" -le 1 ] && can_be_repeated "$@"
 }
@@ -77,11 +66,14 @@ can_be_made_again() {
 # ---- a sentence for each status
 
 # Standard output was the person's, so the line that names the fault is had by a second run, which reads files alone. In a judgement it comes after
-# what was said of the lines before it.
+# what was said of the lines before it. Of files that are rated it has the name itself.
 say_refused() {
     files=$(of_words files "$@")
     said=
-    if [ "$command" = judge ]; then again=can_be_made_again; else again=can_be_repeated; fi
+    case $command in
+    judge | rate) again=can_be_made_again ;;
+    *) again=can_be_repeated ;;
+    esac
     ! $again "$@" || said=$("$@" <&3 2>/dev/null | awk '!/^(wrong |ok$|due |over$)/ { print; exit }')
     case $said in
     'refused '*' at '*) ;;
@@ -91,9 +83,15 @@ say_refused() {
         ;;
     esac
     what=${said#refused }
-    find_file "${what%% *}" "$@"
+    if [ "$command" = rate ]; then set_rated; else find_file "${what%% *}" "$@"; fi
     if [ "$what" = image ]; then text=/dev/null; else text=$file; fi
     ask 'sentences shown refused' <"$text" >&2
+}
+
+# Sets `file` to the name in the line, and puts what it is in its place.
+set_rated() {
+    file=${what% * at *}
+    said="refused lines${what#"$file"}"
 }
 
 # The first file, in the order in which they are loaded, that can't be.
@@ -113,7 +111,16 @@ say_unreadable() {
     done <<END
 $files
 END
-    say "a file can't be read, or not to its end"
+    said=unreadable
+    if [ "$command" = rate ]; then
+        said=
+        ! can_be_made_again "$@" || said=$("$@" <&3 2>/dev/null)
+    fi
+    case $said in
+    unreadable*) say "a file can't be read, or not to its end" ;;
+    'no memory') say 'memory ran out for the lines of the files' ;;
+    *) say "a file can't be read, or not to its end, or memory ran out for the lines" ;;
+    esac
 }
 
 say_unwritten() {

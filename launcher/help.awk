@@ -10,11 +10,11 @@ BEGIN {
 # A text in the second column, in lines of 100 letters at most.
 function second_column(first, text,    words, count, place, line) {
     count = split(text, words, " ")
-    line = sprintf("  %-21s", first)
+    line = sprintf("  %-23s", first)
     for (place = 1; place <= count; place++) {
         if (length(line " " words[place]) > 100) {
             print line
-            line = sprintf("%23s", "")
+            line = sprintf("%25s", "")
         }
         line = line " " words[place]
     }

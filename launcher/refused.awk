@@ -95,6 +95,7 @@ function find_place(line) {
     if (what == "commands") command_place(find_words(line, " \t\r"))
     if (what == "tape") tape_place(line)
     if (what == "log") log_place(find_words(line, " \t\r"))
+    if (what == "lines") cells_place(line)
     if (what == "source") source_place(line)
 }
 
@@ -157,6 +158,30 @@ function tape_place(line,    count, claims, place, at) {
     for (place = 1; place < count && (kind == 3 ? place < 9 : numbers_of(claims[place]) == 8); place++) at += length(claims[place]) + 1
     mark(at, kind == 3 ? length(line) + 1 : at + length(claims[place]))
     trim(line)
+}
+
+# Of the line of a fault, which has 14 cells: the cells that are left over, or the end; or the first cell that is not what is due there; or all.
+function cells_place(line,    cells, count, place, at) {
+    count = split(line, cells, ",")
+    at = 1
+    if (kind == 4) mark(1, length(line) + 1)
+    if (kind == 1) {
+        for (place = 1; place <= 14; place++) at += length(cells[place]) + 1
+        mark(count > 14 ? at : length(line) + 1, length(line) + 1)
+    }
+    if (kind == 2 || kind == 3) {
+        for (place = 1; place < 13 && is_due(cells[place], place); place++) at += length(cells[place]) + 1
+        mark(at, at + length(cells[place]))
+    }
+}
+
+# Whether a cell is what is due at its place. Numbers are below 2^63, and the sixth cell is a bit.
+function is_due(cell, place,    forms) {
+    split("[0-9]+ (flip|set|lose|double|hush|stuck[01]) [0-9]+ [0-9]* (pc|word|src1|src2|addr|value|next|end)? [0-9]* " \
+        "(yes|no) [0-9]+ [0-9]* [0-9]+ (yes|no) (masked|silent|trap|hang|stray) [0-9]*", forms, " ")
+    if (cell !~ "^" forms[place] "$") return 0
+    if (forms[place] !~ /^\[/) return 1
+    return length(cell) < 19 + ((cell "") < "9223372036854775808") && (place != 6 || decimal(cell) <= 31)
 }
 
 function numbers_of(claim) {

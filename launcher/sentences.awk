@@ -20,6 +20,7 @@ function fault_sentence(what, kind,    heading) {
     heading = "The " what
     if (what == "commands") heading = "The commands of a session"
     if (what == "log") heading = "The log of a core"
+    if (what == "lines") heading = "The lines that are read"
     if (what == "image" && kind >= 20) heading = "The executable"
     return sentence("FORMATS.md", kind == 0 ? "The image" : heading, "kind", kind, "where")
 }

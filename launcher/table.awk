@@ -49,11 +49,20 @@ function listed(list, joint,    items, count, place, text) {
     return text
 }
 
+# The word at a place among those that a command takes, or nothing. The last one stands for all that follow if it ends with `..`.
+function word_at(command, place,    words, count) {
+    count = split(cell["commands", command_row(command), 2], words, " ")
+    if (place > count && words[count] ~ /[.][.]$/) place = count
+    return place > count ? "" : words[place]
+}
+
 # What an option or a word takes, for a person.
-function range_of(row,    form, range) {
+function range_of(row,    form, range, names) {
     form = cell["options", row, 2]
     range = cell["options", row, 3]
     if (form == "NAME") return listed(range, "or")
+    if (form == "LIST") return "1 to " split(range, names, " ") " of " listed(range, "and") ", with commas between them"
+    if (form == "K/M") return "K/M, where M is " range " and K is less"
     if (form == "ADDR:LEN") return "ADDR:LEN, 1 to 8 hex digits and a length of " range
     return form == "FILE" ? "a file" : range
 }

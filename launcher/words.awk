@@ -1,5 +1,6 @@
 # The words of a command line, read as the program reads them: the same are taken. `wanted` in the environment says what is wanted of them:
-# `fault`, what is wrong with them, for a person; `files`, what they load, in the order in which it is loaded; `cycles` and `room`, how many a run gets.
+# `fault`, what is wrong with them, for a person; `files`, what they load, in the order in which it is loaded; `cycles` and `room`, how many a run
+# gets; `faults`, how many are injected.
 
 BEGIN {
     read_tables()
@@ -7,6 +8,7 @@ BEGIN {
     if (ENVIRON["wanted"] == "fault") print_fault()
     if (ENVIRON["wanted"] == "files" && fault == "") print_files()
     if (ENVIRON["wanted"] == "cycles" && fault == "") print decimal(value_or_default("--cycles"))
+    if (ENVIRON["wanted"] == "faults" && fault == "") print_faults()
     if (ENVIRON["wanted"] == "room" && fault == "" && option_row(command, "--room")) print decimal(value_or_default("--room"))
 }
 
@@ -22,6 +24,21 @@ function print_files(    kinds, words, place, count) {
     count = split("IMAGE --script --tape COMMANDS SRC LOG", words, " ")
     for (place = 1; place <= count; place++)
         if (words[place] in at) print kinds[place], at[words[place]], (words[place] in attached ? "rest" : "own")
+    for (place = 1; place <= met; place++) if (word_at(command, place) == "FILE..") print "file", stands[place], "own"
+}
+
+# How many numbers from --first on and below COUNT are in the part that is run.
+function print_faults(    first, count) {
+    if (command != "inject") return
+    first = decimal(value_or_default("--first"))
+    count = decimal(value_or_default("COUNT"))
+    printf "%.0f\n", first < count ? in_part(count) - in_part(first) : 0
+}
+
+# How many numbers below this one are in the part.
+function in_part(number,    part) {
+    split(value_or_default("--part"), part, "/")
+    return int((number + decimal(part[2]) - 1 - decimal(part[1])) / decimal(part[2]))
 }
 
 function value_or_default(option,    row) {
@@ -78,11 +95,10 @@ function value_met(option, value, place) {
 }
 
 # A word that is no option.
-function word_met(value, place,    words, count) {
+function word_met(value, place) {
     if (waiting != "") return no_value(waiting)
-    count = split(cell["commands", command_row(command), 2], words, " ")
-    met++
-    if (met <= count) return value_met(words[met], value, place)
+    stands[++met] = place
+    if (word_at(command, met) != "") return value_met(word_at(command, met), value, place)
     return form_of(command) ": " shown(value) " is one word more than that"
 }
 
@@ -94,12 +110,17 @@ function form_of(command) {
 
 function fault_of_whole(    words, count) {
     count = split(cell["commands", command_row(command), 2], words, " ")
+    sub(/[.][.]$/, "", words[count])
     if (met < count) return form_of(command) ": " words[met + 1] " is missing"
     if (given["--core"] == "tape" && !("--tape" in at)) return "--core tape plays a tape, and --tape FILE is missing"
     if ("--tape" in at && given["--core"] != "tape") return "--tape is taken with --core tape alone"
-    if (command == "draw" && decimal(value_or_default("--to")) < decimal(value_or_default("--from")))
+    if (is_before(value_or_default("--to"), value_or_default("--from")))
         return "--to is before --from: " value_or_default("--to") " is less than " value_or_default("--from")
     return ""
+}
+
+function is_before(last, first) {
+    return last != "" && first != "" && decimal(last) < decimal(first)
 }
 
 function unknown_command(word,    row, all) {
@@ -135,15 +156,19 @@ function no_value(option,    row) {
     return option " takes " range_of(row) ", and its value is missing"
 }
 
-function fault_of_value(row, value,    form, fault) {
+function fault_of_value(row, value,    form, range, fault) {
     form = cell["options", row, 2]
+    range = cell["options", row, 3]
     if (form == "FILE") return ""
-    if (form == "NUMBER" && is_number(value, cell["options", row, 3])) return ""
-    if (form == "NAME" && lists(cell["options", row, 3], value)) return ""
-    if (form == "ADDR:LEN" && is_part(value, cell["options", row, 3]) && !is_past(value, cell["options", row, 3])) return ""
+    if (form == "NUMBER" && is_number(value, range)) return ""
+    if (form == "NAME" && lists(range, value)) return ""
+    if (form == "LIST" && is_list(value, range)) return ""
+    if (form == "K/M" && is_fraction(value, range)) return ""
+    if (form == "ADDR:LEN" && is_part(value, range) && !is_past(value, range)) return ""
     fault = cell["options", row, 1] " takes " range_of(row) ", and this is " shown(value)
-    if (form == "NAME") return fault nearest(value, cell["options", row, 3])
-    if (form == "ADDR:LEN" && is_past(value, cell["options", row, 3])) return fault ", which ends past 2^32"
+    if (form == "NAME") return fault nearest(value, range)
+    if (form == "LIST") return fault stranger(value, range)
+    if (form == "ADDR:LEN" && is_past(value, range)) return fault ", which ends past 2^32"
     return value ~ /^[0-9]+$/ && length(value) > 10 ? fault ": a number has ten digits at most" : fault
 }
 
@@ -152,6 +177,28 @@ function is_number(value, range,    parts) {
     if (value !~ /^[0-9]+$/ || length(value) > 10) return 0
     split(range, parts, " ")
     return decimal(value) >= parts[1] + 0 && decimal(value) <= parts[3] + 0 && (parts[7] == "" || decimal(value) % parts[7] == 0)
+}
+
+# Whether a value is some of these names, as many as there are at most, with commas between them. One may stand there twice.
+function is_list(value, range,    items, count, place) {
+    count = split(value, items, ",")
+    for (place = 1; place <= count && lists(range, items[place]); place++);
+    return count > 0 && place > count && count <= split(range, items, " ")
+}
+
+# What says which item of a list is none of these names, and which of them is the nearest.
+function stranger(value, range,    items, count, place) {
+    count = split(value, items, ",")
+    for (place = 1; place <= count && lists(range, items[place]); place++);
+    if (place > count) return ""
+    return (count > 1 ? ": " shown(items[place]) " is none of them" : "") nearest(items[place], range)
+}
+
+# Whether a value is `K/M` with M in a range and a lower K.
+function is_fraction(value, range,    parts, ends) {
+    split(range, ends, " ")
+    if (split(value, parts, "/") != 2 || !is_number(parts[1], "0 to " ends[3]) || !is_number(parts[2], range)) return 0
+    return decimal(parts[1]) < decimal(parts[2])
 }
 
 # Whether a value is an address and a length that is in a range; and whether memory ends before that does.

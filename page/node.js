@@ -83,9 +83,9 @@ function usageLine(program) {
   return Buffer.from(source.match(`b"(usage: ${program} [^"]*)\\\\n"`)[1] + "\n");
 }
 
-/** Runs the page's program as `diva`: it is `diva_lab`, which does the same but for three commands more and its own usage line. */
+/** Runs the page's program as `diva`: it is `diva_lab`, which does the same but for five commands more and its own usage line. */
 function runAsDiva(module, words) {
-  const isOfDiva = !["log", "draw", "judge"].includes(String(words[0]));
+  const isOfDiva = !["log", "draw", "judge", "inject", "rate"].includes(String(words[0]));
   const theirs = usageLine("diva_lab");
   return runProgram(module, isOfDiva ? words : [], disk, (piece) => put(theirs.equals(piece) ? usageLine("diva") : piece));
 }
