@@ -32,7 +32,7 @@ function print_faults(    first, count) {
     if (command != "inject") return
     first = decimal(value_or_default("--first"))
     count = decimal(value_or_default("COUNT"))
-    printf "%.0f\n", first < count ? in_part(count) - in_part(first) : 0
+    printf "%.0f\n", (first < count ? in_part(count) - in_part(first) : 0)
 }
 
 # How many numbers below this one are in the part.
