@@ -271,3 +271,16 @@ wide __lshrti3(wide value, int by) {
     shifted.of.low = by < 64 ? a.of.low >> by | a.of.high << (64 - by) : a.of.high >> (by - 64);
     return shifted.whole;
 }
+
+/* A quotient, bit by bit: the rates of faults have a few of them. */
+wide __udivti3(wide left, wide right) {
+    wide quotient = 0, rest = 0;
+    for (int bit = 127; bit >= 0; bit--) {
+        rest = rest << 1 | (left >> bit & 1);
+        if (rest >= right) {
+            rest -= right;
+            quotient |= (wide)1 << bit;
+        }
+    }
+    return quotient;
+}
