@@ -1,18 +1,37 @@
-# How many more cycles five programs take, by how often a bit of a value is flipped.
-set terminal svg size 860,420 font 'sans-serif,13' background '#ffffff'
+# How many times the cycles of the run without faults seven programs take, by how often a fault comes.
+set terminal svg size 760,640 font 'sans-serif,13' background '#ffffff'
 set output 'cost.svg'
 set datafile separator ','
-set key outside right top
 set logscale x
-set xrange [*:*] reverse
-set xlabel 'cycles between two faults'
-set ylabel 'cycles, beside those of the run without faults'
+set xrange [0.15:70]
+set yrange [0.95:*]
 set grid lc rgb '#dddddd'
-of(kind) = sprintf("< awk -F , '$1 == \"%s\"' cost.csv", kind)
-plot of('lockstep') using 2:6 with linespoints title 'lockstep' pt 7 lc rgb '#377eb8', \
-     of('scalar') using 2:6 with linespoints title 'scalar' pt 7 lc rgb '#4daf4a', \
-     of('own') using 2:6 with linespoints title 'own' pt 7 lc rgb '#e41a1c', \
-     of('own_width_1') using 2:6 with linespoints title 'own, width 1' pt 6 dt 2 lc rgb '#e41a1c', \
-     of('own_width_4') using 2:6 with linespoints title 'own, width 4' pt 4 dt 2 lc rgb '#e41a1c', \
-     of('own_port_2') using 2:6 with linespoints title 'own, port 2' pt 8 dt 3 lc rgb '#984ea3', \
-     of('own_port_6') using 2:6 with linespoints title 'own, port 6' pt 10 dt 3 lc rgb '#984ea3'
+set tics nomirror
+set key top left Left reverse
+set xlabel 'faults in 1,000 cycles'
+set ylabel 'cycles, times those without'
+set style data linespoints
+
+# The rows of a kind of fault and a machine: the period at column 5, the ratio at 11.
+of(kind, core, width, port) = sprintf("< awk -F , '$1 == \"%s\" && $2 == \"%s\" && $3 == %d && $4 == %d' cost.csv", kind, core, width, port)
+
+set multiplot layout 2, 2 margins 0.1, 0.98, 0.09, 0.94 spacing 0.12, 0.18
+set title 'a bit of a value is flipped, by core'
+plot of('flip', 'own', 2, 1) using (1000 / $5):11 title 'own' pt 7 ps 0.7 lc rgb '#000000', \
+     of('flip', 'scalar', 2, 1) using (1000 / $5):11 title 'scalar' pt 5 ps 0.7 dt 2 lc rgb '#b2182b', \
+     of('flip', 'lockstep', 2, 1) using (1000 / $5):11 title 'lockstep' pt 8 dt 4 lc rgb '#2166ac'
+set title '70 cycles without a claim, by core'
+plot of('hush', 'own', 2, 1) using (1000 / $5):11 title 'own' pt 7 ps 0.7 lc rgb '#000000', \
+     of('hush', 'scalar', 2, 1) using (1000 / $5):11 title 'scalar' pt 5 ps 0.7 dt 2 lc rgb '#b2182b', \
+     of('hush', 'lockstep', 2, 1) using (1000 / $5):11 title 'lockstep' pt 8 dt 4 lc rgb '#2166ac'
+set title 'flipped bits, own, by width'
+plot of('flip', 'own', 1, 1) using (1000 / $5):11 title 'width 1' pt 6 dt 2 lc rgb '#2166ac', \
+     of('flip', 'own', 2, 1) using (1000 / $5):11 title 'width 2' pt 7 ps 0.7 lc rgb '#000000', \
+     of('flip', 'own', 3, 1) using (1000 / $5):11 title 'width 3' pt 8 dt 3 lc rgb '#1b7837', \
+     of('flip', 'own', 4, 1) using (1000 / $5):11 title 'width 4' pt 4 dt 4 lc rgb '#b2182b'
+set title 'flipped bits, own of width 2, by port'
+plot of('flip', 'own', 2, 1) using (1000 / $5):11 title 'port 1' pt 7 ps 0.7 lc rgb '#000000', \
+     of('flip', 'own', 2, 2) using (1000 / $5):11 title 'port 2' pt 8 dt 3 lc rgb '#1b7837', \
+     of('flip', 'own', 2, 4) using (1000 / $5):11 title 'port 4' pt 6 dt 2 lc rgb '#2166ac', \
+     of('flip', 'own', 2, 6) using (1000 / $5):11 title 'port 6' pt 4 dt 4 lc rgb '#b2182b'
+unset multiplot

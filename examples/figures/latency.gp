@@ -1,19 +1,29 @@
-# How many faults were found after so many cycles, by kind of fault.
-set terminal svg size 860,420 font 'sans-serif,13' background '#ffffff'
+# In how many cycles the checker has flushed, of the faults that it flushed for, by model and core.
+set terminal svg size 720,640 font 'sans-serif,13' background '#ffffff'
 set output 'latency.svg'
 set datafile separator ','
-set key outside right top
-set logscale xy
-set xrange [4:*]
-set yrange [0.7:*]
-set xlabel 'cycles from the fault to the flush that it caused'
-set ylabel 'faults'
+set logscale x
+set xrange [5:100000]
+set yrange [0:1.02]
+set ytics 0, 0.2, 1
 set grid lc rgb '#dddddd'
-of(kind) = sprintf("< awk -F , '$1 == \"%s\"' latency.csv", kind)
-plot of('flip') using 2:3 with points title 'flip' pt 7 ps 0.7 lc rgb '#e41a1c', \
-     of('set') using 2:3 with points title 'set' pt 9 ps 0.7 lc rgb '#ff9f1c', \
-     of('lose') using 2:3 with points title 'lose' pt 5 ps 0.7 lc rgb '#377eb8', \
-     of('double') using 2:3 with points title 'double' pt 13 ps 0.8 lc rgb '#4daf4a', \
-     of('hush') using 2:3 with points title 'hush' pt 2 ps 0.6 lc rgb '#555555', \
-     of('stuck0') using 2:3 with points title 'stuck at 0' pt 6 ps 0.7 lc rgb '#984ea3', \
-     of('stuck1') using 2:3 with points title 'stuck at 1' pt 4 ps 0.7 lc rgb '#984ea3'
+set tics nomirror
+set ylabel 'share of the found faults'
+
+# The rows of a core and a model: the latency at column 3, and the share that has no longer one at 5; before them one from which the first step rises.
+of(core, model) = sprintf("< awk -F , '$1 == \"%s\" && $2 == \"%s\" { if (!rows++) print \",,\" $3 \",0,0\"; print }' latency.csv", core, model)
+
+set multiplot layout 2, 1 margins 0.1, 0.78, 0.09, 0.95 spacing 0, 0.11
+do for [core in 'own lockstep'] {
+    set title 'core '.core offset 0, -0.7
+    if (core eq 'lockstep') { set xlabel 'cycles from the first of the fault to the flush' }
+    if (core eq 'own') { set key at graph 1.03, graph 1 left top Left reverse spacing 1.2 } else { unset key }
+    plot of(core, 'flip') using 3:5 with steps title 'flip' lw 2 lc rgb '#000000', \
+         of(core, 'set') using 3:5 with steps title 'set' lw 2 dt 2 lc rgb '#b2182b', \
+         of(core, 'lose') using 3:5 with steps title 'lose' lw 2 dt 3 lc rgb '#2166ac', \
+         of(core, 'double') using 3:5 with steps title 'double' lw 2 dt 4 lc rgb '#1b7837', \
+         of(core, 'hush') using 3:5 with steps title 'hush' lw 2 dt 5 lc rgb '#777777', \
+         of(core, 'stuck0') using 3:5 with steps title 'stuck at 0' lw 2 dt 6 lc rgb '#762a83', \
+         of(core, 'stuck1') using 3:5 with steps title 'stuck at 1' lw 2 lc rgb '#e08214'
+}
+unset multiplot

@@ -1,45 +1,33 @@
-# A random program of some instructions, as a source for `diva asm`: sums, products, shifts, loads and stores over 256 bytes, and branches
-# forward, and then a halt whose status is a sum of the registers.
+# The image of a seed, as a source for `diva asm`: the program that `diva soak SEED LENGTH` draws (docs/FORMATS.md, the image of a seed).
 #
 # usage: awk -v seed=SEED -v many=LENGTH -f random.awk > FILE.s
 BEGIN {
-    state = 1 + seed % 2147483646
-    count = split("add sub xor or and sll srl sra slt sltu mul mulhu", plain, " ")
-    tests = split("beq bne blt bgeu", branch, " ")
-    size = 4 * (many + 64)
-    print ".size " size + 4096
-    print "        la   s0, data"
-    for (n = 5; n <= 7; n++) print "        li   x" n ", " int(draw() * 2147483647)
-    for (n = 10; n <= 16; n++) print "        li   x" n ", " int(draw() * 2147483647)
+    print ".size " 2048 + 4 * (many + 3)
+    print ".entry 2048"
+    print ".space 2048"
+    state = seed
     for (n = 0; n < many; n++) {
-        printf "at%d:\n", n
-        kind = draw()
-        if (kind < 0.5) print "        " plain[1 + int(draw() * count)] " " register() ", " register() ", " register()
-        else if (kind < 0.65) print "        addi " register() ", " register() ", " int(draw() * 4095) - 2047
-        else if (kind < 0.78) print "        lw   " register() ", " 4 * int(draw() * 64) "(s0)"
-        else if (kind < 0.9) print "        sw   " register() ", " 4 * int(draw() * 64) "(s0)"
-        else print "        " branch[1 + int(draw() * tests)] " " register() ", " register() ", at" after(n)
+        state = (1664525 * state + 1013904223) % 4294967296
+        kind = bits(29, 3)
+        rd = "x" 1 + bits(26, 3)
+        rs1 = "x" 1 + bits(23, 3)
+        rs2 = "x" 1 + bits(20, 3)
+        m = bits(9, 11)
+        if (kind == 0) print "addi " rd ", " rs1 ", " m
+        if (kind == 1) print "sub " rd ", " rs1 ", " rs2
+        if (kind == 2) print "xor " rd ", " rs1 ", " rs2
+        if (kind == 3) print "mul " rd ", " rs1 ", " rs2
+        if (kind == 4) print "rem " rd ", " rs1 ", " rs2
+        if (kind == 5) print "blt " rs1 ", " rs2 ", " 2048 + 4 * (n + 2)
+        if (kind == 6) print "sw " rs2 ", " m - m % 4 "(x0)"
+        if (kind == 7) print "lw " rd ", " m - m % 4 "(x0)"
     }
-    print "at" many ":"
-    for (n = 11; n <= 16; n++) print "        add  a0, a0, x" n
-    print "        andi a0, a0, 255"
-    print "        li   a7, 93"
-    print "        ecall"
-    print "data:   .space 256"
+    print "nop"
+    print "li a7, 93"
+    print "ecall"
 }
 
-# A number from 0 to below 1: the minimal standard generator of Park and Miller.
-function draw() {
-    state = state * 16807 % 2147483647
-    return state / 2147483647
-}
-
-function register(    n) {
-    n = int(draw() * 10)
-    return "x" (n < 3 ? 5 + n : 7 + n)
-}
-
-function after(n,    there) {
-    there = n + 1 + int(draw() * 8)
-    return there > many ? many : there
+# So many bits of the state, from a place on.
+function bits(place, many) {
+    return int(state / 2 ^ place) % 2 ^ many
 }
